@@ -15,19 +15,23 @@ rest_of_turn = duties.Step step_duties.Events ∷ duties.End ∷ []
 -- what an end sends, and then these
 abbrev pub emission_and : Side → List Duty → List Duty
 emission_and s ds =
-    duties.Send (send_duties.Syn s) ∷ duties.Step (step_duties.Data s) ∷ duties.Send (send_duties.DataFin s)
-    ∷ duties.Send (send_duties.Fin s) ∷ duties.Silent (silent_duties.Timer s) ∷ ds
+    duties.Send (send_duties.Syn s) ∷ duties.Send (send_duties.FastClose s) ∷ duties.Step (step_duties.Data s)
+    ∷ duties.Send (send_duties.DataFin s) ∷ duties.Send (send_duties.Fin s) ∷ duties.Silent (silent_duties.Timer s) ∷ ds
 
 -- what follows every event at an end
 abbrev pub emission : Side → List Duty
 emission s = emission_and s rest_of_turn
+
+-- an end is reset as its side told it, and then these
+abbrev pub reset_and : Side → List Duty → List Duty
+reset_and s ds = duties.Ask (ask_duties.LeaveNoted s) ∷ duties.Send (send_duties.ResetNoted s) ∷ ds
 
 abbrev pub start_of_turn : List Duty
 start_of_turn =
     duties.Ask ask_duties.JoinAgain ∷ duties.Step (step_duties.Look A) ∷ duties.Step (step_duties.Look B)
     ∷ duties.Ask (ask_duties.Window A) ∷ duties.Send (send_duties.Update A)
     ∷ duties.Ask (ask_duties.Window B) ∷ duties.Send (send_duties.Update B)
-    ∷ emission_and A (emission B)
+    ∷ reset_and A (emission_and A (reset_and B (emission B)))
 
 -- the SYN of the peer; the SYN/ACK
 abbrev pub syn_came : Side → List Duty
@@ -84,6 +88,11 @@ expired s = duties.Ask (ask_duties.Return s) ∷ duties.Send (send_duties.Resend
 
 abbrev pub expired_for_ever : Side → List Duty
 expired_for_ever s = duties.Send (send_duties.Reset s) ∷ rest_of_turn
+
+-- the peer closed the connection at once: both books are told, and the end is reset
+abbrev pub stops : Side → List Duty
+stops s =
+    duties.Ask (ask_duties.AbortSend s) ∷ duties.Ask (ask_duties.AbortReceive s) ∷ duties.Send (send_duties.Reset s) ∷ rest_of_turn
 
 -- a death, and a break
 abbrev pub leaves : Side → List Duty

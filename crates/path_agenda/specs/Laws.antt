@@ -7,7 +7,7 @@ use Rattle.path_agenda.specs.declared.duty.Duty.TheVariants as duties
 use Rattle.path_agenda.specs.declared.duty.AskDuty.TheVariants as ask_duties
 use Rattle.path_agenda.specs.declared.duty.SendDuty.TheVariants as send_duties
 use Rattle.path_agenda.specs.declared.duty.StepDuty.TheVariants as step_duties
-use Rattle.path_agenda.specs.Agenda.{rest_of_turn, emission, start_of_turn, syn_came, syn_ack_came, join_came, refuses, join_answered, copy_came, syn_again, answers, answers_dead, expired, expired_for_ever, leaves, breaks, resets}
+use Rattle.path_agenda.specs.Agenda.{rest_of_turn, emission, start_of_turn, syn_came, syn_ack_came, join_came, refuses, join_answered, copy_came, syn_again, answers, answers_dead, expired, expired_for_ever, stops, leaves, breaks, resets}
 use Rattle.path_agenda.specs.Weights.{weights}
 
 -- ---- the end of a turn
@@ -23,7 +23,7 @@ ends_once (d ∷ ds) = ends_once ds
 abbrev pub templates : Side → ℕ → ℕ → List (List Duty)
 templates s count reason =
     start_of_turn ∷ rest_of_turn ∷ emission s ∷ syn_came s ∷ syn_ack_came s ∷ join_came s ∷ refuses s ∷ join_answered s ∷ copy_came s count ∷ syn_again s ∷ answers s
-    ∷ answers_dead s ∷ expired s ∷ expired_for_ever s ∷ leaves s ∷ breaks s reason ∷ resets s reason ∷ []
+    ∷ answers_dead s ∷ expired s ∷ expired_for_ever s ∷ stops s ∷ leaves s ∷ breaks s reason ∷ resets s reason ∷ []
 
 abbrev pub EveryTemplateEnds : Type 0
 EveryTemplateEnds = (s : Side) (count reason : ℕ) → list_all ends_once (templates s count reason) ≡ true
@@ -59,6 +59,10 @@ pub record ChainsEnd (s : Side) (index reason : ℕ) : Type 0 where
   pub join_ended : weights (duties.Ask (ask_duties.Leave s) ∷ []) < weights ((duties.Ask ask_duties.JoinAgain) ∷ [])
   -- a Data ACK that covers something
   pub ack_heard : weights (duties.Ask (ask_duties.AckHeard s) ∷ []) < weights (duties.Step (step_duties.Heard s index) ∷ [])
+  -- the peer's fast close, and the reset that the side told
+  pub stopped : weights (stops s) < weights (duties.Step (step_duties.Heard s index) ∷ [])
+  pub leave_noted : weights (duties.Ask (ask_duties.Dead s) ∷ []) < weights (duties.Ask (ask_duties.LeaveNoted s) ∷ [])
+  pub reset_noted : weights (duties.Ask (ask_duties.Leave s) ∷ []) < weights (duties.Send (send_duties.ResetNoted s) ∷ [])
   -- from a break to the reset, and from a reset to the death
   pub break_ack : weights (resets s reason) < weights (duties.Ask (ask_duties.BreakAck s reason) ∷ [])
   pub break_reset : weights (leaves s) < weights (duties.Send (send_duties.BreakReset s reason) ∷ [])

@@ -63,7 +63,14 @@ pub enum AskDuty {
     // ---- an expiry
     /// Gives back the bytes that aren't acknowledged.
     Return(Side),
+    // ---- the peer's fast close
+    /// The peer closed the connection at once: tells the send book (RFC 8684, section 3.5).
+    AbortSend(Side),
+    /// And the reassembly book.
+    AbortReceive(Side),
     // ---- death
+    /// The side told that the end is to be reset, which never sent a segment: it is dead, and gives back its bytes.
+    LeaveNoted(Side),
     /// The path is broken: asks once more what is to be acknowledged.
     BreakAck { side: Side, reason: u8 },
     /// The end died: gives back its bytes.
@@ -97,6 +104,8 @@ pub enum SendDuty {
     Update(Side),
     /// The SYN, where it was never sent.
     Syn(Side),
+    /// MP_FASTCLOSE, where the end carries the fast close and never sent it (RFC 8684, section 3.5).
+    FastClose(Side),
     /// The DATA_FIN, where the stream's end is known.
     DataFin(Side),
     /// The FIN, where both directions of the data stream are closed.
@@ -113,12 +122,15 @@ pub enum SendDuty {
     Answer(Side),
     /// The reset that answers a segment at a dead end.
     ResetAnswer(Side),
-    /// What was lost, after an expiry: the first record, or else the third MP_JOIN, or else the DATA_FIN, or else a probe.
+    /// What was lost, after an expiry: the first record, or else the third MP_JOIN, or else MP_FASTCLOSE, or else the DATA_FIN, or
+    /// else a probe.
     Resend(Side),
     /// The path is broken: a reset with the reason (RFC 8684, section 3.6).
     BreakReset { side: Side, reason: u8 },
     /// A reset without a reason.
     Reset(Side),
+    /// The reset that the side told, of an end that sent a segment (RFC 8684, section 3.5).
+    ResetNoted(Side),
 }
 
 /// A duty that changes the end in silence.

@@ -1,7 +1,7 @@
 //! What is to be done in a turn, and after each kind of event. A rule that is added to one of them has to be a duty.
 
 ghost use Rattle.std.specs.Prelude.{◌≡◌, ◌≤◌, ◌∷◌, []};
-ghost use Rattle.path_agenda.specs.Agenda.{heard_and, rest_of_turn, emission, start_of_turn, syn_came, syn_ack_came, join_came, refuses, join_answered, payload_came, copy_came, syn_again, answers, answers_dead, expired, expired_for_ever, leaves, breaks, resets};
+ghost use Rattle.path_agenda.specs.Agenda.{heard_and, rest_of_turn, emission, start_of_turn, syn_came, syn_ack_came, join_came, refuses, join_answered, payload_came, copy_came, syn_again, answers, answers_dead, expired, expired_for_ever, stops, leaves, breaks, resets};
 
 use crate::agenda::Agenda;
 use crate::duty::{AskDuty, Duty, SendDuty, SilentDuty, StepDuty};
@@ -22,6 +22,7 @@ impl Agenda {
     {
         Agenda::of(&[
             Duty::Send(SendDuty::Syn(side)),
+            Duty::Send(SendDuty::FastClose(side)),
             Duty::Step(StepDuty::Data(side)),
             Duty::Send(SendDuty::DataFin(side)),
             Duty::Send(SendDuty::Fin(side)),
@@ -44,12 +45,18 @@ impl Agenda {
             Duty::Send(SendDuty::Update(a)),
             Duty::Ask(AskDuty::Window(b)),
             Duty::Send(SendDuty::Update(b)),
+            Duty::Ask(AskDuty::LeaveNoted(a)),
+            Duty::Send(SendDuty::ResetNoted(a)),
             Duty::Send(SendDuty::Syn(a)),
+            Duty::Send(SendDuty::FastClose(a)),
             Duty::Step(StepDuty::Data(a)),
             Duty::Send(SendDuty::DataFin(a)),
             Duty::Send(SendDuty::Fin(a)),
             Duty::Silent(SilentDuty::Timer(a)),
+            Duty::Ask(AskDuty::LeaveNoted(b)),
+            Duty::Send(SendDuty::ResetNoted(b)),
             Duty::Send(SendDuty::Syn(b)),
+            Duty::Send(SendDuty::FastClose(b)),
             Duty::Step(StepDuty::Data(b)),
             Duty::Send(SendDuty::DataFin(b)),
             Duty::Send(SendDuty::Fin(b)),
@@ -66,6 +73,7 @@ impl Agenda {
         Agenda::of(&[
             duty,
             Duty::Send(SendDuty::Syn(side)),
+            Duty::Send(SendDuty::FastClose(side)),
             Duty::Step(StepDuty::Data(side)),
             Duty::Send(SendDuty::DataFin(side)),
             Duty::Send(SendDuty::Fin(side)),
@@ -91,6 +99,7 @@ impl Agenda {
             Duty::Ask(AskDuty::PlainHandshake(side)),
             Duty::Send(SendDuty::SynAck(side)),
             Duty::Send(SendDuty::Syn(side)),
+            Duty::Send(SendDuty::FastClose(side)),
             Duty::Step(StepDuty::Data(side)),
             Duty::Send(SendDuty::DataFin(side)),
             Duty::Send(SendDuty::Fin(side)),
@@ -110,6 +119,7 @@ impl Agenda {
             Duty::Ask(AskDuty::Live(side)),
             Duty::Send(SendDuty::Acknowledge(side)),
             Duty::Send(SendDuty::Syn(side)),
+            Duty::Send(SendDuty::FastClose(side)),
             Duty::Step(StepDuty::Data(side)),
             Duty::Send(SendDuty::DataFin(side)),
             Duty::Send(SendDuty::Fin(side)),
@@ -141,6 +151,7 @@ impl Agenda {
             Duty::Ask(AskDuty::Live(side)),
             Duty::Send(SendDuty::Acknowledge(side)),
             Duty::Send(SendDuty::Syn(side)),
+            Duty::Send(SendDuty::FastClose(side)),
             Duty::Step(StepDuty::Data(side)),
             Duty::Send(SendDuty::DataFin(side)),
             Duty::Send(SendDuty::Fin(side)),
@@ -195,6 +206,7 @@ impl Agenda {
             Duty::Ask(AskDuty::Return(side)),
             Duty::Send(SendDuty::Resend(side)),
             Duty::Send(SendDuty::Syn(side)),
+            Duty::Send(SendDuty::FastClose(side)),
             Duty::Step(StepDuty::Data(side)),
             Duty::Send(SendDuty::DataFin(side)),
             Duty::Send(SendDuty::Fin(side)),
@@ -209,6 +221,19 @@ impl Agenda {
         ensures { result ≡ expired_for_ever side }
     {
         Agenda::before_rest(Duty::Send(SendDuty::Reset(side)))
+    }
+
+    /// The peer closed the connection at once (RFC 8684, section 3.5): both books are told, and the end is reset.
+    pub fn stops(side: Side) -> Self
+        ensures { result ≡ stops side }
+    {
+        Agenda::of(&[
+            Duty::Ask(AskDuty::AbortSend(side)),
+            Duty::Ask(AskDuty::AbortReceive(side)),
+            Duty::Send(SendDuty::Reset(side)),
+            Duty::Step(StepDuty::Events),
+            Duty::End,
+        ])
     }
 
     /// The end died: it leaves.
@@ -249,7 +274,7 @@ fn things_heard(side: Side, count: usize) -> ArrayVec<Duty, 37>
 }
 
 /// What follows what a copy says: its acknowledgement, its payload, and the answers.
-fn payload_came(side: Side) -> [Duty; 22]
+fn payload_came(side: Side) -> [Duty; 23]
     ensures { result ≡ payload_came side }
 {
     [
@@ -269,6 +294,7 @@ fn payload_came(side: Side) -> [Duty; 22]
         Duty::Send(SendDuty::Acknowledge(side)),
         Duty::Send(SendDuty::Again(side)),
         Duty::Send(SendDuty::Syn(side)),
+        Duty::Send(SendDuty::FastClose(side)),
         Duty::Step(StepDuty::Data(side)),
         Duty::Send(SendDuty::DataFin(side)),
         Duty::Send(SendDuty::Fin(side)),

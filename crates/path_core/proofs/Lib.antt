@@ -21,7 +21,7 @@ pub mod TurnEnds
 pub mod FarResets
 pub mod CopiesRead
 pub mod Showing
-mod Sayable
+pub mod Sayable
 mod InBounds
 mod Settling
 mod FirstDuty

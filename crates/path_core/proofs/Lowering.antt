@@ -23,9 +23,10 @@ use Rattle.path_agenda.specs.declared.duty.SilentDuty.TheVariants as silent_duti
 use Rattle.path_agenda.specs.declared.duty.StepDuty.TheVariants as step_duties
 use Rattle.path_agenda.specs.declared.heard.Heard.{Heard}
 use Rattle.path_agenda.specs.declared.heard.Heard.TheVariants as says
-use Rattle.path_agenda.specs.Agenda.{breaks, resets, leaves}
+use Rattle.path_agenda.specs.Agenda.{breaks, resets, leaves, stops}
 use Rattle.path_core.specs.Breaking.{reset_of, reset_on, answered_break}
 use Rattle.path_core.specs.Codec.{Codec}
+use Rattle.path_core.specs.FastClosing.{fast_close_of, having_fast_closed, is_stopped_by}
 use Rattle.path_core.specs.Duties.{stands, ask_for, answered}
 use Rattle.path_core.specs.Emission.{first_unsent, unsent_segment, having_sent_unsent, data_fin_segment, having_sent_data_fin, fin_segment_of, having_sent_fin, may_ask, data_stands, payload_size, grant_ask, data_ask, Grant, grant_in, granted, refused, answered_grant, answered_data}
 use Rattle.path_core.specs.Ends.{PathEnd}
@@ -302,6 +303,12 @@ module _ {C : Type 0} where
       by true = break_lowers k s 6 r p t heavy.breaks
       by false = fell_less s f r p t (same_rests p.clock (end_at s p) f refl) heavy
 
+  -- the peer's fast close
+  fast_heard_less : (s : Side) (stopped : Bool) (p : PathState C) → TakesTime p → Heavy s p
+      → Lowers p (with_agenda (if stopped then stops s else left p) p)
+  fast_heard_less s true p t heavy = agenda_less (stops s) p t (omega (arith, heavy.breaks))
+  fast_heard_less s false p t heavy = agenda_less (left p) p t heavy.done
+
   told_less : (s : Side) (covers : Bool) (p : PathState C) → weights (left p) < weights p.agenda → weights (replaced (duties.Ask (ask_duties.AckHeard s)) p.agenda) < weights p.agenda
       → weights (told_next s covers p) < weights p.agenda
   told_less s true p less next = next
@@ -326,7 +333,7 @@ module _ {C : Type 0} where
   heard_lowers k s (Some (says.Join form)) r p t next heavy = agenda_less (left p) p t heavy.done
   heard_lowers k s (Some (says.Notice notice)) r p t next heavy = agenda_less (left p) p t heavy.done
   heard_lowers k s (Some says.Fail) r p t next heavy = agenda_less (left p) p t heavy.done
-  heard_lowers k s (Some (says.FastClose key)) r p t next heavy = agenda_less (left p) p t heavy.done
+  heard_lowers k s (Some (says.FastClose key)) r p t next heavy = fast_heard_less s (is_stopped_by r) p t heavy
 
   -- ---- joins
 
@@ -363,9 +370,14 @@ module _ {C : Type 0} where
       join_less r (replaced (duties.Ask (ask_duties.Leave A)) p.agenda) (left p) p t (rw is (omega arith)) (left_less _ ds p is)
   answered_lowers k (duties.Step (step_duties.Look s)) ds r p t is stands kind =
       goes_less s (after_look r (end_at s p)) (left p) p t (same_rests p.clock (end_at s p) (after_look r (end_at s p)) refl) (left_less _ ds p is)
+  answered_lowers k (duties.Ask (ask_duties.LeaveNoted s)) ds r p t is stands kind =
+      goes_less s (died (end_at s p)) (replaced (duties.Ask (ask_duties.Dead s)) p.agenda) p t (record { due = omega arith; timeout = λ some. some }) (rw is (omega arith))
+  answered_lowers k (duties.Send (send_duties.ResetNoted s)) ds r p t is stands kind = reset_less k s None (replaced (duties.Ask (ask_duties.Leave s)) p.agenda) p t (rw is (omega arith))
   answered_lowers k (duties.Ask (ask_duties.Window s)) ds r p t is stands kind =
       goes_less s (after_ack_out r (end_at s p)) (left p) p t (same_rests p.clock (end_at s p) (after_ack_out r (end_at s p)) refl) (left_less _ ds p is)
   answered_lowers k (duties.Send (send_duties.Update s)) ds r p t is stands kind = acked_less k s p t (left_less _ ds p is)
+  answered_lowers k (duties.Send (send_duties.FastClose s)) ds r p t is stands kind =
+      sent_less k s (fast_close_of s p) (having_fast_closed s p) (left p) p t (same_rests p.clock (end_at s p) (having_fast_closed s p) refl) (left_less _ ds p is)
   answered_lowers k (duties.Send (send_duties.Syn s)) ds r p t is stands kind =
       sent_less k s (unsent_segment s p) (having_sent_unsent s p) (left p) p t (same_rests p.clock (end_at s p) (having_sent_unsent s p) refl) (left_less _ ds p is)
   answered_lowers k (duties.Step (step_duties.Data s)) ds r p t is stands kind = data_lowers k s (first_unsent (end_at s p)) r p t (left_less _ ds p is) refl stands kind
@@ -423,6 +435,8 @@ module _ {C : Type 0} where
   answered_lowers k (duties.Send (send_duties.ResetAnswer s)) ds r p t is stands kind =
       sent_less k s (dead_answer s p) (end_at s p) (left p) p t (same_rests p.clock (end_at s p) (end_at s p) refl) (left_less _ ds p is)
   answered_lowers k (duties.Ask (ask_duties.Return s)) ds r p t is stands kind = agenda_less (left p) p t (left_less _ ds p is)
+  answered_lowers k (duties.Ask (ask_duties.AbortSend s)) ds r p t is stands kind = agenda_less (left p) p t (left_less _ ds p is)
+  answered_lowers k (duties.Ask (ask_duties.AbortReceive s)) ds r p t is stands kind = agenda_less (left p) p t (left_less _ ds p is)
   answered_lowers k (duties.Send (send_duties.Resend s)) ds r p t is stands kind =
       let e = end_at s p in let f : PathEnd = having_sent (resend_occasion e) p.clock (resend_of s p) e in
       sent_less k s (resend_of s p) f (left p) p t (same_rests p.clock e f (sent_same (resend_occasion e) p.clock e.tcp)) (left_less _ ds p is)

@@ -52,7 +52,7 @@ module _ {C : Type 0} where
       let e = end_at s p in
       end_calm s (after_timer p.clock e) p t
       (to_rests p.clock e (after_timer p.clock e)
-      (settled_settles p.clock (is_timed (is_waiting e || e.modes.owes_third) e.tcp) e.sending.news e.tcp.timing (timeout_at s p t)))
+      (settled_settles p.clock (is_timed (is_waiting e || (e.modes.owes_third || e.notices.fast_closed)) e.tcp) e.sending.news e.tcp.timing (timeout_at s p t)))
   passed_calm (duties.Step (step_duties.Heard s index)) p t =
       let e = end_at s p in
       let f : PathEnd = item_passed s (item_of index e) e in
@@ -72,8 +72,11 @@ module _ {C : Type 0} where
       end_calm s (after_pass_fin e) p t (same_rests p.clock e (after_pass_fin e) (pass_fin_same (is_fin_next e.tcp) e.tcp))
   passed_calm (duties.Ask ask_duties.JoinAgain) p t = unchanged p t
   passed_calm (duties.Step (step_duties.Look s)) p t = unchanged p t
+  passed_calm (duties.Ask (ask_duties.LeaveNoted s)) p t = unchanged p t
+  passed_calm (duties.Send (send_duties.ResetNoted s)) p t = unchanged p t
   passed_calm (duties.Ask (ask_duties.Window s)) p t = unchanged p t
   passed_calm (duties.Send (send_duties.Update s)) p t = unchanged p t
+  passed_calm (duties.Send (send_duties.FastClose s)) p t = unchanged p t
   passed_calm (duties.Send (send_duties.Syn s)) p t = unchanged p t
   passed_calm (duties.Step (step_duties.Data s)) p t = unchanged p t
   passed_calm (duties.Send (send_duties.DataFin s)) p t = unchanged p t
@@ -101,6 +104,8 @@ module _ {C : Type 0} where
   passed_calm (duties.Send (send_duties.Answer s)) p t = unchanged p t
   passed_calm (duties.Send (send_duties.ResetAnswer s)) p t = unchanged p t
   passed_calm (duties.Ask (ask_duties.Return s)) p t = unchanged p t
+  passed_calm (duties.Ask (ask_duties.AbortSend s)) p t = unchanged p t
+  passed_calm (duties.Ask (ask_duties.AbortReceive s)) p t = unchanged p t
   passed_calm (duties.Send (send_duties.Resend s)) p t = unchanged p t
   passed_calm (duties.Ask (ask_duties.BreakAck s reason)) p t = unchanged p t
   passed_calm (duties.Send (send_duties.BreakReset s reason)) p t = unchanged p t

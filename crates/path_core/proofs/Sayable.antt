@@ -37,7 +37,7 @@ use Rattle.path_agenda.specs.declared.notice.OwnNotice.TheVariants as notes
 use Rattle.path_core.specs.Ends.{PathEnd}
 use Rattle.path_core.specs.Joins.{is_joined, peer_key_of, join_options, third_options}
 use Rattle.path_core.specs.declared.modes.Modes.{Modes}
-use Rattle.path_core.specs.OptionsOut.{spelled_by, checksum_told, capable_options, syn_options, key_options, opening_options, data_fin_mapping, ack_options, is_first_piece, first_piece_options, piece_options, owes_mapping, plain_options, fin_options, record_options, reset_options, segment_of, piece_mapping, ack_said, record_or_ack, syn_ack_said, notice_option, dss_and, HasAddress, HasAddresses}
+use Rattle.path_core.specs.OptionsOut.{spelled_by, checksum_told, capable_options, syn_options, key_options, opening_options, data_fin_mapping, ack_options, is_first_piece, first_piece_options, piece_options, owes_mapping, plain_options, fin_options, record_options, reset_options, segment_of, piece_mapping, ack_said, carried_said, record_or_ack, syn_ack_said, notice_option, dss_and, HasAddress, HasAddresses}
 use Rattle.path_core.specs.declared.segment_kind.SegmentKind.{SegmentKind}
 use Rattle.path_core.specs.declared.segment_kind.SegmentKind.TheVariants as to_say
 use Rattle.subflow_tcp.specs.Emitting.{ack_at, record_segment, syn_ack_segment, fin_position, fin_segment, reset_segment}
@@ -321,16 +321,22 @@ module _ (c : Profile) (s : Side) (e : PathEnd) (path : c.spelling.path ≤ 15) 
   answer_can true = syn_ack_can
   answer_can false = ack_can e.tcp.send.nxt None
 
-  resent_can : (third end : Bool) → CanBeSaid c.spelling s (if third then ack_said c s e.tcp.send.nxt None e
-      else (if end then ack_said c s e.tcp.send.nxt e.sending.known_end e else ack_said c s (e.tcp.send.una - 1) None e))
-  resent_can true end = ack_can e.tcp.send.nxt None
-  resent_can false true = ack_can e.tcp.send.nxt e.sending.known_end
-  resent_can false false = ack_can (e.tcp.send.una - 1) None
+  pub carried_can : (carrier : Option ℕ) → CanBeSaid c.spelling s (carried_said c s carrier e)
+  carried_can (Some key) = dss_and_can (FastClose key) (record { form = tt }) (close_length key)
+  carried_can None = ack_can e.tcp.send.nxt None
+
+  resent_can : (third closed end : Bool) → CanBeSaid c.spelling s (if third then ack_said c s e.tcp.send.nxt None e
+      else (if closed then carried_said c s e.notices.carrier e
+      else (if end then ack_said c s e.tcp.send.nxt e.sending.known_end e else ack_said c s (e.tcp.send.una - 1) None e)))
+  resent_can true closed end = ack_can e.tcp.send.nxt None
+  resent_can false true end = carried_can e.notices.carrier
+  resent_can false false true = ack_can e.tcp.send.nxt e.sending.known_end
+  resent_can false false false = ack_can (e.tcp.send.una - 1) None
 
   resend_can : (first : Bool) → IfSome (first_record e) (λ r. length r.piece ≤ 65475)
       → CanBeSaid c.spelling s (if first then record_or_ack c s (first_record e) e else ack_resent c s e)
   resend_can true few = record_can (first_record e) few
-  resend_can false few = resent_can e.modes.owes_third (is_data_fin_owed e)
+  resend_can false few = resent_can e.modes.owes_third e.notices.fast_closed (is_data_fin_owed e)
 
   said_can : (kind : SegmentKind) → HasAddresses kind → IfSome (first_unsent e) (λ r. length r.piece ≤ 65475)
       → IfSome (first_record e) (λ r. length r.piece ≤ 65475) → CanBeSaid c.spelling s (said_by kind c s e)
@@ -339,7 +345,7 @@ module _ (c : Profile) (s : Side) (e : PathEnd) (path : c.spelling.path ≤ 15) 
       (two_room c.spelling (spelled_by s) (Fail place) (Reset false 6) (fail_length _) (reset_length false 6))
   said_can (to_say.Notice notice) has unsent first =
       dss_and_can (notice_option notice e.modes) (notice_form notice) (notice_length notice e.modes has c.spelling (spelled_by s))
-  said_can (to_say.FastClose key) has unsent first = dss_and_can (FastClose key) (record { form = tt }) (close_length key)
+  said_can to_say.FastClose has unsent first = carried_can e.notices.carrier
   said_can to_say.Ack has unsent first = ack_can e.tcp.send.nxt None
   said_can to_say.DataFin has unsent first = ack_can e.tcp.send.nxt e.sending.known_end
   said_can to_say.Fin has unsent first = says (fin_segment e.tcp) (fin_options (fin_position e.tcp.send) e) [] (fin_short c s (fin_position e.tcp.send) e) (omega arith)

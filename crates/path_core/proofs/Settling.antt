@@ -14,8 +14,11 @@ module _ {C : Type 0} where
   pub stands_anyway : (d : Duty) (es : List Duty) (p : PathState C) → stands d (with_agenda es p) ≡ stands d p
   stands_anyway (duties.Ask ask_duties.JoinAgain) es p = refl
   stands_anyway (duties.Step (step_duties.Look s)) es p = refl
+  stands_anyway (duties.Ask (ask_duties.LeaveNoted s)) es p = refl
+  stands_anyway (duties.Send (send_duties.ResetNoted s)) es p = refl
   stands_anyway (duties.Ask (ask_duties.Window s)) es p = refl
   stands_anyway (duties.Send (send_duties.Update s)) es p = refl
+  stands_anyway (duties.Send (send_duties.FastClose s)) es p = refl
   stands_anyway (duties.Send (send_duties.Syn s)) es p = refl
   stands_anyway (duties.Step (step_duties.Data s)) es p = refl
   stands_anyway (duties.Send (send_duties.DataFin s)) es p = refl
@@ -50,6 +53,8 @@ module _ {C : Type 0} where
   stands_anyway (duties.Send (send_duties.Answer s)) es p = refl
   stands_anyway (duties.Send (send_duties.ResetAnswer s)) es p = refl
   stands_anyway (duties.Ask (ask_duties.Return s)) es p = refl
+  stands_anyway (duties.Ask (ask_duties.AbortSend s)) es p = refl
+  stands_anyway (duties.Ask (ask_duties.AbortReceive s)) es p = refl
   stands_anyway (duties.Send (send_duties.Resend s)) es p = refl
   stands_anyway (duties.Ask (ask_duties.BreakAck s reason)) es p = refl
   stands_anyway (duties.Send (send_duties.BreakReset s reason)) es p = refl
@@ -61,8 +66,11 @@ module _ {C : Type 0} where
   pub passes_anyway : (d : Duty) (es : List Duty) (p : PathState C) → passed d (with_agenda es p) ≡ with_agenda es (passed d p)
   passes_anyway (duties.Ask ask_duties.JoinAgain) es p = refl
   passes_anyway (duties.Step (step_duties.Look s)) es p = refl
+  passes_anyway (duties.Ask (ask_duties.LeaveNoted s)) es p = refl
+  passes_anyway (duties.Send (send_duties.ResetNoted s)) es p = refl
   passes_anyway (duties.Ask (ask_duties.Window s)) es p = refl
   passes_anyway (duties.Send (send_duties.Update s)) es p = refl
+  passes_anyway (duties.Send (send_duties.FastClose s)) es p = refl
   passes_anyway (duties.Send (send_duties.Syn s)) es p = refl
   passes_anyway (duties.Step (step_duties.Data s)) es p = refl
   passes_anyway (duties.Send (send_duties.DataFin s)) es p = refl
@@ -97,6 +105,8 @@ module _ {C : Type 0} where
   passes_anyway (duties.Send (send_duties.Answer s)) es p = refl
   passes_anyway (duties.Send (send_duties.ResetAnswer s)) es p = refl
   passes_anyway (duties.Ask (ask_duties.Return s)) es p = refl
+  passes_anyway (duties.Ask (ask_duties.AbortSend s)) es p = refl
+  passes_anyway (duties.Ask (ask_duties.AbortReceive s)) es p = refl
   passes_anyway (duties.Send (send_duties.Resend s)) es p = refl
   passes_anyway (duties.Ask (ask_duties.BreakAck s reason)) es p = refl
   passes_anyway (duties.Send (send_duties.BreakReset s reason)) es p = refl

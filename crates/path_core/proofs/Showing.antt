@@ -53,6 +53,7 @@ use Rattle.path_agenda.specs.declared.keys.KeyPair.{KeyPair}
 use Rattle.join_handshake.specs.declared.hearing.JoinSyn.{JoinSyn}
 use Rattle.path_core.specs.Joining.{is_never, keys_begun, opened_by, asked_at, join_heard_ask, join_taken, refusal_of}
 use Rattle.path_core.specs.Breaking.{reset_of, reset_on, break_ask, answered_break}
+use Rattle.path_core.specs.FastClosing.{fast_close_of, having_fast_closed}
 use Rattle.path_core.specs.Emission.{first_unsent, data_ask, unsent_segment, having_sent_unsent, data_fin_segment, having_sent_data_fin, fin_segment_of, having_sent_fin, Grant, grant_in, answered_grant, answered_data}
 use Rattle.path_core.specs.Opening.{syn_ack_of, peer_key_ask, answered_peer_key, opened_ask, answered_opened}
 use Rattle.loss_recovery.specs.declared.windows.Pending.{Pending}
@@ -84,8 +85,11 @@ same_event p = rw (same_due p p.link.under_way) refl
 same_stands : (d : Duty) (p : PathState Carried) → stands d (shown_path p) ≡ stands d p
 same_stands (duties.Ask ask_duties.JoinAgain) p = refl
 same_stands (duties.Step (step_duties.Look s)) p = refl
+same_stands (duties.Ask (ask_duties.LeaveNoted s)) p = refl
+same_stands (duties.Send (send_duties.ResetNoted s)) p = refl
 same_stands (duties.Ask (ask_duties.Window s)) p = refl
 same_stands (duties.Send (send_duties.Update s)) p = refl
+same_stands (duties.Send (send_duties.FastClose s)) p = refl
 same_stands (duties.Send (send_duties.Syn s)) p = refl
 same_stands (duties.Step (step_duties.Data s)) p = refl
 same_stands (duties.Send (send_duties.DataFin s)) p = refl
@@ -120,6 +124,8 @@ same_stands (duties.Send (send_duties.Again s)) p = refl
 same_stands (duties.Send (send_duties.Answer s)) p = refl
 same_stands (duties.Send (send_duties.ResetAnswer s)) p = refl
 same_stands (duties.Ask (ask_duties.Return s)) p = refl
+same_stands (duties.Ask (ask_duties.AbortSend s)) p = refl
+same_stands (duties.Ask (ask_duties.AbortReceive s)) p = refl
 same_stands (duties.Send (send_duties.Resend s)) p = refl
 same_stands (duties.Ask (ask_duties.BreakAck s reason)) p = refl
 same_stands (duties.Send (send_duties.BreakReset s reason)) p = refl
@@ -184,8 +190,11 @@ same_join s (Some asked) p = refl
 same_asks : (d : Duty) (p : PathState Carried) → ask_for octets d (shown_path p) ≡ ask_for values d p
 same_asks (duties.Ask ask_duties.JoinAgain) p = refl
 same_asks (duties.Step (step_duties.Look s)) p = refl
+same_asks (duties.Ask (ask_duties.LeaveNoted s)) p = refl
+same_asks (duties.Send (send_duties.ResetNoted s)) p = same_sends s (reset_of s None p) p
 same_asks (duties.Ask (ask_duties.Window s)) p = refl
 same_asks (duties.Send (send_duties.Update s)) p = same_sends s (ack_segment s p) p
+same_asks (duties.Send (send_duties.FastClose s)) p = same_sends s (fast_close_of s p) p
 same_asks (duties.Send (send_duties.Syn s)) p = same_sends s (unsent_segment s p) p
 same_asks (duties.Step (step_duties.Data s)) p = same_data s (first_unsent (end_at s p)) p
 same_asks (duties.Send (send_duties.DataFin s)) p = same_sends s (data_fin_segment s p) p
@@ -220,6 +229,8 @@ same_asks (duties.Send (send_duties.Again s)) p = same_sends s (first_segment s 
 same_asks (duties.Send (send_duties.Answer s)) p = same_sends s (answer_of s p) p
 same_asks (duties.Send (send_duties.ResetAnswer s)) p = same_sends s (dead_answer s p) p
 same_asks (duties.Ask (ask_duties.Return s)) p = refl
+same_asks (duties.Ask (ask_duties.AbortSend s)) p = refl
+same_asks (duties.Ask (ask_duties.AbortReceive s)) p = refl
 same_asks (duties.Send (send_duties.Resend s)) p = same_sends s (resend_of s p) p
 same_asks (duties.Ask (ask_duties.BreakAck s reason)) p = refl
 same_asks (duties.Send (send_duties.BreakReset s reason)) p = same_sends s (reset_of s (Some reason) p) p
@@ -231,8 +242,11 @@ same_asks duties.End p = refl
 same_passed : (d : Duty) (p : PathState Carried) → passed d (shown_path p) ≡ shown_path (passed d p)
 same_passed (duties.Ask ask_duties.JoinAgain) p = refl
 same_passed (duties.Step (step_duties.Look s)) p = refl
+same_passed (duties.Ask (ask_duties.LeaveNoted s)) p = refl
+same_passed (duties.Send (send_duties.ResetNoted s)) p = refl
 same_passed (duties.Ask (ask_duties.Window s)) p = refl
 same_passed (duties.Send (send_duties.Update s)) p = refl
+same_passed (duties.Send (send_duties.FastClose s)) p = refl
 same_passed (duties.Send (send_duties.Syn s)) p = refl
 same_passed (duties.Step (step_duties.Data s)) p = refl
 same_passed (duties.Send (send_duties.DataFin s)) p = refl
@@ -267,6 +281,8 @@ same_passed (duties.Send (send_duties.Again s)) p = refl
 same_passed (duties.Send (send_duties.Answer s)) p = refl
 same_passed (duties.Send (send_duties.ResetAnswer s)) p = refl
 same_passed (duties.Ask (ask_duties.Return s)) p = refl
+same_passed (duties.Ask (ask_duties.AbortSend s)) p = refl
+same_passed (duties.Ask (ask_duties.AbortReceive s)) p = refl
 same_passed (duties.Send (send_duties.Resend s)) p = refl
 same_passed (duties.Ask (ask_duties.BreakAck s reason)) p = refl
 same_passed (duties.Send (send_duties.BreakReset s reason)) p = refl
@@ -540,8 +556,11 @@ same_answered : (d : Duty) (r : Reply) (p : PathState Carried) → AltersNothing
     → answered octets d r (shown_path p) ≡ shown_path (answered values d r p)
 same_answered (duties.Ask ask_duties.JoinAgain) r p nothing fresh = same_join_again (is_never r) r p
 same_answered (duties.Step (step_duties.Look s)) r p nothing fresh = refl
+same_answered (duties.Ask (ask_duties.LeaveNoted s)) r p nothing fresh = refl
+same_answered (duties.Send (send_duties.ResetNoted s)) r p nothing fresh = same_reset s None (replaced (duties.Ask (ask_duties.Leave s)) p.agenda) p nothing
 same_answered (duties.Ask (ask_duties.Window s)) r p nothing fresh = refl
 same_answered (duties.Send (send_duties.Update s)) r p nothing fresh = same_sent s (ack_segment s p) (having_sent to_send.Ack p.clock (ack_segment s p) (end_at s p)) (left p) p nothing
+same_answered (duties.Send (send_duties.FastClose s)) r p nothing fresh = same_sent s (fast_close_of s p) (having_fast_closed s p) (left p) p nothing
 same_answered (duties.Send (send_duties.Syn s)) r p nothing fresh = same_sent s (unsent_segment s p) (having_sent_unsent s p) (left p) p nothing
 same_answered (duties.Step (step_duties.Data s)) r p nothing fresh = same_data_answered s (first_unsent (end_at s p)) r p nothing
 same_answered (duties.Send (send_duties.DataFin s)) r p nothing fresh = same_sent s (data_fin_segment s p) (having_sent_data_fin s p) (left p) p nothing
@@ -578,6 +597,8 @@ same_answered (duties.Send (send_duties.Again s)) r p nothing fresh = same_sent 
 same_answered (duties.Send (send_duties.Answer s)) r p nothing fresh = same_sent s (answer_of s p) (having_sent (answer_occasion (end_at s p)) p.clock (answer_of s p) (end_at s p)) (left p) p nothing
 same_answered (duties.Send (send_duties.ResetAnswer s)) r p nothing fresh = same_sent s (dead_answer s p) (end_at s p) (left p) p nothing
 same_answered (duties.Ask (ask_duties.Return s)) r p nothing fresh = refl
+same_answered (duties.Ask (ask_duties.AbortSend s)) r p nothing fresh = refl
+same_answered (duties.Ask (ask_duties.AbortReceive s)) r p nothing fresh = refl
 same_answered (duties.Send (send_duties.Resend s)) r p nothing fresh = same_sent s (resend_of s p) (having_sent (resend_occasion (end_at s p)) p.clock (resend_of s p) (end_at s p)) (left p) p nothing
 same_answered (duties.Ask (ask_duties.BreakAck s reason)) r p nothing fresh = refl
 same_answered (duties.Send (send_duties.BreakReset s reason)) r p nothing fresh = same_reset s (Some reason) (leaves s) p nothing

@@ -54,8 +54,11 @@ module _ {C : Type 0} where
   same_stands : (d : Duty) (ds : List Duty) (p : PathState C) → stands d p ≡ true → stands d (with_agenda (d ∷ ds) p) ≡ true
   same_stands (duties.Ask ask_duties.JoinAgain) ds p is = is
   same_stands (duties.Step (step_duties.Look s)) ds p is = is
+  same_stands (duties.Ask (ask_duties.LeaveNoted s)) ds p is = is
+  same_stands (duties.Send (send_duties.ResetNoted s)) ds p is = is
   same_stands (duties.Ask (ask_duties.Window s)) ds p is = is
   same_stands (duties.Send (send_duties.Update s)) ds p is = is
+  same_stands (duties.Send (send_duties.FastClose s)) ds p is = is
   same_stands (duties.Send (send_duties.Syn s)) ds p is = is
   same_stands (duties.Step (step_duties.Data s)) ds p is = is
   same_stands (duties.Send (send_duties.DataFin s)) ds p is = is
@@ -90,6 +93,8 @@ module _ {C : Type 0} where
   same_stands (duties.Send (send_duties.Answer s)) ds p is = is
   same_stands (duties.Send (send_duties.ResetAnswer s)) ds p is = is
   same_stands (duties.Ask (ask_duties.Return s)) ds p is = is
+  same_stands (duties.Ask (ask_duties.AbortSend s)) ds p is = is
+  same_stands (duties.Ask (ask_duties.AbortReceive s)) ds p is = is
   same_stands (duties.Send (send_duties.Resend s)) ds p is = is
   same_stands (duties.Ask (ask_duties.BreakAck s reason)) ds p is = is
   same_stands (duties.Send (send_duties.BreakReset s reason)) ds p is = is

@@ -24,6 +24,7 @@ use Rattle.path_core.specs.Emission.{is_syn_due, data_stands, first_unsent, unse
 use Rattle.path_core.specs.Events.{next_event, step_for, happens_if, answered_join_again}
 use Rattle.path_core.specs.Joining.{is_join_pending, join_begin_ask, asked_at, join_heard_ask, answered_join_heard, refusal_of, answered_refusal}
 use Rattle.path_agenda.specs.Items.{key_heard, keys_heard}
+use Rattle.path_core.specs.FastClosing.{leaves_silently, resets_noted, answered_leave_noted, is_fast_close_due, fast_close_of, answered_fast_close, abort_send_ask, abort_receive_ask}
 use Rattle.path_core.specs.Fallback.{fell_ask, answered_fell, identity_ask, answered_identity}
 use Rattle.path_core.specs.Opening.{syn_window_ask, syn_ack_of, answered_syn_ack, is_plain_syn, peer_key_stands, peer_key_ask, answered_peer_key, is_opened_by_keys, is_opened_plainly, opened_ask, answered_opened, live_ask}
 use Rattle.path_core.specs.Passing.{piece_of, piece_ask, is_placed, answered_piece, is_fin_set, data_fin_of, fin_ask, answered_fin_heard, after_pass_fin, plain_fin, answered_plain_fin, rate_ask, answered_rate, first_segment, answered_again, answer_of, answered_answer, dead_answer, answered_dead, resend_of, answered_resend}
@@ -57,6 +58,9 @@ stands (duties.Ask (ask_duties.SubflowFin s)) p = is_some (plain_fin (end_at s p
 stands (duties.Ask (ask_duties.AckOut s)) p = (end_at s p).treated.asked
 stands (duties.Ask (ask_duties.Rate s)) p = is_some (end_at s p).tcp.congestion.pending
 stands (duties.Ask (ask_duties.Return s)) p = not (is_nil (end_at s p).sending.granted)
+stands (duties.Ask (ask_duties.AbortSend s)) p = true
+stands (duties.Ask (ask_duties.AbortReceive s)) p = true
+stands (duties.Ask (ask_duties.LeaveNoted s)) p = leaves_silently (end_at s p)
 stands (duties.Ask (ask_duties.BreakAck s reason)) p = true
 stands (duties.Ask (ask_duties.Leave s)) p = true
 stands (duties.Ask (ask_duties.Dead s)) p = true
@@ -68,6 +72,7 @@ stands (duties.Step (step_duties.PlainAck s)) p = plain_ack_stands p.profile (en
 stands (duties.Step (step_duties.Unmapped s)) p = breaks_by_unmapped (end_at s p)
 stands (duties.Send (send_duties.Update s)) p = is_update_due p.profile (end_at s p)
 stands (duties.Send (send_duties.Syn s)) p = is_syn_due (end_at s p)
+stands (duties.Send (send_duties.FastClose s)) p = is_fast_close_due (end_at s p)
 stands (duties.Send (send_duties.DataFin s)) p = is_data_fin_due (end_at s p)
 stands (duties.Send (send_duties.Fin s)) p = is_fin_due (end_at s p)
 stands (duties.Send (send_duties.SynAck s)) p = true
@@ -79,6 +84,7 @@ stands (duties.Send (send_duties.ResetAnswer s)) p = true
 stands (duties.Send (send_duties.Resend s)) p = true
 stands (duties.Send (send_duties.BreakReset s reason)) p = true
 stands (duties.Send (send_duties.Reset s)) p = true
+stands (duties.Send (send_duties.ResetNoted s)) p = resets_noted (end_at s p)
 stands (duties.Silent d) p = false
 stands duties.End p = true
 
@@ -104,6 +110,9 @@ ask_for k (duties.Ask (ask_duties.SubflowFin s)) p = fin_ask s (plain_fin (end_a
 ask_for k (duties.Ask (ask_duties.AckOut s)) p = ack_out_ask s
 ask_for k (duties.Ask (ask_duties.Rate s)) p = rate_ask s (end_at s p).tcp.congestion.pending p
 ask_for k (duties.Ask (ask_duties.Return s)) p = return_ask s p
+ask_for k (duties.Ask (ask_duties.AbortSend s)) p = abort_send_ask s
+ask_for k (duties.Ask (ask_duties.AbortReceive s)) p = abort_receive_ask s
+ask_for k (duties.Ask (ask_duties.LeaveNoted s)) p = return_ask s p
 ask_for k (duties.Ask (ask_duties.BreakAck s reason)) p = ack_out_ask s
 ask_for k (duties.Ask (ask_duties.Leave s)) p = return_ask s p
 ask_for k (duties.Ask (ask_duties.Dead s)) p = dead_ask s p
@@ -115,6 +124,7 @@ ask_for k (duties.Step (step_duties.PlainAck s)) p = plain_ack_ask k s p
 ask_for k (duties.Step (step_duties.Unmapped s)) p = break_ask k s 6 p
 ask_for k (duties.Send (send_duties.Update s)) p = sends k s (ack_segment s p) p
 ask_for k (duties.Send (send_duties.Syn s)) p = sends k s (unsent_segment s p) p
+ask_for k (duties.Send (send_duties.FastClose s)) p = sends k s (fast_close_of s p) p
 ask_for k (duties.Send (send_duties.DataFin s)) p = sends k s (data_fin_segment s p) p
 ask_for k (duties.Send (send_duties.Fin s)) p = sends k s (fin_segment_of s p) p
 ask_for k (duties.Send (send_duties.SynAck s)) p = sends k s (syn_ack_of s p) p
@@ -126,6 +136,7 @@ ask_for k (duties.Send (send_duties.ResetAnswer s)) p = sends k s (dead_answer s
 ask_for k (duties.Send (send_duties.Resend s)) p = sends k s (resend_of s p) p
 ask_for k (duties.Send (send_duties.BreakReset s reason)) p = sends k s (reset_of s (Some reason) p) p
 ask_for k (duties.Send (send_duties.Reset s)) p = sends k s (reset_of s None p) p
+ask_for k (duties.Send (send_duties.ResetNoted s)) p = sends k s (reset_of s None p) p
 ask_for k (duties.Silent d) p = asks.Local steps.End
 ask_for k duties.End p = asks.Local steps.End
 
@@ -151,6 +162,9 @@ passed (duties.Ask (ask_duties.SubflowFin s)) p = p
 passed (duties.Ask (ask_duties.AckOut s)) p = p
 passed (duties.Ask (ask_duties.Rate s)) p = p
 passed (duties.Ask (ask_duties.Return s)) p = p
+passed (duties.Ask (ask_duties.AbortSend s)) p = p
+passed (duties.Ask (ask_duties.AbortReceive s)) p = p
+passed (duties.Ask (ask_duties.LeaveNoted s)) p = p
 passed (duties.Ask (ask_duties.BreakAck s reason)) p = p
 passed (duties.Ask (ask_duties.Leave s)) p = p
 passed (duties.Ask (ask_duties.Dead s)) p = p
@@ -176,6 +190,7 @@ done p = with_agenda (left p) p
 abbrev pub sent_for : {C : Type 0} → Codec C → SendDuty → PathState C → PathState C
 sent_for k (send_duties.Update s) p = acknowledges k s p
 sent_for k (send_duties.Syn s) p = answered_syn k s p
+sent_for k (send_duties.FastClose s) p = answered_fast_close k s p
 sent_for k (send_duties.DataFin s) p = answered_data_fin_sent k s p
 sent_for k (send_duties.Fin s) p = answered_fin k s p
 sent_for k (send_duties.SynAck s) p = answered_syn_ack k s p
@@ -187,6 +202,7 @@ sent_for k (send_duties.ResetAnswer s) p = answered_dead k s p
 sent_for k (send_duties.Resend s) p = answered_resend k s p
 sent_for k (send_duties.BreakReset s reason) p = reset_on k s (Some reason) (leaves s) p
 sent_for k (send_duties.Reset s) p = reset_on k s None (replaced (duties.Ask (ask_duties.Leave s)) p.agenda) p
+sent_for k (send_duties.ResetNoted s) p = reset_on k s None (replaced (duties.Ask (ask_duties.Leave s)) p.agenda) p
 
 abbrev pub answered : {C : Type 0} → Codec C → Duty → Reply → PathState C → PathState C
 answered k (duties.Ask ask_duties.JoinAgain) r p = answered_join_again r p
@@ -204,12 +220,15 @@ answered k (duties.Ask (ask_duties.HeardFin s index)) r p = answered_fin_heard s
 answered k (duties.Ask (ask_duties.SubflowFin s)) r p = answered_plain_fin s (is_fin_set r) p
 answered k (duties.Ask (ask_duties.AckOut s)) r p = answered_ack_out s r (left p) p
 answered k (duties.Ask (ask_duties.Rate s)) r p = answered_rate s r p
+answered k (duties.Ask (ask_duties.LeaveNoted s)) r p = answered_leave_noted s p
 answered k (duties.Ask (ask_duties.BreakAck s reason)) r p = answered_ack_out s r (resets s reason) p
 answered k (duties.Ask (ask_duties.Leave s)) r p = with_agenda (replaced (duties.Ask (ask_duties.Dead s)) p.agenda) p
 answered k (duties.Ask (ask_duties.SynHeard s)) r p = done p
 answered k (duties.Ask (ask_duties.SynAnswered s)) r p = done p
 answered k (duties.Ask (ask_duties.Live s)) r p = done p
 answered k (duties.Ask (ask_duties.Return s)) r p = done p
+answered k (duties.Ask (ask_duties.AbortSend s)) r p = done p
+answered k (duties.Ask (ask_duties.AbortReceive s)) r p = done p
 answered k (duties.Ask (ask_duties.Dead s)) r p = done p
 answered k (duties.Step (step_duties.Look s)) r p = answered_look s r p
 answered k (duties.Step (step_duties.Data s)) r p = answered_data k s (first_unsent (end_at s p)) r p

@@ -146,9 +146,9 @@ answered_fin k s p = sent_on k s (fin_segment_of s p) (having_sent_fin s p) (lef
 
 -- ---- the timer
 
--- it is settled by the reasons of the subflow and of the streams, and by the third MP_JOIN
+-- it is settled by the reasons of the subflow and of the streams, by the third MP_JOIN, and by the fast close
 abbrev pub after_timer : ℕ → PathEnd → PathEnd
 after_timer now e = record e {
-  tcp = after_settling (is_waiting e || e.modes.owes_third) e.sending.news now e.tcp;
+  tcp = after_settling (is_waiting e || (e.modes.owes_third || e.notices.fast_closed)) e.sending.news now e.tcp;
   sending = without_news e.sending;
 }

@@ -19,6 +19,7 @@ pub mod Fallback
 pub mod Opening
 pub mod Joining
 pub mod Breaking
+pub mod FastClosing
 pub mod Treating
 pub mod Passing
 pub mod Duties

@@ -1,5 +1,5 @@
 -- What the control book tells an end to note to its peer, or to do.
-use Rattle.std.specs.Prelude.{Bool, true, false, if◌then◌else◌, Some, [], ◌∷◌, ◌++◌}
+use Rattle.std.specs.Prelude.{Bool, true, false, not, ◌&&◌, if◌then◌else◌, is_some, Some, [], ◌∷◌, ◌++◌}
 use Rattle.control_book.specs.declared.call.Notice.{Notice}
 use Rattle.control_book.specs.declared.call.Notice.TheVariants as told
 use Rattle.path_agenda.specs.declared.notice.OwnNotice.{OwnNotice}
@@ -25,3 +25,7 @@ queues (told.Announce id) may = may
 queues (told.Withdraw id) may = true
 queues (told.Carrier key) may = false
 queues told.Reset may = false
+
+-- MP_FASTCLOSE is to be sent, and never was
+abbrev pub is_carried : Notices → Bool
+is_carried n = is_some n.carrier && not n.fast_closed

@@ -217,6 +217,11 @@ notice_said c notice e = dss_and c (notice_option notice e.modes) e
 abbrev pub fast_close_said : Profile → ℕ → PathEnd → PlainSegment
 fast_close_said c key e = dss_and c (FastClose key) e
 
+-- with the key of an end that carries it
+abbrev pub carried_said : Profile → Side → Option ℕ → PathEnd → PlainSegment
+carried_said c s (Some key) e = fast_close_said c key e
+carried_said c s None e = ack_said c s e.tcp.send.nxt None e
+
 -- a record that may be there
 abbrev pub record_or_ack : Profile → Side → Option Record → PathEnd → PlainSegment
 record_or_ack c s (Some r) e = record_said c s r e

@@ -28,7 +28,7 @@ use Rattle.path_core.specs.StreamEnds.{after_peer_data_fin, is_data_fin_owed}
 use Rattle.path_core.specs.Codec.{Codec}
 use Rattle.path_core.specs.Ends.{PathEnd}
 use Rattle.path_core.specs.Deliver.{Piece, next_piece, after_piece}
-use Rattle.path_core.specs.OptionsOut.{ack_said, syn_ack_said, segment_of, record_or_ack}
+use Rattle.path_core.specs.OptionsOut.{ack_said, carried_said, syn_ack_said, segment_of, record_or_ack}
 use Rattle.path_core.specs.Handover.{having_sent, sent_on}
 use Rattle.path_core.specs.State.{PathState, Profile, end_at, goes_on, left, path_of}
 use Rattle.path_core.specs.Words.{item_at}
@@ -172,18 +172,19 @@ answered_dead k s p = sent_on k s (dead_answer s p) (end_at s p) (left p) p
 
 -- ---- what an expiry sends again
 
--- the first record; without one the third MP_JOIN or the DATA_FIN, where that isn't answered; else what a peer that is there
--- answers
+-- the first record; without one the third MP_JOIN, MP_FASTCLOSE or the DATA_FIN, where that isn't answered; else what a peer that
+-- is there answers
 abbrev pub resend_occasion : PathEnd → Occasion
 resend_occasion e =
     if has_records e.tcp then to_send.First
-    else (if e.modes.owes_third || is_data_fin_owed e then to_send.Ack else to_send.Probe)
+    else (if e.modes.owes_third || (e.notices.fast_closed || is_data_fin_owed e) then to_send.Ack else to_send.Probe)
 
 abbrev pub ack_resent : Profile → Side → PathEnd → PlainSegment
 ack_resent c s e =
     if e.modes.owes_third then ack_said c s e.tcp.send.nxt None e
+    else (if e.notices.fast_closed then carried_said c s e.notices.carrier e
     else (if is_data_fin_owed e then ack_said c s e.tcp.send.nxt e.sending.known_end e
-    else ack_said c s (e.tcp.send.una - 1) None e)
+    else ack_said c s (e.tcp.send.una - 1) None e))
 
 abbrev pub resend_said : Profile → Side → PathEnd → PlainSegment
 resend_said c s e = if has_records e.tcp then record_or_ack c s (first_record e) e else ack_resent c s e

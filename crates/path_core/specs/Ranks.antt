@@ -1,11 +1,12 @@
 -- The numbers that show that a turn ends, each of which falls where those before it stay: ticks until the round's end, events
 -- that are due by now, the weight of what is to be done, octets in order that aren't passed, and what may still be sent.
-use Rattle.std.specs.Prelude.{ℕ, ◌+◌, ◌-◌, ◌*◌, nat_le, not, ◌&&◌, Bool, is_some, if◌then◌else◌, Option, Some, None, List, [], ◌∷◌, length}
+use Rattle.std.specs.Prelude.{ℕ, ◌+◌, ◌-◌, ◌*◌, nat_le, if◌then◌else◌, Option, Some, None, List, [], ◌∷◌, length}
 use Rattle.link_model.specs.declared.flight.Flight.{Flight}
 use Rattle.subflow_recv.specs.Receiving.{filled}
 use Rattle.subflow_send.specs.Records.{Record}
 use Rattle.subflow_send.specs.Rules.{is_unsent}
 use Rattle.path_core.specs.Ends.{PathEnd, Notices}
+use Rattle.path_core.specs.Noticing.{is_carried}
 use Rattle.path_core.specs.State.{PathState}
 use Rattle.path_core.specs.declared.lines.LineLeft.{LineLeft}
 
@@ -55,9 +56,6 @@ unsent_count [] = 0
 unsent_count (r ∷ rs) = (if is_unsent r then 1 else 0) + unsent_count rs
 
 -- what is to be noted to the peer, and the fast close
-abbrev pub is_carried : Notices → Bool
-is_carried n = is_some n.carrier && not n.fast_closed
-
 abbrev pub notes_left : Notices → ℕ
 notes_left n = length n.queue + (if is_carried n then 1 else 0)
 

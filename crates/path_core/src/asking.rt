@@ -8,6 +8,7 @@ ghost use Rattle.path_core.specs.Octets.{octets};
 ghost use Rattle.path_core.specs.Duties.{stands, ask_for, passed, answered};
 ghost use Rattle.path_core.specs.Replies.{IsAckBounded, AreRowsInRange, asks_bytes};
 
+use crate::fast_closing::{abort_receive_ask, abort_send_ask};
 use crate::joining::join_begin_ask;
 use crate::machine::Machine;
 use crate::standing::ack_out_ask;
@@ -38,10 +39,13 @@ impl Machine {
             AskDuty::AckOut(side) => self.end(side).treated.is_asked(),
             AskDuty::Rate(side) => self.end(side).tcp.pending().is_some(),
             AskDuty::Return(side) => !self.end(side).sending.is_idle(),
+            AskDuty::LeaveNoted(side) => self.end(side).leaves_silently(),
             AskDuty::Window(_)
             | AskDuty::SynHeard(_)
             | AskDuty::SynAnswered(_)
             | AskDuty::GoIdentity(_)
+            | AskDuty::AbortSend(_)
+            | AskDuty::AbortReceive(_)
             | AskDuty::BreakAck { .. }
             | AskDuty::Leave(_)
             | AskDuty::Dead(_) => true,
@@ -81,6 +85,9 @@ impl Machine {
             AskDuty::AckOut(side) => Ok(ack_out_ask(side)),
             AskDuty::Rate(side) => Ok(self.rate_ask(side)),
             AskDuty::Return(side) => Ok(self.return_ask(side)),
+            AskDuty::AbortSend(side) => Ok(abort_send_ask(side)),
+            AskDuty::AbortReceive(side) => Ok(abort_receive_ask(side)),
+            AskDuty::LeaveNoted(side) => Ok(self.return_ask(side)),
             AskDuty::BreakAck { side, .. } => Ok(ack_out_ask(side)),
             AskDuty::Leave(side) => Ok(self.return_ask(side)),
             AskDuty::Dead(side) => Ok(self.dead_ask(side)),
@@ -111,6 +118,9 @@ impl Machine {
             | AskDuty::AckOut(_)
             | AskDuty::Rate(_)
             | AskDuty::Return(_)
+            | AskDuty::AbortSend(_)
+            | AskDuty::AbortReceive(_)
+            | AskDuty::LeaveNoted(_)
             | AskDuty::BreakAck { .. }
             | AskDuty::Leave(_)
             | AskDuty::Dead(_) => {}
@@ -143,6 +153,9 @@ impl Machine {
             AskDuty::AckOut(side) => self.ack_out(side, reply),
             AskDuty::Rate(side) => self.take_rate_reply(side, reply),
             AskDuty::Return(_) => self.done(),
+            AskDuty::AbortSend(_) => self.done(),
+            AskDuty::AbortReceive(_) => self.done(),
+            AskDuty::LeaveNoted(side) => self.leave_silently(side),
             AskDuty::BreakAck { side, reason } => self.ack_out_breaking(side, reply, reason),
             AskDuty::Leave(side) => self.turns_to(Duty::Ask(AskDuty::Dead(side))),
             AskDuty::Dead(_) => self.done(),

@@ -104,12 +104,12 @@ impl PathEnd {
         }
     }
 
-    /// The timer is settled by the reasons of the subflow and of the streams, and by the third MP_JOIN.
+    /// The timer is settled by the reasons of the subflow and of the streams, by the third MP_JOIN, and by the fast close.
     pub fn settle_timer(&mut self, now: u64)
         requires { now < 2 ^ 64 - 2 ^ 20 }
         ensures { self.new ≡ after_timer now self.old }
     {
-        let waiting = self.is_waiting() || self.modes.owes_third;
+        let waiting = self.is_waiting() || self.modes.owes_third || self.notices.is_fast_closed();
         self.tcp.hold_timer(waiting, self.sending.has_news(), now);
         self.sending.clear_news();
     }

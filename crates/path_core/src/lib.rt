@@ -21,6 +21,7 @@ mod end;
 mod event;
 mod events;
 mod fallback;
+mod fast_closing;
 mod granted;
 mod granted_piece;
 mod handover;

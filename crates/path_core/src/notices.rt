@@ -1,6 +1,6 @@
 //! What an end has to tell its peer beside its streams, or to do (RFC 8684, sections 3.3.8, 3.4 and 3.5).
 
-ghost use Rattle.std.specs.Prelude.{◌≡◌, false, OnOk, OnErr, IsOk};
+ghost use Rattle.std.specs.Prelude.{◌≡◌, true, false, OnOk, OnErr, IsOk};
 
 use control_book::Notice;
 use path_agenda::OwnNotice;
@@ -36,7 +36,7 @@ impl Model for Notices {
 
 impl Notices {
     ghost use Rattle.path_core.specs.Ends.{no_notices};
-    ghost use Rattle.path_core.specs.Noticing.{queued, after_notice, queues};
+    ghost use Rattle.path_core.specs.Noticing.{queued, after_notice, queues, is_carried};
 
     /// Nothing is to be told or done. Takes no memory.
     pub fn new(alloc: Global) -> Self
@@ -58,6 +58,41 @@ impl Notices {
         self.carrier = None;
         self.fast_closed = false;
         self.reset = false;
+    }
+
+    /// The key of MP_FASTCLOSE, where this end carries it.
+    pub fn carrier(&self) -> Option<u64>
+        ensures { result ≡ self.now.carrier }
+    {
+        self.carrier
+    }
+
+    /// MP_FASTCLOSE was sent.
+    pub fn is_fast_closed(&self) -> bool
+        ensures { result ≡ self.now.fast_closed }
+    {
+        self.fast_closed
+    }
+
+    /// MP_FASTCLOSE is to be sent, and never was.
+    pub fn is_carried(&self) -> bool
+        ensures { result ≡ is_carried self.now }
+    {
+        self.carrier.is_some() && !self.fast_closed
+    }
+
+    /// The end is to be reset.
+    pub fn is_reset_noted(&self) -> bool
+        ensures { result ≡ self.now.reset }
+    {
+        self.reset
+    }
+
+    /// MP_FASTCLOSE was sent now.
+    pub fn have_fast_closed(&mut self)
+        ensures { self.new ≡ record self.old { fast_closed = true } }
+    {
+        self.fast_closed = true;
     }
 
     /// This is to be noted behind all others. At an error all is as it was.

@@ -6,7 +6,7 @@ ghost use Rattle.outside_kit.specs.declared.side.Side.TheVariants.{A};
 ghost use Rattle.path_segments.specs.declared.segment.PathOption.TheVariants.{Capable};
 ghost use Rattle.subflow_send.specs.Records.{record_of};
 ghost use Rattle.path_core.specs.declared.segment_kind.SegmentKind.TheVariants.{DeadAnswer, Refusal};
-ghost use Rattle.path_core.specs.OptionsOut.{owes_mapping, bare_mapping, checksum_in, mapping_of, place_numbered, checksum_told, plain_options, capable_options, syn_options, key_options, opening_options, data_fin_mapping, ack_options, piece_mapping, first_piece_options, piece_options, fin_options, record_options, reset_options, announcement, notice_option, dss_and, HasAddress, HasAddresses, segment_of, ack_said, fail_reset_said, record_said, record_or_ack, syn_ack_said, fin_said, reset_said};
+ghost use Rattle.path_core.specs.OptionsOut.{owes_mapping, bare_mapping, checksum_in, mapping_of, place_numbered, checksum_told, plain_options, capable_options, syn_options, key_options, opening_options, data_fin_mapping, ack_options, piece_mapping, first_piece_options, piece_options, fin_options, record_options, reset_options, announcement, notice_option, dss_and, carried_said, HasAddress, HasAddresses, segment_of, ack_said, fail_reset_said, record_said, record_or_ack, syn_ack_said, fin_said, reset_said};
 ghost use Rattle.path_core.specs.Passing.{answer_said, ack_resent, resend_said};
 ghost use Rattle.path_core.specs.Said.{options_by, said_options, plain_said, said_by, CanBeSaid};
 
@@ -437,6 +437,16 @@ impl PathEnd {
         self.segment_of(profile, outgoing, SaidOptions::Two(dss, option), &[])
     }
 
+    /// The acknowledgement with MP_FASTCLOSE, as the end carries it; without a key an acknowledgement.
+    fn carried_said(&self, profile: &Profile, side: Side) -> Said<'_>
+        ensures { plain_said result ≡ carried_said profile.now side self.now.notices.carrier self.now }
+    {
+        match self.notices.carrier() {
+            Some(key) => self.dss_and(profile, PathOption::FastClose { key }),
+            None => self.ack_said(profile, side, self.tcp.nxt(), None),
+        }
+    }
+
     /// The answer to a segment that is passed over.
     fn answer_said(&self, profile: &Profile, side: Side) -> Said<'_>
         ensures { plain_said result ≡ answer_said profile.now side self.now }
@@ -471,13 +481,16 @@ impl PathEnd {
         self.segment_of(profile, outgoing, options, &[])
     }
 
-    /// What an expiry sends again where no record is left: the third MP_JOIN, or else the DATA_FIN, or else what a peer that
-    /// is there answers.
+    /// What an expiry sends again where no record is left: the third MP_JOIN, or else MP_FASTCLOSE, or else the DATA_FIN, or else
+    /// what a peer that is there answers.
     fn ack_resent(&self, profile: &Profile, side: Side) -> Said<'_>
         ensures { plain_said result ≡ ack_resent profile.now side self.now }
     {
         if self.modes.owes_third {
             return self.ack_said(profile, side, self.tcp.nxt(), None);
+        }
+        if self.notices.is_fast_closed() {
+            return self.carried_said(profile, side);
         }
         if self.is_data_fin_owed() {
             return self.ack_said(profile, side, self.tcp.nxt(), self.sending.known_end());
@@ -519,9 +532,7 @@ impl PathEnd {
             SegmentKind::Notice { notice } => {
                 self.dss_and(profile, self.modes.notice_option(notice))
             }
-            SegmentKind::FastClose { key } => {
-                self.dss_and(profile, PathOption::FastClose { key })
-            }
+            SegmentKind::FastClose => self.carried_said(profile, side),
         }
     }
 

@@ -126,7 +126,10 @@ impl PathEnd {
     {
         if self.tcp.has_records() {
             Occasion::First
-        } else if self.modes.owes_third || self.is_data_fin_owed() {
+        } else if self.modes.owes_third
+            || self.notices.is_fast_closed()
+            || self.is_data_fin_owed()
+        {
             Occasion::Ack
         } else {
             Occasion::Probe

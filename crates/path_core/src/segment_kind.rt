@@ -31,6 +31,7 @@ pub(crate) enum SegmentKind {
     FailReset { place: u64 },
     /// The acknowledgement that carries a notice (sections 3.3.8 and 3.4).
     Notice { notice: OwnNotice },
-    /// The acknowledgement that carries MP_FASTCLOSE with this key, the peer's (section 3.5).
-    FastClose { key: u64 },
+    /// The acknowledgement that carries MP_FASTCLOSE with the peer's key, as the end has it from its side; without one an
+    /// acknowledgement (section 3.5).
+    FastClose,
 }

@@ -23,7 +23,7 @@ use std::alloc::AllocError;
 use subflow_tcp::{Occasion, State};
 
 /// Both SYNs are acknowledged, and the end isn't dead.
-fn is_connected(state: State) -> bool
+pub(crate) fn is_connected(state: State) -> bool
     ensures { result ≡ is_connected state }
 {
     !matches!(

@@ -20,6 +20,8 @@ impl Machine {
         match duty {
             SendDuty::Update(side) => self.end(side).is_update_due(&self.profile),
             SendDuty::Syn(side) => self.end(side).is_syn_due(),
+            SendDuty::FastClose(side) => self.end(side).is_fast_close_due(),
+            SendDuty::ResetNoted(side) => self.end(side).resets_noted(),
             SendDuty::DataFin(side) => self.end(side).is_data_fin_due(),
             SendDuty::Fin(side) => self.end(side).is_fin_due(),
             SendDuty::Acknowledge(side) => self.end(side).tcp.owes_ack(),
@@ -43,6 +45,7 @@ impl Machine {
             SendDuty::Update(side) => self.sent_step(side, SegmentKind::Ack),
             SendDuty::Acknowledge(side) => self.sent_step(side, SegmentKind::Ack),
             SendDuty::Syn(side) => self.sent_step(side, SegmentKind::Unsent),
+            SendDuty::FastClose(side) => self.sent_step(side, SegmentKind::FastClose),
             SendDuty::DataFin(side) => self.sent_step(side, SegmentKind::DataFin),
             SendDuty::Fin(side) => self.sent_step(side, SegmentKind::Fin),
             SendDuty::SynAck(side) => self.sent_step(side, SegmentKind::SynAck),
@@ -58,6 +61,9 @@ impl Machine {
                 },
             ),
             SendDuty::Reset(side) => self.sent_step(side, SegmentKind::Reset { reason: None }),
+            SendDuty::ResetNoted(side) => {
+                self.sent_step(side, SegmentKind::Reset { reason: None })
+            }
         }
     }
 
@@ -71,6 +77,7 @@ impl Machine {
             SendDuty::Update(side) => self.acknowledge(side),
             SendDuty::Acknowledge(side) => self.acknowledge(side),
             SendDuty::Syn(side) => self.send_syn(side),
+            SendDuty::FastClose(side) => self.send_fast_close(side),
             SendDuty::DataFin(side) => self.send_data_fin(side),
             SendDuty::Fin(side) => self.send_fin(side),
             SendDuty::SynAck(side) => self.send_syn_ack(side),
@@ -81,6 +88,7 @@ impl Machine {
             SendDuty::Resend(side) => self.resend(side),
             SendDuty::BreakReset { side, reason } => self.send_reset(side, Some(reason)),
             SendDuty::Reset(side) => self.give_up(side),
+            SendDuty::ResetNoted(side) => self.give_up(side),
         }
     }
 }

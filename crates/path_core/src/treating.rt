@@ -14,6 +14,7 @@ ghost use Rattle.path_core.specs.Fallback.{after_fell, fell_duties};
 ghost use Rattle.path_core.specs.Treating.{counts, is_clash, mapping_stands, heard_stands, mapping_ask, heard_ask, is_acked, told_next, acked_in, with_acked, answered_ack, answered_mapping, with_data_fin, answered_heard, after_dss, heard_passed, item_stands, item_ask, answered_item, item_passed, item_of, is_dropped, is_not_kept, after_keep};
 
 use crate::end::PathEnd;
+use crate::fast_closing::fast_heard_ask;
 use crate::machine::Machine;
 use crate::opening::keys_ask;
 use crate::sending::Sending;
@@ -72,9 +73,9 @@ impl PathEnd {
             | Heard::PeerKey { .. }
             | Heard::Join { .. }
             | Heard::Notice { .. }
-            | Heard::Fail
-            | Heard::FastClose { .. } => false,
+            | Heard::Fail => false,
             Heard::DataAck { .. } => true,
+            Heard::FastClose { .. } => true,
             Heard::Mapping { .. } => self.counts() && (self.is_clash() || starting),
             Heard::DataFin { .. } => self.counts() && starting,
             Heard::InfiniteMapping { .. } => self.counts() && self.reads_mappings(),
@@ -256,8 +257,8 @@ impl Machine {
             | Heard::PeerKey { .. }
             | Heard::Join { .. }
             | Heard::Notice { .. }
-            | Heard::Fail
-            | Heard::FastClose { .. } => Ask::Local(LocalStep::End),
+            | Heard::Fail => Ask::Local(LocalStep::End),
+            Heard::FastClose { key } => fast_heard_ask(side, key),
         }
     }
 
@@ -345,12 +346,15 @@ impl Machine {
                 self.answer_keys(side, KeyPair { own, peer }, reply);
                 Ok(())
             }
+            Heard::FastClose { .. } => {
+                self.answer_fast_heard(side, reply);
+                Ok(())
+            }
             Heard::Dss
             | Heard::PeerKey { .. }
             | Heard::Join { .. }
             | Heard::Notice { .. }
-            | Heard::Fail
-            | Heard::FastClose { .. } => {
+            | Heard::Fail => {
                 self.done();
                 Ok(())
             }

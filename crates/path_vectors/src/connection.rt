@@ -148,9 +148,11 @@ impl Connection {
         self.actors.iter().all(|actor| actor.is_dead())
     }
 
-    /// How the run ended, where it did.
-    fn outcome(&self) -> Option<Outcome> {
-        if self.is_delivered() {
+    /// How the run ended, where it did. A reader that is told of an abort is told no end.
+    fn outcome(&self, journal: &Journal) -> Option<Outcome> {
+        if journal.was_aborted(true) {
+            Some(Outcome::Aborted)
+        } else if self.is_delivered() && !journal.was_aborted(false) {
             Some(Outcome::Delivered)
         } else if self.has_no_path() {
             Some(Outcome::NoPath)
@@ -164,7 +166,7 @@ impl Connection {
         for number in 0..most {
             self.turns(journal)?;
             journal.end_round(number)?;
-            if let Some(outcome) = self.outcome() {
+            if let Some(outcome) = self.outcome(journal) {
                 return Ok(outcome);
             }
             self.next_round()?;

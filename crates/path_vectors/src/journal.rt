@@ -40,6 +40,14 @@ fn bytes_read(note: &Note, by: Side) -> &[u8] {
     }
 }
 
+/// Who ended the connection at once, where a step told a reader so: the peer, or its own side.
+fn told_abort(note: &Note) -> Option<bool> {
+    match &note.reply {
+        Reply::Reassembly(ReassemblyReply::Aborted { by_peer }) => Some(*by_peer),
+        _ => None,
+    }
+}
+
 /// All that the application of a side read.
 fn all_read(alloc: Global, notes: &[Note], by: Side) -> Result<Vec<u8>, AllocError> {
     let mut read = Vec::new(alloc);
@@ -116,6 +124,14 @@ impl Journal {
         let line = line(self.alloc, note)?;
         self.log.extend_from_slice(line.as_bytes())?;
         self.notes.push(note.copy()?)
+    }
+
+    /// Whether a reader was told that the connection was ended at once, by its peer or by its own side.
+    pub fn was_aborted(&self, by_peer: bool) -> bool {
+        self.notes
+            .as_slice()
+            .iter()
+            .any(|note| told_abort(note) == Some(by_peer))
     }
 
     /// The round of this number ended.

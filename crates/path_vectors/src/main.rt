@@ -3,8 +3,8 @@
 //! Lines that begin with `#` are printed as they stand, and say how the answers were found.
 //!
 //! A case is `SCRIPT | FILE_A | FILE_B | ROUNDS | SHOWN`, or so with octets for a link; `case.rt` tells its form. The rounds are
-//! made up to the first after which both readers were told the end of their streams or every path is dead, but no more than
-//! so many.
+//! made up to the first after which both readers were told the end of their streams, one was told that the peer ended the
+//! connection, or every path is dead, but no more than so many.
 //!
 //! Of what was made, `log` shows each line of the log, and `sums` how many steps and rounds there were, the SHA-256 of the
 //! log's lines, and how many octets each side read with the SHA-256 of these. Both show how the run ended. `places` shows

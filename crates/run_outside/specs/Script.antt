@@ -21,14 +21,14 @@ is_setting word =
     bytes_eq word (codes "mptcp-script") || bytes_eq word (codes "seed") || bytes_eq word (codes "checksum") || bytes_eq word (codes "short")
     || bytes_eq word (codes "buffer") || bytes_eq word (codes "path") || bytes_eq word (codes "end")
 
--- a line that begins with one of these words tells what happens on a path, and is run
+-- a line that begins with one of these words tells what happens on a path, or when a side stops, and is run
 abbrev pub is_event : List ℕ → Bool
 is_event word =
     bytes_eq word (codes "drop") || bytes_eq word (codes "dup") || bytes_eq word (codes "late") || bytes_eq word (codes "strip")
-    || bytes_eq word (codes "strip-all") || bytes_eq word (codes "die")
+    || bytes_eq word (codes "strip-all") || bytes_eq word (codes "die") || bytes_eq word (codes "fastclose")
 
 -- A line of a script isn't run yet, unless it is empty, a comment, the first line, `end`, or one of `seed`, `checksum`, `short`,
--- `buffer`, `path`, `drop`, `dup`, `late`, `strip`, `strip-all` and `die`.
+-- `buffer`, `path`, `drop`, `dup`, `late`, `strip`, `strip-all`, `die` and `fastclose`.
 abbrev pub is_held_back : List ℕ → Bool
 is_held_back line =
     let word = (parted_at 32 line).0 in

@@ -38,7 +38,7 @@ fn held_back_place(text: &[u8]) -> Option<usize>
 }
 
 /// Whether a line of a script isn't run yet: it is no empty line and no comment, not the first line, not `end`, and no `seed`,
-/// `checksum`, `short`, `buffer`, `path`, `drop`, `dup`, `late`, `strip`, `strip-all` or `die`.
+/// `checksum`, `short`, `buffer`, `path`, `drop`, `dup`, `late`, `strip`, `strip-all`, `die` or `fastclose`.
 fn is_held_back(line: &[u8]) -> bool
     ensures { result ≡ is_held_back line.now }
 {
@@ -68,7 +68,7 @@ fn is_setting(word: &[u8]) -> bool
         || word == b"end".as_slice()
 }
 
-/// Whether a line that begins with this word tells what happens on a path, and is run.
+/// Whether a line that begins with this word tells what happens on a path, or when a side stops, and is run.
 fn is_event(word: &[u8]) -> bool
     ensures { result ≡ is_event word.now }
 {
@@ -78,6 +78,7 @@ fn is_event(word: &[u8]) -> bool
         || word == b"strip".as_slice()
         || word == b"strip-all".as_slice()
         || word == b"die".as_slice()
+        || word == b"fastclose".as_slice()
 }
 
 /// What stands before the first such octet, and what stands after it.

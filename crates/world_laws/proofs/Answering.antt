@@ -43,6 +43,8 @@ use Rattle.path_core.specs.Standing.{ack_out_ask, after_ack_out, answered_ack_ou
 use Rattle.path_core.specs.State.{PathState, Profile, end_at, goes_on, left, with_agenda}
 use Rattle.path_core.specs.Values.{Carried, values}
 use Rattle.path_core.specs.Words.{is_side_a}
+use Rattle.path_core.specs.FastClosing.{answered_fast_close, fast_close_of, having_fast_closed, with_fast_closed}
+use Rattle.path_core.specs.Segments.{carried_said}
 use Rattle.world_laws.proofs.Doing.{has_last, with_fin_sent, sends_the_fin, fin_goes, wants_ack_out}
 use Rattle.world_laws.proofs.Growing.{receiver_stays}
 use Rattle.world_laws.proofs.Ending.{Did, did_nothing, told_end, finished_shows, unfinished_if}
@@ -50,7 +52,7 @@ use Rattle.world_laws.proofs.Records.{every_find, every_at, sent_end}
 use Rattle.world_laws.proofs.Roads.{stays}
 use Rattle.world_laws.proofs.Rules.{refused_shows, died_shows, joined_shows}
 use Rattle.world_laws.proofs.Lanes.{Others, MayAnswer}
-use Rattle.world_laws.proofs.Saying.{ack_says, syn_ack_says, fin_says, reset_says, outgoing_says, record_or_ack_says}
+use Rattle.world_laws.proofs.Saying.{ack_says, syn_ack_says, fin_says, reset_says, outgoing_says, record_or_ack_says, carried_says}
 use Rattle.world_laws.proofs.Showing.{HasMapping, HasFin, RecordShows, EndShows, SegmentShows, PathShows, HasNone}
 use Rattle.world_laws.proofs.Sides.{SideDid, Answered, IsQuiet, side_kept, side_sent, quiet, quiet_side, told_side}
 use Rattle.world_laws.proofs.Strolling.{Strolled, side_shows}
@@ -163,6 +165,17 @@ module _ (six : SixBooks) (others : Others) (p : PathState Carried) (ab ba : Lan
     pub again_step : IsCalm → Steps (sends values s (first_segment s p) p) (answered_again values s p)
     again_step calm = occasion_step s (first_segment s p) to_send.First _ (record_said_shows calm (first_record e) (every_at 0 e.tcp.send.records shows.sender.pieces))
 
+    carried_shows : IsCalm → (o : Option ℕ) → SegmentShows back.acks out (carried_said p.profile s o e)
+    carried_shows calm = carried_says p.profile s e back.acks out shows.acks.windows (shows.acks.sub calm)
+
+    pub fast_close_step : IsCalm → Steps (sends values s (fast_close_of s p) p) (answered_fast_close values s p)
+    fast_close_step calm =
+        sent_step s (fast_close_of s p) (having_fast_closed s p) _ (carried_shows calm e.notices.carrier)
+        (closed (having_sent to_send.Ack p.clock (fast_close_of s p) e) (sent_end p.profile s out back to_send.Ack p.clock (fast_close_of s p) e shows))
+      where
+        closed : (f : PathEnd) → EndShows p.profile s f out back → EndShows p.profile s (with_fast_closed f) out back
+        closed f x = record { sender = x.sender; receiver = x.receiver; acks = x.acks; told = x.told; treated = x.treated; held = x.held }
+
     pub syn_ack_step : (ds : List Duty) → Steps (sends values s (syn_ack_of s p) p) (sent_on values s (syn_ack_of s p) (having_sent to_send.SynAck p.clock (syn_ack_of s p) e) ds p)
     syn_ack_step ds = occasion_step s (syn_ack_of s p) to_send.SynAck ds (syn_ack_says p.profile s e back.acks out shows.acks.windows)
 
@@ -188,15 +201,17 @@ module _ (six : SixBooks) (others : Others) (p : PathState Carried) (ab ba : Lan
         by (Some o) none = outgoing_says p.profile s e back.acks out shows.acks.windows o (Some 1) none.0 none.1
 
     pub resend_step : IsCalm → Steps (sends values s (resend_of s p) p) (answered_resend values s p)
-    resend_step calm = occasion_step s (resend_of s p) (resend_occasion e) _ (by (has_records e.tcp) e.modes.owes_third (is_data_fin_owed e))
+    resend_step calm = occasion_step s (resend_of s p) (resend_occasion e) _ (by (has_records e.tcp) e.modes.owes_third e.notices.fast_closed (is_data_fin_owed e))
       where
-        by : (some third owes : Bool) → SegmentShows back.acks out (if some then record_or_ack p.profile s (first_record e) e
+        by : (some third closed owes : Bool) → SegmentShows back.acks out (if some then record_or_ack p.profile s (first_record e) e
             else (if third then ack_said p.profile s e.tcp.send.nxt None e
-            else (if owes then ack_said p.profile s e.tcp.send.nxt e.sending.known_end e else ack_said p.profile s (e.tcp.send.una - 1) None e)))
-        by true third owes = record_said_shows calm (first_record e) (every_at 0 e.tcp.send.records shows.sender.pieces)
-        by false true owes = ack_said_shows calm e.tcp.send.nxt
-        by false false true = ack_says p.profile s e back.acks out shows.acks.windows (shows.acks.sub calm) e.tcp.send.nxt e.sending.known_end shows.sender.known_end
-        by false false false = ack_said_shows calm (e.tcp.send.una - 1)
+            else (if closed then carried_said p.profile s e.notices.carrier e
+            else (if owes then ack_said p.profile s e.tcp.send.nxt e.sending.known_end e else ack_said p.profile s (e.tcp.send.una - 1) None e))))
+        by true third closed owes = record_said_shows calm (first_record e) (every_at 0 e.tcp.send.records shows.sender.pieces)
+        by false true closed owes = ack_said_shows calm e.tcp.send.nxt
+        by false false true owes = carried_shows calm e.notices.carrier
+        by false false false true = ack_says p.profile s e back.acks out shows.acks.windows (shows.acks.sub calm) e.tcp.send.nxt e.sending.known_end shows.sender.known_end
+        by false false false false = ack_said_shows calm (e.tcp.send.una - 1)
 
     pub reset_step : IsCalm → (reason : Option ℕ) (ds : List Duty) → Steps (sends values s (reset_of s reason p) p) (reset_on values s reason ds p)
     reset_step calm reason ds =

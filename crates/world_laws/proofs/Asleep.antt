@@ -100,7 +100,7 @@ died_shut e h = by (is_dead e.tcp.state)
 timed_shut : (now : ℕ) (e : PathEnd) → IsShut e → IsShut (after_timer now e)
 timed_shut now e h = record {
   closed = h.closed;
-  timer = ap (λ (b : Bool). timer_settled (not b && ((is_waiting e || e.modes.owes_third) || has_records e.tcp)) e.sending.news now e.tcp.timing) h.closed;
+  timer = ap (λ (b : Bool). timer_settled (not b && ((is_waiting e || (e.modes.owes_third || e.notices.fast_closed)) || has_records e.tcp)) e.sending.news now e.tcp.timing) h.closed;
 }
 
 -- ---- what is to be done
@@ -111,6 +111,7 @@ is_idle (duties.Ask ask_duties.JoinAgain) = true
 is_idle (duties.Step (step_duties.Look s)) = true
 is_idle (duties.Ask (ask_duties.Window s)) = true
 is_idle (duties.Send (send_duties.Update s)) = true
+is_idle (duties.Send (send_duties.FastClose s)) = true
 is_idle (duties.Send (send_duties.Syn s)) = true
 is_idle (duties.Step (step_duties.Data s)) = true
 is_idle (duties.Send (send_duties.DataFin s)) = true
@@ -118,6 +119,8 @@ is_idle (duties.Send (send_duties.Fin s)) = true
 is_idle (duties.Silent (silent_duties.Timer s)) = true
 is_idle (duties.Step step_duties.Events) = true
 is_idle (duties.Ask (ask_duties.Leave s)) = true
+is_idle (duties.Ask (ask_duties.LeaveNoted s)) = true
+is_idle (duties.Send (send_duties.ResetNoted s)) = true
 is_idle (duties.Ask (ask_duties.Dead s)) = true
 is_idle duties.End = true
 is_idle _ = false
@@ -278,6 +281,7 @@ module _ {C : Type 0} where
   answered_asleep k (duties.Step (step_duties.Look s)) r p none h idle is = let shut = shut_at s p h in goes_asleep s (after_look r (end_at s p)) (left p) p (record { closed = shut.closed; timer = shut.timer }) (left_idle p h) h
   answered_asleep k (duties.Ask (ask_duties.Window s)) r p none h idle is = let shut = shut_at s p h in goes_asleep s (after_ack_out r (end_at s p)) (left p) p (record { closed = shut.closed; timer = shut.timer }) (left_idle p h) h
   answered_asleep k (duties.Send (send_duties.Update s)) r p none h idle is = absurd (no _ _ (never_connected (end_at s p) (shut_at s p h)) is)
+  answered_asleep k (duties.Send (send_duties.FastClose s)) r p none h idle is = absurd (no _ _ (never_connected (end_at s p) (shut_at s p h)) is)
   answered_asleep k (duties.Send (send_duties.Syn s)) r p none h idle is = absurd (no _ _ (never_opens (end_at s p) (shut_at s p h)) is)
   answered_asleep k (duties.Step (step_duties.Data s)) r p none h idle is = absurd (no_data p.profile s (end_at s p) (first_unsent (end_at s p)) (shut_at s p h) is)
   answered_asleep k (duties.Send (send_duties.DataFin s)) r p none h idle is = absurd (no _ _ (never_finishes (end_at s p) (shut_at s p h)) is)
@@ -285,6 +289,10 @@ module _ {C : Type 0} where
   answered_asleep k (duties.Silent (silent_duties.Timer s)) r p none h idle is = absurd (false≢true is)
   answered_asleep k (duties.Step step_duties.Events) r p none h idle is = events_asleep k r p none h
   answered_asleep k (duties.Ask (ask_duties.Leave s)) r p none h idle is = agenda_asleep (replaced (duties.Ask (ask_duties.Dead s)) p.agenda) p (replaced_idle (duties.Ask (ask_duties.Dead s)) p.agenda refl h.idle) h
+  answered_asleep k (duties.Ask (ask_duties.LeaveNoted s)) r p none h idle is =
+      goes_asleep s (died (end_at s p)) (replaced (duties.Ask (ask_duties.Dead s)) p.agenda) p (record { closed = refl; timer = refl })
+      (replaced_idle (duties.Ask (ask_duties.Dead s)) p.agenda refl h.idle) h
+  answered_asleep k (duties.Send (send_duties.ResetNoted s)) r p none h idle is = absurd (no _ _ (ap not (shut_at s p h).closed) is)
   answered_asleep k (duties.Ask (ask_duties.Dead s)) r p none h idle is = agenda_asleep (left p) p (left_idle p h) h
   answered_asleep k duties.End r p none h idle is = agenda_asleep [] p refl h
   answered_asleep k _ r p none h idle is = absurd (false≢true idle)
@@ -346,6 +354,7 @@ module _ {C : Type 0} where
   unsure_duty k six (duties.Step (step_duties.Look s)) p unsure idle h = refl
   unsure_duty k six (duties.Ask (ask_duties.Window s)) p unsure idle h = refl
   unsure_duty k six (duties.Send (send_duties.Update s)) p unsure idle h = refl
+  unsure_duty k six (duties.Send (send_duties.FastClose s)) p unsure idle h = refl
   unsure_duty k six (duties.Send (send_duties.Syn s)) p unsure idle h = refl
   unsure_duty k six (duties.Step (step_duties.Data s)) p unsure idle h = unsure_data k six s (first_unsent (end_at s p)) p
   unsure_duty k six (duties.Send (send_duties.DataFin s)) p unsure idle h = refl
@@ -353,6 +362,8 @@ module _ {C : Type 0} where
   unsure_duty k six (duties.Silent (silent_duties.Timer s)) p unsure idle h = refl
   unsure_duty k six (duties.Step step_duties.Events) p unsure idle h = unsure_step six (path_of p) (next_event p) unsure (next_own p h)
   unsure_duty k six (duties.Ask (ask_duties.Leave s)) p unsure idle h = refl
+  unsure_duty k six (duties.Ask (ask_duties.LeaveNoted s)) p unsure idle h = refl
+  unsure_duty k six (duties.Send (send_duties.ResetNoted s)) p unsure idle h = refl
   unsure_duty k six (duties.Ask (ask_duties.Dead s)) p unsure idle h = refl
   unsure_duty k six duties.End p unsure idle h = refl
   unsure_duty k six _ p unsure idle h = absurd (false≢true idle)

@@ -30,7 +30,7 @@ use Rattle.actor_desk.specs.declared.ask.Ask.TheVariants as asks
 use Rattle.actor_desk.specs.declared.ask.Reply.{Reply}
 use Rattle.actor_desk.specs.declared.ask.Reply.TheVariants as replies
 use Rattle.actor_desk.specs.Words.{tail_of}
-use Rattle.path_agenda.specs.Agenda.{breaks, emission, leaves, resets, rest_of_turn, start_of_turn}
+use Rattle.path_agenda.specs.Agenda.{breaks, emission, leaves, resets, rest_of_turn, start_of_turn, stops}
 use Rattle.path_agenda.specs.Items.{key_heard, keys_heard}
 use Rattle.path_agenda.specs.Words.{replaced}
 use Rattle.path_agenda.specs.declared.duty.Duty.{Duty}
@@ -65,6 +65,7 @@ use Rattle.path_core.specs.Standing.{after_ack_out, after_look, answered_ack_out
 use Rattle.path_core.specs.State.{PathState, end_at, goes_on, left, with_agenda, with_end}
 use Rattle.path_core.specs.Steps.{settled, answers, asks_of, asks_first, takes, begins_turn}
 use Rattle.path_core.specs.Treating.{heard_ask, item_ask, plain_ack_ask, after_keep, answered_heard, answered_item, answered_plain_ack, breaks_by_ack, counts, is_acked, is_clash, is_dropped, item_of, item_passed, with_acked, with_data_fin, with_plain_ack}
+use Rattle.path_core.specs.FastClosing.{is_stopped_by}
 use Rattle.world_laws.proofs.Verdicts.{fell_cases}
 use Rattle.world_laws.proofs.KeysRight.{Known}
 use Rattle.world_laws.proofs.KeysHeld.{look_leaves, fell_leaves}
@@ -509,7 +510,11 @@ module _ {C : Type 0} (k : Codec C) (W : Type 0) where
   heard_answered_awake s (says.Join form) r p said so h = agenda (left p) p (tail_less p.agenda) h
   heard_answered_awake s (says.Notice notice) r p said so h = agenda (left p) p (tail_less p.agenda) h
   heard_answered_awake s says.Fail r p said so h = agenda (left p) p (tail_less p.agenda) h
-  heard_answered_awake s (says.FastClose key) r p said so h = agenda (left p) p (tail_less p.agenda) h
+  heard_answered_awake s (says.FastClose key) r p said so h = by (is_stopped_by r)
+    where
+      by : (b : Bool) → Awake (with_agenda (if b then stops s else left p) p)
+      by true = agenda (stops s) p (new_less p.agenda _ refl refl) h
+      by false = agenda (left p) p (tail_less p.agenda) h
 
   item_answered_awake : (s : Side) (o : Option Heard) (r : Reply) (p : PathState C) → Said s p → So (item_ask k s o p) r → Awake p → Awake (answered_item k s o r p)
   item_answered_awake s None r p said so h = agenda (left p) p (tail_less p.agenda) h
@@ -571,6 +576,7 @@ module _ {C : Type 0} (k : Codec C) (W : Type 0) where
   answered_awake (duties.Step (step_duties.Look s)) r p said falls so h = same s (after_look r (end_at s p)) (left p) p refl refl (look_identity r (end_at s p).modes) (tail_less p.agenda) h
   answered_awake (duties.Ask (ask_duties.Window s)) r p said falls so h = same s (after_ack_out r (end_at s p)) (left p) p refl refl refl (tail_less p.agenda) h
   answered_awake (duties.Send (send_duties.Update s)) r p said falls so h = sent s _ _ (left p) p (same_goes s _ p refl refl refl) (tail_less p.agenda) h
+  answered_awake (duties.Send (send_duties.FastClose s)) r p said falls so h = sent s _ _ (left p) p (same_goes s _ p refl refl refl) (tail_less p.agenda) h
   answered_awake (duties.Send (send_duties.Syn s)) r p said falls so h = same_sent s _ _ (left p) p (sending_up to_send.Unsent p.clock (end_at s p).tcp) refl (tail_less p.agenda) h
   answered_awake (duties.Step (step_duties.Data s)) r p said falls so h = data_awake s (first_unsent (end_at s p)) r p h
   answered_awake (duties.Send (send_duties.DataFin s)) r p said falls so h = sent s _ _ (left p) p (same_goes s _ p refl refl refl) (tail_less p.agenda) h
@@ -612,7 +618,10 @@ module _ {C : Type 0} (k : Codec C) (W : Type 0) where
   answered_awake (duties.Ask (ask_duties.BreakAck s reason)) r p said falls so h = same s (after_ack_out r (end_at s p)) (resets s reason) p refl refl refl (new_less p.agenda _ refl refl) h
   answered_awake (duties.Send (send_duties.BreakReset s reason)) r p said falls so h = reset_awake s (Some reason) (leaves s) p (new_less p.agenda _ refl refl) h
   answered_awake (duties.Send (send_duties.Reset s)) r p said falls so h = reset_awake s None (replaced (duties.Ask (ask_duties.Leave s)) p.agenda) p (replaced_less (duties.Ask (ask_duties.Leave s)) p.agenda refl refl) h
+  answered_awake (duties.Send (send_duties.ResetNoted s)) r p said falls so h = reset_awake s None (replaced (duties.Ask (ask_duties.Leave s)) p.agenda) p (replaced_less (duties.Ask (ask_duties.Leave s)) p.agenda refl refl) h
   answered_awake (duties.Ask (ask_duties.Leave s)) r p said falls so h = agenda (replaced (duties.Ask (ask_duties.Dead s)) p.agenda) p (replaced_less (duties.Ask (ask_duties.Dead s)) p.agenda refl refl) h
+  answered_awake (duties.Ask (ask_duties.LeaveNoted s)) r p said falls so h =
+      goes s (died (end_at s p)) (replaced (duties.Ask (ask_duties.Dead s)) p.agenda) p (died_goes s p) (replaced_less (duties.Ask (ask_duties.Dead s)) p.agenda refl refl) h
   answered_awake duties.End r p said falls so h = agenda [] p (new_less p.agenda [] refl refl) h
   answered_awake _ r p said falls so h = agenda (left p) p (tail_less p.agenda) h
 

@@ -114,6 +114,10 @@ merged_more (None ∷ xs) ys = omega arith
 merged_more (Some x ∷ xs) [] = omega arith
 merged_more (Some x ∷ xs) (y ∷ ys) = let rest = merged_more xs ys in omega (arith, rest)
 
+-- a book that is aborted keeps what it has
+pub aborts : (by_peer : Bool) (b : Arriving) → IsGrown b (after_call b (calls.Abort by_peer))
+aborts by_peer b = record { read = refl; grows = omega arith; known = λ e is. is; capacity = refl }
+
 pub arrives : (b : Arriving) (call : ReassemblyCall) → IsArrival call → IsGrown b (after_call b call)
 arrives b (calls.Place at bytes) is = by (is_taken at bytes b)
   where
@@ -145,11 +149,7 @@ arrives b (calls.Fin at) is = record {
     capacity false = refl
 arrives b calls.AckOut is = stays_grown b
 arrives b (calls.Read max) is = absurd is
-arrives b (calls.Abort by_peer) is = absurd is
-
--- nor where it is aborted
-pub aborts : (by_peer : Bool) (b : Arriving) → IsGrown b (after_call b (calls.Abort by_peer))
-aborts by_peer b = record { read = refl; grows = omega arith; known = λ e is. is; capacity = refl }
+arrives b (calls.Abort by_peer) is = aborts by_peer b
 
 -- ---- a reader with its book
 

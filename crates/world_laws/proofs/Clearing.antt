@@ -263,6 +263,7 @@ module _ {C : Type 0} where
   answered_clear k (duties.Step (step_duties.Look s)) r p = side_clear s _ p _ (told_clear r (end_at s p).modes) refl refl
   answered_clear k (duties.Ask (ask_duties.Window s)) r p = side_clear s _ p _ (λ h. h, λ h. h) refl refl
   answered_clear k (duties.Send (send_duties.Update s)) r p = side_clear s _ p _ (λ h. h, λ h. h) refl refl
+  answered_clear k (duties.Send (send_duties.FastClose s)) r p = side_clear s _ p _ (λ h. h, λ h. h) refl refl
   answered_clear k (duties.Send (send_duties.Syn s)) r p = side_clear s _ p _ (λ h. h, λ h. h) refl refl
   answered_clear k (duties.Step (step_duties.Data s)) r p = data_clear k s (first_unsent (end_at s p)) r p
   answered_clear k (duties.Send (send_duties.DataFin s)) r p = side_clear s _ p _ (λ h. h, λ h. h) refl refl
@@ -295,7 +296,9 @@ module _ {C : Type 0} where
   answered_clear k (duties.Ask (ask_duties.BreakAck s reason)) r p = side_clear s _ p _ (λ h. h, λ h. h) refl refl
   answered_clear k (duties.Send (send_duties.BreakReset s reason)) r p = side_clear s _ p _ (λ h. h, λ h. h) refl refl
   answered_clear k (duties.Send (send_duties.Reset s)) r p = side_clear s _ p _ (λ h. h, λ h. h) refl refl
+  answered_clear k (duties.Send (send_duties.ResetNoted s)) r p = side_clear s _ p _ (λ h. h, λ h. h) refl refl
   answered_clear k (duties.Ask (ask_duties.Leave s)) r p = record { a = (λ h. h, λ h. h); b = (λ h. h, λ h. h) }
+  answered_clear k (duties.Ask (ask_duties.LeaveNoted s)) r p = side_clear s _ p _ (λ h. h, λ h. h) refl refl
   answered_clear k duties.End r p = record { a = (λ h. h, λ h. h); b = (λ h. h, λ h. h) }
   answered_clear k _ r p = record { a = (λ h. h, λ h. h); b = (λ h. h, λ h. h) }
 

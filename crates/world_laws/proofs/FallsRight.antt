@@ -110,6 +110,7 @@ module _ (p : PathState Carried) where
   asking_finishes (duties.Step (step_duties.Look s)) is asks = nothing_asked (duties.Step (step_duties.Look s)) tt asks
   asking_finishes (duties.Ask (ask_duties.Window s)) is asks = nothing_asked (duties.Ask (ask_duties.Window s)) tt asks
   asking_finishes (duties.Send (send_duties.Update s)) is asks = nothing_asked (duties.Send (send_duties.Update s)) tt asks
+  asking_finishes (duties.Send (send_duties.FastClose s)) is asks = nothing_asked (duties.Send (send_duties.FastClose s)) tt asks
   asking_finishes (duties.Send (send_duties.Syn s)) is asks = nothing_asked (duties.Send (send_duties.Syn s)) tt asks
   asking_finishes (duties.Send (send_duties.DataFin s)) is asks = nothing_asked (duties.Send (send_duties.DataFin s)) tt asks
   asking_finishes (duties.Send (send_duties.Fin s)) is asks = nothing_asked (duties.Send (send_duties.Fin s)) tt asks
@@ -143,11 +144,15 @@ module _ (p : PathState Carried) where
   asking_finishes (duties.Send (send_duties.Answer s)) is asks = nothing_asked (duties.Send (send_duties.Answer s)) tt asks
   asking_finishes (duties.Send (send_duties.ResetAnswer s)) is asks = nothing_asked (duties.Send (send_duties.ResetAnswer s)) tt asks
   asking_finishes (duties.Ask (ask_duties.Return s)) is asks = nothing_asked (duties.Ask (ask_duties.Return s)) tt asks
+  asking_finishes (duties.Ask (ask_duties.AbortSend s)) is asks = nothing_asked (duties.Ask (ask_duties.AbortSend s)) tt asks
+  asking_finishes (duties.Ask (ask_duties.AbortReceive s)) is asks = nothing_asked (duties.Ask (ask_duties.AbortReceive s)) tt asks
   asking_finishes (duties.Send (send_duties.Resend s)) is asks = nothing_asked (duties.Send (send_duties.Resend s)) tt asks
   asking_finishes (duties.Ask (ask_duties.BreakAck s reason)) is asks = nothing_asked (duties.Ask (ask_duties.BreakAck s reason)) tt asks
   asking_finishes (duties.Send (send_duties.BreakReset s reason)) is asks = nothing_asked (duties.Send (send_duties.BreakReset s reason)) tt asks
   asking_finishes (duties.Send (send_duties.Reset s)) is asks = nothing_asked (duties.Send (send_duties.Reset s)) tt asks
+  asking_finishes (duties.Send (send_duties.ResetNoted s)) is asks = nothing_asked (duties.Send (send_duties.ResetNoted s)) tt asks
   asking_finishes (duties.Ask (ask_duties.Leave s)) is asks = nothing_asked (duties.Ask (ask_duties.Leave s)) tt asks
+  asking_finishes (duties.Ask (ask_duties.LeaveNoted s)) is asks = nothing_asked (duties.Ask (ask_duties.LeaveNoted s)) tt asks
   asking_finishes (duties.Ask (ask_duties.Dead s)) is asks = nothing_asked (duties.Ask (ask_duties.Dead s)) tt asks
   asking_finishes duties.End is asks = nothing_asked duties.End tt asks
 

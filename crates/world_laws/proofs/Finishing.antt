@@ -27,7 +27,7 @@ use Rattle.path_core.specs.declared.event.Event.TheVariants as happening
 use Rattle.path_agenda.specs.declared.heard.Heard.{Heard}
 use Rattle.path_agenda.specs.declared.heard.Heard.TheVariants as says
 use Rattle.path_agenda.specs.declared.keys.KeyPair.{KeyPair}
-use Rattle.path_agenda.specs.Agenda.{start_of_turn, heard_and, payload_came, rest_of_turn, emission, resets, leaves, breaks}
+use Rattle.path_agenda.specs.Agenda.{start_of_turn, heard_and, payload_came, rest_of_turn, emission, resets, leaves, breaks, stops}
 use Rattle.path_core.specs.Arriving.{items_of, judged_in, template_by, template_judged, options_heard}
 use Rattle.path_core.specs.Breaking.{answered_break, reset_on}
 use Rattle.path_core.specs.Codec.{Codec, HeardSegment}
@@ -49,6 +49,7 @@ use Rattle.path_core.specs.Steps.{settled, takes}
 use Rattle.path_core.specs.Treating.{is_clash, told_next, answered_mapping, answered_item, item_of, answered_plain_ack, breaks_by_ack, with_plain_ack}
 use Rattle.path_core.specs.Opening.{answered_opened, answered_peer_key}
 use Rattle.path_core.specs.Fallback.{after_fell, fell_duties}
+use Rattle.path_core.specs.FastClosing.{is_stopped_by}
 
 -- the events of the turn, and its end, are ahead
 abbrev pub Ahead : List Duty → Type 0
@@ -126,6 +127,7 @@ module _ {C : Type 0} where
   next_shaped (duties.Step (step_duties.Look s)) ds p h no_more = onward ds _ h
   next_shaped (duties.Ask (ask_duties.Window s)) ds p h no_more = onward ds _ h
   next_shaped (duties.Send (send_duties.Update s)) ds p h no_more = onward ds _ h
+  next_shaped (duties.Send (send_duties.FastClose s)) ds p h no_more = onward ds _ h
   next_shaped (duties.Send (send_duties.Syn s)) ds p h no_more = onward ds _ h
   next_shaped (duties.Step (step_duties.Data s)) ds p h no_more = onward ds _ h
   next_shaped (duties.Send (send_duties.DataFin s)) ds p h no_more = onward ds _ h
@@ -159,11 +161,15 @@ module _ {C : Type 0} where
   next_shaped (duties.Send (send_duties.Answer s)) ds p h no_more = onward ds _ h
   next_shaped (duties.Send (send_duties.ResetAnswer s)) ds p h no_more = onward ds _ h
   next_shaped (duties.Ask (ask_duties.Return s)) ds p h no_more = onward ds _ h
+  next_shaped (duties.Ask (ask_duties.AbortSend s)) ds p h no_more = onward ds _ h
+  next_shaped (duties.Ask (ask_duties.AbortReceive s)) ds p h no_more = onward ds _ h
   next_shaped (duties.Send (send_duties.Resend s)) ds p h no_more = onward ds _ h
   next_shaped (duties.Ask (ask_duties.BreakAck s reason)) ds p h no_more = onward ds _ h
   next_shaped (duties.Send (send_duties.BreakReset s reason)) ds p h no_more = onward ds _ h
   next_shaped (duties.Send (send_duties.Reset s)) ds p h no_more = onward ds _ h
+  next_shaped (duties.Send (send_duties.ResetNoted s)) ds p h no_more = onward ds _ h
   next_shaped (duties.Ask (ask_duties.Leave s)) ds p h no_more = onward ds _ h
+  next_shaped (duties.Ask (ask_duties.LeaveNoted s)) ds p h no_more = onward ds _ h
   next_shaped (duties.Ask (ask_duties.Dead s)) ds p h no_more = onward ds _ h
 
   same_last : (ds : List Duty) (p : PathState C) → IsLast ds p → IsLast ds (with_agenda ds p)
@@ -285,6 +291,10 @@ module _ {C : Type 0} where
           by true = break_ahead k s 1 r p
           by false = fell_ahead s r p left_ahead told
 
+      stopped_ahead : (stopped : Bool) → Ahead (if stopped then stops s else left p)
+      stopped_ahead true = refl
+      stopped_ahead false = left_ahead
+
       item_ahead : (o : Option Heard) → Ahead (answered_item k s o r p).agenda
       item_ahead None = left_ahead
       item_ahead (Some (says.DataAck next window)) = told_ahead _
@@ -296,7 +306,7 @@ module _ {C : Type 0} where
       item_ahead (Some (says.Join form)) = left_ahead
       item_ahead (Some (says.Notice notice)) = left_ahead
       item_ahead (Some says.Fail) = left_ahead
-      item_ahead (Some (says.FastClose key)) = left_ahead
+      item_ahead (Some (says.FastClose key)) = stopped_ahead (is_stopped_by r)
       item_ahead (Some says.Dss) = left_ahead
 
   join_ahead : (s : Side) (keys : Option KeyPair) (asked : Option JoinSyn) (r : Reply) (ds : List Duty) (p : PathState C) → Ahead ds → Ahead (join_taken s keys asked r (with_agenda (duties.Ask (ask_duties.JoinHeard s) ∷ ds) p)).agenda
@@ -317,6 +327,7 @@ module _ {C : Type 0} where
   answered_shaped k (duties.Step (step_duties.Look s)) ds r p h = from_left ds _ h
   answered_shaped k (duties.Ask (ask_duties.Window s)) ds r p h = from_left ds _ h
   answered_shaped k (duties.Send (send_duties.Update s)) ds r p h = from_left ds _ h
+  answered_shaped k (duties.Send (send_duties.FastClose s)) ds r p h = from_left ds _ h
   answered_shaped k (duties.Send (send_duties.Syn s)) ds r p h = from_left ds _ h
   answered_shaped k (duties.Step (step_duties.Data s)) ds r p h = with_ahead ds h (λ a. inl (data_ahead k s r (with_agenda (duties.Step (step_duties.Data s) ∷ ds) p) a a a (first_unsent (end_at s p))))
   answered_shaped k (duties.Send (send_duties.DataFin s)) ds r p h = from_left ds _ h
@@ -350,11 +361,15 @@ module _ {C : Type 0} where
   answered_shaped k (duties.Send (send_duties.Answer s)) ds r p h = from_left ds _ h
   answered_shaped k (duties.Send (send_duties.ResetAnswer s)) ds r p h = from_left ds _ h
   answered_shaped k (duties.Ask (ask_duties.Return s)) ds r p h = from_left ds _ h
+  answered_shaped k (duties.Ask (ask_duties.AbortSend s)) ds r p h = from_left ds _ h
+  answered_shaped k (duties.Ask (ask_duties.AbortReceive s)) ds r p h = from_left ds _ h
   answered_shaped k (duties.Send (send_duties.Resend s)) ds r p h = from_left ds _ h
   answered_shaped k (duties.Ask (ask_duties.BreakAck s reason)) ds r p h = inl refl
   answered_shaped k (duties.Send (send_duties.BreakReset s reason)) ds r p h = inl refl
   answered_shaped k (duties.Send (send_duties.Reset s)) ds r p h = with_ahead ds h (λ a. inl a)
+  answered_shaped k (duties.Send (send_duties.ResetNoted s)) ds r p h = with_ahead ds h (λ a. inl a)
   answered_shaped k (duties.Ask (ask_duties.Leave s)) ds r p h = with_ahead ds h (λ a. inl a)
+  answered_shaped k (duties.Ask (ask_duties.LeaveNoted s)) ds r p h = with_ahead ds h (λ a. inl a)
   answered_shaped k (duties.Ask (ask_duties.Dead s)) ds r p h = from_left ds _ h
 
   pub takes_shaped : (k : Codec C) (r : Reply) (p : PathState C) → Shaped p.agenda p → Shaped (takes k r p).agenda (takes k r p)

@@ -190,6 +190,7 @@ module _ (p : PathState Carried) where
   fell_signs (duties.Step (step_duties.Look B)) none = refl
   fell_signs (duties.Ask (ask_duties.Window s)) none = refl
   fell_signs (duties.Send (send_duties.Update s)) none = refl
+  fell_signs (duties.Send (send_duties.FastClose s)) none = refl
   fell_signs (duties.Send (send_duties.Syn s)) none = refl
   fell_signs (duties.Step (step_duties.Data s)) none = no_data s (first_unsent (end_at s p))
   fell_signs (duties.Send (send_duties.DataFin s)) none = refl
@@ -227,11 +228,15 @@ module _ (p : PathState Carried) where
   fell_signs (duties.Send (send_duties.Answer s)) none = refl
   fell_signs (duties.Send (send_duties.ResetAnswer s)) none = refl
   fell_signs (duties.Ask (ask_duties.Return s)) none = refl
+  fell_signs (duties.Ask (ask_duties.AbortSend s)) none = refl
+  fell_signs (duties.Ask (ask_duties.AbortReceive s)) none = refl
   fell_signs (duties.Send (send_duties.Resend s)) none = refl
   fell_signs (duties.Ask (ask_duties.BreakAck s reason)) none = refl
   fell_signs (duties.Send (send_duties.BreakReset s reason)) none = refl
   fell_signs (duties.Send (send_duties.Reset s)) none = refl
+  fell_signs (duties.Send (send_duties.ResetNoted s)) none = refl
   fell_signs (duties.Ask (ask_duties.Leave s)) none = refl
+  fell_signs (duties.Ask (ask_duties.LeaveNoted s)) none = refl
   fell_signs (duties.Ask (ask_duties.Dead A)) none = refl
   fell_signs (duties.Ask (ask_duties.Dead B)) none = refl
   fell_signs duties.End none = refl

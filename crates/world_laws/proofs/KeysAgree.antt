@@ -160,6 +160,7 @@ module _ (k : Secrets) (right : Bool) (w back : Side → Type 0) (p : PathState 
   asks_are (duties.Step (step_duties.Look s)) = tt
   asks_are (duties.Ask (ask_duties.Window s)) = tt
   asks_are (duties.Send (send_duties.Update s)) = tt
+  asks_are (duties.Send (send_duties.FastClose s)) = tt
   asks_are (duties.Send (send_duties.Syn s)) = tt
   asks_are (duties.Step (step_duties.Data s)) = data_is s (first_unsent (end_at s p))
   asks_are (duties.Send (send_duties.DataFin s)) = tt
@@ -197,11 +198,15 @@ module _ (k : Secrets) (right : Bool) (w back : Side → Type 0) (p : PathState 
   asks_are (duties.Send (send_duties.Answer s)) = tt
   asks_are (duties.Send (send_duties.ResetAnswer s)) = tt
   asks_are (duties.Ask (ask_duties.Return s)) = tt
+  asks_are (duties.Ask (ask_duties.AbortSend s)) = tt
+  asks_are (duties.Ask (ask_duties.AbortReceive s)) = tt
   asks_are (duties.Send (send_duties.Resend s)) = tt
   asks_are (duties.Ask (ask_duties.BreakAck s reason)) = tt
   asks_are (duties.Send (send_duties.BreakReset s reason)) = tt
   asks_are (duties.Send (send_duties.Reset s)) = tt
+  asks_are (duties.Send (send_duties.ResetNoted s)) = tt
   asks_are (duties.Ask (ask_duties.Leave s)) = tt
+  asks_are (duties.Ask (ask_duties.LeaveNoted s)) = tt
   asks_are (duties.Ask (ask_duties.Dead s)) = tt
   asks_are duties.End = tt
 

@@ -38,7 +38,7 @@ use Rattle.path_agenda.specs.declared.heard.Heard.{Heard}
 use Rattle.path_agenda.specs.declared.heard.Heard.TheVariants as says
 use Rattle.path_agenda.specs.declared.keys.KeyPair.{KeyPair}
 use Rattle.path_core.specs.declared.modes.Modes.{Modes}
-use Rattle.path_agenda.specs.Agenda.{emission, leaves, resets, rest_of_turn, start_of_turn}
+use Rattle.path_agenda.specs.Agenda.{emission, leaves, resets, rest_of_turn, start_of_turn, stops}
 use Rattle.path_core.specs.Breaking.{reset_of, reset_on, answered_break}
 use Rattle.path_core.specs.StreamEnds.{is_data_fin_owed}
 use Rattle.path_core.specs.Duties.{stands, passed, answered, ask_for}
@@ -53,7 +53,7 @@ use Rattle.path_core.specs.Opening.{peer_key_ask, opened_ask, answered_peer_key,
 use Rattle.path_core.specs.Passing.{after_pass_fin, is_placed, piece_of, answered_piece, is_fin_set, answered_fin_heard, answered_plain_fin, answer_occasion, resend_occasion, first_record, answer_of, resend_of}
 use Rattle.path_core.specs.Deliver.{Piece, with_learned, with_skipped, mapping_here, is_wrong, forgotten_by, after_pieces}
 use Rattle.path_core.specs.OptionsOut.{ack_said, syn_ack_said, record_or_ack}
-use Rattle.path_core.specs.Standing.{answered_ack_out}
+use Rattle.path_core.specs.Standing.{answered_ack_out, is_connected}
 use Rattle.path_core.specs.State.{PathState, end_at, with_end, with_agenda, goes_on, left}
 use Rattle.path_core.specs.Steps.{settled, answers, asks_of, asks_first, takes, begins_turn}
 use Rattle.path_core.specs.Turns.{FirstStands, IsSettled}
@@ -62,15 +62,34 @@ use Rattle.path_core.specs.Breaking.{break_ask}
 use Rattle.path_core.specs.Fallback.{is_fall, fell_ask, in_identity, after_fell, fell_duties, answered_fell}
 use Rattle.path_core.specs.Treating.{is_acked, is_dropped, with_acked, counts, is_clash, with_data_fin, with_plain_ack, breaks_by_ack, answered_plain_ack, answered_heard, answered_item, item_of, item_passed, heard_ask, item_ask, plain_ack_ask}
 use Rattle.path_core.specs.Values.{Carried, values}
+use Rattle.path_core.specs.FastClosing.{is_stopped_by, fast_close_of, is_fast_close_due}
+use Rattle.path_core.specs.Segments.{carried_said}
 use Rattle.world_laws.proofs.Finding.{find_every, one_side}
 use Rattle.fallback_state.specs.declared.fall.Event.{Event as FallEvent}
 use Rattle.fallback_state.specs.declared.fall.Event.TheVariants as fall
 use Rattle.subflow_tcp.specs.Emitting.{fin_position}
+use Rattle.subflow_tcp.specs.declared.handshake.State.{State as EndPhase}
+use Rattle.subflow_tcp.specs.declared.handshake.State.TheVariants as phase
 use Rattle.world_laws.proofs.Verdicts.{fell_cases}
 use Rattle.world_laws.proofs.KeysHeld.{VoiceIs, with_voice, fewer_known, stays_same, replaced_known, look_leaves, verdict_leaves, fell_leaves, opening_open, not_closed, finish_open, IsSign, FlightIs, OnJoined, AreKnown, PathIs, end_is, Fewer, none_left, Stays, goes_by, goes_is, with_is, agenda_is, kept_end, same_goes, sent_is, same_sent, died_is, refused_is, unless_dead_is, key_found, PairIs, pair_found, AskedIs, asked_is, rekeyed, rekeyed_knows, keys_are, keys_stay, BeginIs, opened_end, opened_stays, joined_end, joined_knows, joined_waits}
-use Rattle.world_laws.proofs.KeysRight.{Secrets, known_in, OfB, drawn_key, SegmentIs, ItemIs, EndIs, Needs, Knows, same_knows, reset_options_are, reset_is as reset_said_is, fin_options_are, ack_is, syn_ack_is, record_or_ack_is}
+use Rattle.world_laws.proofs.KeysRight.{Secrets, known_in, OfB, drawn_key, SegmentIs, ItemIs, EndIs, Needs, Knows, same_knows, reset_options_are, reset_is as reset_said_is, fin_options_are, ack_is, syn_ack_is, record_or_ack_is, carried_is, dss_known, is_past, of_b}
 use Rattle.world_laws.proofs.KeysWoken.{is_up, NoWaking, open_is_up, timer_up, sending_up, finishing_up, passing_up, is_said_by, speaks, tail_speaks, replaced_speaks, same_or_calm, itself, next_happens, first_speaks, Voice, tells_same, falls_same}
 use Rattle.world_laws.proofs.KeysCopied.{copy_is, delivered_is, own_knows, voices}
+
+-- a connected end heard the peer's SYN
+connected_past : (state : EndPhase) → is_connected state ≡ true → is_past state ≡ true
+connected_past phase.Waiting is = absurd (false≢true is)
+connected_past phase.Listen is = absurd (false≢true is)
+connected_past phase.SynSent is = absurd (false≢true is)
+connected_past phase.SynReceived is = absurd (false≢true is)
+connected_past phase.Dead is = absurd (false≢true is)
+connected_past phase.Established is = refl
+connected_past phase.FinWait1 is = refl
+connected_past phase.FinWait2 is = refl
+connected_past phase.CloseWait is = refl
+connected_past phase.Closing is = refl
+connected_past phase.LastAck is = refl
+connected_past phase.TimeWait is = refl
 
 module _ (k : Secrets) (right : Bool) (w back : Side → Type 0) where
   -- ---- in silence
@@ -507,7 +526,11 @@ module _ (k : Secrets) (right : Bool) (w back : Side → Type 0) where
   heard_answered s (says.Join form) r p own said is h = agenda_is k right w back _ p (none_left k right w back p) h
   heard_answered s (says.Notice notice) r p own said is h = agenda_is k right w back _ p (none_left k right w back p) h
   heard_answered s says.Fail r p own said is h = agenda_is k right w back _ p (none_left k right w back p) h
-  heard_answered s (says.FastClose key) r p own said is h = agenda_is k right w back _ p (none_left k right w back p) h
+  heard_answered s (says.FastClose key) r p own said is h = by (is_stopped_by r)
+    where
+      by : (b : Bool) → PathIs k right w back (with_agenda (if b then stops s else left p) p)
+      by true = agenda_is k right w back _ p (λ t spoken. absurd (false≢true spoken)) h
+      by false = agenda_is k right w back _ p (none_left k right w back p) h
 
   item_answered : (s : Side) (o : Option Heard) (r : Reply) (p : PathState Carried) → IfSome o (ItemIs k right w back (is_joined p.profile) s) → Said s p → ReplyIs (item_ask values s o p) r → PathIs k right w back p → PathIs k right w back (answered_item values s o r p)
   item_answered s None r p own said is h = agenda_is k right w back _ p (none_left k right w back p) h
@@ -534,18 +557,28 @@ module _ (k : Secrets) (right : Bool) (w back : Side → Type 0) where
       by false = ack_said_is s (end_at s p).tcp.send.nxt None p h
 
   resend_is : (s : Side) (p : PathState Carried) → Said s p → PathIs k right w back p → SegmentIs k right w back p.profile s (resend_of s p)
-  resend_is s p said h = by (has_records (end_at s p).tcp) (end_at s p).modes.owes_third (is_data_fin_owed (end_at s p))
+  resend_is s p said h = by (has_records (end_at s p).tcp) (end_at s p).modes.owes_third (end_at s p).notices.fast_closed (is_data_fin_owed (end_at s p))
     where
       e : PathEnd
       e = end_at s p
 
-      by : (records third owes : Bool) → SegmentIs k right w back p.profile s (if records then record_or_ack p.profile s (first_record e) e
+      by : (records third closed owes : Bool) → SegmentIs k right w back p.profile s (if records then record_or_ack p.profile s (first_record e) e
           else (if third then ack_said p.profile s e.tcp.send.nxt None e
-          else (if owes then ack_said p.profile s e.tcp.send.nxt e.sending.known_end e else ack_said p.profile s (e.tcp.send.una - 1) None e)))
-      by true third owes = record_or_ack_is k right w back p.profile s e (end_is k right w back s p h) said (first_record e)
-      by false true owes = ack_said_is s e.tcp.send.nxt None p h
-      by false false true = ack_said_is s e.tcp.send.nxt e.sending.known_end p h
-      by false false false = ack_said_is s (e.tcp.send.una - 1) None p h
+          else (if closed then carried_said p.profile s e.notices.carrier e
+          else (if owes then ack_said p.profile s e.tcp.send.nxt e.sending.known_end e else ack_said p.profile s (e.tcp.send.una - 1) None e))))
+      by true third closed owes = record_or_ack_is k right w back p.profile s e (end_is k right w back s p h) said (first_record e)
+      by false true closed owes = ack_said_is s e.tcp.send.nxt None p h
+      by false false true owes = carried_is k right w back p.profile s e (end_is k right w back s p h) (dss_known k right w back p.profile s e (end_is k right w back s p h) said) e.notices.carrier
+      by false false false true = ack_said_is s e.tcp.send.nxt e.sending.known_end p h
+      by false false false false = ack_said_is s (e.tcp.send.una - 1) None p h
+
+  -- an end that is connected knows that its side joined
+  fast_close_is : (s : Side) (p : PathState Carried) → is_fast_close_due (end_at s p) ≡ true → PathIs k right w back p → SegmentIs k right w back p.profile s (fast_close_of s p)
+  fast_close_is s p due h =
+      let e = end_at s p in
+      let own = end_is k right w back s p h in
+      carried_is k right w back p.profile s e own
+      (λ joins. of_b s (w B) (own.past joins (connected_past e.tcp.state (and_parts (is_connected e.tcp.state) _ due).0))) e.notices.carrier
 
   fin_segment_is : (s : Side) (p : PathState Carried) → Said s p → PathIs k right w back p → SegmentIs k right w back p.profile s (fin_segment_of s p)
   fin_segment_is s p said h = fin_options_are k right w back p.profile s (end_at s p) (end_is k right w back s p h) said (fin_position (end_at s p).tcp.send)
@@ -619,6 +652,8 @@ module _ (k : Secrets) (right : Bool) (w back : Side → Type 0) where
   answered_is (duties.Ask (ask_duties.Window s)) r p stands said is h = same_goes k right w back s _ _ p refl refl (record { up = λ x. x; waits = λ x. x; past = λ x. x }) (none_left k right w back p) h
   answered_is (duties.Send (send_duties.Update s)) r p stands said is h =
       same_sent k right w back s _ _ _ p (ack_said_is s (end_at s p).tcp.send.nxt None p h) refl refl (record { up = λ x. x; waits = λ x. x; past = λ x. x }) (none_left k right w back p) h
+  answered_is (duties.Send (send_duties.FastClose s)) r p stands said is h =
+      same_sent k right w back s _ _ _ p (fast_close_is s p stands h) refl refl (record { up = λ x. x; waits = λ x. x; past = λ x. x }) (none_left k right w back p) h
   answered_is (duties.Send (send_duties.Syn s)) r p stands said is h =
       let e = end_at s p in
       let opens = opening_open e.tcp.state (and_parts (is_opening e.tcp.state) (is_some (first_unsent e)) stands).0 in
@@ -685,7 +720,12 @@ module _ (k : Secrets) (right : Bool) (w back : Side → Type 0) where
   answered_is (duties.Ask (ask_duties.BreakAck s reason)) r p stands said is h = same_goes k right w back s _ _ p refl refl (record { up = λ x. x; waits = λ x. x; past = λ x. x }) (λ t spoken. absurd (false≢true spoken)) h
   answered_is (duties.Send (send_duties.BreakReset s reason)) r p stands said is h = reset_is s (Some reason) (leaves s) p (λ t spoken. absurd (false≢true spoken)) h
   answered_is (duties.Send (send_duties.Reset s)) r p stands said is h = reset_is s None (replaced (duties.Ask (ask_duties.Leave s)) p.agenda) p (λ t spoken. replaced_speaks t (duties.Ask (ask_duties.Leave s)) p.agenda refl spoken) h
+  answered_is (duties.Send (send_duties.ResetNoted s)) r p stands said is h = reset_is s None (replaced (duties.Ask (ask_duties.Leave s)) p.agenda) p (λ t spoken. replaced_speaks t (duties.Ask (ask_duties.Leave s)) p.agenda refl spoken) h
   answered_is (duties.Ask (ask_duties.Leave s)) r p stands said is h = agenda_is k right w back _ p (λ t spoken. replaced_speaks t (duties.Ask (ask_duties.Dead s)) p.agenda refl spoken) h
+  answered_is (duties.Ask (ask_duties.LeaveNoted s)) r p stands said is h =
+      goes_is k right w back s (died (end_at s p)) (replaced (duties.Ask (ask_duties.Dead s)) p.agenda) p
+      (died_is k right w back (is_joined p.profile) s (end_at s p) (end_is k right w back s p h)) (λ waiting. absurd (false≢true waiting))
+      (λ t spoken. replaced_speaks t (duties.Ask (ask_duties.Dead s)) p.agenda refl spoken) (λ is has. has) h
   answered_is duties.End r p stands said is h = agenda_is k right w back _ p (λ t spoken. absurd (false≢true spoken)) h
   answered_is _ r p stands said is h = agenda_is k right w back _ p (none_left k right w back p) h
 

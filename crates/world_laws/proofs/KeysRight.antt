@@ -35,10 +35,14 @@ use Rattle.path_core.specs.Ends.{PathEnd}
 use Rattle.path_core.specs.Joins.{is_joined, peer_key_of, join_options, third_options}
 use Rattle.path_core.specs.OptionsOut.{capable_options, syn_options, key_options, opening_options, ack_options, data_fin_mapping, is_first_piece, first_piece_options, piece_options, piece_mapping, owes_mapping, plain_options, fin_options, record_options, reset_options, reset_said, ack_said, syn_ack_said, record_or_ack}
 use Rattle.path_core.specs.State.{Profile}
+use Rattle.path_core.specs.Segments.{carried_said}
 use Rattle.dss_mapping.specs.Mappings.{octets_in}
 
 every_one : {X : Type 0} {P : X → Type 0} (x : X) → P x → Every P (x ∷ [])
 every_one {X} {P} x h = Every-push {xs = []} x (Every-nil P) h
+
+every_two : {X : Type 0} {P : X → Type 0} (x y : X) → P x → P y → Every P (x ∷ y ∷ [])
+every_two {X} {P} x y h g = Every-push {xs = x ∷ []} y (every_one x h) g
 
 -- what is drawn for both ends of a path
 pub record Secrets : Type 0 where
@@ -273,6 +277,10 @@ module _ (k : Secrets) (right : Bool) (w back : Side → Type 0) where
 
     pub ack_is : (position : ℕ) (fin : Option ℕ) → SegmentIs c s (ack_said c s position fin e)
     ack_is position fin = ack_options_are fin
+
+    pub carried_is : (is_joined c ≡ true → OfB s (w B)) → (o : Option ℕ) → SegmentIs c s (carried_said c s o e)
+    carried_is knows (Some key) = every_two _ _ knows tt
+    carried_is knows None = ack_options_are None
 
     -- where it knows what it has to, its SYN is right, and so is its DSS
     module _ (knows : is_joined c ≡ true → Knows s e.modes) where

@@ -15,7 +15,7 @@ use Rattle.actor_desk.specs.declared.ask.Ask.{Ask}
 use Rattle.actor_desk.specs.declared.ask.Reply.{Reply}
 use Rattle.actor_desk.specs.declared.ask.Reply.TheVariants as replies
 use Rattle.actor_desk.specs.Words.{tail_of}
-use Rattle.path_agenda.specs.Agenda.{breaks, leaves, resets, start_of_turn}
+use Rattle.path_agenda.specs.Agenda.{breaks, leaves, resets, start_of_turn, stops}
 use Rattle.path_agenda.specs.Items.{key_heard, keys_heard}
 use Rattle.path_agenda.specs.Words.{replaced}
 use Rattle.path_agenda.specs.declared.duty.Duty.{Duty}
@@ -52,6 +52,7 @@ use Rattle.path_core.specs.Treating.{heard_ask, item_ask, plain_ack_ask, breaks_
 use Rattle.path_core.specs.Values.{Carried, values}
 use Rattle.subflow_tcp.specs.Taking.{after_syn, unkept}
 use Rattle.path_core.specs.Joining.{is_listening, syn_alone}
+use Rattle.path_core.specs.FastClosing.{is_stopped_by}
 use Rattle.subflow_tcp.specs.declared.handshake.State.{State as EndPhase}
 use Rattle.subflow_tcp.specs.declared.handshake.State.TheVariants as phase
 use Rattle.world_laws.proofs.Verdicts.{fell_cases}
@@ -171,7 +172,15 @@ module _ (T : Type 0) where
   heard_answered_met s (says.Join form) r p gains sign h = agenda_met T (left p) p (tail_fewer p.agenda) h
   heard_answered_met s (says.Notice notice) r p gains sign h = agenda_met T (left p) p (tail_fewer p.agenda) h
   heard_answered_met s says.Fail r p gains sign h = agenda_met T (left p) p (tail_fewer p.agenda) h
-  heard_answered_met s (says.FastClose key) r p gains sign h = agenda_met T (left p) p (tail_fewer p.agenda) h
+  heard_answered_met s (says.FastClose key) r p gains sign h = by (is_stopped_by r)
+    where
+      fewer : (s : Side) → Fewer p.agenda (stops s)
+      fewer A = new_duties p.agenda (stops A) refl refl
+      fewer B = new_duties p.agenda (stops B) refl refl
+
+      by : (b : Bool) → CalmMet T (with_agenda (if b then stops s else left p) p)
+      by true = agenda_met T (stops s) p (fewer s) h
+      by false = agenda_met T (left p) p (tail_fewer p.agenda) h
 
   item_answered_met : (s : Side) (o : Option Heard) (r : Reply) (p : PathState Carried) → Gains T (item_ask values s o p) r → is_signed s p → CalmMet T p → CalmMet T (answered_item values s o r p)
   item_answered_met s None r p gains sign h = agenda_met T (left p) p (tail_fewer p.agenda) h
@@ -260,6 +269,7 @@ module _ (T : Type 0) where
   answered_met (duties.Step (step_duties.Look s)) r p none sign gains h = inl (goes_met T s (after_look r (end_at s p)) (left p) p (look_goes s r p gains) (tail_fewer p.agenda) h)
   answered_met (duties.Ask (ask_duties.Window s)) r p none sign gains h = inl (same_met s (after_ack_out r (end_at s p)) (left p) p refl refl (tail_fewer p.agenda) h)
   answered_met (duties.Send (send_duties.Update s)) r p none sign gains h = inl (same_sent_met s _ _ (left p) p refl refl (tail_fewer p.agenda) h)
+  answered_met (duties.Send (send_duties.FastClose s)) r p none sign gains h = inl (same_sent_met s _ _ (left p) p refl refl (tail_fewer p.agenda) h)
   answered_met (duties.Send (send_duties.Syn s)) r p none sign gains h = inl (same_sent_met s _ _ (left p) p refl refl (tail_fewer p.agenda) h)
   answered_met (duties.Step (step_duties.Data s)) r p none sign gains h = inl (data_met s (first_unsent (end_at s p)) r p h)
   answered_met (duties.Send (send_duties.DataFin s)) r p none sign gains h = inl (same_sent_met s _ _ (left p) p refl refl (tail_fewer p.agenda) h)
@@ -305,7 +315,13 @@ module _ (T : Type 0) where
   answered_met (duties.Ask (ask_duties.BreakAck s reason)) r p none sign gains h = inl (same_met s (after_ack_out r (end_at s p)) (resets s reason) p refl refl (resets_fewer s reason p.agenda) h)
   answered_met (duties.Send (send_duties.BreakReset s reason)) r p none sign gains h = inl (reset_met s (Some reason) (leaves s) p (leaves_fewer s p.agenda) h)
   answered_met (duties.Send (send_duties.Reset s)) r p none sign gains h = inl (reset_met s None (replaced (duties.Ask (ask_duties.Leave s)) p.agenda) p (leave_fewer s p.agenda) h)
+  answered_met (duties.Send (send_duties.ResetNoted s)) r p none sign gains h = inl (reset_met s None (replaced (duties.Ask (ask_duties.Leave s)) p.agenda) p (leave_fewer s p.agenda) h)
   answered_met (duties.Ask (ask_duties.Leave s)) r p none sign gains h = inl (agenda_met T (replaced (duties.Ask (ask_duties.Dead s)) p.agenda) p (by s) h)
+    where
+      by : (s : Side) → Fewer p.agenda (replaced (duties.Ask (ask_duties.Dead s)) p.agenda)
+      by A = other_fewer (duties.Ask (ask_duties.Dead A)) p.agenda refl refl
+      by B = other_fewer (duties.Ask (ask_duties.Dead B)) p.agenda refl refl
+  answered_met (duties.Ask (ask_duties.LeaveNoted s)) r p none sign gains h = inl (agenda_met T (replaced (duties.Ask (ask_duties.Dead s)) p.agenda) p (by s) h)
     where
       by : (s : Side) → Fewer p.agenda (replaced (duties.Ask (ask_duties.Dead s)) p.agenda)
       by A = other_fewer (duties.Ask (ask_duties.Dead A)) p.agenda refl refl

@@ -22,7 +22,7 @@ use Rattle.subflow_tcp.specs.declared.verdicts.Meaning.{Meaning}
 use Rattle.subflow_tcp.specs.declared.verdicts.Meaning.TheVariants as means
 use Rattle.actor_desk.specs.declared.ask.Reply.{Reply}
 use Rattle.actor_desk.specs.Words.{tail_of}
-use Rattle.path_agenda.specs.Agenda.{start_of_turn, rest_of_turn, heard_and, payload_came, resets, leaves, emission}
+use Rattle.path_agenda.specs.Agenda.{start_of_turn, rest_of_turn, heard_and, payload_came, resets, leaves, emission, stops}
 use Rattle.path_agenda.specs.Items.{is_dss, key_heard, keys_heard}
 use Rattle.path_agenda.specs.declared.duty.Duty.{Duty}
 use Rattle.path_agenda.specs.declared.duty.Duty.TheVariants as duties
@@ -56,6 +56,7 @@ use Rattle.path_core.specs.Turns.{FirstStands, IsSettled}
 use Rattle.path_core.specs.Treating.{item_stands, counts, is_clash, told_next, with_data_fin, item_passed, answered_item, item_of, after_fell, fell_duties, answered_fell, answered_plain_ack, breaks_by_ack, with_plain_ack}
 use Rattle.path_core.specs.Words.{item_at}
 use Rattle.path_core.specs.Opening.{answered_peer_key, answered_opened}
+use Rattle.path_core.specs.FastClosing.{is_stopped_by}
 use Rattle.world_laws.proofs.Clearing.{maybe_end, passed_clear, answered_clear, Stays}
 use Rattle.world_laws.proofs.Verdicts.{fell_cases}
 
@@ -393,6 +394,7 @@ module _ {C : Type 0} where
   passed_leads (duties.Step (step_duties.Look s)) ds p h none = goes_led (duties.Step (step_duties.Look s)) ds p p ds (λ is. is, λ is. is) (record { recalls = recalls_all _ _ refl; follows = λ n f. f }) h
   passed_leads (duties.Ask (ask_duties.Window s)) ds p h none = goes_led (duties.Ask (ask_duties.Window s)) ds p p ds (λ is. is, λ is. is) (record { recalls = recalls_all _ _ refl; follows = λ n f. f }) h
   passed_leads (duties.Send (send_duties.Update s)) ds p h none = goes_led (duties.Send (send_duties.Update s)) ds p p ds (λ is. is, λ is. is) (record { recalls = recalls_all _ _ refl; follows = λ n f. f }) h
+  passed_leads (duties.Send (send_duties.FastClose s)) ds p h none = goes_led (duties.Send (send_duties.FastClose s)) ds p p ds (λ is. is, λ is. is) (record { recalls = recalls_all _ _ refl; follows = λ n f. f }) h
   passed_leads (duties.Send (send_duties.Syn s)) ds p h none = goes_led (duties.Send (send_duties.Syn s)) ds p p ds (λ is. is, λ is. is) (record { recalls = recalls_all _ _ refl; follows = λ n f. f }) h
   passed_leads (duties.Step (step_duties.Data s)) ds p h none = goes_led (duties.Step (step_duties.Data s)) ds p p ds (λ is. is, λ is. is) (record { recalls = recalls_all _ _ refl; follows = λ n f. f }) h
   passed_leads (duties.Send (send_duties.DataFin s)) ds p h none = goes_led (duties.Send (send_duties.DataFin s)) ds p p ds (λ is. is, λ is. is) (record { recalls = recalls_all _ _ refl; follows = λ n f. f }) h
@@ -421,11 +423,15 @@ module _ {C : Type 0} where
   passed_leads (duties.Send (send_duties.Answer s)) ds p h none = goes_led (duties.Send (send_duties.Answer s)) ds p p ds (λ is. is, λ is. is) (record { recalls = recalls_all _ _ refl; follows = λ n f. f }) h
   passed_leads (duties.Send (send_duties.ResetAnswer s)) ds p h none = goes_led (duties.Send (send_duties.ResetAnswer s)) ds p p ds (λ is. is, λ is. is) (record { recalls = recalls_all _ _ refl; follows = λ n f. f }) h
   passed_leads (duties.Ask (ask_duties.Return s)) ds p h none = goes_led (duties.Ask (ask_duties.Return s)) ds p p ds (λ is. is, λ is. is) (record { recalls = recalls_all _ _ refl; follows = λ n f. f }) h
+  passed_leads (duties.Ask (ask_duties.AbortSend s)) ds p h none = goes_led (duties.Ask (ask_duties.AbortSend s)) ds p p ds (λ is. is, λ is. is) (record { recalls = recalls_all _ _ refl; follows = λ n f. f }) h
+  passed_leads (duties.Ask (ask_duties.AbortReceive s)) ds p h none = goes_led (duties.Ask (ask_duties.AbortReceive s)) ds p p ds (λ is. is, λ is. is) (record { recalls = recalls_all _ _ refl; follows = λ n f. f }) h
   passed_leads (duties.Send (send_duties.Resend s)) ds p h none = goes_led (duties.Send (send_duties.Resend s)) ds p p ds (λ is. is, λ is. is) (record { recalls = recalls_all _ _ refl; follows = λ n f. f }) h
   passed_leads (duties.Ask (ask_duties.BreakAck s reason)) ds p h none = goes_led (duties.Ask (ask_duties.BreakAck s reason)) ds p p ds (λ is. is, λ is. is) (record { recalls = recalls_all _ _ refl; follows = λ n f. f }) h
   passed_leads (duties.Send (send_duties.BreakReset s reason)) ds p h none = goes_led (duties.Send (send_duties.BreakReset s reason)) ds p p ds (λ is. is, λ is. is) (record { recalls = recalls_all _ _ refl; follows = λ n f. f }) h
   passed_leads (duties.Send (send_duties.Reset s)) ds p h none = goes_led (duties.Send (send_duties.Reset s)) ds p p ds (λ is. is, λ is. is) (record { recalls = recalls_all _ _ refl; follows = λ n f. f }) h
+  passed_leads (duties.Send (send_duties.ResetNoted s)) ds p h none = goes_led (duties.Send (send_duties.ResetNoted s)) ds p p ds (λ is. is, λ is. is) (record { recalls = recalls_all _ _ refl; follows = λ n f. f }) h
   passed_leads (duties.Ask (ask_duties.Leave s)) ds p h none = goes_led (duties.Ask (ask_duties.Leave s)) ds p p ds (λ is. is, λ is. is) (record { recalls = recalls_all _ _ refl; follows = λ n f. f }) h
+  passed_leads (duties.Ask (ask_duties.LeaveNoted s)) ds p h none = goes_led (duties.Ask (ask_duties.LeaveNoted s)) ds p p ds (λ is. is, λ is. is) (record { recalls = recalls_all _ _ refl; follows = λ n f. f }) h
   passed_leads (duties.Ask (ask_duties.Dead s)) ds p h none = goes_led (duties.Ask (ask_duties.Dead s)) ds p p ds (λ is. is, λ is. is) (record { recalls = recalls_all _ _ refl; follows = λ n f. f }) h
   passed_leads duties.End ds p h none = goes_led duties.End ds p p ds (λ is. is, λ is. is) (record { recalls = recalls_all _ _ refl; follows = λ n f. f }) h
 
@@ -576,6 +582,11 @@ module _ {C : Type 0} where
   told_follows n true index ds p f = f
   told_follows n false index ds p f = f
 
+  -- the peer's fast close
+  stopped_follows : (s : Side) (stopped : Bool) (n : ℕ) (ds : List Duty) → Follows n ds → Follows n (if stopped then stops s else ds)
+  stopped_follows s true n ds f = tt
+  stopped_follows s false n ds f = f
+
   heard_goes : (k : Codec C) (index : ℕ) (ds : List Duty) (r : Reply) (p : PathState C) (o : Option Heard)
       → let m = with_agenda (duties.Step (step_duties.Heard B index) ∷ ds) p in let q = answered_item k B o r m in Goes (duties.Step (step_duties.Heard B index)) ds m q q.agenda
   heard_goes k index ds r p None = record { recalls = recalls_all _ _ refl; follows = λ n f. f }
@@ -592,13 +603,14 @@ module _ {C : Type 0} where
   heard_goes k index ds r p (Some (says.Join form)) = record { recalls = recalls_all _ _ refl; follows = λ n f. f }
   heard_goes k index ds r p (Some (says.Notice notice)) = record { recalls = recalls_all _ _ refl; follows = λ n f. f }
   heard_goes k index ds r p (Some says.Fail) = record { recalls = recalls_all _ _ refl; follows = λ n f. f }
-  heard_goes k index ds r p (Some (says.FastClose key)) = record { recalls = recalls_all _ _ refl; follows = λ n f. f }
+  heard_goes k index ds r p (Some (says.FastClose key)) = record { recalls = recalls_all _ _ refl; follows = λ n f. stopped_follows B (is_stopped_by r) n ds f }
 
   answered_goes : (k : Codec C) (d : Duty) → IsOther d → (ds : List Duty) (r : Reply) (p : PathState C)
       → let m = with_agenda (d ∷ ds) p in let q = answered k d r m in Goes d ds m q q.agenda
   answered_goes k (duties.Step (step_duties.Look s)) other ds r p = record { recalls = side_recalls s _ (with_agenda (duties.Step (step_duties.Look s) ∷ ds) p) _ (recalls_all _ _ refl) refl; follows = λ n f. f }
   answered_goes k (duties.Ask (ask_duties.Window s)) other ds r p = record { recalls = side_recalls s _ (with_agenda (duties.Ask (ask_duties.Window s) ∷ ds) p) _ (recalls_all _ _ refl) refl; follows = λ n f. f }
   answered_goes k (duties.Send (send_duties.Update s)) other ds r p = record { recalls = side_recalls s _ (with_agenda (duties.Send (send_duties.Update s) ∷ ds) p) _ (recalls_all _ _ refl) refl; follows = λ n f. f }
+  answered_goes k (duties.Send (send_duties.FastClose s)) other ds r p = record { recalls = side_recalls s _ (with_agenda (duties.Send (send_duties.FastClose s) ∷ ds) p) _ (recalls_all _ _ refl) refl; follows = λ n f. f }
   answered_goes k (duties.Send (send_duties.Syn s)) other ds r p = record { recalls = side_recalls s _ (with_agenda (duties.Send (send_duties.Syn s) ∷ ds) p) _ (recalls_all _ _ refl) refl; follows = λ n f. f }
   answered_goes k (duties.Send (send_duties.DataFin s)) other ds r p = record { recalls = side_recalls s _ (with_agenda (duties.Send (send_duties.DataFin s) ∷ ds) p) _ (recalls_all _ _ refl) refl; follows = λ n f. f }
   answered_goes k (duties.Send (send_duties.Fin s)) other ds r p = record { recalls = side_recalls s _ (with_agenda (duties.Send (send_duties.Fin s) ∷ ds) p) _ (recalls_all _ _ refl) refl; follows = λ n f. f }
@@ -620,12 +632,16 @@ module _ {C : Type 0} where
   answered_goes k (duties.Silent (silent_duties.Keep s)) other ds r p = record { recalls = recalls_all _ _ refl; follows = λ n f. f }
   answered_goes k (duties.Silent (silent_duties.PassFin s)) other ds r p = record { recalls = recalls_all _ _ refl; follows = λ n f. f }
   answered_goes k (duties.Ask (ask_duties.Return s)) other ds r p = record { recalls = recalls_all _ _ refl; follows = λ n f. f }
+  answered_goes k (duties.Ask (ask_duties.AbortSend s)) other ds r p = record { recalls = recalls_all _ _ refl; follows = λ n f. f }
+  answered_goes k (duties.Ask (ask_duties.AbortReceive s)) other ds r p = record { recalls = recalls_all _ _ refl; follows = λ n f. f }
   answered_goes k (duties.Ask (ask_duties.Leave s)) other ds r p = record { recalls = recalls_all _ _ refl; follows = λ n f. f }
+  answered_goes k (duties.Ask (ask_duties.LeaveNoted s)) other ds r p = record { recalls = side_recalls s _ (with_agenda (duties.Ask (ask_duties.LeaveNoted s) ∷ ds) p) _ (forgets _ _ refl) refl; follows = λ n f. f }
   answered_goes k (duties.Ask (ask_duties.Dead s)) other ds r p = record { recalls = recalls_all _ _ refl; follows = λ n f. f }
   answered_goes k duties.End other ds r p = record { recalls = recalls_all _ _ refl; follows = λ n f. tt }
   answered_goes k (duties.Ask (ask_duties.BreakAck s reason)) other ds r p = record { recalls = side_recalls s _ (with_agenda (duties.Ask (ask_duties.BreakAck s reason) ∷ ds) p) _ (recalls_all _ _ refl) refl; follows = λ n f. tt }
   answered_goes k (duties.Send (send_duties.BreakReset s reason)) other ds r p = record { recalls = side_recalls s _ (with_agenda (duties.Send (send_duties.BreakReset s reason) ∷ ds) p) _ (forgets _ _ refl) refl; follows = λ n f. tt }
   answered_goes k (duties.Send (send_duties.Reset s)) other ds r p = record { recalls = side_recalls s _ (with_agenda (duties.Send (send_duties.Reset s) ∷ ds) p) _ (forgets _ _ refl) refl; follows = λ n f. f }
+  answered_goes k (duties.Send (send_duties.ResetNoted s)) other ds r p = record { recalls = side_recalls s _ (with_agenda (duties.Send (send_duties.ResetNoted s) ∷ ds) p) _ (forgets _ _ refl) refl; follows = λ n f. f }
   answered_goes k (duties.Step step_duties.Events) other ds r p = absurd other
   answered_goes k (duties.Ask ask_duties.JoinAgain) other ds r p = begun_goes r ds p
   answered_goes k (duties.Step (step_duties.Data s)) other ds r p = data_goes k s r ds p (first_unsent (end_at s p))
@@ -691,7 +707,7 @@ module _ {C : Type 0} where
   heard_unclear k index ds r p above (Some says.Fail) is stands_so led u =
       inr (record { n = suc u.n; none = inr (one_more u.n p.a.treated.items says.Fail (unheard p u.n above u.none) (subst (λ n. item_at n p.a.treated.items ≡ Some says.Fail) u.follows.0 is) refl); follows = u.follows.1 })
   heard_unclear k index ds r p above (Some (says.FastClose key)) is stands_so led u =
-      inr (record { n = suc u.n; none = inr (one_more u.n p.a.treated.items (says.FastClose key) (unheard p u.n above u.none) (subst (λ n. item_at n p.a.treated.items ≡ Some (says.FastClose key)) u.follows.0 is) refl); follows = u.follows.1 })
+      inr (record { n = suc u.n; none = inr (one_more u.n p.a.treated.items (says.FastClose key) (unheard p u.n above u.none) (subst (λ n. item_at n p.a.treated.items ≡ Some (says.FastClose key)) u.follows.0 is) refl); follows = stopped_follows A (is_stopped_by r) (suc u.n) ds u.follows.1 })
 
   -- any other duty
   other_leads : (k : Codec C) (d : Duty) → IsOther d → (ds : List Duty) (r : Reply) (p : PathState C) → Leads (d ∷ ds) (with_agenda (d ∷ ds) p)
@@ -721,6 +737,7 @@ module _ {C : Type 0} where
   answered_leads k (duties.Step (step_duties.Look s)) ds r p is h = other_leads k (duties.Step (step_duties.Look s)) tt ds r p h
   answered_leads k (duties.Ask (ask_duties.Window s)) ds r p is h = other_leads k (duties.Ask (ask_duties.Window s)) tt ds r p h
   answered_leads k (duties.Send (send_duties.Update s)) ds r p is h = other_leads k (duties.Send (send_duties.Update s)) tt ds r p h
+  answered_leads k (duties.Send (send_duties.FastClose s)) ds r p is h = other_leads k (duties.Send (send_duties.FastClose s)) tt ds r p h
   answered_leads k (duties.Send (send_duties.Syn s)) ds r p is h = other_leads k (duties.Send (send_duties.Syn s)) tt ds r p h
   answered_leads k (duties.Step (step_duties.Data s)) ds r p is h = other_leads k (duties.Step (step_duties.Data s)) tt ds r p h
   answered_leads k (duties.Send (send_duties.DataFin s)) ds r p is h = other_leads k (duties.Send (send_duties.DataFin s)) tt ds r p h
@@ -754,11 +771,15 @@ module _ {C : Type 0} where
   answered_leads k (duties.Send (send_duties.Answer s)) ds r p is h = other_leads k (duties.Send (send_duties.Answer s)) tt ds r p h
   answered_leads k (duties.Send (send_duties.ResetAnswer s)) ds r p is h = other_leads k (duties.Send (send_duties.ResetAnswer s)) tt ds r p h
   answered_leads k (duties.Ask (ask_duties.Return s)) ds r p is h = other_leads k (duties.Ask (ask_duties.Return s)) tt ds r p h
+  answered_leads k (duties.Ask (ask_duties.AbortSend s)) ds r p is h = other_leads k (duties.Ask (ask_duties.AbortSend s)) tt ds r p h
+  answered_leads k (duties.Ask (ask_duties.AbortReceive s)) ds r p is h = other_leads k (duties.Ask (ask_duties.AbortReceive s)) tt ds r p h
   answered_leads k (duties.Send (send_duties.Resend s)) ds r p is h = other_leads k (duties.Send (send_duties.Resend s)) tt ds r p h
   answered_leads k (duties.Ask (ask_duties.BreakAck s reason)) ds r p is h = other_leads k (duties.Ask (ask_duties.BreakAck s reason)) tt ds r p h
   answered_leads k (duties.Send (send_duties.BreakReset s reason)) ds r p is h = other_leads k (duties.Send (send_duties.BreakReset s reason)) tt ds r p h
   answered_leads k (duties.Send (send_duties.Reset s)) ds r p is h = other_leads k (duties.Send (send_duties.Reset s)) tt ds r p h
+  answered_leads k (duties.Send (send_duties.ResetNoted s)) ds r p is h = other_leads k (duties.Send (send_duties.ResetNoted s)) tt ds r p h
   answered_leads k (duties.Ask (ask_duties.Leave s)) ds r p is h = other_leads k (duties.Ask (ask_duties.Leave s)) tt ds r p h
+  answered_leads k (duties.Ask (ask_duties.LeaveNoted s)) ds r p is h = other_leads k (duties.Ask (ask_duties.LeaveNoted s)) tt ds r p h
   answered_leads k (duties.Ask (ask_duties.Dead s)) ds r p is h = other_leads k (duties.Ask (ask_duties.Dead s)) tt ds r p h
   answered_leads k duties.End ds r p is h = other_leads k duties.End tt ds r p h
   answered_leads k (duties.Step (step_duties.Heard B index)) ds r p is h = other_leads k (duties.Step (step_duties.Heard B index)) tt ds r p h

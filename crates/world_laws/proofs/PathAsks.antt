@@ -38,12 +38,13 @@ use Rattle.path_core.specs.Treating.{breaks_by_ack, plain_ack_ask, is_clash, fel
 use Rattle.world_laws.proofs.Asking.{AskLeavesFile, asks_leave}
 use Rattle.world_laws.proofs.AskingBooks.{IsQuiet}
 
--- neither a read nor an abort
+-- not a read
 abbrev pub IsArrival : ReassemblyCall → Type 0
 IsArrival (reassembly_calls.Place at bytes) = Unit {0}
 IsArrival (reassembly_calls.Fin at) = Unit {0}
 IsArrival reassembly_calls.AckOut = Unit {0}
-IsArrival _ = ⊥
+IsArrival (reassembly_calls.Abort by_peer) = Unit {0}
+IsArrival (reassembly_calls.Read max) = ⊥
 
 abbrev pub IsPathAsk : Ask → Type 0
 IsPathAsk (asks.Reassembly s call) = IsArrival call
@@ -125,6 +126,7 @@ module _ {C : Type 0} (k : Codec C) (p : PathState C) where
   path_asks (duties.Step (step_duties.Look s)) = tt
   path_asks (duties.Ask (ask_duties.Window s)) = tt
   path_asks (duties.Send (send_duties.Update s)) = tt
+  path_asks (duties.Send (send_duties.FastClose s)) = tt
   path_asks (duties.Send (send_duties.Syn s)) = tt
   path_asks (duties.Step (step_duties.Data s)) = data_is s (first_unsent (end_at s p))
   path_asks (duties.Send (send_duties.DataFin s)) = tt
@@ -159,11 +161,15 @@ module _ {C : Type 0} (k : Codec C) (p : PathState C) where
   path_asks (duties.Send (send_duties.Answer s)) = tt
   path_asks (duties.Send (send_duties.ResetAnswer s)) = tt
   path_asks (duties.Ask (ask_duties.Return s)) = tt
+  path_asks (duties.Ask (ask_duties.AbortSend s)) = tt
+  path_asks (duties.Ask (ask_duties.AbortReceive s)) = tt
   path_asks (duties.Send (send_duties.Resend s)) = tt
   path_asks (duties.Ask (ask_duties.BreakAck s reason)) = tt
   path_asks (duties.Send (send_duties.BreakReset s reason)) = tt
   path_asks (duties.Send (send_duties.Reset s)) = tt
+  path_asks (duties.Send (send_duties.ResetNoted s)) = tt
   path_asks (duties.Ask (ask_duties.Leave s)) = tt
+  path_asks (duties.Ask (ask_duties.LeaveNoted s)) = tt
   path_asks (duties.Ask (ask_duties.Dead s)) = tt
   path_asks duties.End = tt
 
@@ -250,6 +256,7 @@ module _ {C : Type 0} (k : Codec C) (p : PathState C) where
   quiet_asks (duties.Step (step_duties.Look s)) q = tt
   quiet_asks (duties.Ask (ask_duties.Window s)) q = tt
   quiet_asks (duties.Send (send_duties.Update s)) q = tt
+  quiet_asks (duties.Send (send_duties.FastClose s)) q = tt
   quiet_asks (duties.Send (send_duties.Syn s)) q = tt
   quiet_asks (duties.Step (step_duties.Data s)) q = absurd q
   quiet_asks (duties.Send (send_duties.DataFin s)) q = tt
@@ -284,11 +291,15 @@ module _ {C : Type 0} (k : Codec C) (p : PathState C) where
   quiet_asks (duties.Send (send_duties.Answer s)) q = tt
   quiet_asks (duties.Send (send_duties.ResetAnswer s)) q = tt
   quiet_asks (duties.Ask (ask_duties.Return s)) q = refl
+  quiet_asks (duties.Ask (ask_duties.AbortSend s)) q = tt
+  quiet_asks (duties.Ask (ask_duties.AbortReceive s)) q = tt
   quiet_asks (duties.Send (send_duties.Resend s)) q = tt
   quiet_asks (duties.Ask (ask_duties.BreakAck s reason)) q = tt
   quiet_asks (duties.Send (send_duties.BreakReset s reason)) q = tt
   quiet_asks (duties.Send (send_duties.Reset s)) q = tt
+  quiet_asks (duties.Send (send_duties.ResetNoted s)) q = tt
   quiet_asks (duties.Ask (ask_duties.Leave s)) q = refl
+  quiet_asks (duties.Ask (ask_duties.LeaveNoted s)) q = refl
   quiet_asks (duties.Ask (ask_duties.Dead s)) q = tt
   quiet_asks duties.End q = tt
 
@@ -356,6 +367,7 @@ module _ {C : Type 0} (k : Codec C) (p : PathState C) where
   own_calls (duties.Step (step_duties.Look s)) = quiet_call (ask_for k (duties.Step (step_duties.Look s)) p) (quiet_asks (duties.Step (step_duties.Look s)) tt) (asks_leave k p (duties.Step (step_duties.Look s)))
   own_calls (duties.Ask (ask_duties.Window s)) = quiet_call (ask_for k (duties.Ask (ask_duties.Window s)) p) (quiet_asks (duties.Ask (ask_duties.Window s)) tt) (asks_leave k p (duties.Ask (ask_duties.Window s)))
   own_calls (duties.Send (send_duties.Update s)) = quiet_call (ask_for k (duties.Send (send_duties.Update s)) p) (quiet_asks (duties.Send (send_duties.Update s)) tt) (asks_leave k p (duties.Send (send_duties.Update s)))
+  own_calls (duties.Send (send_duties.FastClose s)) = quiet_call (ask_for k (duties.Send (send_duties.FastClose s)) p) (quiet_asks (duties.Send (send_duties.FastClose s)) tt) (asks_leave k p (duties.Send (send_duties.FastClose s)))
   own_calls (duties.Send (send_duties.Syn s)) = quiet_call (ask_for k (duties.Send (send_duties.Syn s)) p) (quiet_asks (duties.Send (send_duties.Syn s)) tt) (asks_leave k p (duties.Send (send_duties.Syn s)))
   own_calls (duties.Send (send_duties.DataFin s)) = quiet_call (ask_for k (duties.Send (send_duties.DataFin s)) p) (quiet_asks (duties.Send (send_duties.DataFin s)) tt) (asks_leave k p (duties.Send (send_duties.DataFin s)))
   own_calls (duties.Send (send_duties.Fin s)) = quiet_call (ask_for k (duties.Send (send_duties.Fin s)) p) (quiet_asks (duties.Send (send_duties.Fin s)) tt) (asks_leave k p (duties.Send (send_duties.Fin s)))
@@ -384,11 +396,15 @@ module _ {C : Type 0} (k : Codec C) (p : PathState C) where
   own_calls (duties.Send (send_duties.Answer s)) = quiet_call (ask_for k (duties.Send (send_duties.Answer s)) p) (quiet_asks (duties.Send (send_duties.Answer s)) tt) (asks_leave k p (duties.Send (send_duties.Answer s)))
   own_calls (duties.Send (send_duties.ResetAnswer s)) = quiet_call (ask_for k (duties.Send (send_duties.ResetAnswer s)) p) (quiet_asks (duties.Send (send_duties.ResetAnswer s)) tt) (asks_leave k p (duties.Send (send_duties.ResetAnswer s)))
   own_calls (duties.Ask (ask_duties.Return s)) = quiet_call (ask_for k (duties.Ask (ask_duties.Return s)) p) (quiet_asks (duties.Ask (ask_duties.Return s)) tt) (asks_leave k p (duties.Ask (ask_duties.Return s)))
+  own_calls (duties.Ask (ask_duties.AbortSend s)) = quiet_call (ask_for k (duties.Ask (ask_duties.AbortSend s)) p) (quiet_asks (duties.Ask (ask_duties.AbortSend s)) tt) (asks_leave k p (duties.Ask (ask_duties.AbortSend s)))
+  own_calls (duties.Ask (ask_duties.AbortReceive s)) = quiet_call (ask_for k (duties.Ask (ask_duties.AbortReceive s)) p) (quiet_asks (duties.Ask (ask_duties.AbortReceive s)) tt) (asks_leave k p (duties.Ask (ask_duties.AbortReceive s)))
   own_calls (duties.Send (send_duties.Resend s)) = quiet_call (ask_for k (duties.Send (send_duties.Resend s)) p) (quiet_asks (duties.Send (send_duties.Resend s)) tt) (asks_leave k p (duties.Send (send_duties.Resend s)))
   own_calls (duties.Ask (ask_duties.BreakAck s reason)) = quiet_call (ask_for k (duties.Ask (ask_duties.BreakAck s reason)) p) (quiet_asks (duties.Ask (ask_duties.BreakAck s reason)) tt) (asks_leave k p (duties.Ask (ask_duties.BreakAck s reason)))
   own_calls (duties.Send (send_duties.BreakReset s reason)) = quiet_call (ask_for k (duties.Send (send_duties.BreakReset s reason)) p) (quiet_asks (duties.Send (send_duties.BreakReset s reason)) tt) (asks_leave k p (duties.Send (send_duties.BreakReset s reason)))
   own_calls (duties.Send (send_duties.Reset s)) = quiet_call (ask_for k (duties.Send (send_duties.Reset s)) p) (quiet_asks (duties.Send (send_duties.Reset s)) tt) (asks_leave k p (duties.Send (send_duties.Reset s)))
+  own_calls (duties.Send (send_duties.ResetNoted s)) = quiet_call (ask_for k (duties.Send (send_duties.ResetNoted s)) p) (quiet_asks (duties.Send (send_duties.ResetNoted s)) tt) (asks_leave k p (duties.Send (send_duties.ResetNoted s)))
   own_calls (duties.Ask (ask_duties.Leave s)) = quiet_call (ask_for k (duties.Ask (ask_duties.Leave s)) p) (quiet_asks (duties.Ask (ask_duties.Leave s)) tt) (asks_leave k p (duties.Ask (ask_duties.Leave s)))
+  own_calls (duties.Ask (ask_duties.LeaveNoted s)) = quiet_call (ask_for k (duties.Ask (ask_duties.LeaveNoted s)) p) (quiet_asks (duties.Ask (ask_duties.LeaveNoted s)) tt) (asks_leave k p (duties.Ask (ask_duties.LeaveNoted s)))
   own_calls (duties.Ask (ask_duties.Dead s)) = quiet_call (ask_for k (duties.Ask (ask_duties.Dead s)) p) (quiet_asks (duties.Ask (ask_duties.Dead s)) tt) (asks_leave k p (duties.Ask (ask_duties.Dead s)))
   own_calls (duties.Step step_duties.Events) = quiet_call (ask_for k (duties.Step step_duties.Events) p) (quiet_asks (duties.Step step_duties.Events) tt) (asks_leave k p (duties.Step step_duties.Events))
   own_calls duties.End = quiet_call (ask_for k duties.End p) (quiet_asks duties.End tt) (asks_leave k p duties.End)

@@ -358,6 +358,7 @@ module _ (R : Side → ℕ → ℕ → Type 0) where
   answered_knows (duties.Step (step_duties.Look s)) r p tell h = same_goes s _ _ p refl h
   answered_knows (duties.Ask (ask_duties.Window s)) r p tell h = ack_out_knows s r _ p h
   answered_knows (duties.Send (send_duties.Update s)) r p tell h = same_sent s _ _ _ p refl h
+  answered_knows (duties.Send (send_duties.FastClose s)) r p tell h = same_sent s _ _ _ p refl h
   answered_knows (duties.Send (send_duties.Syn s)) r p tell h = same_sent s _ _ _ p refl h
   answered_knows (duties.Step (step_duties.Data s)) r p tell h = data_knows s (first_unsent (end_at s p)) r p h
   answered_knows (duties.Send (send_duties.DataFin s)) r p tell h = same_sent s _ _ _ p refl h
@@ -380,7 +381,9 @@ module _ (R : Side → ℕ → ℕ → Type 0) where
   answered_knows (duties.Ask (ask_duties.BreakAck s reason)) r p tell h = ack_out_knows s r _ p h
   answered_knows (duties.Send (send_duties.BreakReset s reason)) r p tell h = reset_knows s (Some reason) (leaves s) p h
   answered_knows (duties.Send (send_duties.Reset s)) r p tell h = reset_knows s None (replaced (duties.Ask (ask_duties.Leave s)) p.agenda) p h
+  answered_knows (duties.Send (send_duties.ResetNoted s)) r p tell h = reset_knows s None (replaced (duties.Ask (ask_duties.Leave s)) p.agenda) p h
   answered_knows (duties.Ask (ask_duties.Leave s)) r p tell h = agenda _ p h
+  answered_knows (duties.Ask (ask_duties.LeaveNoted s)) r p tell h = same_goes s _ _ p refl h
   answered_knows duties.End r p tell h = agenda _ p h
   answered_knows _ r p tell h = agenda _ p h
 

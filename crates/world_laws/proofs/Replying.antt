@@ -35,7 +35,7 @@ use Rattle.fallback_state.specs.declared.fall.Event.TheVariants as events
 use Rattle.fallback_state.specs.declared.fall.Event.{Event}
 use Rattle.path_agenda.specs.declared.heard.Heard.{Heard}
 use Rattle.path_agenda.specs.declared.heard.Heard.TheVariants as says
-use Rattle.path_agenda.specs.Agenda.{breaks}
+use Rattle.path_agenda.specs.Agenda.{breaks, stops}
 use Rattle.path_core.specs.Breaking.{break_ask, answered_break}
 use Rattle.path_core.specs.Emission.{granted, grant_in, refused, answered_grant}
 use Rattle.path_core.specs.Ends.{PathEnd}
@@ -49,6 +49,7 @@ use Rattle.path_core.specs.Treating.{fell_ask, is_clash, mapping_ask, answered_m
 use Rattle.path_core.specs.Values.{Carried, values}
 use Rattle.path_core.specs.Words.{item_at}
 use Rattle.path_core.specs.Fallback.{identity_ask, answered_identity, answered_fell}
+use Rattle.path_core.specs.FastClosing.{is_stopped_by, fast_heard_ask}
 use Rattle.world_laws.proofs.Falls.{is_plain}
 use Rattle.world_laws.proofs.Answering.{IsReady, Steps, shows_at, agenda_step, agenda_side, end_step, did_step, did_then, break_step, rate_quiet}
 use Rattle.world_laws.proofs.Doing.{granted_lane, refused_lane, wants_grant, hears_ack, wants_fin, hears_none, hears_sub, wants_plain_fin}
@@ -196,7 +197,10 @@ module _ (six : SixBooks) (others : Others) (p : PathState Carried) (ab ba : Lan
     heard_step (says.Join form) above has = agenda_step six others p ab ba h ready (asks.Local steps.End) (left p) tt
     heard_step (says.Notice notice) above has = agenda_step six others p ab ba h ready (asks.Local steps.End) (left p) tt
     heard_step says.Fail above has = agenda_step six others p ab ba h ready (asks.Local steps.End) (left p) tt
-    heard_step (says.FastClose key) above has = agenda_step six others p ab ba h ready (asks.Local steps.End) (left p) tt
+    heard_step (says.FastClose key) above has = stopped_step (is_stopped_by (reply_of six (fast_heard_ask s key)))
+      where
+        stopped_step : (b : Bool) → Makes (fast_heard_ask s key) (with_agenda (if b then stops s else left p) p)
+        stopped_step b = agenda_step six others p ab ba h ready (fast_heard_ask s key) (if b then stops s else left p) tt
 
     item_by : (o : Option Heard) → e.modes.identity ≡ false → IfSome o (ItemShows out.acks back) → Makes (item_ask values s o p) (answered_item values s o (reply_of six (item_ask values s o p)) p)
     item_by None above has = agenda_step six others p ab ba h ready (asks.Local steps.End) (left p) tt

@@ -66,6 +66,7 @@ use Rattle.path_core.specs.State.{PathState, end_at, goes_on, left, with_agenda,
 use Rattle.path_core.specs.Steps.{settled, answers, takes, begins_turn}
 use Rattle.path_core.specs.Treating.{after_keep, answered_heard, answered_item, answered_plain_ack, breaks_by_ack, counts, is_clash, is_dropped, item_of, item_passed, with_acked, with_data_fin, with_plain_ack}
 use Rattle.path_core.specs.Values.{Carried, as_arrived, carried_by, stripped, altered, values}
+use Rattle.path_core.specs.Segments.{carried_said}
 use Rattle.world_laws.proofs.KeysHeld.{in_removed}
 use Rattle.world_laws.proofs.KeysWoken.{WakesNone, joined_wakes_none}
 use Rattle.world_laws.proofs.KeysMet.{is_apart, finish_apart, passed_apart, apart_stays, arrived_state, TellsKey, no_syn, record_or_ack_tells, syn_ack_tells, IsNoSyn, reset_answers, outgoing_tells}
@@ -178,6 +179,10 @@ same_sent s sg e ds p tells state answer h = sent_roles s sg e ds p tells (same_
 
 ack_tells : (s : Side) (position : ℕ) (fin : Option ℕ) (p : PathState Carried) → TellsKey (is_joined p.profile) (peer s) (ack_said p.profile s position fin (end_at s p))
 ack_tells s position fin p = no_syn (is_joined p.profile) s (ack_said p.profile s position fin (end_at s p)) refl
+
+carried_tells : (s : Side) (o : Option ℕ) (p : PathState Carried) → TellsKey (is_joined p.profile) (peer s) (carried_said p.profile s o (end_at s p))
+carried_tells s (Some key) p = no_syn (is_joined p.profile) s (carried_said p.profile s (Some key) (end_at s p)) refl
+carried_tells s None p = ack_tells s (end_at s p).tcp.send.nxt None p
 
 -- ---- in silence
 
@@ -420,18 +425,20 @@ answer_tells s p = by (end_at s p).tcp.due.syn_ack
     by false = ack_tells s (end_at s p).tcp.send.nxt None p
 
 resend_tells : (s : Side) (p : PathState Carried) → TellsKey (is_joined p.profile) (peer s) (resend_of s p)
-resend_tells s p = by (has_records e.tcp) e.modes.owes_third (is_data_fin_owed e)
+resend_tells s p = by (has_records e.tcp) e.modes.owes_third e.notices.fast_closed (is_data_fin_owed e)
   where
     e : PathEnd
     e = end_at s p
 
-    by : (records third owes : Bool) → TellsKey (is_joined p.profile) (peer s) (if records then record_or_ack p.profile s (first_record e) e
+    by : (records third closed owes : Bool) → TellsKey (is_joined p.profile) (peer s) (if records then record_or_ack p.profile s (first_record e) e
         else (if third then ack_said p.profile s e.tcp.send.nxt None e
-        else (if owes then ack_said p.profile s e.tcp.send.nxt e.sending.known_end e else ack_said p.profile s (e.tcp.send.una - 1) None e)))
-    by true third owes = record_or_ack_tells p.profile s e (first_record e)
-    by false true owes = ack_tells s e.tcp.send.nxt None p
-    by false false true = ack_tells s e.tcp.send.nxt e.sending.known_end p
-    by false false false = ack_tells s (e.tcp.send.una - 1) None p
+        else (if closed then carried_said p.profile s e.notices.carrier e
+        else (if owes then ack_said p.profile s e.tcp.send.nxt e.sending.known_end e else ack_said p.profile s (e.tcp.send.una - 1) None e))))
+    by true third closed owes = record_or_ack_tells p.profile s e (first_record e)
+    by false true closed owes = ack_tells s e.tcp.send.nxt None p
+    by false false true owes = carried_tells s e.notices.carrier p
+    by false false false true = ack_tells s e.tcp.send.nxt e.sending.known_end p
+    by false false false false = ack_tells s (e.tcp.send.una - 1) None p
 
 -- a join is heard of
 listening_apart : (state : EndPhase) → is_listening state ≡ true → is_apart A state ≡ true
@@ -474,6 +481,7 @@ answered_roles (duties.Ask ask_duties.JoinAgain) r p h = begun_roles r (replaced
 answered_roles (duties.Step (step_duties.Look s)) r p h = same_roles s _ (left p) p refl refl h
 answered_roles (duties.Ask (ask_duties.Window s)) r p h = same_roles s (after_ack_out r (end_at s p)) (left p) p refl refl h
 answered_roles (duties.Send (send_duties.Update s)) r p h = same_sent s _ _ (left p) p (ack_tells s (end_at s p).tcp.send.nxt None p) refl refl h
+answered_roles (duties.Send (send_duties.FastClose s)) r p h = same_sent s _ _ (left p) p (carried_tells s (end_at s p).notices.carrier p) refl refl h
 answered_roles (duties.Send (send_duties.Syn s)) r p h = same_sent s _ _ (left p) p (record_or_ack_tells p.profile s (end_at s p) (first_unsent (end_at s p))) refl refl h
 answered_roles (duties.Step (step_duties.Data s)) r p h = data_roles s (first_unsent (end_at s p)) r p h
 answered_roles (duties.Send (send_duties.DataFin s)) r p h = same_sent s _ _ (left p) p (ack_tells s (end_at s p).tcp.send.nxt (end_at s p).sending.known_end p) refl refl h
@@ -509,7 +517,9 @@ answered_roles (duties.Send (send_duties.Resend s)) r p h = sent_roles s (resend
 answered_roles (duties.Ask (ask_duties.BreakAck s reason)) r p h = same_roles s (after_ack_out r (end_at s p)) (resets s reason) p refl refl h
 answered_roles (duties.Send (send_duties.BreakReset s reason)) r p h = reset_roles s (Some reason) (leaves s) p h
 answered_roles (duties.Send (send_duties.Reset s)) r p h = reset_roles s None (replaced (duties.Ask (ask_duties.Leave s)) p.agenda) p h
+answered_roles (duties.Send (send_duties.ResetNoted s)) r p h = reset_roles s None (replaced (duties.Ask (ask_duties.Leave s)) p.agenda) p h
 answered_roles (duties.Ask (ask_duties.Leave s)) r p h = agenda_roles _ p h
+answered_roles (duties.Ask (ask_duties.LeaveNoted s)) r p h = goes_roles s (died (end_at s p)) _ p (record { role = λ joins is. absurd (false≢true is); answer = tt }) h
 answered_roles duties.End r p h = agenda_roles [] p h
 answered_roles _ r p h = agenda_roles (left p) p h
 

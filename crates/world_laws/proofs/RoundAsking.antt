@@ -135,6 +135,7 @@ module _ {C : Type 0} where
     duty_done (duties.Step (step_duties.Look s)) ds r asks is refusal f each = other_duty (duties.Step (step_duties.Look s)) ds r asks tt f each
     duty_done (duties.Ask (ask_duties.Window s)) ds r asks is refusal f each = other_duty (duties.Ask (ask_duties.Window s)) ds r asks tt f each
     duty_done (duties.Send (send_duties.Update s)) ds r asks is refusal f each = other_duty (duties.Send (send_duties.Update s)) ds r asks tt f each
+    duty_done (duties.Send (send_duties.FastClose s)) ds r asks is refusal f each = other_duty (duties.Send (send_duties.FastClose s)) ds r asks tt f each
     duty_done (duties.Send (send_duties.Syn s)) ds r asks is refusal f each = other_duty (duties.Send (send_duties.Syn s)) ds r asks tt f each
     duty_done (duties.Send (send_duties.DataFin s)) ds r asks is refusal f each = other_duty (duties.Send (send_duties.DataFin s)) ds r asks tt f each
     duty_done (duties.Send (send_duties.Fin s)) ds r asks is refusal f each = other_duty (duties.Send (send_duties.Fin s)) ds r asks tt f each
@@ -168,11 +169,15 @@ module _ {C : Type 0} where
     duty_done (duties.Send (send_duties.Answer s)) ds r asks is refusal f each = other_duty (duties.Send (send_duties.Answer s)) ds r asks tt f each
     duty_done (duties.Send (send_duties.ResetAnswer s)) ds r asks is refusal f each = other_duty (duties.Send (send_duties.ResetAnswer s)) ds r asks tt f each
     duty_done (duties.Ask (ask_duties.Return s)) ds r asks is refusal f each = other_duty (duties.Ask (ask_duties.Return s)) ds r asks tt f each
+    duty_done (duties.Ask (ask_duties.AbortSend s)) ds r asks is refusal f each = other_duty (duties.Ask (ask_duties.AbortSend s)) ds r asks tt f each
+    duty_done (duties.Ask (ask_duties.AbortReceive s)) ds r asks is refusal f each = other_duty (duties.Ask (ask_duties.AbortReceive s)) ds r asks tt f each
     duty_done (duties.Send (send_duties.Resend s)) ds r asks is refusal f each = other_duty (duties.Send (send_duties.Resend s)) ds r asks tt f each
     duty_done (duties.Ask (ask_duties.BreakAck s reason)) ds r asks is refusal f each = other_duty (duties.Ask (ask_duties.BreakAck s reason)) ds r asks tt f each
     duty_done (duties.Send (send_duties.BreakReset s reason)) ds r asks is refusal f each = other_duty (duties.Send (send_duties.BreakReset s reason)) ds r asks tt f each
     duty_done (duties.Send (send_duties.Reset s)) ds r asks is refusal f each = other_duty (duties.Send (send_duties.Reset s)) ds r asks tt f each
+    duty_done (duties.Send (send_duties.ResetNoted s)) ds r asks is refusal f each = other_duty (duties.Send (send_duties.ResetNoted s)) ds r asks tt f each
     duty_done (duties.Ask (ask_duties.Leave s)) ds r asks is refusal f each = other_duty (duties.Ask (ask_duties.Leave s)) ds r asks tt f each
+    duty_done (duties.Ask (ask_duties.LeaveNoted s)) ds r asks is refusal f each = other_duty (duties.Ask (ask_duties.LeaveNoted s)) ds r asks tt f each
     duty_done (duties.Ask (ask_duties.Dead s)) ds r asks is refusal f each = other_duty (duties.Ask (ask_duties.Dead s)) ds r asks tt f each
     duty_done duties.End ds r asks is refusal f each = other_duty duties.End ds r asks tt f each
 

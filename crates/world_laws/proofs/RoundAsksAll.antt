@@ -449,6 +449,7 @@ module _ {C : Type 0} (k : Codec C) (p : PathState C) (written_a written_b : ℕ
   duty_asks (duties.Step (step_duties.Look s)) ds is f each = quiet_duty (duties.Step (step_duties.Look s)) ds tt tt is f each
   duty_asks (duties.Ask (ask_duties.Window s)) ds is f each = quiet_duty (duties.Ask (ask_duties.Window s)) ds tt tt is f each
   duty_asks (duties.Send (send_duties.Update s)) ds is f each = quiet_duty (duties.Send (send_duties.Update s)) ds tt tt is f each
+  duty_asks (duties.Send (send_duties.FastClose s)) ds is f each = quiet_duty (duties.Send (send_duties.FastClose s)) ds tt tt is f each
   duty_asks (duties.Send (send_duties.Syn s)) ds is f each = quiet_duty (duties.Send (send_duties.Syn s)) ds tt tt is f each
   duty_asks (duties.Send (send_duties.DataFin s)) ds is f each = quiet_duty (duties.Send (send_duties.DataFin s)) ds tt tt is f each
   duty_asks (duties.Send (send_duties.Fin s)) ds is f each = quiet_duty (duties.Send (send_duties.Fin s)) ds tt tt is f each
@@ -481,11 +482,15 @@ module _ {C : Type 0} (k : Codec C) (p : PathState C) (written_a written_b : ℕ
   duty_asks (duties.Send (send_duties.Answer s)) ds is f each = quiet_duty (duties.Send (send_duties.Answer s)) ds tt tt is f each
   duty_asks (duties.Send (send_duties.ResetAnswer s)) ds is f each = quiet_duty (duties.Send (send_duties.ResetAnswer s)) ds tt tt is f each
   duty_asks (duties.Ask (ask_duties.Return s)) ds is f each = quiet_duty (duties.Ask (ask_duties.Return s)) ds tt tt is f each
+  duty_asks (duties.Ask (ask_duties.AbortSend s)) ds is f each = quiet_duty (duties.Ask (ask_duties.AbortSend s)) ds tt tt is f each
+  duty_asks (duties.Ask (ask_duties.AbortReceive s)) ds is f each = quiet_duty (duties.Ask (ask_duties.AbortReceive s)) ds tt tt is f each
   duty_asks (duties.Send (send_duties.Resend s)) ds is f each = quiet_duty (duties.Send (send_duties.Resend s)) ds tt tt is f each
   duty_asks (duties.Ask (ask_duties.BreakAck s reason)) ds is f each = quiet_duty (duties.Ask (ask_duties.BreakAck s reason)) ds tt tt is f each
   duty_asks (duties.Send (send_duties.BreakReset s reason)) ds is f each = quiet_duty (duties.Send (send_duties.BreakReset s reason)) ds tt tt is f each
   duty_asks (duties.Send (send_duties.Reset s)) ds is f each = quiet_duty (duties.Send (send_duties.Reset s)) ds tt tt is f each
+  duty_asks (duties.Send (send_duties.ResetNoted s)) ds is f each = quiet_duty (duties.Send (send_duties.ResetNoted s)) ds tt tt is f each
   duty_asks (duties.Ask (ask_duties.Leave s)) ds is f each = quiet_duty (duties.Ask (ask_duties.Leave s)) ds tt tt is f each
+  duty_asks (duties.Ask (ask_duties.LeaveNoted s)) ds is f each = quiet_duty (duties.Ask (ask_duties.LeaveNoted s)) ds tt tt is f each
   duty_asks (duties.Ask (ask_duties.Dead s)) ds is f each = quiet_duty (duties.Ask (ask_duties.Dead s)) ds tt tt is f each
   duty_asks duties.End ds is f each = quiet_duty duties.End ds tt tt is f each
 

@@ -130,6 +130,7 @@ module _ {C : Type 0} where
   answered_keeps k (duties.Step (step_duties.Look s)) r p = (refl, refl, refl)
   answered_keeps k (duties.Ask (ask_duties.Window s)) r p = (refl, refl, refl)
   answered_keeps k (duties.Send (send_duties.Update s)) r p = (refl, refl, one_more_path s _)
+  answered_keeps k (duties.Send (send_duties.FastClose s)) r p = (refl, refl, one_more_path s _)
   answered_keeps k (duties.Send (send_duties.Syn s)) r p = (refl, refl, one_more_path s _)
   answered_keeps k (duties.Step (step_duties.Data s)) r p = data_keeps k s (first_unsent (end_at s p)) r p
   answered_keeps k (duties.Send (send_duties.DataFin s)) r p = (refl, refl, one_more_path s _)
@@ -157,7 +158,9 @@ module _ {C : Type 0} where
   answered_keeps k (duties.Ask (ask_duties.BreakAck s reason)) r p = (refl, refl, refl)
   answered_keeps k (duties.Send (send_duties.BreakReset s reason)) r p = (refl, refl, one_more_path s _)
   answered_keeps k (duties.Send (send_duties.Reset s)) r p = (refl, refl, one_more_path s _)
+  answered_keeps k (duties.Send (send_duties.ResetNoted s)) r p = (refl, refl, one_more_path s _)
   answered_keeps k (duties.Ask (ask_duties.Leave s)) r p = (refl, refl, refl)
+  answered_keeps k (duties.Ask (ask_duties.LeaveNoted s)) r p = (refl, refl, refl)
   answered_keeps k duties.End r p = (refl, refl, refl)
   answered_keeps k _ r p = (refl, refl, refl)
 

@@ -139,6 +139,7 @@ module _ {C : Type 0} (k : Codec C) (p : PathState C) where
   asks_none (duties.Step (step_duties.Look s)) other = tt
   asks_none (duties.Ask (ask_duties.Window s)) other = tt
   asks_none (duties.Send (send_duties.Update s)) other = tt
+  asks_none (duties.Send (send_duties.FastClose s)) other = tt
   asks_none (duties.Send (send_duties.Syn s)) other = tt
   asks_none (duties.Step (step_duties.Data s)) other = absurd other
   asks_none (duties.Send (send_duties.DataFin s)) other = tt
@@ -173,10 +174,14 @@ module _ {C : Type 0} (k : Codec C) (p : PathState C) where
   asks_none (duties.Send (send_duties.Answer s)) other = tt
   asks_none (duties.Send (send_duties.ResetAnswer s)) other = tt
   asks_none (duties.Ask (ask_duties.Return s)) other = tt
+  asks_none (duties.Ask (ask_duties.AbortSend s)) other = tt
+  asks_none (duties.Ask (ask_duties.AbortReceive s)) other = tt
   asks_none (duties.Send (send_duties.Resend s)) other = tt
   asks_none (duties.Ask (ask_duties.BreakAck s reason)) other = tt
   asks_none (duties.Send (send_duties.BreakReset s reason)) other = tt
   asks_none (duties.Send (send_duties.Reset s)) other = tt
+  asks_none (duties.Send (send_duties.ResetNoted s)) other = tt
   asks_none (duties.Ask (ask_duties.Leave s)) other = tt
+  asks_none (duties.Ask (ask_duties.LeaveNoted s)) other = tt
   asks_none (duties.Ask (ask_duties.Dead s)) other = tt
   asks_none duties.End other = tt

@@ -29,7 +29,7 @@ use Rattle.path_core.specs.declared.event.Event.TheVariants as happenings
 use Rattle.path_agenda.specs.declared.heard.Heard.{Heard}
 use Rattle.path_agenda.specs.declared.heard.Heard.TheVariants as says
 use Rattle.path_agenda.specs.declared.keys.KeyPair.{KeyPair}
-use Rattle.path_agenda.specs.Agenda.{rest_of_turn, emission, syn_came, syn_ack_came, join_came, refuses, join_answered, heard_and, payload_came, copy_came, syn_again, answers, answers_dead, expired, expired_for_ever, leaves, breaks, resets}
+use Rattle.path_agenda.specs.Agenda.{rest_of_turn, emission, syn_came, syn_ack_came, join_came, refuses, join_answered, heard_and, payload_came, copy_came, syn_again, answers, answers_dead, expired, expired_for_ever, leaves, breaks, resets, stops}
 use Rattle.path_agenda.specs.Items.{key_heard, keys_heard}
 use Rattle.path_core.specs.Arriving.{items_of, reset_for, copy_judged, held_of, judged_in, taken_as, template_by, template_judged, options_heard}
 use Rattle.path_core.specs.Breaking.{reset_of, reset_on, answered_break}
@@ -47,10 +47,11 @@ use Rattle.path_core.specs.Passing.{piece_of, is_placed, answered_piece, is_fin_
 use Rattle.path_core.specs.Deliver.{Piece, with_learned}
 use Rattle.path_core.specs.Handover.{sent_on}
 use Rattle.path_core.specs.Standing.{answered_ack_out}
-use Rattle.path_core.specs.State.{PathState, Profile, end_at, with_end, with_agenda, goes_on}
+use Rattle.path_core.specs.State.{PathState, Profile, end_at, with_end, with_agenda, goes_on, left}
 use Rattle.path_core.specs.Steps.{settled}
 use Rattle.path_core.specs.Treating.{is_clash, told_next, answered_item, item_of, after_fell, fell_duties, answered_fell, with_plain_ack, breaks_by_ack}
 use Rattle.path_core.specs.Opening.{answered_peer_key, answered_opened}
+use Rattle.path_core.specs.FastClosing.{is_stopped_by}
 use Rattle.world_laws.proofs.RoundGrantAsks.{MayNotAsk}
 use Rattle.world_laws.proofs.Verdicts.{fell_cases}
 
@@ -76,6 +77,7 @@ abbrev pub needs : Duty → List Duty → Bool
 needs (duties.Ask ask_duties.JoinAgain) ds = is_owed A ds
 needs (duties.Step (step_duties.Look s)) ds = is_owed s ds
 needs (duties.Send (send_duties.Update s)) ds = is_owed s ds
+needs (duties.Send (send_duties.FastClose s)) ds = is_owed s ds
 needs (duties.Send (send_duties.Syn s)) ds = is_owed s ds
 needs (duties.Ask (ask_duties.SynHeard s)) ds = is_owed s ds
 needs (duties.Ask (ask_duties.SynAnswered s)) ds = is_owed s ds
@@ -104,6 +106,8 @@ needs (duties.Send (send_duties.Resend s)) ds = is_owed s ds
 needs (duties.Ask (ask_duties.BreakAck s reason)) ds = none_owed ds
 needs (duties.Send (send_duties.BreakReset s reason)) ds = none_owed ds
 needs (duties.Send (send_duties.Reset s)) ds = none_owed ds
+needs (duties.Ask (ask_duties.LeaveNoted s)) ds = is_owed s ds
+needs (duties.Send (send_duties.ResetNoted s)) ds = is_owed s ds
 needs (duties.Step step_duties.Events) ds = none_owed ds
 needs duties.End ds = none_owed ds
 needs _ ds = true
@@ -324,6 +328,18 @@ module _ {C : Type 0} where
     resets_go A e reason other = on A e (resets A reason) refl (inl refl) (inr other)
     resets_go B e reason other = on B e (resets B reason) refl (inl refl) (inr other)
 
+    stops_done : (s : Side) → IsPaid p.profile (peer s) (end_at (peer s) p) (refused (peer s)) → Granting (with_agenda (stops s) p) refused
+    stops_done A other = agenda_on p refused (stops A) refl each
+      where
+        each : (t : Side) → Pays p (stops A) refused t
+        each A = inl refl
+        each B = inr other
+    stops_done B other = agenda_on p refused (stops B) refl each
+      where
+        each : (t : Side) → Pays p (stops B) refused t
+        each A = inr other
+        each B = inl refl
+
     break_done : (k : Codec C) (s : Side) (reason : ℕ) (r : Reply) → IsPaid p.profile (peer s) (end_at (peer s) p) (refused (peer s)) → Granting (answered_break k s reason r p) refused
     break_done k s reason r other = by (end_at s p).treated.asked
       where
@@ -468,10 +484,12 @@ module _ {C : Type 0} where
   passed_pays (duties.Ask (ask_duties.BreakAck s reason)) ds p refused none f each = absurd (true≢false none)
   passed_pays (duties.Send (send_duties.BreakReset s reason)) ds p refused none f each = absurd (true≢false none)
   passed_pays (duties.Send (send_duties.Reset s)) ds p refused none f each = absurd (true≢false none)
+  passed_pays (duties.Send (send_duties.ResetNoted s)) ds p refused none f each = each
   passed_pays (duties.Ask ask_duties.JoinAgain) ds p refused none f each = each
   passed_pays (duties.Step (step_duties.Look s)) ds p refused none f each = each
   passed_pays (duties.Ask (ask_duties.Window s)) ds p refused none f each = each
   passed_pays (duties.Send (send_duties.Update s)) ds p refused none f each = each
+  passed_pays (duties.Send (send_duties.FastClose s)) ds p refused none f each = each
   passed_pays (duties.Send (send_duties.Syn s)) ds p refused none f each = each
   passed_pays (duties.Send (send_duties.DataFin s)) ds p refused none f each = each
   passed_pays (duties.Send (send_duties.Fin s)) ds p refused none f each = each
@@ -502,8 +520,11 @@ module _ {C : Type 0} where
   passed_pays (duties.Send (send_duties.Answer s)) ds p refused none f each = each
   passed_pays (duties.Send (send_duties.ResetAnswer s)) ds p refused none f each = each
   passed_pays (duties.Ask (ask_duties.Return s)) ds p refused none f each = each
+  passed_pays (duties.Ask (ask_duties.AbortSend s)) ds p refused none f each = each
+  passed_pays (duties.Ask (ask_duties.AbortReceive s)) ds p refused none f each = each
   passed_pays (duties.Send (send_duties.Resend s)) ds p refused none f each = each
   passed_pays (duties.Ask (ask_duties.Leave s)) ds p refused none f each = each
+  passed_pays (duties.Ask (ask_duties.LeaveNoted s)) ds p refused none f each = each
   passed_pays (duties.Ask (ask_duties.Dead s)) ds p refused none f each = each
   passed_pays duties.End ds p refused none f each = each
 
@@ -602,6 +623,10 @@ module _ {C : Type 0} where
         mapping true = break_done (at xs) refused k s 1 r paid
         mapping false = fell_done s _ (duties.Step (step_duties.Heard s index)) ds rest need.0 paid
 
+        stopped : (b : Bool) → Granting (with_agenda (if b then stops s else left (at xs)) (at xs)) refused
+        stopped true = stops_done (at xs) refused s paid
+        stopped false = done_on ds xs rest (λ t. each t)
+
         by : (o : Option Heard) → Granting (answered_item k s o r (at xs)) refused
         by None = done_on ds xs rest (λ t. each t)
         by (Some says.Dss) = done_on ds xs rest (λ t. each t)
@@ -613,7 +638,7 @@ module _ {C : Type 0} where
         by (Some (says.Join form)) = done_on ds xs rest (λ t. each t)
         by (Some (says.Notice notice)) = done_on ds xs rest (λ t. each t)
         by (Some says.Fail) = done_on ds xs rest (λ t. each t)
-        by (Some (says.FastClose key)) = done_on ds xs rest (λ t. each t)
+        by (Some (says.FastClose key)) = stopped (is_stopped_by r)
         by (Some (says.Keys own other)) = touched s _ ds rest need.0 xs (inr paid)
 
     -- an end that waits asks again whether it may join
@@ -731,6 +756,7 @@ module _ {C : Type 0} where
     answered_done (duties.Ask (ask_duties.Window s)) ds other f each =
         on (at (duties.Ask (ask_duties.Window s) ∷ ds)) refused s _ ds (rest_followed (duties.Ask (ask_duties.Window s)) ds f) (⊎_elim (λ owed. inl owed) (λ h. inr (record { paid = h.paid })) (each s)) (each (peer s))
     answered_done (duties.Send (send_duties.Update s)) ds other f each = touched_sent s _ _ ds (rest_followed (duties.Send (send_duties.Update s)) ds f) (first_need (duties.Send (send_duties.Update s)) ds f) (duties.Send (send_duties.Update s) ∷ ds) (each (peer s))
+    answered_done (duties.Send (send_duties.FastClose s)) ds other f each = touched_sent s _ _ ds (rest_followed (duties.Send (send_duties.FastClose s)) ds f) (first_need (duties.Send (send_duties.FastClose s)) ds f) (duties.Send (send_duties.FastClose s) ∷ ds) (each (peer s))
     answered_done (duties.Send (send_duties.Syn s)) ds other f each = touched_sent s _ _ ds (rest_followed (duties.Send (send_duties.Syn s)) ds f) (first_need (duties.Send (send_duties.Syn s)) ds f) (duties.Send (send_duties.Syn s) ∷ ds) (each (peer s))
     answered_done (duties.Send (send_duties.DataFin s)) ds other f each =
         sent (at (duties.Send (send_duties.DataFin s) ∷ ds)) refused k s _ _ ds (rest_followed (duties.Send (send_duties.DataFin s)) ds f) (⊎_elim (λ owed. inl owed) (λ h. inr (record { paid = h.paid })) (each s)) (each (peer s))
@@ -783,6 +809,8 @@ module _ {C : Type 0} where
     answered_done (duties.Send (send_duties.ResetAnswer s)) ds other f each =
         sent (at (duties.Send (send_duties.ResetAnswer s) ∷ ds)) refused k s _ _ ds (rest_followed (duties.Send (send_duties.ResetAnswer s)) ds f) (each s) (each (peer s))
     answered_done (duties.Ask (ask_duties.Return s)) ds other f each = done_on ds (duties.Ask (ask_duties.Return s) ∷ ds) (rest_followed (duties.Ask (ask_duties.Return s)) ds f) (λ t. each t)
+    answered_done (duties.Ask (ask_duties.AbortSend s)) ds other f each = done_on ds (duties.Ask (ask_duties.AbortSend s) ∷ ds) (rest_followed (duties.Ask (ask_duties.AbortSend s)) ds f) (λ t. each t)
+    answered_done (duties.Ask (ask_duties.AbortReceive s)) ds other f each = done_on ds (duties.Ask (ask_duties.AbortReceive s) ∷ ds) (rest_followed (duties.Ask (ask_duties.AbortReceive s)) ds f) (λ t. each t)
     answered_done (duties.Send (send_duties.Resend s)) ds other f each = touched_sent s _ _ ds (rest_followed (duties.Send (send_duties.Resend s)) ds f) (first_need (duties.Send (send_duties.Resend s)) ds f) (duties.Send (send_duties.Resend s) ∷ ds) (each (peer s))
     answered_done (duties.Ask (ask_duties.BreakAck s reason)) ds other f each =
         resets_done (at (duties.Ask (ask_duties.BreakAck s reason) ∷ ds)) refused s reason r
@@ -792,7 +820,11 @@ module _ {C : Type 0} where
         (other_paid (duties.Send (send_duties.BreakReset s reason)) s ds (others_none s ds (first_need (duties.Send (send_duties.BreakReset s reason)) ds f)) each)
     answered_done (duties.Send (send_duties.Reset s)) ds other f each =
         reset_done (at (duties.Send (send_duties.Reset s) ∷ ds)) refused k s None (duties.Ask (ask_duties.Leave s) ∷ ds) (rest_followed (duties.Send (send_duties.Reset s)) ds f) (other_paid (duties.Send (send_duties.Reset s)) s ds (others_none s ds (first_need (duties.Send (send_duties.Reset s)) ds f)) each)
+    answered_done (duties.Send (send_duties.ResetNoted s)) ds other f each =
+        touched_sent s _ _ (duties.Ask (ask_duties.Leave s) ∷ ds) (rest_followed (duties.Send (send_duties.ResetNoted s)) ds f) (first_need (duties.Send (send_duties.ResetNoted s)) ds f) (duties.Send (send_duties.ResetNoted s) ∷ ds) (each (peer s))
     answered_done (duties.Ask (ask_duties.Leave s)) ds other f each = done_on (duties.Ask (ask_duties.Dead s) ∷ ds) (duties.Ask (ask_duties.Leave s) ∷ ds) (rest_followed (duties.Ask (ask_duties.Leave s)) ds f) (λ t. each t)
+    answered_done (duties.Ask (ask_duties.LeaveNoted s)) ds other f each =
+        touched s _ (duties.Ask (ask_duties.Dead s) ∷ ds) (rest_followed (duties.Ask (ask_duties.LeaveNoted s)) ds f) (first_need (duties.Ask (ask_duties.LeaveNoted s)) ds f) (duties.Ask (ask_duties.LeaveNoted s) ∷ ds) (each (peer s))
     answered_done (duties.Ask (ask_duties.Dead s)) ds other f each = done_on ds (duties.Ask (ask_duties.Dead s) ∷ ds) (rest_followed (duties.Ask (ask_duties.Dead s)) ds f) (λ t. each t)
     answered_done duties.End ds other f each =
         done_on [] (duties.End ∷ ds) refl (λ t. inr (is_paid (at (duties.End ∷ ds)) (duties.End ∷ ds) refused t (none_for t ds (first_need duties.End ds f)) (each t)))

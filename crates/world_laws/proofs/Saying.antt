@@ -28,6 +28,7 @@ use Rattle.path_core.specs.Joins.{is_joined, join_options, third_options}
 use Rattle.path_core.specs.OptionsOut.{place_numbered, owes_mapping, plain_options, fin_options, capable_options, syn_options, key_options, opening_options, data_fin_mapping, ack_options, is_first_piece, first_piece_options, piece_options, piece_mapping, record_options, reset_options, segment_of, ack_said, record_said, syn_ack_said, fin_said, reset_said, record_or_ack}
 use Rattle.path_core.specs.State.{Profile}
 use Rattle.path_core.specs.Words.{is_side_a}
+use Rattle.path_core.specs.Segments.{carried_said}
 use Rattle.world_laws.proofs.Showing.{HasSub, HasNone, HasMapping, HasNumber, HasFin, KindShows, RecordShows, WindowShows, OptionShows, SegmentShows}
 
 window_at : (next window : ℕ) (acks : List AckCopy) → WindowShows next window acks → (syn : Bool) → HasNone acks (window_told syn window)
@@ -36,6 +37,9 @@ window_at next window acks h false = h.alone
 
 pub every_one : {X : Type 0} {P : X → Type 0} (x : X) → P x → Every P (x ∷ [])
 every_one {X} {P} x h = Every-push {xs = []} x (Every-nil P) h
+
+every_two : {X : Type 0} {P : X → Type 0} (x y : X) → P x → P y → Every P (x ∷ y ∷ [])
+every_two {X} {P} x y h g = Every-push {xs = x ∷ []} y (every_one x h) g
 
 module _ (c : Profile) (s : Side) (e : PathEnd) (acks : List AckCopy) (p : Lane) (w : WindowShows e.receiving.next e.receiving.window acks) where
   -- ---- options
@@ -145,6 +149,18 @@ module _ (c : Profile) (s : Side) (e : PathEnd) (acks : List AckCopy) (p : Lane)
       window = w.alone;
       sub = λ syn rst. now;
       options = ack_options_say fin h;
+      payload = inl refl;
+      fin = λ is. absurd (false≢true is);
+      plain = λ syn. refl;
+    }
+
+    -- a DSS and MP_FASTCLOSE behind it
+    pub carried_says : (o : Option ℕ) → SegmentShows acks p (carried_said c s o e)
+    carried_says None = ack_says e.tcp.send.nxt None tt
+    carried_says (Some key) = record {
+      window = w.alone;
+      sub = λ syn rst. now;
+      options = every_two _ _ (w.ack, tt) tt;
       payload = inl refl;
       fin = λ is. absurd (false≢true is);
       plain = λ syn. refl;

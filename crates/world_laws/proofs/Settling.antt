@@ -41,6 +41,7 @@ stands_anyway (duties.Ask ask_duties.JoinAgain) es p = refl
 stands_anyway (duties.Step (step_duties.Look s)) es p = refl
 stands_anyway (duties.Ask (ask_duties.Window s)) es p = refl
 stands_anyway (duties.Send (send_duties.Update s)) es p = refl
+stands_anyway (duties.Send (send_duties.FastClose s)) es p = refl
 stands_anyway (duties.Send (send_duties.Syn s)) es p = refl
 stands_anyway (duties.Step (step_duties.Data s)) es p = refl
 stands_anyway (duties.Send (send_duties.DataFin s)) es p = refl
@@ -75,11 +76,15 @@ stands_anyway (duties.Send (send_duties.Again s)) es p = refl
 stands_anyway (duties.Send (send_duties.Answer s)) es p = refl
 stands_anyway (duties.Send (send_duties.ResetAnswer s)) es p = refl
 stands_anyway (duties.Ask (ask_duties.Return s)) es p = refl
+stands_anyway (duties.Ask (ask_duties.AbortSend s)) es p = refl
+stands_anyway (duties.Ask (ask_duties.AbortReceive s)) es p = refl
 stands_anyway (duties.Send (send_duties.Resend s)) es p = refl
 stands_anyway (duties.Ask (ask_duties.BreakAck s reason)) es p = refl
 stands_anyway (duties.Send (send_duties.BreakReset s reason)) es p = refl
 stands_anyway (duties.Send (send_duties.Reset s)) es p = refl
+stands_anyway (duties.Send (send_duties.ResetNoted s)) es p = refl
 stands_anyway (duties.Ask (ask_duties.Leave s)) es p = refl
+stands_anyway (duties.Ask (ask_duties.LeaveNoted s)) es p = refl
 stands_anyway (duties.Ask (ask_duties.Dead s)) es p = refl
 stands_anyway duties.End es p = refl
 
@@ -163,6 +168,7 @@ module _ (six : SixBooks) (others : Others) (c : Profile) where
     passes (duties.Step (step_duties.Look s)) = stays_so c p ab ba h
     passes (duties.Ask (ask_duties.Window s)) = stays_so c p ab ba h
     passes (duties.Send (send_duties.Update s)) = stays_so c p ab ba h
+    passes (duties.Send (send_duties.FastClose s)) = stays_so c p ab ba h
     passes (duties.Send (send_duties.Syn s)) = stays_so c p ab ba h
     passes (duties.Step (step_duties.Data s)) = stays_so c p ab ba h
     passes (duties.Send (send_duties.DataFin s)) = stays_so c p ab ba h
@@ -192,11 +198,15 @@ module _ (six : SixBooks) (others : Others) (c : Profile) where
     passes (duties.Send (send_duties.Answer s)) = stays_so c p ab ba h
     passes (duties.Send (send_duties.ResetAnswer s)) = stays_so c p ab ba h
     passes (duties.Ask (ask_duties.Return s)) = stays_so c p ab ba h
+    passes (duties.Ask (ask_duties.AbortSend s)) = stays_so c p ab ba h
+    passes (duties.Ask (ask_duties.AbortReceive s)) = stays_so c p ab ba h
     passes (duties.Send (send_duties.Resend s)) = stays_so c p ab ba h
     passes (duties.Ask (ask_duties.BreakAck s reason)) = stays_so c p ab ba h
     passes (duties.Send (send_duties.BreakReset s reason)) = stays_so c p ab ba h
     passes (duties.Send (send_duties.Reset s)) = stays_so c p ab ba h
+    passes (duties.Send (send_duties.ResetNoted s)) = stays_so c p ab ba h
     passes (duties.Ask (ask_duties.Leave s)) = stays_so c p ab ba h
+    passes (duties.Ask (ask_duties.LeaveNoted s)) = stays_so c p ab ba h
     passes (duties.Ask (ask_duties.Dead s)) = stays_so c p ab ba h
     passes duties.End = stays_so c p ab ba h
 

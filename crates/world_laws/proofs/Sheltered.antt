@@ -21,7 +21,7 @@ use Rattle.actor_desk.specs.Words.{tail_of, is_nil}
 use Rattle.actor_desk.specs.declared.ask.Reply.{Reply}
 use Rattle.actor_desk.specs.Books.{StampedBooks}
 use Rattle.actor_desk.specs.declared.ask.Ask.{Ask}
-use Rattle.path_agenda.specs.Agenda.{start_of_turn, leaves, emission, heard_and, payload_came, rest_of_turn, breaks, resets}
+use Rattle.path_agenda.specs.Agenda.{start_of_turn, leaves, emission, heard_and, payload_came, rest_of_turn, breaks, resets, stops}
 use Rattle.path_agenda.specs.Items.{keys_heard, key_heard}
 use Rattle.path_agenda.specs.declared.duty.Duty.TheVariants as duties
 use Rattle.path_agenda.specs.declared.duty.AskDuty.TheVariants as ask_duties
@@ -45,7 +45,7 @@ use Rattle.path_core.specs.Opening.{answered_peer_key, answered_opened}
 use Rattle.path_core.specs.Passing.{answered_piece, is_placed, is_fin_set, piece_of, after_pass_fin, having_asked, refused, with_peer_data_fin, with_fin_told, answered_fin_heard, answered_plain_fin}
 use Rattle.path_core.specs.Deliver.{Piece, is_wrong, forgotten_by, mapping_here, with_learned, with_skipped, after_check, after_pieces, after_piece}
 use Rattle.path_core.specs.Standing.{after_ack_out, answered_ack_out}
-use Rattle.path_core.specs.State.{PathState, end_at, goes_on, with_agenda}
+use Rattle.path_core.specs.State.{PathState, end_at, goes_on, with_agenda, left}
 use Rattle.path_core.specs.Steps.{settled, takes, next_round}
 use Rattle.path_core.specs.Treating.{counts, is_clash, heard_passed, item_passed, answered_item, item_of, breaks_by_ack, after_fell, with_plain_ack, after_keep, with_data_fin, told_next, fell_duties, answered_fell, answered_plain_ack}
 use Rattle.path_core.specs.declared.event.Event.TheVariants as happenings
@@ -54,6 +54,7 @@ use Rattle.path_core.specs.declared.judged.Judged.{Judged}
 use Rattle.path_core.specs.declared.judged.Judged.TheVariants as judged
 use Rattle.path_core.specs.Starts.{PathStart, waiting_path, first_turn}
 use Rattle.path_core.specs.Values.{Carried, values}
+use Rattle.path_core.specs.FastClosing.{is_stopped_by}
 use Rattle.world_laws.specs.declared.member.Member.TheVariants.{App, Path}
 use Rattle.world_laws.specs.Actors.{Actor, ActorCrew, member_takes, member_next, is_over}
 use Rattle.world_laws.specs.Openings.{Start, path_begins, opened_world}
@@ -342,6 +343,10 @@ module _ {C : Type 0} where
     told_shape s index true p = shape
     told_shape s index false p = shape
 
+    stopped_shape : (s : Side) (index : ℕ) (stopped : Bool) (p : PathState C) → is_sheltered (if stopped then stops s else left (first (duties.Step (step_duties.Heard s index)) p)) ≡ true
+    stopped_shape s index true p = refl
+    stopped_shape s index false p = shape
+
     item_goes : (s : Side) (index : ℕ) (item : Option Heard) (p : PathState C) → Goes (first (duties.Step (step_duties.Heard s index)) p) (answered_item k s item r (first (duties.Step (step_duties.Heard s index)) p))
     item_goes s index None p = rests (first (duties.Step (step_duties.Heard s index)) p) _ refl refl shape
     item_goes s index (Some says.Dss) p = rests (first (duties.Step (step_duties.Heard s index)) p) _ refl refl shape
@@ -357,7 +362,7 @@ module _ {C : Type 0} where
     item_goes s index (Some (says.Join form)) p = rests (first (duties.Step (step_duties.Heard s index)) p) _ refl refl shape
     item_goes s index (Some (says.Notice notice)) p = rests (first (duties.Step (step_duties.Heard s index)) p) _ refl refl shape
     item_goes s index (Some says.Fail) p = rests (first (duties.Step (step_duties.Heard s index)) p) _ refl refl shape
-    item_goes s index (Some (says.FastClose key)) p = rests (first (duties.Step (step_duties.Heard s index)) p) _ refl refl shape
+    item_goes s index (Some (says.FastClose key)) p = rests (first (duties.Step (step_duties.Heard s index)) p) _ refl refl (stopped_shape s index (is_stopped_by r) p)
 
     plain_ack_goes : (s : Side) (p : PathState C) → Goes (first (duties.Step (step_duties.PlainAck s)) p) (answered_plain_ack k s r (first (duties.Step (step_duties.PlainAck s)) p))
     plain_ack_goes s p =
@@ -376,6 +381,7 @@ module _ {C : Type 0} where
     answered_goes (duties.Step (step_duties.Look s)) other p = side_goes s _ (first (duties.Step (step_duties.Look s)) p) _ (λ h. h) refl refl shape
     answered_goes (duties.Ask (ask_duties.Window s)) other p = side_goes s _ (first (duties.Ask (ask_duties.Window s)) p) _ (λ h. absurd (false≢true h)) refl refl shape
     answered_goes (duties.Send (send_duties.Update s)) other p = side_goes s _ (first (duties.Send (send_duties.Update s)) p) _ (λ h. h) refl refl shape
+    answered_goes (duties.Send (send_duties.FastClose s)) other p = side_goes s _ (first (duties.Send (send_duties.FastClose s)) p) _ (λ h. h) refl refl shape
     answered_goes (duties.Send (send_duties.Syn s)) other p = side_goes s _ (first (duties.Send (send_duties.Syn s)) p) _ (λ h. h) refl refl shape
     answered_goes (duties.Send (send_duties.DataFin s)) other p = side_goes s _ (first (duties.Send (send_duties.DataFin s)) p) _ (λ h. h) refl refl shape
     answered_goes (duties.Send (send_duties.Fin s)) other p = side_goes s _ (first (duties.Send (send_duties.Fin s)) p) _ (λ h. h) refl refl shape
@@ -395,11 +401,15 @@ module _ {C : Type 0} where
     answered_goes (duties.Ask (ask_duties.Live s)) other p = rests (first (duties.Ask (ask_duties.Live s)) p) _ refl refl shape
     answered_goes (duties.Silent (silent_duties.Keep s)) other p = rests (first (duties.Silent (silent_duties.Keep s)) p) _ refl refl shape
     answered_goes (duties.Ask (ask_duties.Return s)) other p = rests (first (duties.Ask (ask_duties.Return s)) p) _ refl refl shape
+    answered_goes (duties.Ask (ask_duties.AbortSend s)) other p = rests (first (duties.Ask (ask_duties.AbortSend s)) p) _ refl refl shape
+    answered_goes (duties.Ask (ask_duties.AbortReceive s)) other p = rests (first (duties.Ask (ask_duties.AbortReceive s)) p) _ refl refl shape
     answered_goes (duties.Ask (ask_duties.Leave s)) other p = rests (first (duties.Ask (ask_duties.Leave s)) p) _ refl refl shape
+    answered_goes (duties.Ask (ask_duties.LeaveNoted s)) other p = side_goes s (died (end_at s p)) (first (duties.Ask (ask_duties.LeaveNoted s)) p) _ (λ h. absurd (false≢true h)) refl refl shape
     answered_goes (duties.Ask (ask_duties.Dead s)) other p = rests (first (duties.Ask (ask_duties.Dead s)) p) _ refl refl shape
     answered_goes duties.End other p = rests (first duties.End p) _ refl refl refl
     answered_goes (duties.Send (send_duties.BreakReset s reason)) other p = side_goes s (died (end_at s p)) (first (duties.Send (send_duties.BreakReset s reason)) p) _ (λ h. absurd (false≢true h)) refl refl refl
     answered_goes (duties.Send (send_duties.Reset s)) other p = side_goes s (died (end_at s p)) (first (duties.Send (send_duties.Reset s)) p) _ (λ h. absurd (false≢true h)) refl refl shape
+    answered_goes (duties.Send (send_duties.ResetNoted s)) other p = side_goes s (died (end_at s p)) (first (duties.Send (send_duties.ResetNoted s)) p) _ (λ h. absurd (false≢true h)) refl refl shape
     answered_goes (duties.Ask ask_duties.JoinAgain) other p = begun_goes r (duties.Ask (ask_duties.Leave A) ∷ ds) ds (first (duties.Ask ask_duties.JoinAgain) p) shape shape
     answered_goes (duties.Step step_duties.Events) other p = happens_goes k (next_event (first (duties.Step step_duties.Events) p)) r (first (duties.Step step_duties.Events) p)
     answered_goes (duties.Step (step_duties.Data s)) other p = data_goes s (first_unsent (end_at s p)) p
@@ -511,6 +521,7 @@ module _ {C : Type 0} where
     answered_shielded (duties.Step (step_duties.Look s)) h = other_shielded (duties.Step (step_duties.Look s)) tt refl refl h
     answered_shielded (duties.Ask (ask_duties.Window s)) h = other_shielded (duties.Ask (ask_duties.Window s)) tt refl refl h
     answered_shielded (duties.Send (send_duties.Update s)) h = other_shielded (duties.Send (send_duties.Update s)) tt refl refl h
+    answered_shielded (duties.Send (send_duties.FastClose s)) h = other_shielded (duties.Send (send_duties.FastClose s)) tt refl refl h
     answered_shielded (duties.Send (send_duties.Syn s)) h = other_shielded (duties.Send (send_duties.Syn s)) tt refl refl h
     answered_shielded (duties.Step (step_duties.Data s)) h = other_shielded (duties.Step (step_duties.Data s)) tt refl refl h
     answered_shielded (duties.Send (send_duties.DataFin s)) h = other_shielded (duties.Send (send_duties.DataFin s)) tt refl refl h
@@ -537,9 +548,13 @@ module _ {C : Type 0} where
     answered_shielded (duties.Send (send_duties.Answer s)) h = other_shielded (duties.Send (send_duties.Answer s)) tt refl refl h
     answered_shielded (duties.Send (send_duties.ResetAnswer s)) h = other_shielded (duties.Send (send_duties.ResetAnswer s)) tt refl refl h
     answered_shielded (duties.Ask (ask_duties.Return s)) h = other_shielded (duties.Ask (ask_duties.Return s)) tt refl refl h
+    answered_shielded (duties.Ask (ask_duties.AbortSend s)) h = other_shielded (duties.Ask (ask_duties.AbortSend s)) tt refl refl h
+    answered_shielded (duties.Ask (ask_duties.AbortReceive s)) h = other_shielded (duties.Ask (ask_duties.AbortReceive s)) tt refl refl h
     answered_shielded (duties.Send (send_duties.Resend s)) h = other_shielded (duties.Send (send_duties.Resend s)) tt refl refl h
     answered_shielded (duties.Send (send_duties.Reset s)) h = other_shielded (duties.Send (send_duties.Reset s)) tt refl refl h
+    answered_shielded (duties.Send (send_duties.ResetNoted s)) h = other_shielded (duties.Send (send_duties.ResetNoted s)) tt refl refl h
     answered_shielded (duties.Ask (ask_duties.Leave s)) h = other_shielded (duties.Ask (ask_duties.Leave s)) tt refl refl h
+    answered_shielded (duties.Ask (ask_duties.LeaveNoted s)) h = other_shielded (duties.Ask (ask_duties.LeaveNoted s)) tt refl refl h
     answered_shielded (duties.Ask (ask_duties.Dead s)) h = other_shielded (duties.Ask (ask_duties.Dead s)) tt refl refl h
     answered_shielded (duties.Step (step_duties.Heard s index)) h = other_shielded (duties.Step (step_duties.Heard s index)) tt refl refl h
     answered_shielded (duties.Send (send_duties.BreakReset s reason)) h = other_shielded (duties.Send (send_duties.BreakReset s reason)) tt refl refl h

@@ -1,5 +1,5 @@
 -- A step of the path that one side's end makes: moves of the lanes, the call of a book, moves again, and what the path shows then.
-use Rattle.std.proofs.Common.{◌≡◌, refl, sym, ◌∙◌, ap, ℕ, Bool, Option, Some, None, List, [], ◌∷◌, length, set}
+use Rattle.std.proofs.Common.{◌≡◌, refl, sym, ◌∙◌, ap, ℕ, Bool, true, Option, Some, None, List, [], ◌∷◌, length, set}
 use Rattle.outside_kit.specs.declared.side.Side.{Side}
 use Rattle.outside_kit.specs.declared.side.Side.TheVariants.{A, B}
 use Rattle.link_model.specs.Steps.{peer}
@@ -8,15 +8,17 @@ use Rattle.send_book.specs.declared.call.SendCall.TheVariants.{Grant, AckIn, Ret
 use Rattle.send_book.specs.declared.call.SendReply.{SendReply}
 use Rattle.send_book.specs.declared.call.SendReply.TheVariants as send_replies
 use Rattle.send_book.specs.Steps.{reply_to as send_reply}
+use Rattle.send_book.specs.declared.call.SendCall.TheVariants as send_calls
 use Rattle.reassembly_book.specs.declared.call.ReassemblyCall.TheVariants.{Place, Fin, AckOut}
 use Rattle.reassembly_book.specs.declared.call.ReassemblyReply.{ReassemblyReply}
 use Rattle.reassembly_book.specs.declared.call.ReassemblyReply.TheVariants as reassembly_replies
 use Rattle.reassembly_book.specs.Steps.{reply_to as arrival_reply}
+use Rattle.reassembly_book.specs.declared.call.ReassemblyCall.TheVariants as reassembly_calls
 use Rattle.stream_lanes.specs.Lane.{Ask as LaneAsk, Lane}
 use Rattle.stream_lanes.specs.Lane.Ask.{AskGrant, AskAckIn, AskPlace, AskFin, AskAckOut}
 use Rattle.stream_lanes.specs.Moves.{takes_grant, takes_ack, takes_placed, takes_fin, takes_ack_out}
 use Rattle.stream_lanes.specs.Streams.{Direction}
-use Rattle.stream_lanes.specs.Streams.StreamEvent.{Asks, Return}
+use Rattle.stream_lanes.specs.Streams.StreamEvent.{Asks, Return, AbortSend, AbortRead}
 use Rattle.stream_lanes.specs.Duo.{Duo, Event, after_events}
 use Rattle.stream_lanes.specs.Duo.Event.{ToB, ToA}
 use Rattle.actor_desk.specs.declared.ask.Ask.{Ask}
@@ -229,7 +231,26 @@ module _ (c : Profile) (six : SixBooks) (others : Others) where
       side_answered B p q ab ba ba ab ba ab (asks.Send B (ReturnBytes others.number)) (Some (ToA (Return others.number))) h (record { by = []; calm = refl; to = refl }) (record { by = []; calm = refl; to = refl })
       (Return others.number, refl, refl) refl d
 
+  -- the send book is told that the connection stops
+  pub abort_send_side : (s : Side) (p q : PathState Carried) (ab ba : Lane) → PathShows c p ab ba → SideDid c s p q ab ba (pick s ab ba) (pick s ba ab)
+      → Answered c six others (asks.Send s send_calls.Abort) q ab ba
+  abort_send_side A p q ab ba h d =
+      side_answered A p q ab ba ab ba ab ba (asks.Send A send_calls.Abort) (Some (ToB AbortSend)) h (record { by = []; calm = refl; to = refl }) (record { by = []; calm = refl; to = refl })
+      (AbortSend, refl, refl) refl d
+  abort_send_side B p q ab ba h d =
+      side_answered B p q ab ba ba ab ba ab (asks.Send B send_calls.Abort) (Some (ToA AbortSend)) h (record { by = []; calm = refl; to = refl }) (record { by = []; calm = refl; to = refl })
+      (AbortSend, refl, refl) refl d
+
   -- ---- calls of its reassembly book
+
+  pub abort_receive_side : (s : Side) (p q : PathState Carried) (ab ba : Lane) → PathShows c p ab ba → SideDid c s p q ab ba (pick s ab ba) (pick s ba ab)
+      → Answered c six others (asks.Reassembly s (reassembly_calls.Abort true)) q ab ba
+  abort_receive_side A p q ab ba h d =
+      side_answered A p q ab ba ab ba ab ba (asks.Reassembly A (reassembly_calls.Abort true)) (Some (ToA (AbortRead true))) h (record { by = []; calm = refl; to = refl }) (record { by = []; calm = refl; to = refl })
+      (AbortRead true, refl, refl) refl d
+  abort_receive_side B p q ab ba h d =
+      side_answered B p q ab ba ba ab ba ab (asks.Reassembly B (reassembly_calls.Abort true)) (Some (ToB (AbortRead true))) h (record { by = []; calm = refl; to = refl }) (record { by = []; calm = refl; to = refl })
+      (AbortRead true, refl, refl) refl d
 
   placed_asking : (count : ℕ) (r : ReassemblyReply) (p : Lane) (x : LaneAsk) → takes_placed count r (record p { asking = x }) ≡ takes_placed count r p
   placed_asking count (reassembly_replies.Placed new) p x = refl

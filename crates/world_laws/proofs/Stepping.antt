@@ -25,7 +25,7 @@ use Rattle.path_agenda.specs.Agenda.{leaves, resets}
 use Rattle.path_core.specs.Duties.{stands, ask_for, answered}
 use Rattle.path_core.specs.Emission.{first_unsent, data_stands, data_ask, answered_data, payload_size}
 use Rattle.path_core.specs.Ends.{PathEnd}
-use Rattle.path_core.specs.Events.{next_event, step_for}
+use Rattle.path_core.specs.Events.{next_event, step_for, died}
 use Rattle.path_core.specs.Joining.{join_begin_ask, asked_at, join_heard_ask}
 use Rattle.path_agenda.specs.Items.{key_heard, keys_heard}
 use Rattle.path_core.specs.Passing.{piece_of, plain_fin}
@@ -33,6 +33,7 @@ use Rattle.path_core.specs.Standing.{look_ask, after_look}
 use Rattle.path_core.specs.State.{PathState, end_at, left, path_of, with_agenda}
 use Rattle.path_core.specs.Values.{Carried, values}
 use Rattle.path_core.specs.StreamEnds.{is_all_granted}
+use Rattle.path_core.specs.FastClosing.{answered_leave_noted}
 use Rattle.path_agenda.specs.Words.{replaced}
 use Rattle.world_laws.proofs.Answering as answering
 use Rattle.world_laws.proofs.Answering.{IsReady, Steps}
@@ -40,9 +41,9 @@ use Rattle.world_laws.proofs.Ending.{did_nothing}
 use Rattle.world_laws.proofs.Happening.{join_step, events_step}
 use Rattle.world_laws.proofs.Lanes.{Others, duo_at, MayDo}
 use Rattle.world_laws.proofs.Replying as replying
-use Rattle.world_laws.proofs.Rules.{looked_shows}
+use Rattle.world_laws.proofs.Rules.{looked_shows, died_shows}
 use Rattle.world_laws.proofs.Showing.{EndShows, PathShows}
-use Rattle.world_laws.proofs.Sides.{return_side}
+use Rattle.world_laws.proofs.Sides.{return_side, abort_send_side, abort_receive_side, SideDid, side_kept}
 use Rattle.world_laws.proofs.Shielding.{is_shield}
 use Rattle.world_laws.proofs.Whole.{whole}
 
@@ -73,6 +74,19 @@ module _ (six : SixBooks) (others : Others) (p : PathState Carried) (ab ba : Lan
     returns : (ds : List Duty) → ReturnsAt ds (path_of p)
     returns ds = subst (ReturnsAt ds) (sym numbered) (return_side p.profile six others s p (with_agenda ds p) ab ba h
         (answering.agenda_side six others p ab ba h ready s (pick s ab ba) (pick s ba ab) ds (did_nothing p.profile s (pick s ab ba) (pick s ba ab) e shows)))
+
+    -- only the agenda changes
+    done_side : SideDid p.profile s p (with_agenda (left p) p) ab ba (pick s ab ba) (pick s ba ab)
+    done_side = answering.agenda_side six others p ab ba h ready s (pick s ab ba) (pick s ba ab) (left p) (did_nothing p.profile s (pick s ab ba) (pick s ba ab) e shows)
+
+    -- what the end holds is given back, and it is dead
+    LeavesAt : ℕ → Type 0
+    LeavesAt path = Makes (asks.Send s (ReturnBytes path)) (answered_leave_noted s p)
+
+    leaves_noted : e.treated.asked ≡ false → LeavesAt (path_of p)
+    leaves_noted calm = subst LeavesAt (sym numbered) (return_side p.profile six others s p (answered_leave_noted s p) ab ba h
+        (side_kept p.profile p ab ba h s (pick s ab ba) (pick s ba ab) (died e) (replaced (duties.Ask (ask_duties.Dead s)) p.agenda)
+        (did_nothing p.profile s (pick s ab ba) (pick s ba ab) (died e) (died_shows p.profile s (pick s ab ba) (pick s ba ab) e calm shows))))
 
     data_by : e.treated.asked ≡ false → (o : Option Record) → first_unsent e ≡ o → data_stands p.profile s e o ≡ true
         → Makes (data_ask values s o p) (answered_data values s o (reply_of six (data_ask values s o p)) p)
@@ -109,6 +123,7 @@ module _ (six : SixBooks) (others : Others) (p : PathState Carried) (ab ba : Lan
       answering.end_step six others p ab ba h ready s (look_ask s p) (after_look r (end_at s p)) (left p) tt (looked_shows p.profile s (pick s ab ba) (pick s ba ab) r (end_at s p) (shows s))
   duty_step (duties.Ask (ask_duties.Window s)) is calm may = answering.told_step six others p ab ba h ready s (left p)
   duty_step (duties.Send (send_duties.Update s)) is calm may = answering.acknowledges_step six others p ab ba h ready s (calm s refl) (left p)
+  duty_step (duties.Send (send_duties.FastClose s)) is calm may = answering.fast_close_step six others p ab ba h ready s (calm s refl)
   duty_step (duties.Send (send_duties.Syn s)) is calm may = answering.unsent_step six others p ab ba h ready s (calm s refl) (left p)
   duty_step (duties.Step (step_duties.Data s)) is calm may = data_by s (calm s refl) (first_unsent (end_at s p)) refl is
   duty_step (duties.Send (send_duties.DataFin s)) is calm may = answering.data_fin_step six others p ab ba h ready s (calm s refl)
@@ -143,10 +158,14 @@ module _ (six : SixBooks) (others : Others) (p : PathState Carried) (ab ba : Lan
   duty_step (duties.Send (send_duties.Answer s)) is calm may = answering.answer_step six others p ab ba h ready s (calm s refl)
   duty_step (duties.Send (send_duties.ResetAnswer s)) is calm may = answering.dead_step six others p ab ba h ready s
   duty_step (duties.Ask (ask_duties.Return s)) is calm may = returns s (left p)
+  duty_step (duties.Ask (ask_duties.AbortSend s)) is calm may = abort_send_side p.profile six others s p (with_agenda (left p) p) ab ba h (done_side s)
+  duty_step (duties.Ask (ask_duties.AbortReceive s)) is calm may = abort_receive_side p.profile six others s p (with_agenda (left p) p) ab ba h (done_side s)
   duty_step (duties.Send (send_duties.Resend s)) is calm may = answering.resend_step six others p ab ba h ready s (calm s refl)
   duty_step (duties.Ask (ask_duties.BreakAck s reason)) is calm may = answering.told_step six others p ab ba h ready s (resets s reason)
   duty_step (duties.Send (send_duties.BreakReset s reason)) is calm may = answering.reset_step six others p ab ba h ready s (calm s refl) (Some reason) (leaves s)
   duty_step (duties.Send (send_duties.Reset s)) is calm may = answering.reset_step six others p ab ba h ready s (calm s refl) None (replaced (duties.Ask (ask_duties.Leave s)) p.agenda)
+  duty_step (duties.Send (send_duties.ResetNoted s)) is calm may = answering.reset_step six others p ab ba h ready s (calm s refl) None (replaced (duties.Ask (ask_duties.Leave s)) p.agenda)
   duty_step (duties.Ask (ask_duties.Leave s)) is calm may = returns s (replaced (duties.Ask (ask_duties.Dead s)) p.agenda)
+  duty_step (duties.Ask (ask_duties.LeaveNoted s)) is calm may = leaves_noted s (calm s refl)
   duty_step (duties.Ask (ask_duties.Dead s)) is calm may = answering.agenda_step six others p ab ba h ready _ (left p) tt
   duty_step duties.End is calm may = answering.agenda_step six others p ab ba h ready _ [] tt

@@ -335,6 +335,7 @@ module _ (p : PathState Carried) where
   first_mild (duties.Step (step_duties.Look s)) ds h unclear = tt
   first_mild (duties.Ask (ask_duties.Window s)) ds h unclear = tt
   first_mild (duties.Send (send_duties.Update s)) ds h unclear = tt
+  first_mild (duties.Send (send_duties.FastClose s)) ds h unclear = tt
   first_mild (duties.Send (send_duties.Syn s)) ds h unclear = tt
   first_mild (duties.Step (step_duties.Data s)) ds h unclear = data_mild s (first_unsent (end_at s p))
   first_mild (duties.Send (send_duties.DataFin s)) ds h unclear = tt
@@ -371,11 +372,15 @@ module _ (p : PathState Carried) where
   first_mild (duties.Send (send_duties.Answer s)) ds h unclear = tt
   first_mild (duties.Send (send_duties.ResetAnswer s)) ds h unclear = tt
   first_mild (duties.Ask (ask_duties.Return s)) ds h unclear = tt
+  first_mild (duties.Ask (ask_duties.AbortSend s)) ds h unclear = tt
+  first_mild (duties.Ask (ask_duties.AbortReceive s)) ds h unclear = tt
   first_mild (duties.Send (send_duties.Resend s)) ds h unclear = tt
   first_mild (duties.Ask (ask_duties.BreakAck s reason)) ds h unclear = tt
   first_mild (duties.Send (send_duties.BreakReset s reason)) ds h unclear = tt
   first_mild (duties.Send (send_duties.Reset s)) ds h unclear = tt
+  first_mild (duties.Send (send_duties.ResetNoted s)) ds h unclear = tt
   first_mild (duties.Ask (ask_duties.Leave s)) ds h unclear = tt
+  first_mild (duties.Ask (ask_duties.LeaveNoted s)) ds h unclear = tt
   first_mild (duties.Ask (ask_duties.Dead s)) ds h unclear = tt
   first_mild duties.End ds h unclear = tt
 
@@ -385,6 +390,7 @@ module _ (p : PathState Carried) where
   idle_mild (duties.Step (step_duties.Look s)) idle = tt
   idle_mild (duties.Ask (ask_duties.Window s)) idle = tt
   idle_mild (duties.Send (send_duties.Update s)) idle = tt
+  idle_mild (duties.Send (send_duties.FastClose s)) idle = tt
   idle_mild (duties.Send (send_duties.Syn s)) idle = tt
   idle_mild (duties.Step (step_duties.Data s)) idle = data_mild s (first_unsent (end_at s p))
   idle_mild (duties.Send (send_duties.DataFin s)) idle = tt
@@ -392,6 +398,7 @@ module _ (p : PathState Carried) where
   idle_mild (duties.Silent (silent_duties.Timer s)) idle = tt
   idle_mild (duties.Step step_duties.Events) idle = step_mild (next_event p)
   idle_mild (duties.Ask (ask_duties.Leave s)) idle = tt
+  idle_mild (duties.Ask (ask_duties.LeaveNoted s)) idle = tt
   idle_mild (duties.Ask (ask_duties.Dead s)) idle = tt
   idle_mild duties.End idle = tt
   idle_mild _ idle = absurd (false≢true idle)

@@ -25,7 +25,7 @@ use Rattle.mptcp_options.specs.Value as wire
 use Rattle.path_segments.specs.declared.expected.Expected.{Expected}
 use Rattle.path_segments.specs.declared.segment.PathMapping.{PathMapping}
 use Rattle.path_segments.specs.declared.segment.PathMapping.TheVariants.{Bytes, End, Infinite}
-use Rattle.path_segments.specs.declared.segment.PathOption.TheVariants.{Capable, Dss, Fail}
+use Rattle.path_segments.specs.declared.segment.PathOption.TheVariants.{Capable, Dss, Fail, FastClose}
 use Rattle.path_segments.specs.declared.spelling.Side.{Side as SpelledSide}
 use Rattle.path_segments.specs.declared.spelling.Spelling.{Spelling}
 use Rattle.path_segments.specs.HeardLent.{IsExpected}
@@ -52,6 +52,8 @@ use Rattle.path_core.specs.Passing.{outgoing_or}
 use Rattle.path_core.specs.OptionsOut.{spelled_by, bare_mapping, checksum_in, place_numbered, checksum_told, owes_mapping, plain_options, capable_options, syn_options, key_options, opening_options, data_fin_mapping, ack_options, piece_mapping, is_first_piece, first_piece_options, piece_options, fin_options, record_options, reset_options, segment_of, ack_said, record_said, syn_ack_said, fin_said, reset_said, record_or_ack}
 use Rattle.path_core.specs.Shown.{IsFarReset}
 use Rattle.path_core.specs.State.{Profile}
+use Rattle.path_core.proofs.Sayable.{carried_can}
+use Rattle.path_core.specs.Segments.{carried_said}
 
 abbrev pub IsShort : ℕ → Type 0
 IsShort n = n < 2 ^ 31
@@ -254,6 +256,8 @@ pub record EndTells (c : Profile) (s : Side) (e : PathEnd) : Type 0 where
   pub window : WindowTells e.receiving
   pub modes : ModesTell e.modes
   pub treated : TreatedTells e.treated
+  -- the key of a fast close that it carries
+  pub carrier : IfSome e.notices.carrier IsKey
 
 pub expected_shortly : (c : Profile) (s : Side) (e : PathEnd) → EndTells c s e → IsShortly (expected_by e)
 expected_shortly c s e h =
@@ -568,6 +572,21 @@ module _ (c : Profile) (s : Side) (path : c.spelling.path ≤ 15) (mss : c.mss <
   record_said_tells (Some r) t =
       segment_tells (record_segment e.tcp r) (record_options r.kind c s r e) r.piece t.octets (inr (at_of r t)) (ack_or_none (is_opening e.tcp.state)) (λ is. record_reaches r t)
       (record_options_tell r.kind r (at_of r t) t.mapped)
+
+  -- a DSS and MP_FASTCLOSE behind it
+  pub carried_tells : (o : Option ℕ) → IfSome o IsKey → SegmentTells c s (carried_said c s o e)
+  carried_tells None key = ack_said_tells e.tcp.send.nxt None h.sender.next tt
+  carried_tells (Some key) is = record {
+    sayable = carried_can c s e path h.window.window (Some key);
+    position = inr h.sender.next;
+    acknowledged = h.edge;
+    reaches = λ none. none_is _ none;
+    syn = refl;
+    mss = tt;
+    options =
+        All-cons (OptionTells c s) (Dss (Some e.receiving.next) None) (FastClose key ∷ []) (end_tells None tt).tells
+        (All-cons (OptionTells c s) (FastClose key) [] (record { fits = is; short = tt }) (All-nil (OptionTells c s)));
+  }
 
   pub syn_ack_tells : SegmentTells c s (syn_ack_said c s e)
   syn_ack_tells = segment_tells (syn_ack_segment e.tcp) (syn_options c s e) [] (omega arith) (inr (omega arith)) h.edge (λ is. none_is _ is) (syn_tells s)

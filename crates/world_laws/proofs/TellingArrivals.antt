@@ -262,8 +262,8 @@ joined_tells c s keys asked e pair nonce h = by (is_listening e.tcp.state)
     })
     by true =
         let flows = arrived_flows c s means.Opens (taking.unkept None) 0 (syn_alone e.treated.window) e.tcp refl (record { sender = h.sender; edge = h.edge }) in
-        record { sender = flows.sender; edge = flows.edge; stream = h.stream; window = h.window; modes = modes; treated = h.treated }
-    by false = record { sender = h.sender; edge = h.edge; stream = h.stream; window = h.window; modes = modes; treated = h.treated }
+        record { sender = flows.sender; edge = flows.edge; stream = h.stream; window = h.window; modes = modes; treated = h.treated; carrier = h.carrier }
+    by false = record { sender = h.sender; edge = h.edge; stream = h.stream; window = h.window; modes = modes; treated = h.treated; carrier = h.carrier }
 
 -- ---- the end
 
@@ -288,6 +288,7 @@ arrived_tells c s now sg e tells h =
         answer = by sg.acknowledged tells.acknowledged tells.reaches;
         acknowledged = position_told (is_taken m) sg.acknowledged tells.acknowledged;
       };
+      carrier = h.carrier;
     }
   where
     position_told : (taken : Bool) (o : Option ℕ) → IfSome o IsShort

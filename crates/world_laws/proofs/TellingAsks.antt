@@ -12,10 +12,12 @@ use Rattle.control_book.specs.declared.call.ControlCall.TheVariants as calls
 use Rattle.control_book.specs.declared.call.ControlReply.TheVariants as answers
 use Rattle.control_book.specs.declared.call.Notice.{Notice}
 use Rattle.control_book.specs.declared.call.Notice.TheVariants as notices
-use Rattle.control_book.specs.Control.{Control, peer_or_zero}
-use Rattle.control_book.specs.Registry.{stands as stands_path}
+use Rattle.control_book.specs.Control.{Control, peer_or_zero, withdrawals_on}
+use Rattle.control_book.specs.Registry.{stands as stands_path, sole, standby}
 use Rattle.control_book.specs.Replies as control
 use Rattle.control_book.specs.Steps as controlling
+use Rattle.control_book.specs.Replies.{address_notice, announcement, carries, look_reply, resets}
+use Rattle.control_book.specs.declared.call.ControlReply.TheVariants as control_replies
 use Rattle.subflow_send.specs.Records.{Record}
 use Rattle.stream_lanes.specs.Words.{Every}
 use Rattle.actor_desk.specs.declared.ask.Ask.{Ask}
@@ -47,10 +49,12 @@ use Rattle.path_core.specs.Handover.{sends}
 use Rattle.path_core.specs.State.{PathState, Profile, end_at, path_of}
 use Rattle.path_core.specs.Treating.{is_clash, fell_ask, mapping_ask, breaks_by_ack, plain_ack_ask, item_ask, item_of}
 use Rattle.path_core.specs.Values.{Carried, values}
+use Rattle.path_core.specs.Standing.{look_ask}
 use Rattle.world_laws.proofs.Replying.{every_item}
 use Rattle.world_laws.proofs.Telling.{IsKey, ItemTells, known_item}
-use Rattle.world_laws.proofs.TellingRules.{AreKeys, heard_key, heard_keys}
+use Rattle.world_laws.proofs.TellingRules.{AreKeys, heard_key, heard_keys, NoticeTells}
 use Rattle.world_laws.proofs.TellingSteps.{KeysAreShort, PathTells, tells_at}
+use Rattle.address_manager.specs.IdSet.{lowest}
 
 -- ---- what a control book answers
 
@@ -80,7 +84,24 @@ module _ (c : Control) (h : KeysAreShort c.keys) where
       by false false true = both_short
       by false false false = tt
 
+-- the key of a fast close is the peer's
+notice_key : (c : Control) (h : KeysAreShort c.keys) (path : ℕ) → NoticeTells (replies.Control (look_reply path c))
+notice_key c h path = by (resets c path) (carries c path) (announcement c path) (lowest (withdrawals_on c.notices.withdrawals path))
+  where
+    by : (resets carries : Bool) (announced withdrawn : Option ℕ)
+        → NoticeTells (replies.Control (control_replies.Standing c.fall.mode (standby c.paths c.addresses.backups path) (sole c.paths path)
+        (if resets then notices.Reset else (if carries then notices.Carrier (peer_or_zero c.keys.peer) else address_notice announced withdrawn))))
+    by true carries announced withdrawn = tt
+    by false true announced withdrawn = peer_short c.keys.peer h.peer
+    by false false (Some id) withdrawn = tt
+    by false false None (Some id) = tt
+    by false false None None = tt
+
 module _ (six : SixBooks) (h : (s : Side) → KeysAreShort (control_of s six).keys) where
+  pub look_key : (s : Side) (p : PathState Carried) → NoticeTells (reply_of six (look_ask s p))
+  look_key A p = notice_key six.control_a (h A) (path_of p)
+  look_key B p = notice_key six.control_b (h B) (path_of p)
+
   pub step_keys : (path : ℕ) (o : Option Event) → IfSome (keys_begun (reply_of six (step_for path o))) AreKeys
   step_keys path None = tt
   step_keys path (Some (happening.Joins tick)) = begin_keys six.control_a (h A)
@@ -234,6 +255,7 @@ module _ (c : Profile) (p : PathState Carried) (h : PathTells c p) where
   asks_tell (duties.Step (step_duties.Look s)) = tt
   asks_tell (duties.Ask (ask_duties.Window s)) = tt
   asks_tell (duties.Send (send_duties.Update s)) = tt
+  asks_tell (duties.Send (send_duties.FastClose s)) = tt
   asks_tell (duties.Send (send_duties.Syn s)) = tt
   asks_tell (duties.Step (step_duties.Data s)) = data_tells s (first_unsent (end_at s p))
   asks_tell (duties.Send (send_duties.DataFin s)) = tt
@@ -268,10 +290,14 @@ module _ (c : Profile) (p : PathState Carried) (h : PathTells c p) where
   asks_tell (duties.Send (send_duties.Answer s)) = tt
   asks_tell (duties.Send (send_duties.ResetAnswer s)) = tt
   asks_tell (duties.Ask (ask_duties.Return s)) = tt
+  asks_tell (duties.Ask (ask_duties.AbortSend s)) = tt
+  asks_tell (duties.Ask (ask_duties.AbortReceive s)) = tt
   asks_tell (duties.Send (send_duties.Resend s)) = tt
   asks_tell (duties.Ask (ask_duties.BreakAck s reason)) = tt
   asks_tell (duties.Send (send_duties.BreakReset s reason)) = tt
   asks_tell (duties.Send (send_duties.Reset s)) = tt
+  asks_tell (duties.Send (send_duties.ResetNoted s)) = tt
   asks_tell (duties.Ask (ask_duties.Leave s)) = tt
+  asks_tell (duties.Ask (ask_duties.LeaveNoted s)) = tt
   asks_tell (duties.Ask (ask_duties.Dead s)) = tt
   asks_tell duties.End = tt

@@ -56,7 +56,7 @@ use Rattle.path_agenda.specs.declared.heard.Heard.{Heard}
 use Rattle.path_agenda.specs.declared.heard.Heard.TheVariants as says
 use Rattle.join_handshake.specs.declared.hearing.JoinSyn.{JoinSyn}
 use Rattle.path_agenda.specs.declared.keys.KeyPair.{KeyPair}
-use Rattle.path_agenda.specs.Agenda.{leaves, resets, breaks}
+use Rattle.path_agenda.specs.Agenda.{leaves, resets, breaks, stops}
 use Rattle.path_agenda.specs.Items.{key_heard, keys_heard}
 use Rattle.path_agenda.specs.Words.{replaced}
 use Rattle.path_core.specs.Breaking.{reset_of, reset_on, break_ask, answered_break}
@@ -77,6 +77,8 @@ use Rattle.path_core.specs.Fallback.{fell_ask, after_fell, breaks_by, fell_dutie
 use Rattle.path_core.specs.Handover.{with_told}
 use Rattle.path_core.specs.Treating.{is_clash, breaks_by_ack, plain_ack_ask, answered_plain_ack, with_plain_ack, plain_next, subflow_ack_ask, answered_subflow_ack, told_next, is_acked, mapping_ask, answered_mapping, heard_ask, answered_heard, with_acked, with_data_fin, item_ask, answered_item, item_of}
 use Rattle.path_core.specs.Values.{Carried, values}
+use Rattle.path_core.specs.FastClosing.{is_stopped_by, answered_fast_close, fast_close_of, fast_heard_ask, having_fast_closed}
+use Rattle.path_core.specs.Segments.{carried_said}
 use Rattle.world_laws.proofs.Answering.{IsReady}
 use Rattle.world_laws.proofs.Ending.{unfinished_if}
 use Rattle.world_laws.proofs.Lanes.{flags_of, Others, duo_at}
@@ -88,9 +90,9 @@ use Rattle.world_laws.proofs.Showing.{EndShows, PathShows}
 use Rattle.world_laws.proofs.Sides.{Answered}
 use Rattle.world_laws.proofs.Strolling.{side_shows, strolls_held, back_holds}
 use Rattle.world_laws.proofs.Turning.{answered_holds}
-use Rattle.world_laws.proofs.Telling.{IsShort, IsKey, IsNonce, ItemTells, known_item, SegmentTells, EndTells, ack_said_tells, record_said_tells, syn_ack_tells, fin_said_tells, reset_tells, dead_answer_tells, refusal_tells}
+use Rattle.world_laws.proofs.Telling.{IsShort, IsKey, IsNonce, ItemTells, known_item, SegmentTells, EndTells, ack_said_tells, record_said_tells, syn_ack_tells, fin_said_tells, reset_tells, dead_answer_tells, refusal_tells, carried_tells}
 use Rattle.world_laws.proofs.TellingArrivals.{joined_tells}
-use Rattle.world_laws.proofs.TellingAsks.{again_keys, step_keys, joined_keys}
+use Rattle.world_laws.proofs.TellingAsks.{again_keys, step_keys, joined_keys, look_key}
 use Rattle.world_laws.proofs.TellingEvents.{join_tells, events_tell}
 use Rattle.world_laws.proofs.TellingRules as rules
 use Rattle.world_laws.proofs.TellingRules.{AreKeys, heard_key, heard_keys, asked_nonce}
@@ -303,6 +305,12 @@ module _ (six : SixBooks) (others : Others) (p : PathState Carried) (ab ba : Lan
     syn_ack_told : (ds : List Duty) → AreFair ds → Tells (sent_on values s (syn_ack_of s p) (having_sent to_send.SynAck p.clock (syn_ack_of s p) e) ds p)
     syn_ack_told ds fair = on_occasion (syn_ack_of s p) to_send.SynAck ds (syn_ack_tells p.profile s path wide e tells) fair
 
+    -- MP_FASTCLOSE, as it is carried
+    fast_closed : Tells (answered_fast_close values s p)
+    fast_closed =
+        tells_sent p.profile p t h.unchanged s (fast_close_of s p) (having_fast_closed s p) (left p) (carried_tells p.profile s path wide e tells e.notices.carrier tells.carrier)
+        (rules.fast_closed_tells p.profile s (having_sent to_send.Ack p.clock (fast_close_of s p) e) (rules.sent_end_tells p.profile s e tells to_send.Ack p.clock (fast_close_of s p))) left_fair
+
     answer_told : SegmentTells p.profile s (answer_of s p)
     answer_told = by e.tcp.due.syn_ack
       where
@@ -311,15 +319,17 @@ module _ (six : SixBooks) (others : Others) (p : PathState Carried) (ab ba : Lan
         by false = ack_tells e.tcp.send.nxt None tells.sender.next tt
 
     resend_told : SegmentTells p.profile s (resend_of s p)
-    resend_told = by (has_records e.tcp) e.modes.owes_third (is_data_fin_owed e)
+    resend_told = by (has_records e.tcp) e.modes.owes_third e.notices.fast_closed (is_data_fin_owed e)
       where
-        by : (some third owes : Bool) → SegmentTells p.profile s (if some then record_or_ack p.profile s (first_record e) e
+        by : (some third closed owes : Bool) → SegmentTells p.profile s (if some then record_or_ack p.profile s (first_record e) e
             else (if third then ack_said p.profile s e.tcp.send.nxt None e
-            else (if owes then ack_said p.profile s e.tcp.send.nxt e.sending.known_end e else ack_said p.profile s (e.tcp.send.una - 1) None e)))
-        by true third owes = first_told
-        by false true owes = ack_tells e.tcp.send.nxt None tells.sender.next tt
-        by false false true = ack_tells e.tcp.send.nxt e.sending.known_end tells.sender.next tells.stream.known_end
-        by false false false = ack_tells (e.tcp.send.una - 1) None (let una = tells.sender.unacknowledged in let next = tells.sender.next in omega (arith, una, next)) tt
+            else (if closed then carried_said p.profile s e.notices.carrier e
+            else (if owes then ack_said p.profile s e.tcp.send.nxt e.sending.known_end e else ack_said p.profile s (e.tcp.send.una - 1) None e))))
+        by true third closed owes = first_told
+        by false true closed owes = ack_tells e.tcp.send.nxt None tells.sender.next tt
+        by false false true owes = carried_tells p.profile s path wide e tells e.notices.carrier tells.carrier
+        by false false false true = ack_tells e.tcp.send.nxt e.sending.known_end tells.sender.next tells.stream.known_end
+        by false false false false = ack_tells (e.tcp.send.una - 1) None (let una = tells.sender.unacknowledged in let next = tells.sender.next in omega (arith, una, next)) tt
 
     reset_told : (reason : Option ℕ) (ds : List Duty) → IfSome reason (λ n. n < 256) → AreFair ds → Tells (reset_on values s reason ds p)
     reset_told reason ds low fair =
@@ -407,7 +417,11 @@ module _ (six : SixBooks) (others : Others) (p : PathState Carried) (ab ba : Lan
     heard_told (says.Join form) x = done_tells
     heard_told (says.Notice notice) x = done_tells
     heard_told says.Fail x = done_tells
-    heard_told (says.FastClose key) x = done_tells
+    heard_told (says.FastClose key) x = stopped_told (is_stopped_by (reply_of six (fast_heard_ask s key)))
+      where
+        stopped_told : (b : Bool) → Tells (with_agenda (if b then stops s else left p) p)
+        stopped_told true = tells_agenda p.profile p t (stops s) refl
+        stopped_told false = done_tells
 
     -- ---- the SYN of a join
 
@@ -576,9 +590,10 @@ module _ (six : SixBooks) (others : Others) (p : PathState Carried) (ab ba : Lan
   duty_tells (duties.Ask ask_duties.JoinAgain) is fair =
       join_tells p t (reply_of six (ask_for values (duties.Ask ask_duties.JoinAgain) p)) (replaced (duties.Ask (ask_duties.Leave A)) p.agenda) (left p) p (again_keys six short.keys p)
       (replaced_fair (duties.Ask (ask_duties.Leave A)) p.agenda refl t.agenda) left_fair t
-  duty_tells (duties.Step (step_duties.Look s)) is fair = let r : Reply = reply_of six (look_ask s p) in on s (after_look r (end_at s p)) (left p) (rules.look_tells p.profile s (end_at s p) (tells s) r) left_fair
+  duty_tells (duties.Step (step_duties.Look s)) is fair = let r : Reply = reply_of six (look_ask s p) in on s (after_look r (end_at s p)) (left p) (rules.look_tells p.profile s (end_at s p) (tells s) r (look_key six short.keys s p)) left_fair
   duty_tells (duties.Ask (ask_duties.Window s)) is fair = ack_out_told s (left p) left_fair
   duty_tells (duties.Send (send_duties.Update s)) is fair = acknowledged s (left p) left_fair
+  duty_tells (duties.Send (send_duties.FastClose s)) is fair = fast_closed s
   duty_tells (duties.Send (send_duties.Syn s)) is fair = unsent_told s (left p) left_fair
   duty_tells (duties.Step (step_duties.Data s)) is fair = data_by s (first_unsent (end_at s p)) refl is
   duty_tells (duties.Send (send_duties.DataFin s)) is fair = data_fin_told s
@@ -615,10 +630,15 @@ module _ (six : SixBooks) (others : Others) (p : PathState Carried) (ab ba : Lan
   duty_tells (duties.Send (send_duties.Answer s)) is fair = on_occasion s (answer_of s p) (answer_occasion (end_at s p)) (left p) (answer_told s) left_fair
   duty_tells (duties.Send (send_duties.ResetAnswer s)) is fair = dead_told s
   duty_tells (duties.Ask (ask_duties.Return s)) is fair = done_tells
+  duty_tells (duties.Ask (ask_duties.AbortSend s)) is fair = done_tells
+  duty_tells (duties.Ask (ask_duties.AbortReceive s)) is fair = done_tells
   duty_tells (duties.Send (send_duties.Resend s)) is fair = on_occasion s (resend_of s p) (resend_occasion (end_at s p)) (left p) (resend_told s) left_fair
   duty_tells (duties.Ask (ask_duties.BreakAck s reason)) is fair = ack_out_told s (resets s reason) (and_from (nat_lt reason 256) true fair refl)
   duty_tells (duties.Send (send_duties.BreakReset s reason)) is fair = reset_told s (Some reason) (leaves s) (ltb-true reason 256 fair) refl
   duty_tells (duties.Send (send_duties.Reset s)) is fair = reset_told s None (replaced (duties.Ask (ask_duties.Leave s)) p.agenda) tt (replaced_fair (duties.Ask (ask_duties.Leave s)) p.agenda refl t.agenda)
+  duty_tells (duties.Send (send_duties.ResetNoted s)) is fair = reset_told s None (replaced (duties.Ask (ask_duties.Leave s)) p.agenda) tt (replaced_fair (duties.Ask (ask_duties.Leave s)) p.agenda refl t.agenda)
   duty_tells (duties.Ask (ask_duties.Leave s)) is fair = tells_agenda p.profile p t (replaced (duties.Ask (ask_duties.Dead s)) p.agenda) (replaced_fair (duties.Ask (ask_duties.Dead s)) p.agenda refl t.agenda)
+  duty_tells (duties.Ask (ask_duties.LeaveNoted s)) is fair =
+      on s (died (end_at s p)) (replaced (duties.Ask (ask_duties.Dead s)) p.agenda) (rules.died_tells p.profile s (end_at s p) (tells s)) (replaced_fair (duties.Ask (ask_duties.Dead s)) p.agenda refl t.agenda)
   duty_tells (duties.Ask (ask_duties.Dead s)) is fair = done_tells
   duty_tells duties.End is fair = tells_agenda p.profile p t [] refl

@@ -5,10 +5,13 @@ use Rattle.std.specs.Option.{IfSome, option_or}
 use Rattle.std.specs.Result.{result_ok}
 use Rattle.outside_kit.specs.declared.side.Side.{Side}
 use Rattle.control_book.specs.declared.call.ControlReply.TheVariants as control_replies
+use Rattle.control_book.specs.declared.call.Notice.{Notice}
+use Rattle.control_book.specs.declared.call.Notice.TheVariants as told_notice
 use Rattle.dss_mapping.specs.declared.kept.KeptMapping.{KeptMapping}
 use Rattle.fallback_state.specs.declared.fall.Event.{Event}
 use Rattle.fallback_state.specs.declared.fall.Event.TheVariants as events
 use Rattle.fallback_state.specs.declared.fall.Verdict.TheVariants as verdicts
+use Rattle.fallback_state.specs.declared.fall.Mode.{Mode}
 use Rattle.join_handshake.specs.Heard.{syn_heard, answer_heard, answer_taken}
 use Rattle.join_handshake.specs.declared.fault.JoinFault.TheVariants.{BadHmac}
 use Rattle.join_handshake.specs.declared.hearing.JoinAnswer.{JoinAnswer}
@@ -59,10 +62,12 @@ use Rattle.path_core.specs.Passing.{having_asked, with_peer_data_fin, with_fin_t
 use Rattle.path_core.specs.Deliver.{Piece, is_wrong, forgotten_by, after_piece, with_learned, with_skipped, after_pieces}
 use Rattle.path_core.specs.OptionsOut.{bare_mapping}
 use Rattle.path_core.specs.Handover.{with_told, having_sent}
-use Rattle.path_core.specs.Standing.{modes_told, after_look, after_ack_out}
+use Rattle.path_core.specs.Standing.{modes_told, after_look, after_ack_out, may_note, notices_told}
 use Rattle.path_core.specs.State.{Profile}
 use Rattle.path_core.specs.Treating.{with_acked, with_plain_acked, with_plain_ack, with_data_fin, after_dss, is_dropped, after_keep}
 use Rattle.path_core.specs.Words.{told_last}
+use Rattle.path_core.specs.Noticing.{after_notice}
+use Rattle.path_core.specs.FastClosing.{with_fast_closed}
 use Rattle.path_segments.specs.Spelled.{PlainSegment}
 use Rattle.world_laws.proofs.Doing.{place_is}
 use Rattle.world_laws.proofs.Records.{unsent_sent_kept, first_sent_kept, fin_sent_kept, expired_kept, uncovered_kept, every_first, every_rest}
@@ -205,18 +210,51 @@ AreKeys keys = IsKey keys.own × IsKey keys.peer
 
 -- ---- an end
 
+-- the key that the side tells to an end that carries the fast close
+abbrev pub NoticeTells : Reply → Type 0
+NoticeTells (replies.Control (control_replies.Standing mode standby sole (told_notice.Carrier key))) = IsKey key
+NoticeTells _ = Unit {0}
+
 module _ (c : Profile) (s : Side) (e : PathEnd) (h : EndTells c s e) where
   with_modes : (m : Modes) → ModesTell m → EndTells c s (record e { modes = m })
-  with_modes m modes = record { sender = h.sender; edge = h.edge; stream = h.stream; window = h.window; modes = modes; treated = h.treated }
+  with_modes m modes = record { sender = h.sender; edge = h.edge; stream = h.stream; window = h.window; modes = modes; treated = h.treated; carrier = h.carrier }
 
   -- a join is refused, which tells the mode
   pub join_refused_tells : (r : Reply) → EndTells c s (with_mode_refused r e)
   join_refused_tells r = with_modes (with_mode_refused r e).modes (record { own_key = h.modes.own_key; peer_key = h.modes.peer_key; own_nonce = h.modes.own_nonce; peer_nonce = h.modes.peer_nonce })
 
-  pub look_tells : (r : Reply) → EndTells c s (after_look r e)
-  look_tells r =
+  carrier_noted : (notice : Notice) (may : Bool) → (mode : Mode) (standby sole : Bool) → NoticeTells (replies.Control (control_replies.Standing mode standby sole notice))
+      → IfSome (after_notice notice may e.notices).carrier IsKey
+  carrier_noted told_notice.Nothing may mode standby sole key = h.carrier
+  carrier_noted (told_notice.Announce id) true mode standby sole key = h.carrier
+  carrier_noted (told_notice.Announce id) false mode standby sole key = h.carrier
+  carrier_noted (told_notice.Withdraw id) may mode standby sole key = h.carrier
+  carrier_noted told_notice.Reset may mode standby sole key = h.carrier
+  carrier_noted (told_notice.Carrier other) may mode standby sole key = by e.notices.fast_closed
+    where
+      by : (closed : Bool) → IfSome (if closed then e.notices.carrier else Some other) IsKey
+      by true = h.carrier
+      by false = key
+
+  carrier_told : (r : Reply) → NoticeTells r → IfSome (notices_told r e).carrier IsKey
+  carrier_told (replies.Control (control_replies.Standing mode standby sole notice)) key = by (states.is_dead e.tcp.state)
+    where
+      by : (dead : Bool) → IfSome (if dead then e.notices else after_notice notice (may_note e) e.notices).carrier IsKey
+      by true = h.carrier
+      by false = carrier_noted notice (may_note e) mode standby sole key
+  carrier_told (replies.Control control_replies.Noted) key = h.carrier
+  carrier_told (replies.Control _) key = h.carrier
+  carrier_told (replies.Send reply) key = h.carrier
+  carrier_told (replies.Reassembly reply) key = h.carrier
+  carrier_told replies.Done key = h.carrier
+
+  pub look_tells : (r : Reply) → NoticeTells r → EndTells c s (after_look r e)
+  look_tells r key =
       let told = with_modes (modes_told r e.modes) (told_modes r e.modes h.modes) in
-      record { sender = told.sender; edge = told.edge; stream = told.stream; window = told.window; modes = told.modes; treated = told.treated }
+      record { sender = told.sender; edge = told.edge; stream = told.stream; window = told.window; modes = told.modes; treated = told.treated; carrier = carrier_told r key }
+
+  pub fast_closed_tells : EndTells c s (with_fast_closed e)
+  fast_closed_tells = record { sender = h.sender; edge = h.edge; stream = h.stream; window = h.window; modes = h.modes; treated = h.treated; carrier = h.carrier }
 
   pub fell_tells : (event : Event) (r : Reply) → EndTells c s (after_fell event r e)
   fell_tells event r = with_modes (fell_in event r e.modes) (fell_modes event r e.modes h.modes)
@@ -236,7 +274,7 @@ module _ (c : Profile) (s : Side) (e : PathEnd) (h : EndTells c s e) where
   opened_tells (Some pair) keys = by (states.is_waiting e.tcp.state)
     where
       by : (b : Bool) → EndTells c s (record e { tcp = (if b then after_begin e.tcp else e.tcp); modes = with_keys pair e.modes })
-      by true = record { sender = h.sender; edge = h.edge; stream = h.stream; window = h.window; modes = keys_modes pair e.modes keys h.modes; treated = h.treated }
+      by true = record { sender = h.sender; edge = h.edge; stream = h.stream; window = h.window; modes = keys_modes pair e.modes keys h.modes; treated = h.treated; carrier = h.carrier }
       by false = with_modes (with_keys pair e.modes) (keys_modes pair e.modes keys h.modes)
 
   pub dss_tells : EndTells c s (after_dss s e)
@@ -247,6 +285,7 @@ module _ (c : Profile) (s : Side) (e : PathEnd) (h : EndTells c s e) where
     window = h.window;
     modes = record { own_key = h.modes.own_key; peer_key = h.modes.peer_key; own_nonce = h.modes.own_nonce; peer_nonce = h.modes.peer_nonce };
     treated = h.treated;
+    carrier = h.carrier;
   }
 
   pub keys_tell : (r : Reply) (o : Option KeyPair) → IfSome o (λ k. IsKey k.peer) → EndTells c s (after_keys r o e)
@@ -257,6 +296,7 @@ module _ (c : Profile) (s : Side) (e : PathEnd) (h : EndTells c s e) where
     window = h.window;
     modes = keyed_modes r o e.modes key h.modes;
     treated = record { items = h.treated.items; answer = h.treated.answer; acknowledged = h.treated.acknowledged };
+    carrier = h.carrier;
   }
 
   -- ---- what is to be acknowledged
@@ -269,6 +309,7 @@ module _ (c : Profile) (s : Side) (e : PathEnd) (h : EndTells c s e) where
     window = record { next = short; window = most };
     modes = h.modes;
     treated = record { items = h.treated.items; answer = h.treated.answer; acknowledged = h.treated.acknowledged };
+    carrier = h.carrier;
   }
 
   -- ---- what was heard
@@ -281,6 +322,7 @@ module _ (c : Profile) (s : Side) (e : PathEnd) (h : EndTells c s e) where
     window = h.window;
     modes = record { own_key = h.modes.own_key; peer_key = h.modes.peer_key; own_nonce = h.modes.own_nonce; peer_nonce = h.modes.peer_nonce };
     treated = record { items = h.treated.items; answer = h.treated.answer; acknowledged = h.treated.acknowledged };
+    carrier = h.carrier;
   }
   stream_acked next _ short = record {
     sender = h.sender;
@@ -289,6 +331,7 @@ module _ (c : Profile) (s : Side) (e : PathEnd) (h : EndTells c s e) where
     window = h.window;
     modes = record { own_key = h.modes.own_key; peer_key = h.modes.peer_key; own_nonce = h.modes.own_nonce; peer_nonce = h.modes.peer_nonce };
     treated = record { items = h.treated.items; answer = h.treated.answer; acknowledged = h.treated.acknowledged };
+    carrier = h.carrier;
   }
 
   -- after a fallback an acknowledgement of the subflow says as much
@@ -300,38 +343,39 @@ module _ (c : Profile) (s : Side) (e : PathEnd) (h : EndTells c s e) where
     window = h.window;
     modes = h.modes;
     treated = h.treated;
+    carrier = h.carrier;
   }
   plain_acked _ = h
 
   pub fin_tells : (place : ℕ) → EndTells c s (with_data_fin place e)
-  fin_tells place = record { sender = h.sender; edge = h.edge; stream = h.stream; window = h.window; modes = h.modes; treated = record { items = h.treated.items; answer = h.treated.answer; acknowledged = h.treated.acknowledged } }
+  fin_tells place = record { sender = h.sender; edge = h.edge; stream = h.stream; window = h.window; modes = h.modes; treated = record { items = h.treated.items; answer = h.treated.answer; acknowledged = h.treated.acknowledged }; carrier = h.carrier }
 
   pub learned_tells : EndTells c s (with_learned e)
-  learned_tells = record { sender = h.sender; edge = h.edge; stream = h.stream; window = record { next = h.window.next; window = h.window.window }; modes = h.modes; treated = h.treated }
+  learned_tells = record { sender = h.sender; edge = h.edge; stream = h.stream; window = record { next = h.window.next; window = h.window.window }; modes = h.modes; treated = h.treated; carrier = h.carrier }
 
   pub skipped_tells : EndTells c s (with_skipped e)
-  skipped_tells = record { sender = h.sender; edge = h.edge; stream = h.stream; window = record { next = h.window.next; window = h.window.window }; modes = h.modes; treated = h.treated }
+  skipped_tells = record { sender = h.sender; edge = h.edge; stream = h.stream; window = record { next = h.window.next; window = h.window.window }; modes = h.modes; treated = h.treated; carrier = h.carrier }
 
   pub asked_tells : EndTells c s (having_asked e)
-  asked_tells = record { sender = h.sender; edge = h.edge; stream = h.stream; window = h.window; modes = h.modes; treated = record { items = h.treated.items; answer = h.treated.answer; acknowledged = h.treated.acknowledged } }
+  asked_tells = record { sender = h.sender; edge = h.edge; stream = h.stream; window = h.window; modes = h.modes; treated = record { items = h.treated.items; answer = h.treated.answer; acknowledged = h.treated.acknowledged }; carrier = h.carrier }
 
   pub peer_end_tells : EndTells c s (with_peer_data_fin e)
-  peer_end_tells = record { sender = h.sender; edge = h.edge; stream = record { heard = h.stream.heard; known_end = h.stream.known_end }; window = h.window; modes = h.modes; treated = h.treated }
+  peer_end_tells = record { sender = h.sender; edge = h.edge; stream = record { heard = h.stream.heard; known_end = h.stream.known_end }; window = h.window; modes = h.modes; treated = h.treated; carrier = h.carrier }
 
   pub fin_told_tells : EndTells c s (with_fin_told e)
-  fin_told_tells = record { sender = h.sender; edge = h.edge; stream = h.stream; window = record { next = h.window.next; window = h.window.window }; modes = h.modes; treated = h.treated }
+  fin_told_tells = record { sender = h.sender; edge = h.edge; stream = h.stream; window = record { next = h.window.next; window = h.window.window }; modes = h.modes; treated = h.treated; carrier = h.carrier }
 
   pub unmapped_tells : EndTells c s (after_pieces e)
-  unmapped_tells = record { sender = h.sender; edge = h.edge; stream = h.stream; window = record { next = h.window.next; window = h.window.window }; modes = h.modes; treated = record { items = h.treated.items; answer = h.treated.answer; acknowledged = h.treated.acknowledged } }
+  unmapped_tells = record { sender = h.sender; edge = h.edge; stream = h.stream; window = record { next = h.window.next; window = h.window.window }; modes = h.modes; treated = record { items = h.treated.items; answer = h.treated.answer; acknowledged = h.treated.acknowledged }; carrier = h.carrier }
 
   pub piece_tells : (piece : Piece) → IsShort (e.tcp.recv.edge + length piece.octets) → EndTells c s (after_piece piece e)
-  piece_tells piece short = record { sender = h.sender; edge = short; stream = h.stream; window = record { next = h.window.next; window = h.window.window }; modes = h.modes; treated = h.treated }
+  piece_tells piece short = record { sender = h.sender; edge = short; stream = h.stream; window = record { next = h.window.next; window = h.window.window }; modes = h.modes; treated = h.treated; carrier = h.carrier }
 
   pub rate_tells : (path mss : ℕ) (r : Reply) → EndTells c s (after_rate path mss r e)
-  rate_tells path mss r = record { sender = h.sender; edge = h.edge; stream = h.stream; window = h.window; modes = h.modes; treated = h.treated }
+  rate_tells path mss r = record { sender = h.sender; edge = h.edge; stream = h.stream; window = h.window; modes = h.modes; treated = h.treated; carrier = h.carrier }
 
   pub timer_tells : (now : ℕ) → EndTells c s (after_timer now e)
-  timer_tells now = record { sender = h.sender; edge = h.edge; stream = record { heard = h.stream.heard; known_end = h.stream.known_end }; window = h.window; modes = h.modes; treated = h.treated }
+  timer_tells now = record { sender = h.sender; edge = h.edge; stream = record { heard = h.stream.heard; known_end = h.stream.known_end }; window = h.window; modes = h.modes; treated = h.treated; carrier = h.carrier }
 
   -- ---- grants
 
@@ -359,6 +403,7 @@ module _ (c : Profile) (s : Side) (e : PathEnd) (h : EndTells c s e) where
         window = h.window;
         modes = h.modes;
         treated = h.treated;
+        carrier = h.carrier;
       }
 
   pub refused_tells : (why : Why) (known : Option ℕ) → IfSome known IsShort → EndTells c s (refused (replies.Send (send_replies.NoGrant why known)) e)
@@ -369,6 +414,7 @@ module _ (c : Profile) (s : Side) (e : PathEnd) (h : EndTells c s e) where
     window = h.window;
     modes = h.modes;
     treated = h.treated;
+    carrier = h.carrier;
   }
     where
       by : (known : Option ℕ) → IfSome known IsShort → IfSome (told_last known e.sending.known_end) IsShort
@@ -385,6 +431,7 @@ module _ (c : Profile) (s : Side) (e : PathEnd) (h : EndTells c s e) where
     window = record { next = h.window.next; window = h.window.window };
     modes = record { own_key = h.modes.own_key; peer_key = h.modes.peer_key; own_nonce = h.modes.own_nonce; peer_nonce = h.modes.peer_nonce };
     treated = h.treated;
+    carrier = h.carrier;
   }
 
   pub sent_end_tells : (occasion : Occasion) (now : ℕ) (sg : PlainSegment) → EndTells c s (having_sent occasion now sg e)
@@ -402,10 +449,10 @@ module _ (c : Profile) (s : Side) (e : PathEnd) (h : EndTells c s e) where
 
   -- the record of the FIN, which is sent at once
   pub fin_record_tells : (now : ℕ) → EndTells c s (record e { tcp = after_sending to_send.Fin now e.tcp })
-  fin_record_tells now = record { sender = fin_sent_tells c s e.tcp.send h.sender now; edge = h.edge; stream = h.stream; window = h.window; modes = h.modes; treated = h.treated }
+  fin_record_tells now = record { sender = fin_sent_tells c s e.tcp.send h.sender now; edge = h.edge; stream = h.stream; window = h.window; modes = h.modes; treated = h.treated; carrier = h.carrier }
 
   pub end_sent_tells : EndTells c s (record e { sending = with_data_fin_sent e.sending })
-  end_sent_tells = record { sender = h.sender; edge = h.edge; stream = record { heard = h.stream.heard; known_end = h.stream.known_end }; window = h.window; modes = h.modes; treated = h.treated }
+  end_sent_tells = record { sender = h.sender; edge = h.edge; stream = record { heard = h.stream.heard; known_end = h.stream.known_end }; window = h.window; modes = h.modes; treated = h.treated; carrier = h.carrier }
 
   pub finished_tells : IsShort (e.tcp.send.nxt + 1) → EndTells c s (record e { tcp = after_finishing e.tcp })
   finished_tells short =
@@ -421,17 +468,18 @@ module _ (c : Profile) (s : Side) (e : PathEnd) (h : EndTells c s e) where
         window = h.window;
         modes = h.modes;
         treated = h.treated;
+        carrier = h.carrier;
       }
 
   -- ---- death and the timer
 
   dead_tells : (reset : Bool) (t : Treated) → TreatedTells t → EndTells c s (record e { tcp = taking.after_death reset e.tcp; treated = t })
-  dead_tells reset t treated = record { sender = acknowledged_tells c s e.tcp.send h.sender e.tcp.send.nxt; edge = h.edge; stream = h.stream; window = h.window; modes = h.modes; treated = treated }
+  dead_tells reset t treated = record { sender = acknowledged_tells c s e.tcp.send h.sender e.tcp.send.nxt; edge = h.edge; stream = h.stream; window = h.window; modes = h.modes; treated = treated; carrier = h.carrier }
 
   pub died_tells : EndTells c s (died e)
   died_tells =
       let told = dead_tells false nothing_treated (record { items = Every-nil _; answer = tt; acknowledged = omega arith }) in
-      record { sender = told.sender; edge = told.edge; stream = told.stream; window = told.window; modes = told.modes; treated = told.treated }
+      record { sender = told.sender; edge = told.edge; stream = told.stream; window = told.window; modes = told.modes; treated = told.treated; carrier = told.carrier }
 
   pub died_unless_tells : EndTells c s (died_unless_dead e)
   died_unless_tells = by (states.is_dead e.tcp.state)
@@ -445,7 +493,7 @@ module _ (c : Profile) (s : Side) (e : PathEnd) (h : EndTells c s e) where
     where
       by : (b : Bool) → EndTells c s (record e { tcp = if b then taking.after_death true e.tcp else expiring.after_expiry now e.tcp })
       by true = dead_tells true e.treated h.treated
-      by false = record { sender = expired_tells c s e.tcp.send h.sender; edge = h.edge; stream = h.stream; window = h.window; modes = h.modes; treated = h.treated }
+      by false = record { sender = expired_tells c s e.tcp.send h.sender; edge = h.edge; stream = h.stream; window = h.window; modes = h.modes; treated = h.treated; carrier = h.carrier }
 
   -- ---- what is kept
 
@@ -457,6 +505,7 @@ module _ (c : Profile) (s : Side) (e : PathEnd) (h : EndTells c s e) where
     window = h.window;
     modes = h.modes;
     treated = h.treated;
+    carrier = h.carrier;
   }
 
   pub check_tells : (checksums : Bool) (o : Option KeptMapping) → EndTells c s (forgotten_by checksums o e)
@@ -492,6 +541,7 @@ module _ (c : Profile) (s : Side) (e : PathEnd) (h : EndTells c s e) where
             window = h.window;
             modes = h.modes;
             treated = record { items = h.treated.items; answer = h.treated.answer; acknowledged = h.treated.acknowledged };
+            carrier = h.carrier;
           }
 
   pub pass_fin_tells : (is_fin_next e.tcp ≡ true → IsShort (e.tcp.recv.edge + 1)) → EndTells c s (after_pass_fin e)
@@ -499,4 +549,4 @@ module _ (c : Profile) (s : Side) (e : PathEnd) (h : EndTells c s e) where
     where
       by : (b : Bool) → is_fin_next e.tcp ≡ b → EndTells c s (record e { tcp = if b then after_passing_fin e.tcp else e.tcp })
       by false is = h
-      by true is = record { sender = h.sender; edge = short is; stream = h.stream; window = h.window; modes = h.modes; treated = h.treated }
+      by true is = record { sender = h.sender; edge = short is; stream = h.stream; window = h.window; modes = h.modes; treated = h.treated; carrier = h.carrier }

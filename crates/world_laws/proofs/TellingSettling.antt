@@ -96,6 +96,7 @@ module _ (six : SixBooks) (others : Others) (c : Profile) (short : BooksAreShort
   passed_tells p ab ba h holds t (duties.Step (step_duties.Look s)) = t
   passed_tells p ab ba h holds t (duties.Ask (ask_duties.Window s)) = t
   passed_tells p ab ba h holds t (duties.Send (send_duties.Update s)) = t
+  passed_tells p ab ba h holds t (duties.Send (send_duties.FastClose s)) = t
   passed_tells p ab ba h holds t (duties.Send (send_duties.Syn s)) = t
   passed_tells p ab ba h holds t (duties.Step (step_duties.Data s)) = t
   passed_tells p ab ba h holds t (duties.Send (send_duties.DataFin s)) = t
@@ -123,11 +124,15 @@ module _ (six : SixBooks) (others : Others) (c : Profile) (short : BooksAreShort
   passed_tells p ab ba h holds t (duties.Send (send_duties.Answer s)) = t
   passed_tells p ab ba h holds t (duties.Send (send_duties.ResetAnswer s)) = t
   passed_tells p ab ba h holds t (duties.Ask (ask_duties.Return s)) = t
+  passed_tells p ab ba h holds t (duties.Ask (ask_duties.AbortSend s)) = t
+  passed_tells p ab ba h holds t (duties.Ask (ask_duties.AbortReceive s)) = t
   passed_tells p ab ba h holds t (duties.Send (send_duties.Resend s)) = t
   passed_tells p ab ba h holds t (duties.Ask (ask_duties.BreakAck s reason)) = t
   passed_tells p ab ba h holds t (duties.Send (send_duties.BreakReset s reason)) = t
   passed_tells p ab ba h holds t (duties.Send (send_duties.Reset s)) = t
+  passed_tells p ab ba h holds t (duties.Send (send_duties.ResetNoted s)) = t
   passed_tells p ab ba h holds t (duties.Ask (ask_duties.Leave s)) = t
+  passed_tells p ab ba h holds t (duties.Ask (ask_duties.LeaveNoted s)) = t
   passed_tells p ab ba h holds t (duties.Ask (ask_duties.Dead s)) = t
   passed_tells p ab ba h holds t duties.End = t
 

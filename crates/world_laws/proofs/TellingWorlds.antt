@@ -121,6 +121,7 @@ opening_tells c s state opens path own key nonce is drawn = record {
   window = record { next = omega arith; window = omega arith };
   modes = record { own_key = is; peer_key = tt; own_nonce = drawn; peer_nonce = omega arith };
   treated = record { items = Every-nil _; answer = tt; acknowledged = omega arith };
+  carrier = tt;
 }
 
 -- ---- freshness of a path

@@ -98,6 +98,7 @@ module _ {C : Type 0} (k : Codec C) where
   grants_clear p (duties.Step (step_duties.Look s)) is joins unclear plain = asks_nothing p (duties.Step (step_duties.Look s)) tt
   grants_clear p (duties.Ask (ask_duties.Window s)) is joins unclear plain = asks_nothing p (duties.Ask (ask_duties.Window s)) tt
   grants_clear p (duties.Send (send_duties.Update s)) is joins unclear plain = asks_nothing p (duties.Send (send_duties.Update s)) tt
+  grants_clear p (duties.Send (send_duties.FastClose s)) is joins unclear plain = asks_nothing p (duties.Send (send_duties.FastClose s)) tt
   grants_clear p (duties.Send (send_duties.Syn s)) is joins unclear plain = asks_nothing p (duties.Send (send_duties.Syn s)) tt
   grants_clear p (duties.Send (send_duties.DataFin s)) is joins unclear plain = asks_nothing p (duties.Send (send_duties.DataFin s)) tt
   grants_clear p (duties.Send (send_duties.Fin s)) is joins unclear plain = asks_nothing p (duties.Send (send_duties.Fin s)) tt
@@ -130,11 +131,15 @@ module _ {C : Type 0} (k : Codec C) where
   grants_clear p (duties.Send (send_duties.Answer s)) is joins unclear plain = asks_nothing p (duties.Send (send_duties.Answer s)) tt
   grants_clear p (duties.Send (send_duties.ResetAnswer s)) is joins unclear plain = asks_nothing p (duties.Send (send_duties.ResetAnswer s)) tt
   grants_clear p (duties.Ask (ask_duties.Return s)) is joins unclear plain = asks_nothing p (duties.Ask (ask_duties.Return s)) tt
+  grants_clear p (duties.Ask (ask_duties.AbortSend s)) is joins unclear plain = asks_nothing p (duties.Ask (ask_duties.AbortSend s)) tt
+  grants_clear p (duties.Ask (ask_duties.AbortReceive s)) is joins unclear plain = asks_nothing p (duties.Ask (ask_duties.AbortReceive s)) tt
   grants_clear p (duties.Send (send_duties.Resend s)) is joins unclear plain = asks_nothing p (duties.Send (send_duties.Resend s)) tt
   grants_clear p (duties.Ask (ask_duties.BreakAck s reason)) is joins unclear plain = asks_nothing p (duties.Ask (ask_duties.BreakAck s reason)) tt
   grants_clear p (duties.Send (send_duties.BreakReset s reason)) is joins unclear plain = asks_nothing p (duties.Send (send_duties.BreakReset s reason)) tt
   grants_clear p (duties.Send (send_duties.Reset s)) is joins unclear plain = asks_nothing p (duties.Send (send_duties.Reset s)) tt
+  grants_clear p (duties.Send (send_duties.ResetNoted s)) is joins unclear plain = asks_nothing p (duties.Send (send_duties.ResetNoted s)) tt
   grants_clear p (duties.Ask (ask_duties.Leave s)) is joins unclear plain = asks_nothing p (duties.Ask (ask_duties.Leave s)) tt
+  grants_clear p (duties.Ask (ask_duties.LeaveNoted s)) is joins unclear plain = asks_nothing p (duties.Ask (ask_duties.LeaveNoted s)) tt
   grants_clear p (duties.Ask (ask_duties.Dead s)) is joins unclear plain = asks_nothing p (duties.Ask (ask_duties.Dead s)) tt
   grants_clear p (duties.Step step_duties.Events) is joins unclear plain = asks_nothing p (duties.Step step_duties.Events) tt
   grants_clear p duties.End is joins unclear plain = asks_nothing p duties.End tt

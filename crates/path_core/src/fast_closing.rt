@@ -1,0 +1,121 @@
+//! The fast close (RFC 8684, section 3.5): MP_FASTCLOSE goes out at the end that carries it, the peer's is heard, and an end is reset
+//! as its side told it.
+
+ghost use Rattle.std.specs.Prelude.{◌≡◌, OnOk, OnErr};
+ghost use Rattle.actor_desk.specs.Kinds.{CanBeAsked};
+ghost use Rattle.path_core.specs.FastClosing.{is_silent, leaves_silently, resets_noted, answered_leave_noted, is_fast_close_due, with_fast_closed, answered_fast_close, fast_heard_ask, is_stopped_by, answered_fast_heard, abort_send_ask, abort_receive_ask};
+ghost use Rattle.path_core.specs.Octets.{octets};
+
+use crate::end::PathEnd;
+use crate::machine::Machine;
+use crate::segment_kind::SegmentKind;
+use crate::standing::is_connected;
+use actor_desk::{Ask, Reply};
+use control_book::{ControlCall, ControlReply};
+use outside_kit::Side;
+use path_agenda::{Agenda, AskDuty, Duty};
+use reassembly_book::ReassemblyCall;
+use send_book::SendCall;
+use std::alloc::AllocError;
+use subflow_tcp::{Occasion, State};
+
+/// An end that never sent a segment.
+fn is_silent(state: State) -> bool
+    ensures { result ≡ is_silent state }
+{
+    matches!(state, State::Waiting | State::Listen)
+}
+
+/// The key that the peer showed is the side's own.
+fn is_stopped_by(reply: &Reply) -> bool
+    ensures { result ≡ is_stopped_by reply.now }
+{
+    matches!(reply, Reply::Control(ControlReply::Stopped))
+}
+
+/// The peer's fast close is told, with the key that it showed.
+pub(crate) fn fast_heard_ask(side: Side, key: u64) -> Ask
+    ensures value { result ≡ fast_heard_ask side key }
+    ensures able { CanBeAsked result }
+{
+    Ask::Control(side, ControlCall::FastHeard { key })
+}
+
+/// The send book is told that the peer closed the connection at once.
+pub(crate) fn abort_send_ask(side: Side) -> Ask
+    ensures value { result ≡ abort_send_ask side }
+    ensures able { CanBeAsked result }
+{
+    Ask::Send(side, SendCall::Abort)
+}
+
+/// So is the reassembly book.
+pub(crate) fn abort_receive_ask(side: Side) -> Ask
+    ensures value { result ≡ abort_receive_ask side }
+    ensures able { CanBeAsked result }
+{
+    Ask::Reassembly(side, ReassemblyCall::Abort { by_peer: true })
+}
+
+impl PathEnd {
+    /// The side told that the end is to be reset, and it never sent a segment.
+    pub fn leaves_silently(&self) -> bool
+        ensures { result ≡ leaves_silently self.now }
+    {
+        is_silent(self.tcp.state()) && self.notices.is_reset_noted()
+    }
+
+    /// The side told that the end is to be reset, and it sent a segment.
+    pub fn resets_noted(&self) -> bool
+        ensures { result ≡ resets_noted self.now }
+    {
+        !self.tcp.state().is_closed_to_segments() && self.notices.is_reset_noted()
+    }
+
+    /// MP_FASTCLOSE is due: it was never sent, both SYNs are acknowledged, and the end may send a DSS, or fell back.
+    pub fn is_fast_close_due(&self) -> bool
+        ensures { result ≡ is_fast_close_due self.now }
+    {
+        is_connected(self.tcp.state())
+            && self.notices.is_carried()
+            && (self.modes.clear || self.modes.identity)
+    }
+
+    /// MP_FASTCLOSE was sent.
+    fn have_fast_closed(&mut self)
+        ensures { self.new ≡ with_fast_closed self.old }
+    {
+        self.notices.have_fast_closed();
+    }
+}
+
+impl Machine {
+    /// An end that its side told to be reset dies without a segment, and what follows stays to be done.
+    pub(crate) fn leave_silently(&mut self, side: Side)
+        ensures { self.new ≡ answered_leave_noted side self.old }
+    {
+        self.end_mut(side).die();
+        self.turns_to(Duty::Ask(AskDuty::Dead(side)));
+    }
+
+    /// MP_FASTCLOSE is sent. At an error all is as it was.
+    pub(crate) fn send_fast_close(&mut self, side: Side) -> Result<(), AllocError>
+        ensures ok { OnOk result (self.new ≡ answered_fast_close octets side self.old) }
+        ensures err { OnErr result (self.new ≡ self.old) }
+    {
+        self.send_and_leave(side, SegmentKind::FastClose, Occasion::Ack)?;
+        self.end_mut(side).have_fast_closed();
+        Ok(())
+    }
+
+    /// Where the peer showed the side's key both books are told, and the end is reset; another key is passed over.
+    pub(crate) fn answer_fast_heard(&mut self, side: Side, reply: &Reply)
+        ensures { self.new ≡ answered_fast_heard side reply.now self.old }
+    {
+        if is_stopped_by(reply) {
+            self.sets_about(Agenda::stops(side));
+        } else {
+            self.done();
+        }
+    }
+}
