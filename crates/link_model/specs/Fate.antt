@@ -8,6 +8,7 @@ use Rattle.link_script.specs.declared.script.ScriptLine.TheVariants.{Drop, Strip
 use Rattle.link_script.specs.Places.{same_side}
 use Rattle.link_model.specs.declared.fate.Fate.{Fate}
 use Rattle.link_model.specs.declared.fate.Fate.TheVariants as fate
+use Rattle.link_model.specs.declared.fate.SegmentFate.{SegmentFate}
 
 -- a line that names this side and number speaks of this segment
 abbrev pub is_named : Side → ℕ → Side → ℕ → Bool
@@ -55,3 +56,11 @@ is_altered_by from number line = false
 
 abbrev pub is_altered : Side → ℕ → List ScriptLine → Bool
 is_altered from number lines = list_any (is_altered_by from number) lines
+
+-- what becomes of the segment that is handed over at this tick
+abbrev pub segment_fate : Side → ℕ → ℕ → List ScriptLine → SegmentFate
+segment_fate from number now lines = record {
+  arrival = fate_of from number lines;
+  stripped = is_stripped from number now lines;
+  altered = is_altered from number lines;
+}

@@ -26,6 +26,17 @@ pub enum Fate {
     },
 }
 
+/// What becomes of a segment that a link takes.
+#[derive(Clone, Copy, Debug, PartialEq, Eq)]
+pub struct SegmentFate {
+    /// When it arrives, and how often.
+    pub arrival: Fate,
+    /// It arrives without its Multipath TCP options.
+    pub stripped: bool,
+    /// It arrives with the lowest bit of its first payload octet turned.
+    pub altered: bool,
+}
+
 fn is_named(from: Side, number: u64, side: Side, named: u32) -> bool
     ensures { result ≡ is_named from number side named }
 {

@@ -10,10 +10,10 @@ mod flight;
 mod laws;
 mod link;
 
-pub use fate::Fate;
+pub use fate::{Fate, SegmentFate};
 pub use flight::{Due, Flight};
 pub use laws::{
     copies_are_in_order, copies_arrive_later, plain_links_keep_their_order,
     sending_commutes_with_showing,
 };
-pub use link::Link;
+pub use link::{Link, addresses_from};

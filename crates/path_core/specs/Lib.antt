@@ -35,3 +35,4 @@ pub mod Shown
 pub mod Said
 pub mod Lending
 pub mod Replies
+pub mod Looking

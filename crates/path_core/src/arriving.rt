@@ -410,7 +410,7 @@ impl Machine {
         ensures ok { OnOk result (self.new ≡ copy_taken octets due self.old) }
         ensures err { OnErr result (self.new ≡ self.old) }
     {
-        let carried = self.link.octets(&due)?;
+        let carried = self.link.share(&due)?;
         let now = self.clock.now().max(due.tick);
         self.take_octets(due.to, now, carried.as_slice())?;
         self.link.deliver(&due);

@@ -1,9 +1,9 @@
 //! Handing a segment to the link: the step that tells it, and what it makes of the end and of the link.
 
-ghost use Rattle.std.specs.Prelude.{◌≡◌, ◌≤◌, ◌+◌, ◌^◌, true, is_none, OnOk, OnErr};
+ghost use Rattle.std.specs.Prelude.{◌≡◌, ◌≤◌, ◌+◌, ◌^◌, true, is_none, IfOk, OnOk, OnErr};
 ghost use Rattle.actor_desk.specs.Kinds.{CanBeAsked};
 ghost use Rattle.link_model.specs.Octets.{after_octets};
-ghost use Rattle.path_core.specs.Octets.{octets};
+ghost use Rattle.path_core.specs.Octets.{octets, made};
 ghost use Rattle.path_segments.specs.Laws.{window_told};
 ghost use Rattle.subflow_tcp.specs.Emitting.{after_sending};
 ghost use Rattle.path_core.specs.Said.{plain_said, said_by, sent_kind, CanBeSaid};
@@ -138,6 +138,14 @@ impl Machine {
         ensures { result ≡ (with_mapping_told (said_by kind self.now.profile side (end_at side self.now)) (end_at side self.now)).modes }
     {
         self.end(side).modes_after(&self.said(side, kind))
+    }
+
+    /// The octets of the segment of this kind.
+    pub(crate) fn octets_of(&self, side: Side, kind: SegmentKind) -> Result<Vec<u8>, AllocError>
+        ensures { IfOk result (λ text. text.items ≡ made self.now.profile.spelling side (said_by kind self.now.profile side (end_at side self.now))) }
+    {
+        let said = self.said(side, kind);
+        said.octets(self.alloc, self.profile.spelling(), side)
     }
 
     /// The link takes the segment of this kind. At an error all is as it was.

@@ -32,6 +32,7 @@ mod joins;
 mod judged;
 mod laws;
 mod lines;
+mod looking;
 mod machine;
 mod mapped_data_fin;
 mod modes;
@@ -65,6 +66,7 @@ pub use laws::{
     options_are_those_of_the_handshakes, settled_turns_end,
 };
 pub use lines::LineLeft;
+pub use looking::{Arriving, Departing};
 pub use modes::Modes;
 pub use path::Path;
 pub use path_agenda::{AskDuty, Duty, Heard, KeyPair, PeerNotice, SendDuty, SilentDuty, StepDuty};

@@ -75,6 +75,13 @@ impl Machine {
         self.clock.until()
     }
 
+    /// The tick at which it is.
+    pub(crate) fn tick(&self) -> u64
+        ensures { result ≡ self.now.clock }
+    {
+        self.clock.now()
+    }
+
     /// The end of a side.
     pub(crate) fn end(&self, side: Side) -> &PathEnd
         ensures { result.now ≡ end_at side self.now }

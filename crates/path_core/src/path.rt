@@ -1,11 +1,12 @@
 //! A path of a connection: it makes steps, and each turn of it ends.
 
-ghost use Rattle.std.specs.Prelude.{◌≡◌, ◌<◌, ◌≤◌, ◌*◌, ◌^◌, [], false, length, IfOk, IfSome, IsOk, OnOk, OnErr};
+ghost use Rattle.std.specs.Prelude.{◌≡◌, ◌<◌, ◌≤◌, ◌*◌, ◌^◌, [], false, length, option_map, IfOk, IfSome, IsOk, OnOk, OnErr};
 ghost use Rattle.actor_desk.specs.Bounds.{TakesReply};
 ghost use Rattle.actor_desk.specs.Kinds.{CanBeAsked};
 ghost use Rattle.link_model.specs.Octets.{after_octets};
 ghost use Rattle.link_script.specs.Scripts.{HasRanges};
 ghost use Rattle.path_core.specs.Events.{is_dead_path};
+ghost use Rattle.path_core.specs.Looking.{departing, next_arrival, shown_arriving};
 ghost use Rattle.path_core.specs.Octets.{octets};
 ghost use Rattle.path_core.specs.Replies.{asks_bytes_first, needs_memory_first};
 ghost use Rattle.path_core.specs.Starts.{first_turn_of};
@@ -13,6 +14,7 @@ ghost use Rattle.path_core.specs.State.{path_of, has_ended};
 ghost use Rattle.path_core.specs.Steps.{settles_down, asks_of, takes, next_round};
 ghost use Rattle.path_core.specs.Turns.{Ends};
 
+use crate::looking::{Arriving, Departing};
 use crate::machine::Machine;
 use actor_desk::{Ask, Reply};
 use link_script::Script;
@@ -89,6 +91,31 @@ impl Path {
         ensures { result ≡ self.now.until }
     {
         self.machine.round_end()
+    }
+
+    /// The tick at which it is, in ticks of a millisecond from the run's beginning.
+    pub fn tick(&self) -> u64
+        ensures { result ≡ self.now.clock }
+    {
+        self.machine.tick()
+    }
+
+    /// The segment that its next step hands to the link, if it hands one. The path stays as it is.
+    ///
+    /// # Errors
+    ///
+    /// Only where there is no memory for its octets.
+    pub fn outgoing(&self) -> Result<Option<Departing>, AllocError>
+        ensures { IfOk result (λ d. d ≡ departing self.now) }
+    {
+        self.machine.outgoing()
+    }
+
+    /// The copy that arrives by its next step, if one does, lent as it arrives. Takes no memory.
+    pub fn arriving(&self) -> Option<Arriving<'_>>
+        ensures { option_map shown_arriving result ≡ next_arrival self.now }
+    {
+        self.machine.arriving()
     }
 
     /// Whether A's end is dead, and B's end is dead or was never reached.

@@ -57,7 +57,7 @@ impl PathEnd {
     }
 
     /// The first mapping that is held gives a position another place.
-    fn is_clash(&self) -> bool
+    pub fn is_clash(&self) -> bool
         ensures { result ≡ is_clash self.now }
     {
         self.receiving.mappings.held_clashes()
@@ -94,7 +94,7 @@ impl PathEnd {
     }
 
     /// The thing of this number; after a fallback nothing more is heard.
-    fn item(&self, index: u64) -> Option<Heard>
+    pub fn item(&self, index: u64) -> Option<Heard>
         ensures value { result ≡ item_of index self.now }
         ensures fair { IfSome result IsFair }
     {

@@ -6,3 +6,4 @@ pub mod Rounds
 pub mod AsValues
 pub mod RoundEnds
 pub mod Weaving
+pub mod Looking

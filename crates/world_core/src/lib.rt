@@ -8,6 +8,7 @@ mod asking;
 mod crew;
 mod hearing;
 mod input;
+mod looking;
 mod member;
 mod reading;
 mod round_end;

@@ -1,0 +1,221 @@
+//! What the next step of a path hands to its link, and what it takes from it.
+
+ghost use Rattle.std.specs.Prelude.{◌≡◌, Some, option_map, IfOk, IfSome, IsSome};
+ghost use Rattle.link_model.specs.Steps.{arriving};
+ghost use Rattle.path_core.specs.Emission.{first_unsent};
+ghost use Rattle.path_core.specs.Looking.{ack_sends, broken_by, departing, departing_as, duty_sends, first_sends, heard_sends, mapping_sends, next_arrival, send_of, shown_arriving, step_sends, unsent_sends};
+ghost use Rattle.path_core.specs.State.{end_at};
+ghost use Rattle.path_core.specs.Treating.{item_of};
+
+use crate::event::Event;
+use crate::machine::Machine;
+use crate::profile::peer;
+use crate::segment_kind::SegmentKind;
+use link_model::{Due, SegmentFate, addresses_from};
+use outside_kit::Side;
+use path_agenda::{Duty, Heard, SendDuty, StepDuty};
+use pipe_model::Text;
+use segment_wire::Addresses;
+use std::alloc::AllocError;
+
+/// A segment that the next step of a path hands to its link.
+#[derive(Debug, Drop, PartialEq)]
+pub struct Departing {
+    /// The side that sends it.
+    pub from: Side,
+    /// Its number in its direction, the first being 1.
+    pub number: u64,
+    /// Its octets, as the link takes them.
+    pub octets: Text,
+    /// What becomes of it.
+    pub fate: SegmentFate,
+}
+
+/// A copy that arrives by the next step of a path.
+#[derive(Clone, Copy, Debug)]
+pub struct Arriving<'a> {
+    /// The side that it goes to.
+    pub to: Side,
+    /// Its octets, as they arrive.
+    pub octets: &'a [u8],
+    /// The addresses between which it went.
+    pub addresses: Addresses,
+}
+
+/// Which segment the end of a side sends.
+#[derive(Clone, Copy, Debug, PartialEq, Eq)]
+pub(crate) struct ToSend {
+    pub from: Side,
+    pub kind: SegmentKind,
+}
+
+fn to_send(from: Side, kind: SegmentKind) -> Option<ToSend>
+    ensures { result ≡ Some (record { from = from; kind = kind }) }
+{
+    Some(ToSend { from, kind })
+}
+
+/// The segment of a duty that sends one.
+fn send_of(duty: SendDuty) -> Option<ToSend>
+    ensures { result ≡ send_of duty }
+{
+    match duty {
+        SendDuty::Update(side) => to_send(side, SegmentKind::Ack),
+        SendDuty::Acknowledge(side) => to_send(side, SegmentKind::Ack),
+        SendDuty::Syn(side) => to_send(side, SegmentKind::Unsent),
+        SendDuty::DataFin(side) => to_send(side, SegmentKind::DataFin),
+        SendDuty::Fin(side) => to_send(side, SegmentKind::Fin),
+        SendDuty::SynAck(side) => to_send(side, SegmentKind::SynAck),
+        SendDuty::Refuse(side) => to_send(side, SegmentKind::Refusal),
+        SendDuty::Again(side) => to_send(side, SegmentKind::First),
+        SendDuty::Answer(side) => to_send(side, SegmentKind::Answer),
+        SendDuty::ResetAnswer(side) => to_send(side, SegmentKind::DeadAnswer),
+        SendDuty::Resend(side) => to_send(side, SegmentKind::Resend),
+        SendDuty::BreakReset { side, reason } => to_send(
+            side,
+            SegmentKind::Reset {
+                reason: Some(reason),
+            },
+        ),
+        SendDuty::Reset(side) => to_send(side, SegmentKind::Reset { reason: None }),
+    }
+}
+
+impl Machine {
+    /// What the first step of a break sends: the reset, unless what is to be acknowledged is asked once more.
+    fn broken_by(&self, side: Side, reason: u8) -> Option<ToSend>
+        ensures { result ≡ broken_by side reason self.now }
+    {
+        if self.end(side).treated.is_asked() {
+            return None;
+        }
+        to_send(
+            side,
+            SegmentKind::Reset {
+                reason: Some(reason),
+            },
+        )
+    }
+
+    /// What a mapping that was heard sends: it breaks the path where it clashes.
+    fn mapping_sends(&self, side: Side) -> Option<ToSend>
+        ensures { result ≡ mapping_sends side self.now }
+    {
+        if self.end(side).is_clash() {
+            self.broken_by(side, 1)
+        } else {
+            None
+        }
+    }
+
+    /// What the thing of this number sends.
+    fn heard_sends(&self, side: Side, index: u64) -> Option<ToSend>
+        ensures { result ≡ heard_sends side (item_of index (end_at side self.now)) self.now }
+    {
+        match self.end(side).item(index) {
+            Some(Heard::Mapping { .. }) => self.mapping_sends(side),
+            _ => None,
+        }
+    }
+
+    /// The first record that is to be sent.
+    fn unsent_sends(&self, side: Side) -> Option<ToSend>
+        ensures { result ≡ unsent_sends side (first_unsent (end_at side self.now)) }
+    {
+        match self.end(side).tcp.first_unsent() {
+            Some(_) => to_send(side, SegmentKind::Unsent),
+            None => None,
+        }
+    }
+
+    /// What an acknowledgement without a Data ACK sends: it may break the path.
+    fn ack_sends(&self, side: Side) -> Option<ToSend>
+        ensures { result ≡ ack_sends side self.now }
+    {
+        if self.end(side).breaks_by_ack(&self.profile) {
+            self.broken_by(side, 6)
+        } else {
+            None
+        }
+    }
+
+    /// Which segment a duty sends that sends, asks or takes an event, as the path stands.
+    fn step_sends(&self, duty: StepDuty) -> Option<ToSend>
+        ensures { result ≡ step_sends duty self.now }
+    {
+        match duty {
+            StepDuty::Data(side) => self.unsent_sends(side),
+            StepDuty::Heard { side, index } => self.heard_sends(side, index),
+            StepDuty::PlainAck(side) => self.ack_sends(side),
+            StepDuty::Unmapped(side) => self.broken_by(side, 6),
+            _ => None,
+        }
+    }
+
+    /// Which segment a duty sends, if it sends one.
+    fn duty_sends(&self, duty: Duty) -> Option<ToSend>
+        ensures { result ≡ duty_sends duty self.now }
+    {
+        match duty {
+            Duty::Send(duty) => send_of(duty),
+            Duty::Step(duty) => self.step_sends(duty),
+            _ => None,
+        }
+    }
+
+    /// Which segment the next step sends, if it sends one.
+    fn next_to_send(&self) -> Option<ToSend>
+        ensures { result ≡ first_sends self.now.agenda self.now }
+    {
+        match self.agenda.first() {
+            Some(duty) => self.duty_sends(duty),
+            None => None,
+        }
+    }
+
+    /// The segment as the link takes it.
+    fn departing_as(&self, to_send: ToSend) -> Result<Departing, AllocError>
+        ensures value { IfOk result (λ d. d ≡ departing_as self.now to_send) }
+    {
+        let ToSend { from, kind } = to_send;
+        let number = self.link.next_number(from);
+        Ok(Departing {
+            from,
+            number,
+            octets: Text::from(self.octets_of(from, kind)?),
+            fate: self.link.segment_fate(from, number, self.clock.now()),
+        })
+    }
+
+    /// The segment that the next step hands to the link, if it hands one. The path stays as it is.
+    pub(crate) fn outgoing(&self) -> Result<Option<Departing>, AllocError>
+        ensures value { IfOk result (λ d. d ≡ departing self.now) }
+    {
+        match self.next_to_send() {
+            Some(to_send) => Ok(Some(self.departing_as(to_send)?)),
+            None => Ok(None),
+        }
+    }
+
+    /// The copy that arrives by the next step, if one does.
+    fn first_arrival(&self) -> Option<Due>
+        ensures { IfSome result (λ due. IsSome (arriving due self.now.link)) }
+    {
+        match (self.agenda.first(), self.next_event()) {
+            (Some(Duty::Step(StepDuty::Events)), Some(Event::Arrives(due))) => Some(due),
+            _ => None,
+        }
+    }
+
+    /// The copy that arrives by the next step, if one does. Takes no memory.
+    pub(crate) fn arriving(&self) -> Option<Arriving<'_>>
+        ensures value { option_map shown_arriving result ≡ next_arrival self.now }
+    {
+        let due = self.first_arrival()?;
+        Some(Arriving {
+            to: due.to,
+            octets: self.link.octets(&due),
+            addresses: addresses_from(self.link.path(), peer(due.to)),
+        })
+    }
+}
