@@ -48,6 +48,7 @@ abbrev pub send_of : SendDuty → Option ToSend
 send_of (sends_of.Update s) = to_send s kinds.Ack
 send_of (sends_of.Acknowledge s) = to_send s kinds.Ack
 send_of (sends_of.Syn s) = to_send s kinds.Unsent
+send_of (sends_of.FastClose s) = to_send s kinds.FastClose
 send_of (sends_of.DataFin s) = to_send s kinds.DataFin
 send_of (sends_of.Fin s) = to_send s kinds.Fin
 send_of (sends_of.SynAck s) = to_send s kinds.SynAck
@@ -58,6 +59,7 @@ send_of (sends_of.ResetAnswer s) = to_send s kinds.DeadAnswer
 send_of (sends_of.Resend s) = to_send s kinds.Resend
 send_of (sends_of.BreakReset s reason) = to_send s (kinds.Reset (Some reason))
 send_of (sends_of.Reset s) = to_send s (kinds.Reset None)
+send_of (sends_of.ResetNoted s) = to_send s (kinds.Reset None)
 
 module _ {C : Type 0} where
   -- the first step of a break is the reset, unless what is to be acknowledged is asked once more

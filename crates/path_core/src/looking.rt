@@ -63,6 +63,7 @@ fn send_of(duty: SendDuty) -> Option<ToSend>
         SendDuty::Update(side) => to_send(side, SegmentKind::Ack),
         SendDuty::Acknowledge(side) => to_send(side, SegmentKind::Ack),
         SendDuty::Syn(side) => to_send(side, SegmentKind::Unsent),
+        SendDuty::FastClose(side) => to_send(side, SegmentKind::FastClose),
         SendDuty::DataFin(side) => to_send(side, SegmentKind::DataFin),
         SendDuty::Fin(side) => to_send(side, SegmentKind::Fin),
         SendDuty::SynAck(side) => to_send(side, SegmentKind::SynAck),
@@ -78,6 +79,7 @@ fn send_of(duty: SendDuty) -> Option<ToSend>
             },
         ),
         SendDuty::Reset(side) => to_send(side, SegmentKind::Reset { reason: None }),
+        SendDuty::ResetNoted(side) => to_send(side, SegmentKind::Reset { reason: None }),
     }
 }
 
