@@ -27,4 +27,5 @@ mod Settling
 mod FirstDuty
 mod Ordered
 mod LinesOf
+pub mod SegmentsTold
 mod Rising

@@ -1,8 +1,9 @@
 -- What the next step of a path hands to its link, and what it takes from it.
-use Rattle.std.specs.Prelude.{◌≡◌, ℕ, ◌==◌, if◌then◌else◌, Bool, true, false, Option, Some, None, option_map, List, [], ◌∷◌, length, drop}
+use Rattle.std.specs.Prelude.{◌≡◌, ℕ, ◌==◌, if◌then◌else◌, Bool, true, false, IfSome, Option, Some, None, option_map, List, [], ◌∷◌, length, drop}
 use Rattle.std.specs.Int.{w16}
 use Rattle.outside_kit.specs.declared.side.Side.{Side}
 use Rattle.pipe_model.specs.Octets.{number_at}
+use Rattle.link_model.specs.declared.flight.Due.{Due}
 use Rattle.link_model.specs.declared.flight.Flight.{Flight}
 use Rattle.link_model.specs.Fate.{segment_fate}
 use Rattle.link_model.specs.Octets.{addresses_from, after_octets}
@@ -10,6 +11,7 @@ use Rattle.link_model.specs.Steps.{peer, next_number, arriving}
 use Rattle.segment_wire.specs.declared.head.Addresses.{Addresses}
 use Rattle.segment_wire.specs.Reading.{header_len}
 use Rattle.subflow_send.specs.Records.{Record}
+use Rattle.path_segments.specs.Spelled.{PlainSegment}
 use Rattle.actor_desk.specs.declared.ask.Ask.{Ask}
 use Rattle.actor_desk.specs.declared.ask.Ask.TheVariants as asks
 use Rattle.actor_desk.specs.declared.ask.LocalStep.TheVariants as steps
@@ -30,7 +32,9 @@ use Rattle.path_core.specs.declared.looking.ToSend.{ToSend}
 use Rattle.path_core.specs.declared.segment_kind.SegmentKind.{SegmentKind}
 use Rattle.path_core.specs.declared.segment_kind.SegmentKind.TheVariants as kinds
 use Rattle.path_core.specs.Emission.{first_unsent}
+use Rattle.path_core.specs.Codec.{Codec}
 use Rattle.path_core.specs.Events.{next_event}
+use Rattle.path_core.specs.Handover.{handed, sends}
 use Rattle.path_core.specs.Octets.{octets, made}
 use Rattle.path_core.specs.Deliver.{breaks_by_unmapped}
 use Rattle.path_core.specs.Said.{said_by}
@@ -61,6 +65,11 @@ send_of (sends_of.BreakReset s reason) = to_send s (kinds.Reset (Some reason))
 send_of (sends_of.Reset s) = to_send s (kinds.Reset None)
 send_of (sends_of.ResetNoted s) = to_send s (kinds.Reset None)
 
+-- the first record that is to be sent, where there is one
+abbrev pub unsent_sends : Side → Option Record → Option ToSend
+unsent_sends s None = None
+unsent_sends s (Some r) = to_send s kinds.Unsent
+
 module _ {C : Type 0} where
   -- the first step of a break is the reset, unless what is to be acknowledged is asked once more
   abbrev pub broken_by : Side → ℕ → PathState C → Option ToSend
@@ -77,11 +86,6 @@ module _ {C : Type 0} where
   -- an acknowledgement without a Data ACK may break it
   abbrev pub ack_sends : Side → PathState C → Option ToSend
   ack_sends s p = if breaks_by_ack p.profile (end_at s p) then broken_by s 6 p else None
-
-  -- the first record that is to be sent, where there is one
-  abbrev pub unsent_sends : Side → Option Record → Option ToSend
-  unsent_sends s None = None
-  unsent_sends s (Some r) = to_send s kinds.Unsent
 
   -- which segment a duty sends that sends, asks or takes an event, as the path stands
   abbrev pub step_sends : StepDuty → PathState C → Option ToSend
@@ -118,6 +122,32 @@ departing p = option_map (departing_as p) (first_sends p.agenda p)
 abbrev pub step_told : Departing → Ask
 step_told d = asks.Local (steps.Sent d.from d.number (length (drop (header_len d.octets) d.octets)) (number_at w16 d.octets 16))
 
+-- that it tells it
+abbrev pub IsTold : Option Departing → PathState (List ℕ) → Type 0
+IsTold d p = IfSome d (λ d. asks_of octets p ≡ Some (step_told d))
+
+-- ---- the law: what a step hands over is what it tells, and no other step tells a segment
+
+abbrev pub tells_a_segment : Option Ask → Bool
+tells_a_segment (Some (asks.Local (steps.Sent from copy len sum))) = true
+tells_a_segment _ = false
+
+module _ {C : Type 0} where
+  abbrev pub segment_sent : PathState C → ToSend → PlainSegment
+  segment_sent p t = said_by t.kind p.profile t.from (end_at t.from p)
+
+  -- the step tells this segment, and whatever it is answered, the link has it then
+  pub record Hands (k : Codec C) (p : PathState C) (t : ToSend) : Type 0 where
+    pub told : asks_of k p ≡ Some (sends k t.from (segment_sent p t) p)
+    pub taken : (r : Reply) → (takes k r p).link ≡ handed k t.from (segment_sent p t) p
+
+  abbrev pub HandsOrTellsNone : Codec C → PathState C → Option ToSend → Type 0
+  HandsOrTellsNone k p None = tells_a_segment (asks_of k p) ≡ false
+  HandsOrTellsNone k p (Some t) = Hands k p t
+
+  abbrev pub EachSegmentIsTold : Codec C → Type 0
+  EachSegmentIsTold k = (p : PathState C) → HandsOrTellsNone k p (first_sends p.agenda p)
+
 -- ---- a copy that arrives
 
 -- by its value
@@ -129,21 +159,25 @@ pub record Arrived : Type 0 where
 abbrev pub shown_arriving : Arriving → Arrived
 shown_arriving a = record { to = a.to; octets = a.octets.now; addresses = a.addresses }
 
-abbrev pub arrived_as : ℕ → Flight (List ℕ) → Arrived
-arrived_as path f = record { to = f.to; octets = f.carried; addresses = addresses_from path (peer f.to) }
+abbrev pub arrived_as : ℕ → Side → Flight (List ℕ) → Arrived
+arrived_as path to f = record { to = to; octets = f.carried; addresses = addresses_from path (peer to) }
+
+-- the copy, where it is under way
+abbrev pub arrived : Due → PathState (List ℕ) → Option Arrived
+arrived due p = option_map (arrived_as (path_of p) due.to) (arriving due p.link)
 
 -- the copy of an event, where it is an arrival
-abbrev pub copy_arriving : Option Event → PathState (List ℕ) → Option (Flight (List ℕ))
-copy_arriving (Some (happenings.Arrives due)) p = arriving due p.link
+abbrev pub copy_arriving : Option Event → PathState (List ℕ) → Option Arrived
+copy_arriving (Some (happenings.Arrives due)) p = arrived due p
 copy_arriving _ p = None
 
-abbrev pub first_arrival : List Duty → PathState (List ℕ) → Option (Flight (List ℕ))
+abbrev pub first_arrival : List Duty → PathState (List ℕ) → Option Arrived
 first_arrival (duties.Step steps_of.Events ∷ ds) p = copy_arriving (next_event p) p
 first_arrival _ p = None
 
 -- the copy that arrives by the next step, if one does
 abbrev pub next_arrival : PathState (List ℕ) → Option Arrived
-next_arrival p = option_map (arrived_as (path_of p)) (first_arrival p.agenda p)
+next_arrival p = first_arrival p.agenda p
 
 -- the step of an arrival
 abbrev pub is_arrival_ask : Option Ask → Bool

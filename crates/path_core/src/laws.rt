@@ -4,6 +4,7 @@ ghost use Rattle.path_core.specs.Example.{path_at_first, steps_made};
 ghost use Rattle.path_core.specs.FirstRound.{turn_of_path};
 ghost use Rattle.path_core.specs.FewThings.{CopiesSayFew, CopiesHaveFewPriorities};
 ghost use Rattle.path_core.specs.Handshakes.{CapableIsTheHandshake, EndsAreThose};
+ghost use Rattle.path_core.specs.Looking.{EachSegmentIsTold};
 ghost use Rattle.path_core.specs.Octets.{octets};
 ghost use Rattle.path_core.specs.Shown.{AsksTheSame, TakesTheSame, BeginsTheSame};
 ghost use Rattle.path_core.specs.Turns.{Ends, EveryTurnEnds, EveryRoundEnds};
@@ -37,6 +38,13 @@ pub fn octets_do_as_values()
     ensures asks { AsksTheSame }
     ensures takes { TakesTheSame }
     ensures rounds { BeginsTheSame }
+{}
+
+/// A law: the segment that a path's next step hands to the link, as `Path::outgoing` tells it, is the one that the step tells, and
+/// the link has it then, whatever the step is answered; where it hands none, the step tells no segment.
+pub fn each_segment_is_told()
+    ensures octets { EachSegmentIsTold octets }
+    ensures values { EachSegmentIsTold values }
 {}
 
 /// A law: what a path says and hears by MP_CAPABLE is what `capable_handshake` says and hears, checksums are used as it says, and

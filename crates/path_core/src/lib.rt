@@ -62,8 +62,8 @@ pub use drawn::Drawn;
 pub use event::Event;
 pub use judged::Judged;
 pub use laws::{
-    a_first_round, copies_say_few_things, every_turn_ends, octets_do_as_values,
-    options_are_those_of_the_handshakes, settled_turns_end,
+    a_first_round, copies_say_few_things, each_segment_is_told, every_turn_ends,
+    octets_do_as_values, options_are_those_of_the_handshakes, settled_turns_end,
 };
 pub use lines::LineLeft;
 pub use looking::{Arriving, Departing};

@@ -1,9 +1,11 @@
 //! What the next step of a path hands to its link, and what it takes from it.
 
 ghost use Rattle.std.specs.Prelude.{◌≡◌, Some, option_map, IfOk, IfSome, IsSome};
-ghost use Rattle.link_model.specs.Steps.{arriving};
+ghost use Rattle.link_model.specs.Fate.{segment_fate};
+ghost use Rattle.link_model.specs.Steps.{arriving, next_number};
 ghost use Rattle.path_core.specs.Emission.{first_unsent};
-ghost use Rattle.path_core.specs.Looking.{ack_sends, broken_by, departing, departing_as, duty_sends, first_sends, heard_sends, mapping_sends, next_arrival, send_of, shown_arriving, step_sends, unsent_sends};
+ghost use Rattle.path_core.specs.Events.{next_event};
+ghost use Rattle.path_core.specs.Looking.{ack_sends, broken_by, arrived, copy_arriving, departing, departing_as, duty_sends, first_sends, heard_sends, mapping_sends, next_arrival, send_of, shown_arriving, step_sends, unsent_sends};
 ghost use Rattle.path_core.specs.State.{end_at};
 ghost use Rattle.path_core.specs.Treating.{item_of};
 
@@ -175,17 +177,31 @@ impl Machine {
         }
     }
 
+    /// The number that the link gives to the next segment of a side.
+    fn number_next(&self, from: Side) -> u64
+        ensures { result ≡ next_number from self.now.link }
+    {
+        self.link.next_number(from)
+    }
+
+    /// What becomes of the segment of this number, handed over at the path's tick.
+    fn fate_now(&self, from: Side, number: u64) -> SegmentFate
+        ensures { result ≡ segment_fate from number self.now.clock self.now.link.lines }
+    {
+        self.link.segment_fate(from, number, self.clock.now())
+    }
+
     /// The segment as the link takes it.
     fn departing_as(&self, to_send: ToSend) -> Result<Departing, AllocError>
         ensures value { IfOk result (λ d. d ≡ departing_as self.now to_send) }
     {
         let ToSend { from, kind } = to_send;
-        let number = self.link.next_number(from);
+        let number = self.number_next(from);
         Ok(Departing {
             from,
             number,
             octets: Text::from(self.octets_of(from, kind)?),
-            fate: self.link.segment_fate(from, number, self.clock.now()),
+            fate: self.fate_now(from, number),
         })
     }
 
@@ -199,25 +215,45 @@ impl Machine {
         }
     }
 
-    /// The copy that arrives by the next step, if one does.
-    fn first_arrival(&self) -> Option<Due>
-        ensures { IfSome result (λ due. IsSome (arriving due self.now.link)) }
+    /// The octets of a copy that is under way.
+    fn octets_under_way(&self, due: &Due) -> &[u8]
+        requires { IsSome (arriving due.now self.now.link) }
+        ensures { IfSome (arriving due.now self.now.link) (λ flight. result.now ≡ flight.carried) }
     {
-        match (self.agenda.first(), self.next_event()) {
-            (Some(Duty::Step(StepDuty::Events)), Some(Event::Arrives(due))) => Some(due),
+        self.link.octets(due)
+    }
+
+    /// A copy as it arrives.
+    #[tactic(auto, using(crate::proofs::SegmentsTold::arrived_is))]
+    fn arriving_as(&self, due: &Due) -> Arriving<'_>
+        requires { IsSome (arriving due.now self.now.link) }
+        ensures { Some (shown_arriving result) ≡ arrived due.now self.now }
+    {
+        let octets = self.octets_under_way(due);
+        Arriving {
+            to: due.to,
+            octets,
+            addresses: addresses_from(self.number(), peer(due.to)),
+        }
+    }
+
+    /// The copy of the next event, where it is an arrival.
+    fn event_arriving(&self) -> Option<Arriving<'_>>
+        ensures { option_map shown_arriving result ≡ copy_arriving (next_event self.now) self.now }
+    {
+        match self.next_event() {
+            Some(Event::Arrives(due)) => Some(self.arriving_as(&due)),
             _ => None,
         }
     }
 
     /// The copy that arrives by the next step, if one does. Takes no memory.
     pub(crate) fn arriving(&self) -> Option<Arriving<'_>>
-        ensures value { option_map shown_arriving result ≡ next_arrival self.now }
+        ensures { option_map shown_arriving result ≡ next_arrival self.now }
     {
-        let due = self.first_arrival()?;
-        Some(Arriving {
-            to: due.to,
-            octets: self.link.octets(&due),
-            addresses: addresses_from(self.link.path(), peer(due.to)),
-        })
+        match self.agenda.first() {
+            Some(Duty::Step(StepDuty::Events)) => self.event_arriving(),
+            _ => None,
+        }
     }
 }

@@ -6,7 +6,7 @@ ghost use Rattle.actor_desk.specs.Kinds.{CanBeAsked};
 ghost use Rattle.link_model.specs.Octets.{after_octets};
 ghost use Rattle.link_script.specs.Scripts.{HasRanges};
 ghost use Rattle.path_core.specs.Events.{is_dead_path};
-ghost use Rattle.path_core.specs.Looking.{departing, next_arrival, shown_arriving};
+ghost use Rattle.path_core.specs.Looking.{departing, next_arrival, shown_arriving, IsTold};
 ghost use Rattle.path_core.specs.Octets.{octets};
 ghost use Rattle.path_core.specs.Replies.{asks_bytes_first, needs_memory_first};
 ghost use Rattle.path_core.specs.Starts.{first_turn_of};
@@ -100,13 +100,15 @@ impl Path {
         self.machine.tick()
     }
 
-    /// The segment that its next step hands to the link, if it hands one. The path stays as it is.
+    /// The segment that its next step hands to the link, if it hands one, which the step tells. The path stays as it is.
     ///
     /// # Errors
     ///
     /// Only where there is no memory for its octets.
+    #[tactic(auto, using(crate::proofs::SegmentsTold::outgoing_told))]
     pub fn outgoing(&self) -> Result<Option<Departing>, AllocError>
-        ensures { IfOk result (λ d. d ≡ departing self.now) }
+        ensures value { IfOk result (λ d. d ≡ departing self.now) }
+        ensures told { IfOk result (λ d. IsTold d self.now) }
     {
         self.machine.outgoing()
     }
