@@ -37,7 +37,7 @@ use Rattle.path_agenda.specs.declared.notice.OwnNotice.TheVariants as notes
 use Rattle.path_core.specs.Ends.{PathEnd}
 use Rattle.path_core.specs.Joins.{is_joined, peer_key_of, join_options, third_options}
 use Rattle.path_core.specs.declared.modes.Modes.{Modes}
-use Rattle.path_core.specs.OptionsOut.{spelled_by, checksum_told, capable_options, syn_options, key_options, opening_options, data_fin_mapping, ack_options, is_first_piece, first_piece_options, piece_options, owes_mapping, plain_options, fin_options, record_options, reset_options, segment_of, piece_mapping, ack_said, carried_said, record_or_ack, syn_ack_said, notice_option, dss_and, HasAddress, HasAddresses}
+use Rattle.path_core.specs.OptionsOut.{spelled_by, checksum_told, capable_options, syn_options, key_options, opening_options, data_fin_mapping, ack_options, is_first_piece, first_piece_options, piece_options, owes_mapping, own_reset, plain_options, fin_options, record_options, reset_options, segment_of, piece_mapping, ack_said, carried_said, record_or_ack, syn_ack_said, notice_option, dss_and, HasAddress, HasAddresses}
 use Rattle.path_core.specs.declared.segment_kind.SegmentKind.{SegmentKind}
 use Rattle.path_core.specs.declared.segment_kind.SegmentKind.TheVariants as to_say
 use Rattle.subflow_tcp.specs.Emitting.{ack_at, record_segment, syn_ack_segment, fin_position, fin_segment, reset_segment}
@@ -358,7 +358,7 @@ module _ (c : Profile) (s : Side) (e : PathEnd) (path : c.spelling.path ≤ 15) 
   said_can to_say.Refusal has unsent first =
       says (outgoing_or e.treated.answer (reset_segment e.tcp)) (reset_options (Some 1)) [] (reset_short c s (Some 1)) (omega arith)
   said_can (to_say.Reset reason) has unsent first =
-      says (reset_segment e.tcp) (if e.modes.identity then [] else reset_options reason) [] (own_reset_short c s reason e.modes.identity) (omega arith)
+      says (own_reset e) (if e.modes.identity then [] else reset_options reason) [] (own_reset_short c s reason e.modes.identity) (omega arith)
 
   -- records that are lent fit in a segment
   pub can_be_said : (kind : SegmentKind) (unsent first : Option RecordRef) → HasAddresses kind → option_map record_of unsent ≡ first_unsent e

@@ -1,5 +1,5 @@
 -- What an end sends by itself: its SYN, records and grants as long as there is room, DATA_FIN, FIN; and its timer.
-use Rattle.std.specs.Prelude.{ℕ, ◌-◌, Bool, not, ◌&&◌, ◌||◌, nat_le, is_some, Option, Some, None, List, length, find}
+use Rattle.std.specs.Prelude.{ℕ, ◌-◌, Bool, not, ◌&&◌, ◌||◌, nat_le, Option, Some, None, List, length, find}
 use Rattle.outside_kit.specs.declared.side.Side.{Side}
 use Rattle.path_segments.specs.Spelled.{PlainSegment}
 use Rattle.send_book.specs.declared.call.Span.{Span}
@@ -9,7 +9,7 @@ use Rattle.send_book.specs.declared.call.SendReply.TheVariants as send_replies
 use Rattle.subflow_send.specs.Records.{Record}
 use Rattle.subflow_send.specs.Rules.{is_unsent, after_push}
 use Rattle.subflow_tcp.specs.declared.segments.Occasion.TheVariants as to_send
-use Rattle.subflow_tcp.specs.States.{is_opening, is_closed_to_segments, may_finish}
+use Rattle.subflow_tcp.specs.States.{is_closed_to_segments, may_finish}
 use Rattle.subflow_tcp.specs.State.{EndState, is_at_limit}
 use Rattle.subflow_tcp.specs.Sizes.{room}
 use Rattle.subflow_tcp.specs.Emitting.{after_sending}
@@ -24,7 +24,7 @@ use Rattle.path_core.specs.StreamEnds.{after_granted, after_refusal, with_data_f
 use Rattle.path_core.specs.Codec.{Codec}
 use Rattle.path_core.specs.Ends.{PathEnd, Sending}
 use Rattle.path_core.specs.Joins.{is_joined}
-use Rattle.path_core.specs.OptionsOut.{ack_said, fin_said, record_or_ack, mapping_of}
+use Rattle.path_core.specs.OptionsOut.{ack_said, fin_said, is_syn_unsent, record_or_ack, mapping_of}
 use Rattle.path_core.specs.Handover.{sends, having_sent, sent_on, with_told}
 use Rattle.path_core.specs.State.{PathState, Profile, end_at, goes_on, left, path_of}
 use Rattle.path_core.specs.Words.{is_side_a}
@@ -43,7 +43,7 @@ having_sent_unsent s p = having_sent to_send.Unsent p.clock (unsent_segment s p)
 
 -- the SYN of the end that opens, which was never sent
 abbrev pub is_syn_due : PathEnd → Bool
-is_syn_due e = is_opening e.tcp.state && is_some (first_unsent e)
+is_syn_due e = is_syn_unsent e
 
 -- once the own SYN is acknowledged records are sent that the congestion window has room for
 abbrev pub fits : EndState → Record → Bool

@@ -1,5 +1,5 @@
 -- The segments that an end sends: their options, their windows, and the mapping of a piece (RFC 8684, section 3).
-use Rattle.std.specs.Prelude.{ℕ, ◌+◌, ◌-◌, ◌%◌, ◌^◌, ◌≤◌, ◌==◌, ◌&&◌, not, nat_le, Bool, true, false, if◌then◌else◌, Option, Some, None, List, [], ◌∷◌, length}
+use Rattle.std.specs.Prelude.{ℕ, ◌+◌, ◌-◌, ◌%◌, ◌^◌, ◌≤◌, ◌==◌, ◌&&◌, not, nat_le, is_some, Bool, true, false, if◌then◌else◌, Option, Some, None, List, [], ◌∷◌, length, find}
 use Rattle.outside_kit.specs.declared.side.Side.{Side}
 use Rattle.outside_kit.specs.declared.side.Side.TheVariants.{A, B}
 use Rattle.seq_units.specs.declared.mapping.Mapping.{Mapping}
@@ -19,8 +19,10 @@ use Rattle.path_segments.specs.Spelled.{PlainSegment}
 use Rattle.subflow_send.specs.declared.record.RecordKind.{RecordKind}
 use Rattle.subflow_send.specs.declared.record.RecordKind.TheVariants.{Syn, Data, Fin}
 use Rattle.subflow_send.specs.Records.{Record}
+use Rattle.subflow_send.specs.Rules.{is_unsent}
 use Rattle.subflow_tcp.specs.declared.segments.Outgoing.{Outgoing}
 use Rattle.subflow_tcp.specs.Emitting.{ack_at, syn_ack_segment, reset_segment, fin_position, fin_segment, record_segment}
+use Rattle.subflow_tcp.specs.States.{is_opening}
 use Rattle.path_agenda.specs.declared.notice.OwnNotice.{OwnNotice}
 use Rattle.path_agenda.specs.declared.notice.OwnNotice.TheVariants as notes
 use Rattle.path_core.specs.declared.modes.Modes.{Modes}
@@ -199,8 +201,16 @@ syn_ack_said c s e = segment_of c (syn_ack_segment e.tcp) (syn_options c s e) []
 abbrev pub fin_said : Profile → PathEnd → PlainSegment
 fin_said c e = segment_of c (fin_segment e.tcp) (fin_options (fin_position e.tcp.send) e) [] e
 
+-- the SYN of the end that opens was never sent
+abbrev pub is_syn_unsent : PathEnd → Bool
+is_syn_unsent e = is_opening e.tcp.state && is_some (find is_unsent e.tcp.send.records)
+
+-- an end resets at SND.NXT (RFC 9293, section 3.10.5), which is 0 as long as its SYN isn't out
+abbrev pub own_reset : PathEnd → Outgoing
+own_reset e = record (reset_segment e.tcp) { position = if is_syn_unsent e then 0 else e.tcp.send.nxt }
+
 abbrev pub reset_said : Profile → Option ℕ → PathEnd → PlainSegment
-reset_said c reason e = segment_of c (reset_segment e.tcp) (if e.modes.identity then [] else reset_options reason) [] e
+reset_said c reason e = segment_of c (own_reset e) (if e.modes.identity then [] else reset_options reason) [] e
 
 -- the check of the mapping at this place of the peer's stream failed: MP_FAIL stands before the reason (RFC 8684, sections 3.6, 3.7)
 abbrev pub fail_reset_said : Profile → ℕ → PathEnd → PlainSegment

@@ -6,7 +6,7 @@ ghost use Rattle.outside_kit.specs.declared.side.Side.TheVariants.{A};
 ghost use Rattle.path_segments.specs.declared.segment.PathOption.TheVariants.{Capable};
 ghost use Rattle.subflow_send.specs.Records.{record_of};
 ghost use Rattle.path_core.specs.declared.segment_kind.SegmentKind.TheVariants.{DeadAnswer, Refusal};
-ghost use Rattle.path_core.specs.OptionsOut.{owes_mapping, bare_mapping, checksum_in, mapping_of, place_numbered, checksum_told, plain_options, capable_options, syn_options, key_options, opening_options, data_fin_mapping, ack_options, piece_mapping, first_piece_options, piece_options, fin_options, record_options, reset_options, announcement, notice_option, dss_and, carried_said, HasAddress, HasAddresses, segment_of, ack_said, fail_reset_said, record_said, record_or_ack, syn_ack_said, fin_said, reset_said};
+ghost use Rattle.path_core.specs.OptionsOut.{owes_mapping, bare_mapping, checksum_in, mapping_of, place_numbered, checksum_told, plain_options, capable_options, syn_options, key_options, opening_options, data_fin_mapping, ack_options, piece_mapping, first_piece_options, piece_options, fin_options, record_options, reset_options, announcement, notice_option, dss_and, carried_said, HasAddress, HasAddresses, segment_of, ack_said, fail_reset_said, record_said, record_or_ack, syn_ack_said, fin_said, own_reset, reset_said};
 ghost use Rattle.path_core.specs.Passing.{answer_said, ack_resent, resend_said};
 ghost use Rattle.path_core.specs.Said.{options_by, said_options, plain_said, said_by, CanBeSaid};
 
@@ -399,6 +399,21 @@ impl PathEnd {
         self.segment_of(profile, outgoing, options, &[])
     }
 
+    /// The reset of an end: at SND.NXT (RFC 9293, section 3.10.5), which is 0 as long as its SYN isn't out.
+    fn own_reset(&self) -> Outgoing
+        ensures { result ≡ own_reset self.now }
+    {
+        let position = if self.is_syn_due() {
+            0
+        } else {
+            self.tcp.nxt()
+        };
+        Outgoing {
+            position,
+            ..self.tcp.reset_segment()
+        }
+    }
+
     /// The reset, perhaps with a reason; the fault doesn't pass (RFC 8684, section 3.6). After a fallback no option is sent.
     fn reset_said(&self, profile: &Profile, reason: Option<u8>) -> Said<'_>
         ensures { plain_said result ≡ reset_said profile.now reason self.now }
@@ -409,7 +424,7 @@ impl PathEnd {
             reset_option(reason)
         };
         let options = SaidOptions::of(option);
-        self.segment_of(profile, self.tcp.reset_segment(), options, &[])
+        self.segment_of(profile, self.own_reset(), options, &[])
     }
 
     /// The reset of an end that found bytes which aren't those of the mapping at this place of the peer's stream, with the reason 6
