@@ -1,5 +1,5 @@
 -- What a step hands to the link is what it tells, and no other step tells a segment.
-use Rattle.std.proofs.Common.{◌≡◌, refl, sym, ap, subst, ◌∙◌, ℕ, ◌+◌, ◌%◌, ◌^◌, ◌<◌, Bool, true, false, if◌then◌else◌, Result, Ok, Err, Option, Some, None, option_map, List, [], ◌∷◌, ◌++◌, length, length-append, take, drop, arith}
+use Rattle.std.proofs.Common.{◌≡◌, refl, sym, ap, subst, ◌∙◌, ℕ, ◌+◌, ◌%◌, ◌^◌, ◌<◌, Bool, true, false, if◌then◌else◌, Result, Ok, Err, Option, Some, None, option_map, List, [], ◌∷◌, ◌++◌, length, length-append, drop, arith}
 use Rattle.std.specs.Prelude.{IfOk, IfSome, IsSome, replicate}
 use Rattle.std.specs.Int.{w16}
 use Rattle.std.proofs.lemmas.List.{drop_at, drop-drop, length-replicate}
@@ -9,7 +9,7 @@ use Rattle.link_model.specs.declared.flight.Flight.{Flight}
 use Rattle.link_model.specs.Octets.{addresses_from}
 use Rattle.link_model.specs.Steps.{next_number, peer}
 use Rattle.segment_wire.specs.Reading.{header_len}
-use Rattle.segment_wire.specs.Segment.{Segment, fixed_header, octets_with, segment_text, checksum_field}
+use Rattle.segment_wire.specs.Segment.{Segment, fixed_header, octets_with, segment_text}
 use Rattle.path_segments.specs.declared.spelling.Spelling.{Spelling}
 use Rattle.path_segments.specs.Spelled.{PlainSegment, padding, padded, unpadded_options, spelled}
 use Rattle.outside_kit.specs.declared.side.Side.{Side}
@@ -46,16 +46,16 @@ use Rattle.path_core.specs.Events.{next_event, step_for}
 use Rattle.path_core.specs.Fallback.{after_fell, fell_ask, fell_duties}
 use Rattle.path_core.specs.Handover.{sends, handed}
 use Rattle.path_core.specs.Joining.{join_heard_ask, asked_at}
-use Rattle.path_core.specs.Looking.{Arrived, arrived_as, to_send, broken_by, mapping_sends, heard_sends, ack_sends, unsent_sends, duty_sends, first_sends, departing, departing_as, step_told, tells_a_segment, segment_sent, HandsOrTellsNone, EachSegmentIsTold, IsTold}
+use Rattle.path_core.specs.Looking.{Arrived, arrived_as, to_send, broken_by, heard_sends, unsent_sends, duty_sends, first_sends, departing, departing_as, step_told, tells_a_segment, segment_sent, HandsOrTellsNone, EachSegmentIsTold, IsTold}
 use Rattle.path_core.specs.Octets.{made, octets, sum_of}
 use Rattle.path_core.specs.Opening.{peer_key_ask, opened_ask}
 use Rattle.path_core.specs.OptionsOut.{spelled_by}
 use Rattle.path_core.specs.Passing.{piece_of, piece_ask, data_fin_of, fin_ask, plain_fin, rate_ask}
 use Rattle.path_core.specs.Standing.{ack_out_ask, answered_ack_out}
 use Rattle.path_core.specs.State.{PathState, end_at, goes_on, path_of, with_agenda}
-use Rattle.path_core.specs.Steps.{settled, settles_down, asks_first, asks_of, answers}
+use Rattle.path_core.specs.Steps.{settled, settles_down, asks_first, answers}
 use Rattle.path_core.specs.Deliver.{with_learned}
-use Rattle.path_core.specs.Treating.{is_clash, item_of, item_ask, answered_item, breaks_by_ack, mapping_ask, answered_mapping, plain_ack_ask, answered_plain_ack, with_plain_ack}
+use Rattle.path_core.specs.Treating.{is_clash, item_of, item_ask, answered_item, breaks_by_ack, with_plain_ack}
 
 -- ---- asks that tell no segment
 

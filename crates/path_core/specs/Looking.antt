@@ -1,12 +1,12 @@
 -- What the next step of a path hands to its link, and what it takes from it.
-use Rattle.std.specs.Prelude.{◌≡◌, ℕ, ◌==◌, if◌then◌else◌, Bool, true, false, IfSome, Option, Some, None, option_map, List, [], ◌∷◌, length, drop}
+use Rattle.std.specs.Prelude.{◌≡◌, ℕ, if◌then◌else◌, Bool, true, false, IfSome, Option, Some, None, option_map, List, [], ◌∷◌, length, drop}
 use Rattle.std.specs.Int.{w16}
 use Rattle.outside_kit.specs.declared.side.Side.{Side}
 use Rattle.pipe_model.specs.Octets.{number_at}
 use Rattle.link_model.specs.declared.flight.Due.{Due}
 use Rattle.link_model.specs.declared.flight.Flight.{Flight}
 use Rattle.link_model.specs.Fate.{segment_fate}
-use Rattle.link_model.specs.Octets.{addresses_from, after_octets}
+use Rattle.link_model.specs.Octets.{addresses_from}
 use Rattle.link_model.specs.Steps.{peer, next_number, arriving}
 use Rattle.segment_wire.specs.declared.head.Addresses.{Addresses}
 use Rattle.segment_wire.specs.Reading.{header_len}
@@ -36,7 +36,6 @@ use Rattle.path_core.specs.Codec.{Codec}
 use Rattle.path_core.specs.Events.{next_event}
 use Rattle.path_core.specs.Handover.{handed, sends}
 use Rattle.path_core.specs.Octets.{octets, made}
-use Rattle.path_core.specs.Deliver.{breaks_by_unmapped}
 use Rattle.path_core.specs.Said.{said_by}
 use Rattle.path_core.specs.State.{PathState, end_at, path_of}
 use Rattle.path_core.specs.Steps.{asks_of, takes}
