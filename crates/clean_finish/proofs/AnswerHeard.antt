@@ -143,6 +143,9 @@ module _ {keys : Keys} {k j : Setting} {c : Profile} {begun begun_back : Lane} {
     pub bytes_some : {waiting : ℕ} (granted : ℕ) → waiting ≡ 0 → 1 ≤ granted + 0 → 1 ≤ granted + waiting
     bytes_some granted none less = omega (arith, none, less)
 
+    pub zero_max : {y : ℕ} → y ≡ 0 → max y 0 ≡ 0
+    zero_max is = omega (arith, is)
+
     pub ready_on : {ready came : ℕ} → ready ≤ min 1 came → came ≡ 0 → ready ≤ min 1 (max came 1)
     ready_on few none = omega (arith, few, none)
 
@@ -151,7 +154,7 @@ module _ {keys : Keys} {k j : Setting} {c : Profile} {begun begun_back : Lane} {
 
     pub told_on : {e : ℕ} → IsToldEdge A j h.owes h.back.receiver e → IsToldEdge A j true (hears_data (copy_in x) [] h.back).receiver e
     told_on (Same same) = Same same
-    told_on (Before side received least) = Before side (inr refl) least
+    told_on (Before side received least full) = Before side (inr refl) least full
 
     pub open_is : IsOpen m.end.tcp.send.finished (tcp_after acked).state
     open_is = open_acked m.end.tcp.send.finished (is_fin_acked (acked_to edge opened).send) Established
@@ -216,6 +219,7 @@ module _ {keys : Keys} {k j : Setting} {c : Profile} {begun begun_back : Lane} {
         unmapped = h.own.receiving.unmapped;
         fin_told = h.own.receiving.fin_told;
         said = h.own.receiving.said;
+        unheard = λ is clear. (plus_zero at (h.own.receiving.unheard is clear).0, zero_max (h.own.receiving.unheard is clear).1, (h.own.receiving.unheard is clear).2);
       };
       modes = record {
         mode = h.own.modes.mode;

@@ -199,6 +199,9 @@ module _ {keys : Keys} {k j : Setting} {c : Profile} {begun begun_back : Lane} {
         pub max_none : (x : ℕ) → max x 0 ≡ x
         max_none x = omega arith
 
+        pub not_a : B ≡ A → ⊥
+        not_a e = cc
+
         pub said_on : {x y : ℕ} → x ≤ y → max x 0 ≤ max y 0
         said_on low = omega (arith, low)
 
@@ -340,6 +343,7 @@ module _ {keys : Keys} {k j : Setting} {c : Profile} {begun begun_back : Lane} {
                 unmapped = h.own.receiving.unmapped;
                 fin_told = h.own.receiving.fin_told;
                 said = said_on h.own.receiving.said;
+                unheard = λ is. absurd (not_a is);
               };
               modes = record {
                 mode = h.own.modes.mode;

@@ -52,7 +52,7 @@ module _ {s : Side} {keys : Keys} {k j : Setting} {c : Profile} {begun begun_bac
       told_after : IsToldEdge s j h.owes h.back.receiver m.end.receiving.told_edge
           → IsToldEdge s j h.owes back_after.receiver m.end.receiving.told_edge
       told_after (Same same) = Same same
-      told_after (Before side none least) = Before side none least
+      told_after (Before side none least full) = Before side none least full
 
       pub others : IsApart s (peer s) (duties.Ask (ask_duties.Window s))
       others = record {
@@ -127,6 +127,7 @@ module _ {s : Side} {keys : Keys} {k j : Setting} {c : Profile} {begun begun_bac
           unmapped = h.own.receiving.unmapped;
           fin_told = h.own.receiving.fin_told;
           said = h.own.receiving.said;
+          unheard = h.own.receiving.unheard;
         };
         modes = record {
           mode = h.own.modes.mode;

@@ -45,7 +45,7 @@ use Rattle.clean_finish.proofs.Writing.{turn_begins}
 use Rattle.clean_finish.proofs.Reading.{reading_begins}
 
 first_plain : ArePlain (tail_of (tail_of (tail_of start_of_turn)))
-first_plain = (refl, tt, (refl, (refl, inr (inr (inr (inr (inr (inr (inr (inr (inr (inr (inr (inr (inl refl))))))))))))), (refl, tt, (refl, (refl, inr (inr (inr (inr (inr (inr (inr (inr (inr (inr (inl refl))))))))))), (refl, (refl, inr (inr (inr (inr (inr (inr (inr (inr (inr (inl refl)))))))))), (refl, (inr (inr (inr (inr (inr (inr (inr (inr (inl refl))))))))), (refl, (inr (inr (inr (inr (inr (inr (inr (inl refl)))))))), (refl, (inr (inr (inr (inr (inr (inr (inl refl))))))), (refl, refl, (refl, (refl, inr (inr (inr (inr (inl refl))))), (refl, (inr (inr (inr (inl refl)))), (refl, (inr (inr (inl refl))), (refl, (inr (inl refl)), (refl, refl, (refl, refl, (refl, refl, tt))))))))))))))))
+first_plain = (refl, tt, (refl, (refl, inr (inr (inr (inr (inr (inr (inr (inr (inr (inr (inr (inr (inl refl))))))))))))), (refl, tt, (refl, (refl, inr (inr (inr (inr (inr (inr (inr (inr (inr (inr (inl refl))))))))))), (refl, (refl, inr (inr (inr (inr (inr (inr (inr (inr (inr (inl refl)))))))))), (refl, (inr (inr (inr (inr (inr (inr (inr (inr (inl refl))))))))), (refl, (refl, inr (inr (inr (inr (inr (inr (inr (inl refl)))))))), (refl, (refl, inr (inr (inr (inr (inr (inr (inl refl))))))), (refl, refl, (refl, (refl, inr (inr (inr (inr (inl refl))))), (refl, (inr (inr (inr (inl refl)))), (refl, (refl, inr (inr (inl refl))), (refl, (refl, inr (inl refl)), (refl, refl, (refl, refl, (refl, refl, tt))))))))))))))))
 
 no : {X : Type 0} → false ≡ true → X
 no is = absurd (both_ways _ refl is)
@@ -170,6 +170,7 @@ module _ (k j : Setting) (window window_back : ℕ) (writer writer_back : Writer
       unmapped = refl;
       fin_told = refl;
       said = omega arith;
+      unheard = λ is none. (refl, refl, λ one. absurd (omega (arith, one)));
     };
     modes = record {
       mode = Starts refl;

@@ -144,6 +144,7 @@ module _ {keys : Keys} {k j : Setting} {c : Profile} {begun begun_back : Lane} {
         unmapped = h.own.receiving.unmapped;
         fin_told = h.own.receiving.fin_told;
         said = h.own.receiving.said;
+        unheard = h.own.receiving.unheard;
       };
       modes = record {
         mode = h.own.modes.mode;

@@ -195,6 +195,9 @@ module _ {keys : Keys} {k j : Setting} {c : Profile} {begun begun_back : Lane} {
         pub one_more : (x : ℕ) → 1 ≤ max x 1
         one_more x = omega arith
 
+        no_keys : {x r : ℕ} → 1 ≤ max x 0 → x ≤ r → r ≡ 0 → ⊥
+        no_keys one less is = absurd (omega (arith, one, less, is))
+
         said_on : {x y : ℕ} → x ≤ y → max x 0 ≤ max y 0
         said_on low = omega (arith, low)
 
@@ -323,6 +326,7 @@ module _ {keys : Keys} {k j : Setting} {c : Profile} {begun begun_back : Lane} {
                 unmapped = h.own.receiving.unmapped;
                 fin_told = h.own.receiving.fin_told;
                 said = said_on h.own.receiving.said;
+                unheard = λ is clear. (none.received, none.data_fin, λ one. absurd (no_keys one h.own.modes.shown none.ready));
               };
               modes = record {
                 mode = h.own.modes.mode;

@@ -115,7 +115,7 @@ module _ {s : Side} {keys : Keys} {k j : Setting} {c : Profile} {begun begun_bac
               → begun_back.read + j.least < h.back.told.edge + 31 + j.threshold
           by (Same same) low limit =
               omega (arith, same, low, limit, h.own.receiving.limit, j_is.threshold, j_is.some, j_is.ranges.least)
-          by (Before side none least) low limit = ⊎_elim
+          by (Before side none least full) low limit = ⊎_elim
               (λ fresh. omega (arith, fresh, least, now_back.since.read, now_back.numbers.read, j_is.some))
               (λ owed. absurd (both_ways _ paid owed))
               none

@@ -2,6 +2,7 @@
 use Rattle.std.proofs.Common.{◌≡◌, refl, sym, subst, ap, ◌∙◌, ℕ, ◌+◌, ◌≤◌, min, max, Bool, false, Option, List, ◌∷◌, length, arith}
 use Rattle.std.proofs.lemmas.List.Elements.{All-weaker}
 use Rattle.outside_kit.specs.declared.side.Side.{Side}
+use Rattle.outside_kit.specs.declared.side.Side.TheVariants.{A}
 use Rattle.subflow_tcp.specs.declared.dues.Due.{Due}
 use Rattle.subflow_tcp.specs.declared.segments.Occasion.TheVariants as to_send
 use Rattle.path_agenda.specs.declared.duty.Duty.{Duty}
@@ -16,8 +17,8 @@ use Rattle.clean_finish.specs.Running.{Half, Facing}
 use Rattle.clean_finish.proofs.AckNew.{records_same}
 use Rattle.clean_finish.proofs.Sendings.{out_after as sent_after, back_after as said_after}
 
-module _ {s : Side} {keys : Keys} {k j : Setting} {c : Profile} {begun begun_back : Lane} {m n : Half} {clock until : ℕ} {d : Duty} {ds : List Duty}
-    (h : Facing s keys k j c begun begun_back m n clock until (d ∷ ds)) (x : Sent) (shut : Bool)
+module _ {s : Side} {keys : Keys} {k j : Setting} {c : Profile} {begun begun_back : Lane} {m n : Half} {clock until : ℕ} {es : List Duty}
+    (h : Facing s keys k j c begun begun_back m n clock until es) (x : Sent) (shut : Bool)
   where
     abbrev out_after : Lane
     out_after = sent_after h x shut
@@ -33,6 +34,8 @@ module _ {s : Side} {keys : Keys} {k j : Setting} {c : Profile} {begun begun_bac
         (low : x.low ≡ h.out.granted) (none : length (octets_of x.brings) ≡ 0) (none_fin : data_fin_of x.brings ≡ 0)
         (control : max h.out.control_sent x.control ≡ h.out.control_sent) (shown : max h.out.keys_sent x.keys ≤ pick s h.out.ready 0)
         (told : IsToldEdge s j false back_after.receiver end_after.receiving.told_edge) (least : j.least ≤ x.telling.edge + 31)
+        (full : s ≡ A → h.out.clear ≡ 0 → (h.back.received ≡ 0) × (h.back.data_fin_came ≡ 0)
+        × (1 ≤ out_after.keys_sent → j.buffer ≤ end_after.receiving.told_edge + 31))
         (row : m.end.tcp.congestion.duplicates ≤ row_seen h.out.sender hand) (heard : HeardIs s k.total (last_told h.out.heard hand) m.end.tcp)
       where
         same_granted : x.low + length (octets_of x.brings) ≡ h.out.granted
@@ -105,6 +108,7 @@ module _ {s : Side} {keys : Keys} {k j : Setting} {c : Profile} {begun begun_bac
             unmapped = h.own.receiving.unmapped;
             fin_told = h.own.receiving.fin_told;
             said = said_on none_fin h.own.receiving.said;
+            unheard = full;
           };
           modes = record {
             mode = h.own.modes.mode;

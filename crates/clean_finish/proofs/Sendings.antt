@@ -20,8 +20,8 @@ use Rattle.clean_finish.proofs.Opened.{waiting_on, before_waiting, stage_waits}
 use Rattle.clean_finish.proofs.Passing.{stands_then}
 use Rattle.clean_finish.proofs.Ways.{way_more}
 
-module _ {s : Side} {keys : Keys} {k j : Setting} {c : Profile} {begun begun_back : Lane} {m n : Half} {clock until : ℕ} {d : Duty} {ds : List Duty}
-    (h : Facing s keys k j c begun begun_back m n clock until (d ∷ ds)) (x : Sent) (shut : Bool)
+module _ {s : Side} {keys : Keys} {k j : Setting} {c : Profile} {begun begun_back : Lane} {m n : Half} {clock until : ℕ} {es : List Duty}
+    (h : Facing s keys k j c begun begun_back m n clock until es) (x : Sent) (shut : Bool)
   where
     abbrev pub out_after : Lane
     out_after = sends shut (copy_in x) h.out
@@ -30,7 +30,7 @@ module _ {s : Side} {keys : Keys} {k j : Setting} {c : Profile} {begun begun_bac
     back_after = said_by (copy_in x) h.back
 
     -- the lanes may, with what is still to be answered and told
-    module _ (move : Move k begun (waiting_on h.stage) h.out (waiting_on h.stage) out_after)
+    module _ (ds : List Duty) (move : Move k begun (waiting_on h.stage) h.out (waiting_on h.stage) out_after)
         (tell update : Bool) (say : MaySay j begun_back (waiting_on h.stage_back) tell update (copy_in x) h.back)
         -- the end after it
         (e : PathEnd) (hand : Option Hand) (owes : Bool) (waiting : ℕ)

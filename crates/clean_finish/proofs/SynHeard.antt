@@ -66,6 +66,9 @@ module _ {keys : Keys} {k j : Setting} {c : Profile} {begun begun_back : Lane} {
     sum_is : {y z : ℕ} → y ≡ z → z ≡ 0 → y + 0 ≡ 0
     sum_is a b = omega (arith, a, b)
 
+    not_a : B ≡ A → ⊥
+    not_a e = cc
+
     none_acked : {y : ℕ} → 1 ≤ y → y ≡ 0 → ⊥
     none_acked one is = absurd (omega (arith, one, is))
 
@@ -80,7 +83,7 @@ module _ {keys : Keys} {k j : Setting} {c : Profile} {begun begun_back : Lane} {
 
     told_on : {e : ℕ} → IsToldEdge B j h.owes h.back.receiver e → IsToldEdge B j h.owes (hears_data (copy_in x) [] h.back).receiver e
     told_on (Same same) = Same same
-    told_on (Before side received least) = absurd (not_b side)
+    told_on (Before side received least full) = absurd (not_b side)
       where
         not_b : B ≡ A → ⊥
         not_b e = cc
@@ -152,6 +155,7 @@ module _ {keys : Keys} {k j : Setting} {c : Profile} {begun begun_back : Lane} {
         unmapped = h.own.receiving.unmapped;
         fin_told = h.own.receiving.fin_told;
         said = h.own.receiving.said;
+        unheard = λ is. absurd (not_a is);
       };
       modes = record {
         mode = h.own.modes.mode;

@@ -82,7 +82,7 @@ taken_there c s pos acknowledged far far_edge position same is syn reset ahead s
     not_zero true b e = e
     not_zero false b e = refl
 
-acknowledges_some : (s : Side) (b : Brings) (edge : ℕ) → is_opening b ≡ false → acknowledged_by s b edge ≡ Some edge
+pub acknowledges_some : (s : Side) (b : Brings) (edge : ℕ) → is_opening b ≡ false → acknowledged_by s b edge ≡ Some edge
 acknowledges_some A OpensSubflow edge e = absurd (both_ways _ e refl)
 acknowledges_some B OpensSubflow edge e = refl
 acknowledges_some A ShowsKeys edge e = refl

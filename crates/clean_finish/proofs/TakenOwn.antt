@@ -115,8 +115,8 @@ module _ {s : Side} {keys : Keys} {k j : Setting} {c : Profile} {begun begun_bac
 
         told_on : {e : ℕ} → IsToldEdge s j h.owes h.back.receiver e → IsToldEdge s j owes_after h.back.receiver e
         told_on (Same same) = Same same
-        told_on (Before side (inl received) least) = Before side (inl received) least
-        told_on (Before side (inr owed) least) = absurd (both_ways _ unowed owed)
+        told_on (Before side (inl received) least full) = Before side (inl received) least full
+        told_on (Before side (inr owed) least full) = absurd (both_ways _ unowed owed)
 
         -- it owes an acknowledgement for what occupies a position, and for what wants one
         due_is : y.due ≡ held.due → (tcp_after y).due ≡ record nothing_due { ack = owes_after }
@@ -206,6 +206,7 @@ module _ {s : Side} {keys : Keys} {k j : Setting} {c : Profile} {begun begun_bac
             unmapped = h.own.receiving.unmapped;
             fin_told = h.own.receiving.fin_told;
             said = h.own.receiving.said;
+            unheard = h.own.receiving.unheard;
           };
           modes = record {
             mode = h.own.modes.mode;

@@ -14,7 +14,7 @@ emission_plain A = (
   (
     refl,
     inr (inr (inr (inl refl))),
-    (refl, inr (inr (inl refl)), (refl, inr (inl refl), (refl, refl, (refl, refl, (refl, refl, tt))))),
+    (refl, (refl, inr (inr (inl refl))), (refl, (refl, inr (inl refl)), (refl, refl, (refl, refl, (refl, refl, tt))))),
   ),
 )
 emission_plain B = (
@@ -23,7 +23,7 @@ emission_plain B = (
   (
     refl,
     inr (inr (inr (inl refl))),
-    (refl, inr (inr (inl refl)), (refl, inr (inl refl), (refl, refl, (refl, refl, (refl, refl, tt))))),
+    (refl, (refl, inr (inr (inl refl))), (refl, (refl, inr (inl refl)), (refl, refl, (refl, refl, (refl, refl, tt))))),
   ),
 )
 

@@ -12,6 +12,7 @@ use Rattle.actor_desk.specs.Desk.{SixBooks}
 use Rattle.stream_apps.specs.Apps.{AppState}
 use Rattle.path_agenda.specs.declared.duty.Duty.{Duty}
 use Rattle.path_agenda.specs.declared.duty.Duty.TheVariants as duties
+use Rattle.path_agenda.specs.declared.duty.AskDuty.TheVariants as ask_duties
 use Rattle.path_agenda.specs.declared.duty.SendDuty.TheVariants as send_duties
 use Rattle.path_agenda.specs.declared.duty.SilentDuty.TheVariants as silent_duties
 use Rattle.path_agenda.specs.declared.duty.StepDuty.TheVariants as step_duties
@@ -120,7 +121,7 @@ module _ {keys : Keys} {k j : Setting} {c : Profile} {begun begun_back : Lane} {
     third = third_at (clock + ticks) h.out.granted m.end.receiving.window m.end.tcp.recv.edge j.least
 
     module _ (sent_one : h.out.control_sent ≡ 1) (came : h.back.control_came ≡ 1) (received : h.back.received ≡ 0) (data_fin : h.back.data_fin_came ≡ 0)
-        (unshown : h.out.keys_sent ≡ 0) (ready : h.out.ready ≡ 1) (owes : h.owes ≡ true) (nothing_waits : h.waiting ≡ 0)
+        (unshown : h.out.keys_sent ≡ 0) (asked : h.stage_back.window ≡ false) (ready : h.out.ready ≡ 1) (owes : h.owes ≡ true) (nothing_waits : h.waiting ≡ 0)
         (x : Sent) (hand : h.hand ≡ in_hand x false false) (events : Has (duties.Step step_duties.Events) ds) (timer : Has (duties.Silent (silent_duties.Timer A)) ds)
         (fs gs : List (Flight Carried)) (f : Flight Carried) (flies : FliesAs c keys A f third)
         (more : fs ≡ m.flying ++ f ∷ []) (same : gs ≡ n.flying)
@@ -215,6 +216,12 @@ module _ {keys : Keys} {k j : Setting} {c : Profile} {begun begun_back : Lane} {
         pub under : (x : ℕ) → x ≤ x + 31
         under x = omega arith
 
+        pub full_told : j.buffer ≤ (end_after h third h.out.shut).receiving.told_edge + 31
+        full_told = full (lane_back.asked.limit asked) h.own.receiving.limit
+          where
+            full : {buffer limit edge : ℕ} → begun_back.read + buffer ≤ limit + 31 → limit ≡ edge → buffer ≤ edge + 31
+            full less is = omega (arith, less, is)
+
         pub room : {g w : ℕ} → g ≤ w → g + 0 + 0 ≤ w
         room less = omega (arith, less)
 
@@ -243,10 +250,10 @@ module _ {keys : Keys} {k j : Setting} {c : Profile} {begun begun_back : Lane} {
 
         abbrev pub third_sent : Facing A keys k j c begun begun_back (record m { end = end_after h third h.out.shut; flying = fs }) (record n { flying = gs })
             clock until ds
-        third_sent = sent_off h third h.out.shut (sends_none (copy_in third) (plus_none h.out.granted) may_send) false h.stage_back.update may_say
+        third_sent = sent_off h third h.out.shut ds (sends_none (copy_in third) (plus_none h.out.granted) may_send) false h.stage_back.update may_say
             (end_after h third h.out.shut) None false 0
             (own_said h third h.out.shut None (ap brings_still hand) nothing_waits (some_sent sent_one) refl refl refl refl (one_control sent_one) (one_key unshown ready)
-            (Before refl (inl received) refl) (under j.least) row heard)
+            (Before refl (inl received) refl full_told) (under j.least) (λ is clear. (received, data_fin, λ one. full_told)) row heard)
             fs gs f flies more same
             (record { some = some_edge edge_one; bytes = omega arith; most = most_edge j.total edge_one; end = λ e. absurd (omega (arith, e)) }, λ is e. omega arith)
             (refl, refl, refl, refl) refl (sent_one, refl, unshown, refl) (le_refl m.end.tcp.recv.edge) (le_refl m.end.tcp.recv.edge)
@@ -288,7 +295,7 @@ module _ (start : Start) (plan : PathPlan) (k j : Setting) (s v : Lane) (t0 u0 :
             let strip : Side → Carried → Carried = λ side sent. stripped sent in
             let alter : Side → Carried → Carried = λ side sent. altered sent in
             let there = emission_emits A in
-            let faces = third_sent plan.delay t0 u0 k_is j_is going going_back h.faces t.0.sent_one t.0.came t.0.received t.0.data_fin t.0.unshown t.0.ready
+            let faces = third_sent plan.delay t0 u0 k_is j_is going going_back h.faces t.0.sent_one t.0.came t.0.received t.0.data_fin t.0.unshown (⊎_elim (λ is. is) (λ there. absurd (no_window there)) h.stages_back.window) t.0.ready
             t.0.owes t.0.waiting t.0.sent t.0.hand there.events there.timer
             (going_to B (after_send strip alter A carried p.clock p.link).under_way)
             (going_to A (after_send strip alter A carried p.clock p.link).under_way)
@@ -323,6 +330,17 @@ module _ (start : Start) (plan : PathPlan) (k j : Setting) (s v : Lane) (t0 u0 :
               ) refl t.2 (emission_plain A);
             })
           where
+            no_window : Has (duties.Ask (ask_duties.Window A)) (duties.Send (send_duties.Acknowledge A) ∷ emission A) → ⊥
+            no_window (inl same) = differ refl same
+            no_window (inr (inl same)) = differ refl same
+            no_window (inr (inr (inl same))) = differ refl same
+            no_window (inr (inr (inr (inl same)))) = differ refl same
+            no_window (inr (inr (inr (inr (inl same))))) = differ refl same
+            no_window (inr (inr (inr (inr (inr (inl same)))))) = differ refl same
+            no_window (inr (inr (inr (inr (inr (inr (inl same))))))) = differ refl same
+            no_window (inr (inr (inr (inr (inr (inr (inr (inl same)))))))) = differ refl same
+            no_window (inr (inr (inr (inr (inr (inr (inr (inr never)))))))) = never
+
             unclear : (b : Bool) {x : ℕ} → x ≡ (if b then 1 else 0) → x ≡ 0 → b ≡ false
             unclear true is none = absurd (omega (arith, is, none))
             unclear false is none = refl

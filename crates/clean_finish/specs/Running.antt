@@ -125,6 +125,7 @@ pub record IsSetting (c : Profile) (ticks : ℕ) (k : Setting) : Type 0 where
   pub payload : c.mss - 28 ≡ k.payload
   pub threshold : min c.buffer (4 * c.mss) ≤ 2 * k.threshold
   pub some : 1 ≤ k.threshold
+  pub update : 128 ≤ min c.buffer (4 * c.mss)
   pub buffer : c.buffer ≡ k.buffer
   pub least : k.least ≡ min 65535 k.buffer
   pub rto : k.rto ≡ 1000
@@ -308,8 +309,8 @@ abbrev pub IsBefore : Duty → List Duty → Type 0
 IsBefore (duties.Send (send_duties.Update s)) ds = (any_duty (is_window s) ds ≡ false) × Has (duties.Step step_duties.Events) ds
 IsBefore (duties.Send (send_duties.Syn s)) ds = (any_duty (is_window s) ds ≡ false) × Has (duties.Step step_duties.Events) ds
 IsBefore (duties.Step (step_duties.Data s)) ds = Has (duties.Step step_duties.Events) ds
-IsBefore (duties.Send (send_duties.DataFin s)) ds = Has (duties.Step step_duties.Events) ds
-IsBefore (duties.Send (send_duties.Fin s)) ds = Has (duties.Step step_duties.Events) ds
+IsBefore (duties.Send (send_duties.DataFin s)) ds = (any_duty (is_window s) ds ≡ false) × Has (duties.Step step_duties.Events) ds
+IsBefore (duties.Send (send_duties.Fin s)) ds = (any_duty (is_window s) ds ≡ false) × Has (duties.Step step_duties.Events) ds
 IsBefore (duties.Silent (silent_duties.Timer s)) ds = any_duty (is_syn s) ds ≡ false
 IsBefore (duties.Step step_duties.Events) ds = ds ≡ duties.End ∷ []
 IsBefore duties.End ds = ds ≡ []

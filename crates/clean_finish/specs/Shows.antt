@@ -188,7 +188,7 @@ pub record SendingIs (k : Setting) (out : Sender) (back : Receiver) (waiting : �
 -- What the last segment told: the lane's edge; or at A, until it acknowledges the first bytes, more than the SYN could tell.
 pub data IsToldEdge (s : Side) (j : Setting) (owes : Bool) (back : Receiver) (edge : ℕ) : Type 0 where
   Same : back.told.edge ≡ edge → IsToldEdge s j owes back edge
-  Before : s ≡ A → (back.received ≡ 0) ⊎ (owes ≡ true) → back.told.edge ≡ j.least → IsToldEdge s j owes back edge
+  Before : s ≡ A → (back.received ≡ 0) ⊎ (owes ≡ true) → back.told.edge ≡ j.least → j.buffer ≤ edge + 31 → IsToldEdge s j owes back edge
 
 pub record ReceivingIs (s : Side) (j : Setting) (out : Sender) (owes : Bool) (back : Receiver) (v : Receiving) : Type 0 where
   pub next : v.next ≡ back.next
@@ -199,6 +199,8 @@ pub record ReceivingIs (s : Side) (j : Setting) (out : Sender) (owes : Bool) (ba
   pub fin_told : v.fin_told ≡ false
   -- a DATA_FIN that it said is one that it sent
   pub said : back.said ≤ out.data_fin_sent
+  -- until A heard a DSS no bytes came, and what it showed its keys with told all of its buffer
+  pub unheard : s ≡ A → out.clear ≡ 0 → (back.received ≡ 0) × (back.data_fin_came ≡ 0) × (1 ≤ out.keys_sent → j.buffer ≤ v.told_edge + 31)
 
 -- ---- how an end stands to Multipath TCP
 

@@ -1,0 +1,149 @@
+-- The steps in which an end tells that its window has grown.
+use Rattle.std.proofs.Common.{◌≡◌, refl, sym, subst, ap, ◌∙◌, ℕ, ◌+◌, ◌≤◌, max, Bool, true, false, ◌⊎◌, inl, inr, ⊎_elim, List, [], ◌∷◌, arith}
+use Rattle.outside_kit.specs.declared.side.Side.{Side}
+use Rattle.outside_kit.specs.declared.side.Side.TheVariants.{A, B}
+use Rattle.link_model.specs.Laws.{plain_flight, going_to}
+use Rattle.link_model.specs.Steps.{after_send}
+use Rattle.path_segments.specs.Spelled.{PlainSegment}
+use Rattle.subflow_tcp.specs.declared.segments.Occasion.TheVariants as to_send
+use Rattle.actor_desk.specs.Desk.{SixBooks}
+use Rattle.stream_apps.specs.Apps.{AppState}
+use Rattle.path_agenda.specs.declared.duty.Duty.{Duty}
+use Rattle.path_agenda.specs.declared.duty.Duty.TheVariants as duties
+use Rattle.path_agenda.specs.declared.duty.SendDuty.TheVariants as send_duties
+use Rattle.path_core.specs.Handover.{having_sent, sent_on}
+use Rattle.path_core.specs.Standing.{is_update_due, acknowledges}
+use Rattle.path_core.specs.State.{PathState, with_agenda}
+use Rattle.path_core.specs.Values.{Carried, carried_by, stripped, altered, values}
+use Rattle.world_laws.specs.Openings.{PathPlan, Start}
+use Rattle.pace.specs.Lane.{Setting, Lane, all_left}
+use Rattle.pace.specs.Going.{Going}
+use Rattle.clean_finish.specs.Segments.{Keys, said, FliesAs}
+use Rattle.clean_finish.specs.Running.{own_bench, other_bench, IsSetting, Runs, keys_in}
+use Rattle.clean_finish.proofs.Dropping.{differ}
+use Rattle.clean_finish.proofs.Linking.{carried_is, last_from_a, last_from_b, others_of_a, others_of_b, link_after_a, link_after_b}
+use Rattle.clean_finish.proofs.Plainly.{plain_on}
+use Rattle.clean_finish.proofs.Turned.{from_a, from_b}
+use Rattle.clean_finish.proofs.Unasked.{asked_before, asks_no_more}
+use Rattle.clean_finish.proofs.UpdateSent.{ack_is, update, clear, next_is, update_sent}
+
+up_max : {x y : ℕ} (z : ℕ) → x ≤ y → x ≤ max y z
+up_max z less = omega (arith, less)
+
+module _ (start : Start) (plan : PathPlan) (k j : Setting) (s v : Lane) (t0 u0 : ℕ)
+    (going : Going k s t0 all_left s) (going_back : Going j v u0 all_left v)
+  where
+    abbrev keys : Keys
+    keys = keys_in start
+
+    module _ (a b : AppState) (books : SixBooks) (p : PathState Carried) (ds : List Duty)
+        (k_is : IsSetting p.profile plan.delay k) (j_is : IsSetting p.profile plan.delay j)
+      where
+        abbrev Relation : PathState Carried → Type 0
+        Relation q = Runs start plan k j s v a b books q
+
+        abbrev sends_a : PlainSegment → PathState Carried
+        sends_a segment = sent_on values A segment (having_sent to_send.Ack p.clock segment p.a) ds (with_agenda (duties.Send (send_duties.Update A) ∷ ds) p)
+
+        pub update_a : is_update_due p.profile p.a ≡ true → Relation (with_agenda (duties.Send (send_duties.Update A) ∷ ds) p)
+            → Relation (acknowledges values A (with_agenda (duties.Send (send_duties.Update A) ∷ ds) p))
+        update_a due h =
+            let t = h.treats in
+            let view = h.faces in
+            let window = asked_before A (duties.Send (send_duties.Update A)) (differ refl) ds view.stage_back.window view.stages_back.window t.4.0 in
+            let ask = asks_no_more A (duties.Send (send_duties.Update A)) (differ refl) (differ refl) ds p.a.treated.asked view.stage_back.ask t.4.0 t.5 view.stages_back.ask in
+            let x = update plan.delay t0 u0 k_is j_is going going_back view in
+            let segment = said p.profile keys A x in
+            let carried = carried_by p.profile.spelling A segment in
+            let strip : Side → Carried → Carried = λ side sent. stripped sent in
+            let alter : Side → Carried → Carried = λ side sent. altered sent in
+            let flight = plain_flight strip alter A carried p.clock p.link in
+            let flies : FliesAs p.profile keys A flight x =
+            record { tick = ap (λ (n : ℕ). p.clock + n) h.path.delay; to = refl; carried = carried_is strip alter carried p.clock p.link h.path.unspoken h.link A } in
+            let updated = update_sent plan.delay t0 u0 k_is j_is going going_back view due t.0.0.none t.0.0.owes t.1 t.0.0.answered t.0.0.ready t.0.0.shown window ask t.4.1
+            (going_to B (after_send strip alter A carried p.clock p.link).under_way)
+            (going_to A (after_send strip alter A carried p.clock p.link).under_way)
+            flight flies
+            (last_from_a strip alter carried p.clock p.link h.path.unspoken h.link)
+            (others_of_a strip alter carried p.clock p.link h.path.unspoken h.link) in
+            let faces = updated in
+            subst (λ (sg : PlainSegment). Relation (sends_a sg))
+            (sym (ack_is p.profile keys A x p.a refl view.own.modes.identity
+            (clear plan.delay t0 u0 k_is j_is going going_back view due t.0.0.none t.0.0.owes t.1 t.0.0.answered t.0.0.ready t.0.0.shown window ask)
+            (next_is plan.delay t0 u0 k_is j_is going going_back view due t.0.0.none t.0.0.owes t.1 t.0.0.answered t.0.0.ready t.0.0.shown window ask) refl refl refl))
+            (record {
+              path = record {
+                profile = h.path.profile;
+                delay = h.path.delay;
+                number = h.path.number;
+                unspoken = h.path.unspoken;
+                lines = h.path.lines;
+                joined = h.path.joined;
+              };
+              link = link_after_a strip alter carried p.clock p.link h.path.unspoken h.link;
+              faces = faces;
+              treats = plain_on keys (own_bench faces) (other_bench faces) ds (
+                record {
+                  none = refl;
+                  idle = record { places = t.0.0.idle.places; incoming = t.0.0.idle.incoming; fin = t.0.0.idle.fin };
+                  owes = refl;
+                  answered = up_max h.out.control_sent t.0.0.answered;
+                  ready = λ is. t.0.0.ready is;
+                  shown = λ is. up_max h.out.keys_sent (t.0.0.shown is);
+                },
+                t.0.1,
+              ) refl t.2 t.5;
+            })
+
+        abbrev sends_b : PlainSegment → PathState Carried
+        sends_b segment = sent_on values B segment (having_sent to_send.Ack p.clock segment p.b) ds (with_agenda (duties.Send (send_duties.Update B) ∷ ds) p)
+
+        pub update_b : is_update_due p.profile p.b ≡ true → Relation (with_agenda (duties.Send (send_duties.Update B) ∷ ds) p)
+            → Relation (acknowledges values B (with_agenda (duties.Send (send_duties.Update B) ∷ ds) p))
+        update_b due h =
+            let t = h.treats in
+            let view = from_a keys k j s v a b books (with_agenda (duties.Send (send_duties.Update B) ∷ ds) p) h.faces in
+            let window = asked_before B (duties.Send (send_duties.Update B)) (differ refl) ds view.stage_back.window view.stages_back.window t.4.0 in
+            let ask = asks_no_more B (duties.Send (send_duties.Update B)) (differ refl) (differ refl) ds p.b.treated.asked view.stage_back.ask t.4.0 t.5 view.stages_back.ask in
+            let x = update plan.delay u0 t0 j_is k_is going_back going view in
+            let segment = said p.profile keys B x in
+            let carried = carried_by p.profile.spelling B segment in
+            let strip : Side → Carried → Carried = λ side sent. stripped sent in
+            let alter : Side → Carried → Carried = λ side sent. altered sent in
+            let flight = plain_flight strip alter B carried p.clock p.link in
+            let flies : FliesAs p.profile keys B flight x =
+            record { tick = ap (λ (n : ℕ). p.clock + n) h.path.delay; to = refl; carried = carried_is strip alter carried p.clock p.link h.path.unspoken h.link B } in
+            let updated = update_sent plan.delay u0 t0 j_is k_is going_back going view due t.0.1.none t.0.1.owes t.2 t.0.1.answered t.0.1.ready t.0.1.shown window ask t.4.1
+            (going_to A (after_send strip alter B carried p.clock p.link).under_way)
+            (going_to B (after_send strip alter B carried p.clock p.link).under_way)
+            flight flies
+            (last_from_b strip alter carried p.clock p.link h.path.unspoken h.link)
+            (others_of_b strip alter carried p.clock p.link h.path.unspoken h.link) in
+            let faces = from_b keys k j s v a b books (sends_b segment) updated in
+            subst (λ (sg : PlainSegment). Relation (sends_b sg))
+            (sym (ack_is p.profile keys B x p.b refl view.own.modes.identity
+            (clear plan.delay u0 t0 j_is k_is going_back going view due t.0.1.none t.0.1.owes t.2 t.0.1.answered t.0.1.ready t.0.1.shown window ask)
+            (next_is plan.delay u0 t0 j_is k_is going_back going view due t.0.1.none t.0.1.owes t.2 t.0.1.answered t.0.1.ready t.0.1.shown window ask) refl refl refl))
+            (record {
+              path = record {
+                profile = h.path.profile;
+                delay = h.path.delay;
+                number = h.path.number;
+                unspoken = h.path.unspoken;
+                lines = h.path.lines;
+                joined = h.path.joined;
+              };
+              link = link_after_b strip alter carried p.clock p.link h.path.unspoken h.link;
+              faces = faces;
+              treats = plain_on keys (own_bench faces) (other_bench faces) ds (
+                t.0.0,
+                record {
+                  none = refl;
+                  idle = record { places = t.0.1.idle.places; incoming = t.0.1.idle.incoming; fin = t.0.1.idle.fin };
+                  owes = refl;
+                  answered = up_max view.out.control_sent t.0.1.answered;
+                  ready = λ is. t.0.1.ready is;
+                  shown = λ is. up_max view.out.keys_sent (t.0.1.shown is);
+                },
+              ) t.1 refl t.5;
+            })
