@@ -403,11 +403,7 @@ impl PathEnd {
     fn own_reset(&self) -> Outgoing
         ensures { result ≡ own_reset self.now }
     {
-        let position = if self.is_syn_due() {
-            0
-        } else {
-            self.tcp.nxt()
-        };
+        let position = if self.is_syn_due() { 0 } else { self.tcp.nxt() };
         Outgoing {
             position,
             ..self.tcp.reset_segment()
