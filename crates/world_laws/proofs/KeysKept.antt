@@ -52,7 +52,7 @@ use Rattle.path_core.specs.Joins.{is_joined}
 use Rattle.path_core.specs.Opening.{peer_key_ask, opened_ask, answered_peer_key, answered_opened}
 use Rattle.path_core.specs.Passing.{after_pass_fin, is_placed, piece_of, answered_piece, is_fin_set, answered_fin_heard, answered_plain_fin, answer_occasion, resend_occasion, first_record, answer_of, resend_of}
 use Rattle.path_core.specs.Deliver.{Piece, with_learned, with_skipped, mapping_here, is_wrong, forgotten_by, after_pieces}
-use Rattle.path_core.specs.OptionsOut.{ack_said, syn_ack_said, record_or_ack}
+use Rattle.path_core.specs.OptionsOut.{ack_said, carried_said, syn_ack_said, record_or_ack}
 use Rattle.path_core.specs.Standing.{answered_ack_out, is_connected}
 use Rattle.path_core.specs.State.{PathState, end_at, with_end, with_agenda, goes_on, left}
 use Rattle.path_core.specs.Steps.{settled, answers, asks_of, asks_first, takes, begins_turn}
@@ -63,7 +63,6 @@ use Rattle.path_core.specs.Fallback.{is_fall, fell_ask, in_identity, after_fell,
 use Rattle.path_core.specs.Treating.{is_acked, is_dropped, with_acked, counts, is_clash, with_data_fin, with_plain_ack, breaks_by_ack, answered_plain_ack, answered_heard, answered_item, item_of, item_passed, heard_ask, item_ask, plain_ack_ask}
 use Rattle.path_core.specs.Values.{Carried, values}
 use Rattle.path_core.specs.FastClosing.{is_stopped_by, fast_close_of, is_fast_close_due}
-use Rattle.path_core.specs.Segments.{carried_said}
 use Rattle.world_laws.proofs.Finding.{find_every, one_side}
 use Rattle.fallback_state.specs.declared.fall.Event.{Event as FallEvent}
 use Rattle.fallback_state.specs.declared.fall.Event.TheVariants as fall

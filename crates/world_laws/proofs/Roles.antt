@@ -59,14 +59,13 @@ use Rattle.path_core.specs.Joins.{is_joined}
 use Rattle.path_core.specs.Opening.{after_keys, answered_opened, answered_peer_key, with_peer_key}
 use Rattle.path_core.specs.Passing.{after_pass_fin, answer_occasion, answer_of, resend_occasion, answered_fin_heard, answered_plain_fin, answered_piece, dead_answer, first_record, is_fin_set, is_placed, piece_of, resend_of}
 use Rattle.path_core.specs.Deliver.{Piece, after_check, after_pieces, mapping_here, is_wrong, with_learned, with_skipped, forgotten_by}
-use Rattle.path_core.specs.OptionsOut.{ack_said, reset_options, record_or_ack, syn_ack_said}
+use Rattle.path_core.specs.OptionsOut.{ack_said, carried_said, reset_options, record_or_ack, syn_ack_said}
 use Rattle.path_core.specs.Handover.{having_sent, sent_on}
 use Rattle.path_core.specs.Standing.{after_ack_out, answered_ack_out}
 use Rattle.path_core.specs.State.{PathState, end_at, goes_on, left, with_agenda, with_end}
 use Rattle.path_core.specs.Steps.{settled, answers, takes, begins_turn}
 use Rattle.path_core.specs.Treating.{after_keep, answered_heard, answered_item, answered_plain_ack, breaks_by_ack, counts, is_clash, is_dropped, item_of, item_passed, with_acked, with_data_fin, with_plain_ack}
 use Rattle.path_core.specs.Values.{Carried, as_arrived, carried_by, stripped, altered, values}
-use Rattle.path_core.specs.Segments.{carried_said}
 use Rattle.world_laws.proofs.KeysHeld.{in_removed}
 use Rattle.world_laws.proofs.KeysWoken.{WakesNone, joined_wakes_none}
 use Rattle.world_laws.proofs.KeysMet.{is_apart, finish_apart, passed_apart, apart_stays, arrived_state, TellsKey, no_syn, record_or_ack_tells, syn_ack_tells, IsNoSyn, reset_answers, outgoing_tells}

@@ -17,7 +17,6 @@ use Rattle.control_book.specs.Registry.{stands as stands_path, sole, standby}
 use Rattle.control_book.specs.Replies as control
 use Rattle.control_book.specs.Steps as controlling
 use Rattle.control_book.specs.Replies.{address_notice, announcement, carries, look_reply, resets}
-use Rattle.control_book.specs.declared.call.ControlReply.TheVariants as control_replies
 use Rattle.subflow_send.specs.Records.{Record}
 use Rattle.stream_lanes.specs.Words.{Every}
 use Rattle.actor_desk.specs.declared.ask.Ask.{Ask}
@@ -89,7 +88,7 @@ notice_key : (c : Control) (h : KeysAreShort c.keys) (path : ℕ) → NoticeTell
 notice_key c h path = by (resets c path) (carries c path) (announcement c path) (lowest (withdrawals_on c.notices.withdrawals path))
   where
     by : (resets carries : Bool) (announced withdrawn : Option ℕ)
-        → NoticeTells (replies.Control (control_replies.Standing c.fall.mode (standby c.paths c.addresses.backups path) (sole c.paths path)
+        → NoticeTells (replies.Control (answers.Standing c.fall.mode (standby c.paths c.addresses.backups path) (sole c.paths path)
         (if resets then notices.Reset else (if carries then notices.Carrier (peer_or_zero c.keys.peer) else address_notice announced withdrawn))))
     by true carries announced withdrawn = tt
     by false true announced withdrawn = peer_short c.keys.peer h.peer
