@@ -30,7 +30,7 @@ use Rattle.stream_lanes.specs.Words.{Every}
 use Rattle.stream_lanes.proofs.Lists.{Every-nil}
 use Rattle.actor_desk.specs.declared.ask.Reply.{Reply}
 use Rattle.actor_desk.specs.Words.{tail_of}
-use Rattle.path_agenda.specs.Agenda.{breaks, emission, leaves, resets, rest_of_turn, start_of_turn}
+use Rattle.path_agenda.specs.Agenda.{breaks, emission, leaves, resets, rest_of_turn, start_of_turn, stops}
 use Rattle.path_agenda.specs.Items.{key_heard, keys_heard}
 use Rattle.path_agenda.specs.Words.{replaced}
 use Rattle.path_agenda.specs.declared.duty.Duty.{Duty}
@@ -42,6 +42,7 @@ use Rattle.path_agenda.specs.declared.duty.StepDuty.TheVariants as step_duties
 use Rattle.path_agenda.specs.declared.heard.Heard.{Heard}
 use Rattle.path_agenda.specs.declared.heard.Heard.TheVariants as says
 use Rattle.path_agenda.specs.declared.keys.KeyPair.{KeyPair}
+use Rattle.path_core.specs.FastClosing.{is_stopped_by}
 use Rattle.path_core.specs.declared.event.Event.{Event}
 use Rattle.path_core.specs.declared.event.Event.TheVariants as happenings
 use Rattle.path_core.specs.declared.judged.Judged.{Judged}
@@ -382,7 +383,7 @@ heard_answered_roles s (says.PeerKey key) r p h = agenda_roles (left p) p h
 heard_answered_roles s (says.Join form) r p h = agenda_roles (left p) p h
 heard_answered_roles s (says.Notice notice) r p h = agenda_roles (left p) p h
 heard_answered_roles s says.Fail r p h = agenda_roles (left p) p h
-heard_answered_roles s (says.FastClose key) r p h = agenda_roles (left p) p h
+heard_answered_roles s (says.FastClose key) r p h = agenda_roles (if is_stopped_by r then stops s else left p) p h
 
 item_answered_roles : (s : Side) (o : Option Heard) (r : Reply) (p : PathState Carried) → HasRoles p → HasRoles (answered_item values s o r p)
 item_answered_roles s None r p h = agenda_roles (left p) p h

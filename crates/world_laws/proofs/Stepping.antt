@@ -84,6 +84,7 @@ module _ (six : SixBooks) (others : Others) (p : PathState Carried) (ab ba : Lan
     LeavesAt path = Makes (asks.Send s (ReturnBytes path)) (answered_leave_noted s p)
 
     leaves_noted : e.treated.asked ≡ false → LeavesAt (path_of p)
+    unfolding LeavesAt
     leaves_noted calm = subst LeavesAt (sym numbered) (return_side p.profile six others s p (answered_leave_noted s p) ab ba h
         (side_kept p.profile p ab ba h s (pick s ab ba) (pick s ba ab) (died e) (replaced (duties.Ask (ask_duties.Dead s)) p.agenda)
         (did_nothing p.profile s (pick s ab ba) (pick s ba ab) (died e) (died_shows p.profile s (pick s ab ba) (pick s ba ab) e calm shows))))
