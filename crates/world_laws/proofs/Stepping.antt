@@ -80,11 +80,10 @@ module _ (six : SixBooks) (others : Others) (p : PathState Carried) (ab ba : Lan
     done_side = answering.agenda_side six others p ab ba h ready s (pick s ab ba) (pick s ba ab) (left p) (did_nothing p.profile s (pick s ab ba) (pick s ba ab) e shows)
 
     -- what the end holds is given back, and it is dead
-    LeavesAt : ℕ → Type 0
+    abbrev LeavesAt : ℕ → Type 0
     LeavesAt path = Makes (asks.Send s (ReturnBytes path)) (answered_leave_noted s p)
 
     leaves_noted : e.treated.asked ≡ false → LeavesAt (path_of p)
-    unfolding LeavesAt
     leaves_noted calm = subst LeavesAt (sym numbered) (return_side p.profile six others s p (answered_leave_noted s p) ab ba h
         (side_kept p.profile p ab ba h s (pick s ab ba) (pick s ba ab) (died e) (replaced (duties.Ask (ask_duties.Dead s)) p.agenda)
         (did_nothing p.profile s (pick s ab ba) (pick s ba ab) (died e) (died_shows p.profile s (pick s ab ba) (pick s ba ab) e calm shows))))
