@@ -20,10 +20,9 @@ use Rattle.control_book.specs.declared.call.ControlReply.{ControlReply}
 use Rattle.control_book.specs.declared.call.ControlReply.TheVariants as control_replies
 use Rattle.control_book.specs.declared.call.Notice.{Notice}
 use Rattle.control_book.specs.declared.call.Notice.TheVariants as notices
-use Rattle.control_book.specs.Control.{Control, is_path, peer_or_zero, withdrawals_on}
+use Rattle.control_book.specs.Control.{Control, is_path, peer_or_zero}
 use Rattle.control_book.specs.Replies as controlling
 use Rattle.control_book.specs.Steps as control
-use Rattle.address_manager.specs.IdSet.{lowest}
 use Rattle.stream_lanes.specs.Words.{Every}
 use Rattle.stream_lanes.proofs.Lists.{in_map}
 use Rattle.actor_desk.specs.declared.ask.Ask.{Ask}
@@ -116,7 +115,7 @@ module _ (P : Type 0) (path key : ℕ) where
 
 look_carries : (P : Type 0) (path : ℕ) (c : Control) → (is_some c.notices.carrier ≡ true → P) → IfSome (carrier_in (controlling.notice_on c path)) (λ key. P)
 look_carries P path c named =
-    notice_carries P path (peer_or_zero c.keys.peer) (controlling.resets c path) c.notices.carrier (controlling.announcement c path) (lowest (withdrawals_on c.notices.withdrawals path)) named
+    notice_carries P path (peer_or_zero c.keys.peer) (controlling.resets c path) c.notices.carrier (controlling.announcement c path) _ named
 
 -- who carries it is named by a fast close alone
 if_carries : (P : Type 0) (b : Bool) (c d : Control) → is_some (if b then d else c).notices.carrier ≡ true → d.notices.carrier ≡ c.notices.carrier → (is_some c.notices.carrier ≡ true → P) → P
