@@ -1,5 +1,5 @@
 -- A reader is told of an abort by its peer only where the peer's application asked for a fast close, and its own side accepted it.
-use Rattle.std.proofs.Common.{◌≡◌, refl, sym, ◌∙◌, ap, subst, ℕ, ◌==◌, ◌||◌, is_some, Bool, true, false, if◌then◌else◌, Option, Some, None, List, [], ◌∷◌, ◌++◌, min, drop, length, take}
+use Rattle.std.proofs.Common.{◌≡◌, refl, sym, ◌∙◌, ap, subst, ℕ, ◌==◌, ◌||◌, is_some, Bool, true, false, if◌then◌else◌, Option, Some, None, List, [], ◌∷◌, ◌++◌, min, drop, length, take, arith}
 use Rattle.std.proofs.lemmas.Bool.{false≢true}
 use Rattle.std.specs.List.{list_any, slice_get}
 use Rattle.std.specs.Option.{IfSome}
@@ -50,7 +50,7 @@ use Rattle.world_laws.specs.Laws.{Always}
 use Rattle.world_laws.specs.Openings.{Start, opened_world}
 use Rattle.world_laws.specs.Outcomes.{tells_abort, note_tells, notes_of, was_told}
 use Rattle.world_laws.specs.Promises.{IsPromisedOfOctets}
-use Rattle.world_laws.specs.Worlds.{WorldState, note_of, world_run}
+use Rattle.world_laws.specs.Worlds.{WorldState, Turn, greatest, note_of, world_run}
 use Rattle.world_laws.proofs.CastLifting.{Has, Stepwise, turns_have, opened_cast}
 use Rattle.world_laws.proofs.Casts.{Cast, Every-put, Fare, Seat, Walker, after_a, after_b, after_path, first_cast, first_fare, next_cast, opened_is, seat_after, walked, walker_there, walks_on, world_of}
 use Rattle.world_laws.proofs.Journaling.{books_after}
@@ -279,7 +279,7 @@ module _ (start : Start) where
     aborts : (s : Side) → x ≡ asks.Reassembly s (calls.Abort true) → Caused u s
 
   module _ (x : Ask) (pass : Pass) (t u : Cast Carried) (g : Goes x pass t u) (h : Causes t) where
-    six : SixBooks
+    abbrev six : SixBooks
     six = books_in t.books
 
     rises : (d : Deed) (s : Side) → Facts t d s → Facts u d s
@@ -327,8 +327,8 @@ module _ (start : Start) where
         kept : (s : Side) → is_some (control_of s (after_ask (asks.Send B call) six)).notices.carrier ≡ true → Facts u Deed.Closed s
         kept A is = rises Deed.Closed A (h.carries A is)
         kept B is = rises Deed.Closed B (h.carries B is)
-    carries_on (asks.Reassembly t call) same A is = rises Deed.Closed A (h.carries A is)
-    carries_on (asks.Reassembly t call) same B is = rises Deed.Closed B (h.carries B is)
+    carries_on (asks.Reassembly other call) same A is = rises Deed.Closed A (h.carries A is)
+    carries_on (asks.Reassembly other call) same B is = rises Deed.Closed B (h.carries B is)
     carries_on (asks.Local step) same s is = rises Deed.Closed s (h.carries s is)
 
     aborted_on : (y : Ask) → x ≡ y → (s : Side) → (reassembly_of s (after_ask y six)).aborted ≡ Some true → Caused u s
@@ -336,10 +336,10 @@ module _ (start : Start) where
     aborted_on (asks.Reassembly A call) same B is = caused B (h.aborted B is)
     aborted_on (asks.Reassembly B call) same A is = caused A (h.aborted A is)
     aborted_on (asks.Reassembly B call) same B is = call_aborts (Caused u B) six.reassembly_b call is (λ was. caused B (h.aborted B was)) (λ aborts. g.aborts B (same ∙ ap (λ c. asks.Reassembly B c) aborts))
-    aborted_on (asks.Send t call) same A is = caused A (h.aborted A is)
-    aborted_on (asks.Send t call) same B is = caused B (h.aborted B is)
-    aborted_on (asks.Control t call) same A is = caused A (h.aborted A is)
-    aborted_on (asks.Control t call) same B is = caused B (h.aborted B is)
+    aborted_on (asks.Send other call) same A is = caused A (h.aborted A is)
+    aborted_on (asks.Send other call) same B is = caused B (h.aborted B is)
+    aborted_on (asks.Control other call) same A is = caused A (h.aborted A is)
+    aborted_on (asks.Control other call) same B is = caused B (h.aborted B is)
     aborted_on (asks.Local step) same s is = caused s (h.aborted s is)
 
     path_on : (p : PathState Carried) → Knows t p → Knows u p

@@ -1,6 +1,6 @@
 -- What is known of the sides that joined: B answers a join after A began one, and an end that may finish, of a path that joins, has
 -- joined. And a side that fell back to plain TCP fell back by its control book, on no path that joins.
-use Rattle.std.proofs.Common.{◌≡◌, refl, sym, ◌∙◌, ap, subst, ℕ, zero, suc, ⊎_elim, inr, ◌+◌, is_some, Bool, true, false, if◌then◌else◌, Option, Some, None, List, [], ◌∷◌, map, nat_lt, arith}
+use Rattle.std.proofs.Common.{◌≡◌, refl, sym, ◌∙◌, ap, subst, ℕ, zero, suc, ⊎_elim, ◌+◌, is_some, Bool, true, false, if◌then◌else◌, Option, Some, None, List, [], ◌∷◌, map, nat_lt, arith}
 use Rattle.std.proofs.lemmas.Bool.{false≢true, both_ways, lt-ltb}
 use Rattle.std.specs.List.{slice_get}
 use Rattle.std.specs.Option.{IfSome}
@@ -36,7 +36,7 @@ use Rattle.world_laws.specs.Worlds.{WorldState, Turn, crew_after, asked, stepped
 use Rattle.world_laws.proofs.Journaling.{books_after}
 use Rattle.world_laws.proofs.Falls.{IsNoJoin, same_joined}
 use Rattle.world_laws.proofs.KeysRight.{is_past}
-use Rattle.world_laws.proofs.KeysWoken.{speaks, itself, first_speaks}
+use Rattle.world_laws.proofs.KeysWoken.{speaks, itself, Voice, first_speaks}
 use Rattle.world_laws.proofs.KeysHeld.{AskedIs, end_is, asked_is}
 use Rattle.world_laws.proofs.KeysAgree.{Joined, FellBack, NoMore, Past, KeysAsk, PathKeys, WorldIs, MemberIs, with_nonces, joined_stays, member_asks_are, turn_keys, opened_keys}
 use Rattle.world_laws.proofs.Opened.{opened_actors}
@@ -196,7 +196,7 @@ module _ (key_a key_b number : ℕ) (six : SixBooks) (p : PathState Carried) (nu
       asks_join (asked_at B p) first (asked_is (with_nonces key_a key_b false h.nonce_a h.nonce_b) false (Joined six) (Past six NoMore) (is_joined p.profile) B p.b.treated.items h.is.b.items)
   duty_joined (duties.Ask (ask_duties.JoinHeard A)) ds is first = tt
   duty_joined (duties.Ask (ask_duties.GoIdentity s)) ds is first =
-      (h.is.known (inr s) (subst (λ xs. speaks (inr s) xs ≡ true) (sym is) (first_speaks (inr s) (duties.Ask (ask_duties.GoIdentity s)) ds (itself s)))).1
+      (h.is.known (Voice.Falls s) (subst (λ xs. speaks (Voice.Falls s) xs ≡ true) (sym is) (first_speaks (Voice.Falls s) (duties.Ask (ask_duties.GoIdentity s)) ds (itself s)))).1
   duty_joined (duties.Step step_duties.Events) ds is first = tt
   duty_joined _ ds is first = tt
 

@@ -97,6 +97,15 @@ connected_past phase.Closing is = refl
 connected_past phase.LastAck is = refl
 connected_past phase.TimeWait is = refl
 
+-- the key of the fast close that an end is to carry
+abbrev pub carrier_in : Notice → Option ℕ
+carrier_in (notices.Carrier key) = Some key
+carrier_in _ = None
+
+abbrev pub carrier_told : Reply → Option ℕ
+carrier_told (replies.Control (control_replies.Standing mode standby sole notice)) = carrier_in notice
+carrier_told _ = None
+
 module _ (k : Secrets) (right : Bool) (w : Side → Type 0) (did : Deed → Side → Type 0) where
   -- ---- in silence
 
@@ -341,16 +350,7 @@ module _ (k : Secrets) (right : Bool) (w : Side → Type 0) (did : Deed → Side
 
   -- a side falls back that didn't join
   abbrev pub FallIs : Side → Reply → Type 0
-  FallIs s r = is_fall r ≡ true → back s × (w s → ⊥)
-
-  -- the key of the fast close that an end is to carry
-  abbrev pub carrier_in : Notice → Option ℕ
-  carrier_in (notices.Carrier key) = Some key
-  carrier_in _ = None
-
-  abbrev pub carrier_told : Reply → Option ℕ
-  carrier_told (replies.Control (control_replies.Standing mode standby sole notice)) = carrier_in notice
-  carrier_told _ = None
+  FallIs s r = is_fall r ≡ true → did Deed.Fell s × (w s → ⊥)
 
   abbrev pub CallReplyIs : Side → ControlCall → Reply → Type 0
   CallReplyIs s (control_calls.Look path) r = IfSome (carrier_told r) (λ key. did Deed.Closed s)
@@ -464,7 +464,7 @@ module _ (k : Secrets) (right : Bool) (w : Side → Type 0) (did : Deed → Side
   Said s p = OnJoined k right w did p.profile (Knows k right w did s (end_at s p).modes)
 
   -- what is still to be said after a verdict; no side falls on a path that joins
-  not_joined : (s : Side) (r : Reply) (p : PathState Carried) → Said s p → FallIs s r → is_fall r ≡ true → (is_joined p.profile ≡ false) × back s
+  not_joined : (s : Side) (r : Reply) (p : PathState Carried) → Said s p → FallIs s r → is_fall r ≡ true → (is_joined p.profile ≡ false) × did Deed.Fell s
   not_joined s r p said is fell = (by (is_joined p.profile) refl, (is fell).0)
     where
       by : (b : Bool) → is_joined p.profile ≡ b → b ≡ false
