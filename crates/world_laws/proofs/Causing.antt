@@ -54,7 +54,7 @@ use Rattle.world_laws.specs.Worlds.{WorldState, Turn, greatest, note_of, world_r
 use Rattle.world_laws.proofs.CastLifting.{Has, Stepwise, turns_have, opened_cast}
 use Rattle.world_laws.proofs.Casts.{Cast, Every-put, Fare, Seat, Walker, after_a, after_b, after_path, first_cast, first_fare, next_cast, opened_is, seat_after, walked, walker_there, walks_on, world_of}
 use Rattle.world_laws.proofs.Journaling.{books_after}
-use Rattle.world_laws.proofs.KeysAgree.{AsksFor, BooksAre, KeysAsk, NoMore, PathKnows, Tells, app_asks_are, ask_keeps, opened_books_are, opened_path, path_asks, path_more, path_next, path_takes}
+use Rattle.world_laws.proofs.KeysAgree.{AsksFor, BooksAre, KeysAsk, NoMore, PathKnows, Tells, app_asks_are, ask_keeps, opened_books_are, opened_path, path_asks, path_more, path_next, path_same, path_takes}
 use Rattle.world_laws.proofs.KeysKept.{carrier_in, carrier_told}
 use Rattle.world_laws.proofs.KeysRight.{Deed}
 use Rattle.world_laws.proofs.PromisesMade.{run_fresh}
