@@ -19,7 +19,7 @@ use Rattle.pace.specs.Moves.{MayHearData, IsBefore}
 use Rattle.pace.specs.Moves.Move.{goes_back, rests, hears}
 use Rattle.clean_finish.specs.Reading.{ReaderIs, end_known}
 use Rattle.clean_finish.specs.Segments.{Sent, Keys, copy_in}
-use Rattle.clean_finish.specs.Shows.{Hand, WayIs}
+use Rattle.clean_finish.specs.Shows.{AreTaken, Hand, WayIs}
 use Rattle.clean_finish.specs.Running.{Has, StageIs, HasNotBegun, Half, Facing}
 use Rattle.clean_finish.proofs.AnswerHeard.{answer_at, heard_own}
 use Rattle.clean_finish.proofs.AnswerHeard.{end_after as heard_end}
@@ -213,6 +213,7 @@ module _ {keys : Keys} {k j : Setting} {c : Profile} {begun begun_back : Lane} {
           edge = h.apps.book.edge;
           owner = h.apps.book.owner;
           marks = h.apps.book.marks;
+          taken = subst (λ (n : ℕ). AreTaken (h.out.granted + n) m.send.marks) nothing_waits h.apps.book.taken;
         };
         room = room_on h.out.granted nothing_waits h.apps.room;
       };
@@ -236,6 +237,7 @@ module _ {keys : Keys} {k j : Setting} {c : Profile} {begun begun_back : Lane} {
           edge = h.apps_back.book.edge;
           owner = h.apps_back.book.owner;
           marks = h.apps_back.book.marks;
+          taken = h.apps_back.book.taken;
         };
         room = h.apps_back.room;
       };

@@ -20,7 +20,7 @@ use Rattle.path_core.specs.Values.{Carried}
 use Rattle.pace.specs.Lane.{Setting, Lane, Stage}
 use Rattle.pace.specs.Moves.Move.{goes_back, rests}
 use Rattle.clean_finish.specs.Segments.{Sent, Keys}
-use Rattle.clean_finish.specs.Shows.{EndIs, WayIs}
+use Rattle.clean_finish.specs.Shows.{AreTaken, EndIs, WayIs}
 use Rattle.clean_finish.specs.Running.{Has, LaneStands, StageIs, Half, Facing}
 use Rattle.clean_finish.proofs.CopyHeeded.{Heeds}
 use Rattle.clean_finish.proofs.Hands.{in_hand, way_arrives}
@@ -175,6 +175,7 @@ module _ {s : Side} {keys : Keys} {k j : Setting} {c : Profile} {begun begun_bac
           edge = h.apps.book.edge;
           owner = h.apps.book.owner;
           marks = h.apps.book.marks;
+          taken = subst (λ (n : ℕ). AreTaken (h.out.granted + n) m.send.marks) waiting h.apps.book.taken;
         };
         room = room_on h.out.granted waiting h.apps.room;
       };

@@ -87,7 +87,7 @@ module _ (start : Start) (plan : PathPlan) (k j : Setting) (s v : Lane) (t0 u0 :
             let dss : x.telling.dss ≡ 0 = ap (λ (y : Telling). y.dss) t.0.seen in
             let there = emits_behind (duties.Ask (ask_duties.PlainHandshake B)) (duties.Send (send_duties.SynAck B)) in
             let faces = from_b keys k j s v a b syn_told (with_agenda (duties.Ask (ask_duties.PlainHandshake B) ∷ duties.Send (send_duties.SynAck B) ∷ emission B) p)
-            (hears_on back refl there x false t.0.hand 0 p.b.tcp.congestion.told.window (none_future (_)) next (plus t.0.edge)
+            (hears_on back refl there x false t.0.hand 0 p.b.tcp.congestion.told.window (none_future (_)) (omega arith) next (plus t.0.edge)
             (λ less. absurd (never less seen)) p.b.sending p.b.modes p.b.treated refl
             (told_own back refl there x false t.0.hand next dss (few seen) (low p.b.tcp.send.una seen))) in
             record {

@@ -232,6 +232,7 @@ module _ {keys : Keys} {k j : Setting} {c : Profile} {begun begun_back : Lane} {
           edge = h.apps_back.book.edge;
           owner = h.apps_back.book.owner;
           marks = h.apps_back.book.marks;
+          taken = h.apps_back.book.taken;
         };
         room = h.apps_back.room;
       };

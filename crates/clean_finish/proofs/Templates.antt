@@ -13,7 +13,7 @@ emission_plain A = (
   (refl, inr (inr (inr (inr (inl refl))))),
   (
     refl,
-    inr (inr (inr (inl refl))),
+    (refl, inl refl, inr (inr (inr (inl refl)))),
     (refl, (refl, inr (inr (inl refl))), (refl, (refl, inr (inl refl)), (refl, refl, (refl, refl, (refl, refl, tt))))),
   ),
 )
@@ -22,7 +22,7 @@ emission_plain B = (
   (refl, inr (inr (inr (inr (inl refl))))),
   (
     refl,
-    inr (inr (inr (inl refl))),
+    (refl, inl refl, inr (inr (inr (inl refl)))),
     (refl, (refl, inr (inr (inl refl))), (refl, (refl, inr (inl refl)), (refl, refl, (refl, refl, (refl, refl, tt))))),
   ),
 )
