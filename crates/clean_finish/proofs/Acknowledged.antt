@@ -14,7 +14,7 @@ use Rattle.pace.specs.Rules.{hears_ack}
 use Rattle.pace.specs.Moves.{MayHearAck}
 use Rattle.pace.specs.Moves.Move.{goes_back, is_acknowledged}
 use Rattle.clean_finish.specs.Segments.{Sent, Keys, copy_in, Follow, low_after, control_after, keys_after}
-use Rattle.clean_finish.specs.Shows.{Hand, brings_still, brings_in, tells_in, EndIs, BookIs, WayIs}
+use Rattle.clean_finish.specs.Shows.{AreTaken, Hand, brings_still, brings_in, tells_in, EndIs, BookIs, WayIs}
 use Rattle.clean_finish.specs.Writing.{WriterIs}
 use Rattle.clean_finish.specs.Running.{StageIs, HasNotBegun, Half, Facing}
 use Rattle.clean_finish.proofs.Books.{hears_as_lanes}
@@ -22,16 +22,19 @@ use Rattle.clean_finish.proofs.Dropping.{is_waited, apart, behind, is_apart, sta
 use Rattle.clean_finish.proofs.Hands.{in_hand}
 use Rattle.clean_finish.proofs.Marks.{ack_length}
 use Rattle.clean_finish.proofs.Passing.{stands_then}
+use Rattle.clean_finish.proofs.TakenMarks.{taken_acked}
 use Rattle.clean_finish.proofs.Raised.{raised, before_raised, Emits, stage_raised}
 
 -- it is told to the book
-pub book_hears : (next window edge : ℕ) (out later : Sender) (b : SendBook) → is_future next b ≡ false → BookIs out b → later.edge ≡ max out.edge edge
-    → edge ≡ next + window → BookIs later (after_ack next window b)
-book_hears next window edge out later b now is at same =
-    subst (λ (f : Bool). BookIs later (if f then b else heard_by)) (sym now) (record {
+pub book_hears : (next window edge waiting : ℕ) (out later : Sender) (b : SendBook) → is_future next b ≡ false → BookIs out waiting b
+    → later.edge ≡ max out.edge edge → later.granted ≡ out.granted → edge ≡ next + window → min next (length b.marks) ≤ out.granted + waiting
+    → BookIs later waiting (after_ack next window b)
+book_hears next window edge waiting out later b now is at granted same few =
+    subst (λ (f : Bool). BookIs later waiting (if f then b else heard_by)) (sym now) (record {
       edge = ap (λ (n : ℕ). max n (next + window)) is.edge ∙ (ap (λ (n : ℕ). max out.edge n) (sym same) ∙ sym at);
       owner = is.owner;
       marks = ack_length next b.marks ∙ is.marks;
+      taken = subst (λ (n : ℕ). AreTaken (n + waiting) heard_by.marks) (sym granted) (taken_acked (out.granted + waiting) next b.marks few is.taken);
     })
   where
     heard_by : SendBook
@@ -52,7 +55,7 @@ module _ {s : Side} {keys : Keys} {k j : Setting} {c : Profile} {begun begun_bac
     abbrev pub out_after : Lane
     out_after = hears_ack (copy_in x) rest h.out
 
-    module _ (next window : ℕ) (now : is_future next m.send ≡ false) (next_is : x.telling.next ≡ next) (edge_is : x.telling.edge ≡ next + window)
+    module _ (next window : ℕ) (now : is_future next m.send ≡ false) (few : min next (length m.send.marks) ≤ h.out.granted + h.waiting) (next_is : x.telling.next ≡ next) (edge_is : x.telling.edge ≡ next + window)
         (rests : h.out.control_acked < x.telling.seen → h.out.timer ≡ None)
         (v : Sending) (mo : Modes) (tr : Treated) (same : tr.asked ≡ m.end.treated.asked)
         (own : EndIs s keys k j out_after.sender h.back.receiver (in_hand x brings false) h.owes h.waiting
@@ -90,8 +93,8 @@ module _ {s : Side} {keys : Keys} {k j : Setting} {c : Profile} {begun begun_bac
         writes_after = subst (λ (n : ℕ). WriterIs k h.out.written h.out.closed (max h.out.acked n) m.app (after_ack next window m.send)) (sym next_is)
             (hears_as_lanes k h.out.written h.out.closed h.out.acked next window m.app m.send now h.apps.book.marks h.apps.writes.numbers)
 
-        pub book_after : BookIs out_after.sender (after_ack next window m.send)
-        book_after = book_hears next window x.telling.edge h.out.sender out_after.sender m.send now h.apps.book refl edge_is
+        pub book_after : BookIs out_after.sender h.waiting (after_ack next window m.send)
+        book_after = book_hears next window x.telling.edge h.waiting h.out.sender out_after.sender m.send now h.apps.book refl refl edge_is few
 
         pub begun_after : (1 ≤ h.out.control_sent) ⊎ HasNotBegun s j h.out.sender h.back.receiver m.end (d ∷ ds)
             → (1 ≤ h.out.control_sent) ⊎ HasNotBegun s j out_after.sender h.back.receiver end_after ds
@@ -173,6 +176,7 @@ module _ {s : Side} {keys : Keys} {k j : Setting} {c : Profile} {begun begun_bac
               edge = book_after.edge;
               owner = book_after.owner;
               marks = book_after.marks;
+              taken = book_after.taken;
             };
             room = h.apps.room;
           };
@@ -196,6 +200,7 @@ module _ {s : Side} {keys : Keys} {k j : Setting} {c : Profile} {begun begun_bac
               edge = h.apps_back.book.edge;
               owner = h.apps_back.book.owner;
               marks = h.apps_back.book.marks;
+              taken = h.apps_back.book.taken;
             };
             room = h.apps_back.room;
           };

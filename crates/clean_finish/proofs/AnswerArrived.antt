@@ -19,7 +19,7 @@ use Rattle.pace.specs.Moves.{MayHearData, IsBefore}
 use Rattle.pace.specs.Moves.Move.{goes_back, rests, hears}
 use Rattle.clean_finish.specs.Reading.{ReaderIs, end_known}
 use Rattle.clean_finish.specs.Segments.{Sent, Keys, copy_in}
-use Rattle.clean_finish.specs.Shows.{Hand, WayIs}
+use Rattle.clean_finish.specs.Shows.{AreTaken, Hand, WayIs}
 use Rattle.clean_finish.specs.Running.{Has, StageIs, HasNotBegun, Half, Facing}
 use Rattle.clean_finish.proofs.AnswerHeard.{answer_at, heard_own}
 use Rattle.clean_finish.proofs.AnswerHeard.{end_after as heard_end}
@@ -110,9 +110,9 @@ module _ {keys : Keys} {k j : Setting} {c : Profile} {begun begun_back : Lane} {
     stages_after = record {
       window = inl (done refl refl h.stages.window);
       update = inl (done refl refl h.stages.update);
-      emit = inr (inr (inr (inr (inr (inr (inl refl))))));
-      finish = inr (inr (inr (inr (inr (inr (inr (inl refl)))))));
-      wait = inr (inr (inr (inr (inr (inr (inr (inr (inr (inr (inl refl))))))))));
+      emit = inr (inr (inr (inr (inr (inr (inr (inl refl)))))));
+      finish = inr (inr (inr (inr (inr (inr (inr (inr (inl refl))))))));
+      wait = inr (inr (inr (inr (inr (inr (inr (inr (inr (inr (inr (inl refl)))))))))));
       tell = inl (⊎_elim (λ is. is) (λ there. absurd (never_tells there)) h.stages.tell);
       ask = inl (⊎_elim (λ is. is) (λ there. absurd (never_asks there)) h.stages.ask);
     }
@@ -131,7 +131,7 @@ module _ {keys : Keys} {k j : Setting} {c : Profile} {begun begun_back : Lane} {
       update = inl (done refl refl h.stages_back.update);
       emit = inl (done refl refl h.stages_back.emit);
       finish = inl (done refl refl h.stages_back.finish);
-      wait = inr (inr (inr (inr (inr (inr (inr (inr (inr (inr (inl refl))))))))));
+      wait = inr (inr (inr (inr (inr (inr (inr (inr (inr (inr (inr (inl refl)))))))))));
       tell = inr (inr (inr (inr (inr (inl refl))), refl));
       ask = inl refl;
     }
@@ -213,6 +213,7 @@ module _ {keys : Keys} {k j : Setting} {c : Profile} {begun begun_back : Lane} {
           edge = h.apps.book.edge;
           owner = h.apps.book.owner;
           marks = h.apps.book.marks;
+          taken = subst (λ (n : ℕ). AreTaken (h.out.granted + n) m.send.marks) nothing_waits h.apps.book.taken;
         };
         room = room_on h.out.granted nothing_waits h.apps.room;
       };
@@ -236,6 +237,7 @@ module _ {keys : Keys} {k j : Setting} {c : Profile} {begun begun_back : Lane} {
           edge = h.apps_back.book.edge;
           owner = h.apps_back.book.owner;
           marks = h.apps_back.book.marks;
+          taken = h.apps_back.book.taken;
         };
         room = h.apps_back.room;
       };
@@ -245,7 +247,7 @@ module _ {keys : Keys} {k j : Setting} {c : Profile} {begun begun_back : Lane} {
       control_back = h.control_back;
       turn = h.turn;
       turn_back = h.turn_back;
-      settles = inr (inr (inr (inr (inr (inr (inr (inr (inr (inl refl)))))))));
+      settles = inr (inr (inr (inr (inr (inr (inr (inr (inr (inr (inl refl))))))))));
       settles_back = inl (all_settled B n.end h.settles_back);
       begins = inl (sent_some sent_one);
       begins_back = begins_back_after h.begins_back;

@@ -143,6 +143,9 @@ module _ {keys : Keys} {k j : Setting} {c : Profile} {begun begun_back : Lane} {
     pub bytes_some : {waiting : ℕ} (granted : ℕ) → waiting ≡ 0 → 1 ≤ granted + 0 → 1 ≤ granted + waiting
     bytes_some granted none less = omega (arith, none, less)
 
+    pub one_most : {y : ℕ} → y ≡ 0 → max y 1 ≤ 1
+    one_most is = omega (arith, is)
+
     pub zero_max : {y : ℕ} → y ≡ 0 → max y 0 ≡ 0
     zero_max is = omega (arith, is)
 
@@ -203,7 +206,7 @@ module _ {keys : Keys} {k j : Setting} {c : Profile} {begun begun_back : Lane} {
         data_fin = h.own.sending.data_fin;
         acked = h.own.sending.acked;
         came = max_none h.back.data_fin_came ∙ h.own.sending.came;
-        shut = h.own.sending.shut;
+        shut = (λ e. h.own.sending.shut.0 nothing_waits, λ some. absurd (omega (arith, some)));
         granted = All-weaker (IsGranted h.out.sender h.waiting) (IsGranted (rested h.out).sender 0)
             (λ span is. record { waits = is.waits; within = within h.out.granted nothing_waits is.within }) m.end.sending.granted h.own.sending.granted;
         bytes = λ some_bytes. h.own.sending.bytes (bytes_some h.out.granted nothing_waits some_bytes);
@@ -219,6 +222,7 @@ module _ {keys : Keys} {k j : Setting} {c : Profile} {begun begun_back : Lane} {
         unmapped = h.own.receiving.unmapped;
         fin_told = h.own.receiving.fin_told;
         said = h.own.receiving.said;
+        unended = λ is clear. one_most none_came;
         unheard = λ is clear. (plus_zero at (h.own.receiving.unheard is clear).0, zero_max (h.own.receiving.unheard is clear).1, (h.own.receiving.unheard is clear).2);
       };
       modes = record {

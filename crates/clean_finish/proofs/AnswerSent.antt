@@ -24,7 +24,7 @@ use Rattle.pace.specs.Moves.{MaySay, MaySend}
 use Rattle.pace.specs.Moves.Move.{goes_back, sends_none, says}
 use Rattle.clean_finish.specs.Segments.{Sent, Keys, copy_in, said, FliesAs}
 use Rattle.clean_finish.specs.Segments.Brings.{OpensSubflow}
-use Rattle.clean_finish.specs.Shows.{Hand, EndIs, HeardIs, IsGranted, RecordsAre, WayIs, last_told, row_seen, brings_still}
+use Rattle.clean_finish.specs.Shows.{AreTaken, Hand, EndIs, HeardIs, IsGranted, RecordsAre, WayIs, last_told, row_seen, brings_still}
 use Rattle.clean_finish.specs.Shows.IsToldEdge.{Same}
 use Rattle.clean_finish.specs.Running.{Has, Half, Facing, IsSetting, HasNotBegun, StageIs}
 use Rattle.clean_finish.proofs.Dropping.{differ, behind, behind_or, IsApart, stage_drops, settles_drop, begun_drops}
@@ -259,6 +259,9 @@ module _ {keys : Keys} {k j : Setting} {c : Profile} {begun begun_back : Lane} {
             (fs gs : List (Flight Carried)) (f : Flight Carried) (flies : FliesAs c keys B f answer)
             (more : fs ≡ m.flying ++ f ∷ []) (same : gs ≡ n.flying)
           where
+            pub none_yet : {g w : ℕ} → g ≡ 0 → w ≡ 0 → g + w ≡ 0
+            none_yet p q = omega (arith, p, q)
+
             pub all : m.end.tcp.send.records ≡ h.own.subflow.records.sent ++ syn_record never_sent ∷ []
             all = h.own.subflow.records.all ∙ ap (λ (rs : List Record). h.own.subflow.records.sent ++ rs) rest
 
@@ -326,7 +329,7 @@ module _ {keys : Keys} {k j : Setting} {c : Profile} {begun begun_back : Lane} {
                 data_fin = max_none h.out.data_fin_sent ∙ h.own.sending.data_fin;
                 acked = h.own.sending.acked;
                 came = h.own.sending.came;
-                shut = h.own.sending.shut;
+                shut = (λ e. h.own.sending.shut.0 nothing_waits, λ some. absurd (omega (arith, some)));
                 granted = All-weaker (IsGranted h.out.sender h.waiting) (IsGranted out_after.sender 0)
                     (λ span is. record { waits = is.waits; within = within none_granted nothing_waits is.within }) m.end.sending.granted
                     h.own.sending.granted;
@@ -343,6 +346,7 @@ module _ {keys : Keys} {k j : Setting} {c : Profile} {begun begun_back : Lane} {
                 unmapped = h.own.receiving.unmapped;
                 fin_told = h.own.receiving.fin_told;
                 said = said_on h.own.receiving.said;
+                unended = λ is. absurd (not_a is);
                 unheard = λ is. absurd (not_a is);
               };
               modes = record {
@@ -442,6 +446,7 @@ module _ {keys : Keys} {k j : Setting} {c : Profile} {begun begun_back : Lane} {
                   edge = h.apps.book.edge;
                   owner = h.apps.book.owner;
                   marks = h.apps.book.marks;
+                  taken = subst (λ (n : ℕ). AreTaken n m.send.marks) (none_yet none_granted nothing_waits) h.apps.book.taken;
                 };
                 room = omega arith;
               };
@@ -465,6 +470,7 @@ module _ {keys : Keys} {k j : Setting} {c : Profile} {begun begun_back : Lane} {
                   edge = h.apps_back.book.edge;
                   owner = h.apps_back.book.owner;
                   marks = h.apps_back.book.marks;
+                  taken = h.apps_back.book.taken;
                 };
                 room = h.apps_back.room;
               };

@@ -31,18 +31,18 @@ use Rattle.clean_finish.proofs.SynTold.{told_own}
 
 emits_three : (d e f : Duty) → Emits A (d ∷ e ∷ f ∷ emission A)
 emits_three d e f = record {
-  bytes = inr (inr (inr (inr (inl refl))));
-  end = inr (inr (inr (inr (inr (inl refl)))));
-  timer = inr (inr (inr (inr (inr (inr (inr (inl refl)))))));
-  events = inr (inr (inr (inr (inr (inr (inr (inr (inl refl))))))));
+  bytes = inr (inr (inr (inr (inr (inl refl)))));
+  end = inr (inr (inr (inr (inr (inr (inl refl))))));
+  timer = inr (inr (inr (inr (inr (inr (inr (inr (inl refl))))))));
+  events = inr (inr (inr (inr (inr (inr (inr (inr (inr (inl refl)))))))));
 }
 
 emits_two : (d e : Duty) → Emits A (d ∷ e ∷ emission A)
 emits_two d e = record {
-  bytes = inr (inr (inr (inl refl)));
-  end = inr (inr (inr (inr (inl refl))));
-  timer = inr (inr (inr (inr (inr (inr (inl refl))))));
-  events = inr (inr (inr (inr (inr (inr (inr (inl refl)))))));
+  bytes = inr (inr (inr (inr (inl refl))));
+  end = inr (inr (inr (inr (inr (inl refl)))));
+  timer = inr (inr (inr (inr (inr (inr (inr (inl refl)))))));
+  events = inr (inr (inr (inr (inr (inr (inr (inr (inl refl))))))));
 }
 
 -- once the SYN/ACK came both SYNs are acknowledged
@@ -82,7 +82,7 @@ module _ (start : Start) (plan : PathPlan) (k j : Setting) (s v : Lane) (t0 u0 :
             let dss : x.telling.dss ≡ 0 = ap (λ (y : Telling). y.dss) t.0.seen in
             let there = emits_three (duties.Ask (ask_duties.PeerKey A)) (duties.Ask (ask_duties.Live A)) (duties.Send (send_duties.Acknowledge A)) in
             let up = established h.back.control_came p.a.tcp.send.una p.a.tcp.send.finished p.a.tcp.state h.own.subflow.phase t.0.came in
-            let faces = hears_on h.faces refl there x false t.0.hand 0 p.a.tcp.congestion.told.window (none_future _) next (plus (t.0.edge refl))
+            let faces = hears_on h.faces refl there x false t.0.hand 0 p.a.tcp.congestion.told.window (none_future _) (omega arith) next (plus (t.0.edge refl))
             (λ less. h.own.timer ∙ ap (λ (b : Bool). seen_timer (b || p.a.sending.news) p.a.tcp.timing.timer) t.0.news)
             p.a.sending p.a.modes p.a.treated refl
             (told_own h.faces refl there x false t.0.hand next dss (few seen) (low seen up.0)) in

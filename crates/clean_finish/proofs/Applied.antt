@@ -1,5 +1,5 @@
 -- The relation goes on with each step of an application.
-use Rattle.std.proofs.Common.{◌≡◌, refl, sym, subst, ap, ◌∙◌, ℕ, ◌≤◌, Bool, true, false, not, ◌||◌, if◌then◌else◌, is_some, List, [], ◌∷◌, ◌++◌, length, take, replicate, le_refl, length-append, length-take, arith}
+use Rattle.std.proofs.Common.{◌+◌, ◌≡◌, refl, sym, subst, ap, ◌∙◌, ℕ, ◌≤◌, Bool, true, false, not, ◌||◌, if◌then◌else◌, is_some, List, [], ◌∷◌, ◌++◌, length, take, replicate, le_refl, length-append, length-take, arith}
 use Rattle.std.proofs.lemmas.Bool.{and_parts, not-true, both_ways}
 use Rattle.std.proofs.lemmas.List.{length-replicate}
 use Rattle.outside_kit.specs.declared.side.Side.{Side}
@@ -33,6 +33,7 @@ use Rattle.pace.proofs.Moving.{all_moves_going}
 use Rattle.clean_finish.specs.Shows.{BookIs}
 use Rattle.clean_finish.specs.Running.{Running, IsAppTurn, keys_in}
 use Rattle.clean_finish.specs.Running.IsAppTurn.{Begun, Written, Closed, ReadAll, Ended}
+use Rattle.clean_finish.proofs.TakenMarks.{taken_written}
 use Rattle.clean_finish.proofs.Acting.{Acts, acts_by_write, acts_by_close, acts_by_read, acts_by_end}
 use Rattle.clean_finish.proofs.Moving.{more_than, moves_then}
 use Rattle.clean_finish.proofs.Turned.{rebooked}
@@ -98,14 +99,14 @@ none_left (x ∷ xs) e = cc
 
 -- ---- books
 
-record Grows (out : Sender) (b after : Sending) : Type 0 where
-  book : BookIs out after
+record Grows (out : Sender) (waiting : ℕ) (b after : Sending) : Type 0 where
+  book : BookIs out waiting after
   more : length b.written ≤ length after.written
 
-write_grows : (out : Sender) (bytes : List ℕ) (b : Sending) → BookIs out b → Grows out b (after_write bytes b)
-write_grows out bytes b is = by (b.closed || b.aborted)
+write_grows : (out : Sender) (waiting : ℕ) (bytes : List ℕ) (b : Sending) → BookIs out waiting b → Grows out waiting b (after_write bytes b)
+write_grows out waiting bytes b is = by (b.closed || b.aborted)
   where
-    by : (shut : Bool) → Grows out b (if shut then b else record b {
+    by : (shut : Bool) → Grows out waiting b (if shut then b else record b {
       written = b.written ++ take (bytes_taken bytes b) bytes;
       marks = b.marks ++ replicate (bytes_taken bytes b) (Free no_paths);
     })
@@ -116,16 +117,21 @@ write_grows out bytes b is = by (b.closed || b.aborted)
         let marks = length-append b.marks (replicate (bytes_taken bytes b) (Free no_paths)) in
         let free = length-replicate (bytes_taken bytes b) (Free no_paths) in
         record {
-          book = record { edge = is.edge; owner = is.owner; marks = omega (arith, len, some, marks, free, is.marks) };
+          book = record {
+            edge = is.edge;
+            owner = is.owner;
+            marks = omega (arith, len, some, marks, free, is.marks);
+            taken = taken_written (out.granted + waiting) (bytes_taken bytes b) b.marks is.taken;
+          };
           more = omega (arith, len);
         }
 
-close_grows : (out : Sender) (b : Sending) → BookIs out b → Grows out b (after_close b)
-close_grows out b is = by b.aborted
+close_grows : (out : Sender) (waiting : ℕ) (b : Sending) → BookIs out waiting b → Grows out waiting b (after_close b)
+close_grows out waiting b is = by b.aborted
   where
-    by : (aborted : Bool) → Grows out b (if aborted then b else record b { closed = true })
+    by : (aborted : Bool) → Grows out waiting b (if aborted then b else record b { closed = true })
     by true = record { book = is; more = le_refl _ }
-    by false = record { book = record { edge = is.edge; owner = is.owner; marks = is.marks }; more = le_refl _ }
+    by false = record { book = record { edge = is.edge; owner = is.owner; marks = is.marks; taken = is.taken }; more = le_refl _ }
 
 read_keeps : (most : ℕ) (b : Arriving) → (after_read most b).capacity ≡ b.capacity
 read_keeps most b = by (is_some b.aborted)
@@ -153,7 +159,7 @@ module _ (start : Start) (plan : PathPlan) (k j : Setting) (s v : Lane) (t0 u0 :
       acted : (ask : Ask) (send : Sending) (arrived : Arriving)
           → books_in (after_entry ask t.at_a.pass t.books) ≡ record six { send_a = send; reassembly_a = arrived }
           → Acts k s t0 h.stage h.out j v u0 h.stage_back h.back now now_back (app_takes (answer_to t.books ask) t.a) send arrived
-          → Grows h.out.sender six.send_a send → arrived.capacity ≡ j.buffer
+          → Grows h.out.sender h.waiting six.send_a send → arrived.capacity ≡ j.buffer
           → Running start plan k j s v (after_a ask t)
       acted ask send arrived only acts grows capacity = record {
         walker = h.walker;
@@ -239,7 +245,7 @@ module _ (start : Start) (plan : PathPlan) (k j : Setting) (s v : Lane) (t0 u0 :
           (sym f.a.side_is) (acted ask (after_write (offered t.a) six.send_a) six.reassembly_a (books_after ask t.at_a.pass t.books)
           (acts_by_write k s t0 h.stage h.out j v u0 h.stage_back h.back now now_back t.a six.send_a six.reassembly_a h.apps.writes
           h.apps_back.reads (from_write t.a.agenda ds h.turn at) (some_left t.a.rest (stands Write ds f at)) small)
-          (write_grows h.out.sender (offered t.a) six.send_a h.apps.book) h.apps_back.receives.capacity)
+          (write_grows h.out.sender h.waiting (offered t.a) six.send_a h.apps.book) h.apps_back.receives.capacity)
 
       act_close : Fare start t → (ds : List AppDuty) → t.a.agenda ≡ Close ∷ ds → Running start plan k j s v (after_a (app_ask Close t.a) t)
       act_close f ds at =
@@ -249,7 +255,7 @@ module _ (start : Start) (plan : PathPlan) (k j : Setting) (s v : Lane) (t0 u0 :
           (acts_by_close k s t0 h.stage h.out j v u0 h.stage_back h.back now now_back t.a six.send_a six.reassembly_a h.apps.writes
           h.apps_back.reads (from_close t.a.agenda ds h.turn at)
           (none_left t.a.rest (and_parts (is_nil t.a.rest) (not t.a.closed) (stands Close ds f at)).0))
-          (close_grows h.out.sender six.send_a h.apps.book) h.apps_back.receives.capacity)
+          (close_grows h.out.sender h.waiting six.send_a h.apps.book) h.apps_back.receives.capacity)
 
       act_read : Fare start t → (ds : List AppDuty) → t.a.agenda ≡ Read ∷ ds → Running start plan k j s v (after_a (app_ask Read t.a) t)
       act_read f ds at =
@@ -269,7 +275,7 @@ module _ (start : Start) (plan : PathPlan) (k j : Setting) (s v : Lane) (t0 u0 :
       acted_back : (ask : Ask) (send : Sending) (arrived : Arriving)
           → books_in (after_entry ask t.at_b.pass t.books) ≡ record six { send_b = send; reassembly_b = arrived }
           → Acts j v u0 h.stage_back h.back k s t0 h.stage h.out now_back now (app_takes (answer_to t.books ask) t.b) send arrived
-          → Grows h.back.sender six.send_b send → arrived.capacity ≡ k.buffer
+          → Grows h.back.sender h.waiting_back six.send_b send → arrived.capacity ≡ k.buffer
           → Running start plan k j s v (after_b ask t)
       acted_back ask send arrived only acts grows capacity = record {
         walker = h.walker;
@@ -359,7 +365,7 @@ module _ (start : Start) (plan : PathPlan) (k j : Setting) (s v : Lane) (t0 u0 :
           (sym f.b.side_is) (acted_back ask (after_write (offered t.b) six.send_b) six.reassembly_b (books_after ask t.at_b.pass t.books)
           (acts_by_write j v u0 h.stage_back h.back k s t0 h.stage h.out now_back now t.b six.send_b six.reassembly_b h.apps_back.writes
           h.apps.reads (from_write t.b.agenda ds h.turn_back at) (some_left t.b.rest (stands_b Write ds f at)) small_back)
-          (write_grows h.back.sender (offered t.b) six.send_b h.apps_back.book) h.apps.receives.capacity)
+          (write_grows h.back.sender h.waiting_back (offered t.b) six.send_b h.apps_back.book) h.apps.receives.capacity)
 
       act_b_close : Fare start t → (ds : List AppDuty) → t.b.agenda ≡ Close ∷ ds → Running start plan k j s v (after_b (app_ask Close t.b) t)
       act_b_close f ds at =
@@ -369,7 +375,7 @@ module _ (start : Start) (plan : PathPlan) (k j : Setting) (s v : Lane) (t0 u0 :
           (acts_by_close j v u0 h.stage_back h.back k s t0 h.stage h.out now_back now t.b six.send_b six.reassembly_b h.apps_back.writes
           h.apps.reads (from_close t.b.agenda ds h.turn_back at)
           (none_left t.b.rest (and_parts (is_nil t.b.rest) (not t.b.closed) (stands_b Close ds f at)).0))
-          (close_grows h.back.sender six.send_b h.apps_back.book) h.apps.receives.capacity)
+          (close_grows h.back.sender h.waiting_back six.send_b h.apps_back.book) h.apps.receives.capacity)
 
       act_b_read : Fare start t → (ds : List AppDuty) → t.b.agenda ≡ Read ∷ ds → Running start plan k j s v (after_b (app_ask Read t.b) t)
       act_b_read f ds at =

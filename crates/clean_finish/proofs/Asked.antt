@@ -127,6 +127,7 @@ module _ {s : Side} {keys : Keys} {k j : Setting} {c : Profile} {begun begun_bac
           unmapped = h.own.receiving.unmapped;
           fin_told = h.own.receiving.fin_told;
           said = h.own.receiving.said;
+          unended = h.own.receiving.unended;
           unheard = h.own.receiving.unheard;
         };
         modes = record {
@@ -201,6 +202,7 @@ module _ {s : Side} {keys : Keys} {k j : Setting} {c : Profile} {begun begun_bac
             edge = h.apps_back.book.edge;
             owner = h.apps_back.book.owner;
             marks = h.apps_back.book.marks;
+            taken = h.apps_back.book.taken;
           };
           room = h.apps_back.room;
         };

@@ -20,7 +20,7 @@ use Rattle.path_core.specs.Values.{Carried}
 use Rattle.pace.specs.Lane.{Setting, Lane, Stage}
 use Rattle.pace.specs.Moves.Move.{goes_back, rests}
 use Rattle.clean_finish.specs.Segments.{Sent, Keys}
-use Rattle.clean_finish.specs.Shows.{EndIs, WayIs}
+use Rattle.clean_finish.specs.Shows.{AreTaken, EndIs, WayIs}
 use Rattle.clean_finish.specs.Running.{Has, LaneStands, StageIs, Half, Facing}
 use Rattle.clean_finish.proofs.CopyHeeded.{Heeds}
 use Rattle.clean_finish.proofs.Hands.{in_hand, way_arrives}
@@ -45,10 +45,10 @@ in_copy s d count there = inr (inr (behind_heard s d 0 count (payload_came s) th
 
 pub copy_emits : (s : Side) (count : ℕ) → Emits s (copy_came s count)
 copy_emits s count = record {
-  bytes = in_copy s (duties.Step (step_duties.Data s)) count (inr (inr (inr (inr (inr (inr (inr (inr (inr (inr (inr (inr (inr (inr (inr (inr (inl refl)))))))))))))))));
-  end = in_copy s (duties.Send (send_duties.DataFin s)) count (inr (inr (inr (inr (inr (inr (inr (inr (inr (inr (inr (inr (inr (inr (inr (inr (inr (inl refl))))))))))))))))));
-  timer = in_copy s (duties.Silent (silent_duties.Timer s)) count (inr (inr (inr (inr (inr (inr (inr (inr (inr (inr (inr (inr (inr (inr (inr (inr (inr (inr (inr (inl refl))))))))))))))))))));
-  events = in_copy s (duties.Step step_duties.Events) count (inr (inr (inr (inr (inr (inr (inr (inr (inr (inr (inr (inr (inr (inr (inr (inr (inr (inr (inr (inr (inl refl)))))))))))))))))))));
+  bytes = in_copy s (duties.Step (step_duties.Data s)) count (inr (inr (inr (inr (inr (inr (inr (inr (inr (inr (inr (inr (inr (inr (inr (inr (inr (inl refl))))))))))))))))));
+  end = in_copy s (duties.Send (send_duties.DataFin s)) count (inr (inr (inr (inr (inr (inr (inr (inr (inr (inr (inr (inr (inr (inr (inr (inr (inr (inr (inl refl)))))))))))))))))));
+  timer = in_copy s (duties.Silent (silent_duties.Timer s)) count (inr (inr (inr (inr (inr (inr (inr (inr (inr (inr (inr (inr (inr (inr (inr (inr (inr (inr (inr (inr (inl refl)))))))))))))))))))));
+  events = in_copy s (duties.Step step_duties.Events) count (inr (inr (inr (inr (inr (inr (inr (inr (inr (inr (inr (inr (inr (inr (inr (inr (inr (inr (inr (inr (inr (inl refl))))))))))))))))))))));
 }
 
 module _ {s : Side} {keys : Keys} {k j : Setting} {c : Profile} {begun begun_back : Lane} {m n : Half} {clock until : ℕ}
@@ -175,6 +175,7 @@ module _ {s : Side} {keys : Keys} {k j : Setting} {c : Profile} {begun begun_bac
           edge = h.apps.book.edge;
           owner = h.apps.book.owner;
           marks = h.apps.book.marks;
+          taken = subst (λ (n : ℕ). AreTaken (h.out.granted + n) m.send.marks) waiting h.apps.book.taken;
         };
         room = room_on h.out.granted waiting h.apps.room;
       };

@@ -38,7 +38,7 @@ use Rattle.clean_finish.proofs.Opened.{waiting_on}
 use Rattle.clean_finish.proofs.Passing.{end_passes}
 use Rattle.clean_finish.proofs.Quiet.{now_out, now_back, phase_is}
 use Rattle.clean_finish.proofs.Ending.{end_after, own_ended}
-use Rattle.clean_finish.proofs.Sendings.{sent_off}
+use Rattle.clean_finish.proofs.Sendings.{same_bytes, sent_off}
 use Rattle.clean_finish.proofs.TakenMeant.{acknowledges_some}
 
 -- an acknowledgement with the DATA_FIN
@@ -354,7 +354,7 @@ module _ {s : Side} {keys : Keys} {k j : Setting} {c : Profile} {begun begun_bac
                 (refl, came, refl) refl (sent_some, refl, refl) (le_refl m.end.tcp.recv.edge) (le_refl m.end.tcp.recv.edge)
                 (sym same_control) (sym same_keys)
                 (way_none c keys k (peer s) h.back.sender h.back.receiver h.back.datas h.out.acks m.end.tcp.send.una n.end.tcp.recv.edge h.hand none n.flying h.way_back)
-                (room lane.numbers.granted) (inr events) h.stages (ended_stays (peer s) s (inr events) h.stages_back) h.settles h.settles_back
+                (room lane.numbers.granted) (same_bytes h.out.granted nothing_waits) (inr events) h.stages (ended_stays (peer s) s (inr events) h.stages_back) h.settles h.settles_back
                 (subst (λ (x : ℕ). 1 ≤ x) (sym same_control) sent_some) h.begins_back
                 (λ e b. absurd (both_ways false refl e))
 

@@ -32,7 +32,7 @@ use Rattle.clean_finish.proofs.Finishing.{end_after, own_finished}
 use Rattle.clean_finish.proofs.Hands.{way_none}
 use Rattle.clean_finish.proofs.Opened.{waiting_on}
 use Rattle.clean_finish.proofs.Quiet.{phase_is}
-use Rattle.clean_finish.proofs.Sendings.{sent_off}
+use Rattle.clean_finish.proofs.Sendings.{same_bytes, sent_off}
 use Rattle.clean_finish.proofs.TakenMeant.{acknowledges_some}
 use Rattle.clean_finish.proofs.TellsAll.{lane, lane_back, all_told, came, sent_some, so, acks, all, near, least_told}
 
@@ -204,7 +204,7 @@ module _ {s : Side} {keys : Keys} {k j : Setting} {c : Profile} {begun begun_bac
                 (refl, came ticks t u k_is j_is going going_back h still is_open.0 answered, refl) refl (one_sent, refl, refl)
                 (le_refl m.end.tcp.recv.edge) (le_refl m.end.tcp.recv.edge) two_sent (sym same_keys)
                 (way_none c keys k (peer s) h.back.sender h.back.receiver h.back.datas h.out.acks m.end.tcp.send.una n.end.tcp.recv.edge h.hand none n.flying h.way_back)
-                (room (lane ticks t u k_is j_is going going_back h).numbers.granted) events
+                (room (lane ticks t u k_is j_is going going_back h).numbers.granted) (same_bytes h.out.granted nothing_waits) events
                 (stage_drops s (peer s) (duties.Send (send_duties.Fin s)) ds n.end.treated.asked h.owes_back h.stage (is_apart s (peer s) (duties.Send (send_duties.Fin s)) refl) h.stages)
                 (ended_stays (peer s) s events
                 (stage_drops (peer s) s (duties.Send (send_duties.Fin s)) ds m.end.treated.asked h.owes h.stage_back (is_apart (peer s) s (duties.Send (send_duties.Fin s)) refl) h.stages_back))

@@ -110,7 +110,7 @@ module _ {s : Side} {keys : Keys} {k j : Setting} {c : Profile} {begun begun_bac
             data_fin = max_none none_fin ∙ h.own.sending.data_fin;
             acked = h.own.sending.acked;
             came = h.own.sending.came;
-            shut = h.own.sending.shut ∙ sym same_shut;
+            shut = (λ e. h.own.sending.shut.0 nothing_waits ∙ sym same_shut, λ some. absurd (omega (arith, some)));
             granted = All-weaker (IsGranted h.out.sender h.waiting) (IsGranted out_after.sender 0)
                 (λ span is. record { waits = is.waits; within = within same_granted nothing_waits is.within }) m.end.sending.granted h.own.sending.granted;
             bytes = λ some. h.own.sending.bytes (bytes_some h.waiting same_granted some);
@@ -126,6 +126,7 @@ module _ {s : Side} {keys : Keys} {k j : Setting} {c : Profile} {begun begun_bac
             unmapped = h.own.receiving.unmapped;
             fin_told = h.own.receiving.fin_told;
             said = said_on none_fin h.own.receiving.said;
+            unended = h.own.receiving.unended;
             unheard = λ is zero_is. absurd (not_clear clear zero_is);
           };
           modes = record {

@@ -33,7 +33,7 @@ use Rattle.clean_finish.specs.Machine.{IsPiece}
 use Rattle.clean_finish.specs.Reading.{ReaderShows, ReaderGoes}
 use Rattle.clean_finish.specs.Segments.{Keys}
 use Rattle.clean_finish.specs.Writing.{WriterShows, WriterGoes}
-use Rattle.clean_finish.specs.Shows.{EndIs, ControlIs, IsPhase, IsGranted}
+use Rattle.clean_finish.specs.Shows.{IsFree, EndIs, ControlIs, IsPhase, IsGranted}
 use Rattle.clean_finish.specs.Shows.IsPhase.{Opening as Opens, Listening}
 use Rattle.clean_finish.specs.Shows.Waits.{WaitsSyn}
 use Rattle.clean_finish.specs.Shows.IsToldEdge.{Same}
@@ -45,7 +45,7 @@ use Rattle.clean_finish.proofs.Writing.{turn_begins}
 use Rattle.clean_finish.proofs.Reading.{reading_begins}
 
 first_plain : ArePlain (tail_of (tail_of (tail_of start_of_turn)))
-first_plain = (refl, tt, (refl, (refl, inr (inr (inr (inr (inr (inr (inr (inr (inr (inr (inr (inr (inl refl))))))))))))), (refl, tt, (refl, (refl, inr (inr (inr (inr (inr (inr (inr (inr (inr (inr (inl refl))))))))))), (refl, (refl, inr (inr (inr (inr (inr (inr (inr (inr (inr (inl refl)))))))))), (refl, (inr (inr (inr (inr (inr (inr (inr (inr (inl refl))))))))), (refl, (refl, inr (inr (inr (inr (inr (inr (inr (inl refl)))))))), (refl, (refl, inr (inr (inr (inr (inr (inr (inl refl))))))), (refl, refl, (refl, (refl, inr (inr (inr (inr (inl refl))))), (refl, (inr (inr (inr (inl refl)))), (refl, (refl, inr (inr (inl refl))), (refl, (refl, inr (inl refl)), (refl, refl, (refl, refl, (refl, refl, tt))))))))))))))))
+first_plain = (refl, tt, (refl, (refl, inr (inr (inr (inr (inr (inr (inr (inr (inr (inr (inr (inr (inr (inr (inr (inr (inr (inr (inl refl))))))))))))))))))), (refl, tt, (refl, (refl, inr (inr (inr (inr (inr (inr (inr (inr (inr (inr (inr (inr (inr (inr (inr (inr (inl refl))))))))))))))))), (refl, tt, (refl, tt, (refl, (refl, inr (inr (inr (inr (inr (inr (inr (inr (inr (inr (inr (inr (inr (inl refl)))))))))))))), (refl, tt, (refl, (refl, inl refl, inr (inr (inr (inr (inr (inr (inr (inr (inr (inr (inr (inl refl)))))))))))), (refl, (refl, inr (inr (inr (inr (inr (inr (inr (inr (inr (inr (inl refl))))))))))), (refl, (refl, inr (inr (inr (inr (inr (inr (inr (inr (inr (inl refl)))))))))), (refl, refl, (refl, tt, (refl, tt, (refl, (refl, inr (inr (inr (inr (inr (inl refl)))))), (refl, tt, (refl, (refl, inl refl, inr (inr (inr (inl refl)))), (refl, (refl, inr (inr (inl refl))), (refl, (refl, inr (inl refl)), (refl, refl, (refl, refl, (refl, refl, tt))))))))))))))))))))))
 
 no : {X : Type 0} → false ≡ true → X
 no is = absurd (both_ways _ refl is)
@@ -155,7 +155,7 @@ module _ (k j : Setting) (window window_back : ℕ) (writer writer_back : Writer
       data_fin = refl;
       acked = sym (le-ltb k.total 0 (omega arith));
       came = refl;
-      shut = refl;
+      shut = (λ e. refl, λ some. absurd (omega (arith, some)));
       granted = All-nil (IsGranted out.sender 0);
       bytes = λ some. absurd (omega (arith, some));
       end = omega arith;
@@ -170,6 +170,7 @@ module _ (k j : Setting) (window window_back : ℕ) (writer writer_back : Writer
       unmapped = refl;
       fin_told = refl;
       said = omega arith;
+      unended = λ is none. omega arith;
       unheard = λ is none. (refl, refl, λ one. absurd (omega (arith, one)));
     };
     modes = record {
@@ -296,7 +297,7 @@ module _ (start : Start) (plan : PathPlan) (k j : Setting) (a b t t' : ℕ)
             reads = subst (λ (n : ℕ). ReaderShows k (with_apps a there.writes_by there.reads_by) (first_app_turn B start.buffer start.file_b None)
                 (reassembly_books.new_arriving n)) buffer there.reads;
             receives = record { read = there.reads.numbers.bytes; received = there.reads.received; known = there.reads.numbers.known; capacity = sym buffer };
-            book = record { edge = refl; owner = refl; marks = refl };
+            book = record { edge = refl; owner = refl; marks = refl; taken = All-nil IsFree };
             room = omega arith;
           };
           apps_back = record {
@@ -305,24 +306,24 @@ module _ (start : Start) (plan : PathPlan) (k j : Setting) (a b t t' : ℕ)
             reads = subst (λ (n : ℕ). ReaderShows j (with_apps b here.writes_by here.reads_by) (first_app_turn A start.buffer start.file_a None)
                 (reassembly_books.new_arriving n)) buffer_back here.reads;
             receives = record { read = here.reads.numbers.bytes; received = here.reads.received; known = here.reads.numbers.known; capacity = sym buffer_back };
-            book = record { edge = refl; owner = refl; marks = refl };
+            book = record { edge = refl; owner = refl; marks = refl; taken = All-nil IsFree };
             room = omega arith;
           };
           stages = record {
             window = inr (inr (inr (inr (inr (inl refl)))));
             update = inr (inr (inr (inr (inr (inr (inl refl))))));
-            emit = inr (inr (inr (inr (inr (inr (inr (inr (inl refl))))))));
-            finish = inr (inr (inr (inr (inr (inr (inr (inr (inr (inl refl)))))))));
-            wait = inr (inr (inr (inr (inr (inr (inr (inr (inr (inr (inr (inr (inr (inr (inr (inr (inr (inl refl)))))))))))))))));
+            emit = inr (inr (inr (inr (inr (inr (inr (inr (inr (inr (inr (inl refl)))))))))));
+            finish = inr (inr (inr (inr (inr (inr (inr (inr (inr (inr (inr (inr (inl refl))))))))))));
+            wait = inr (inr (inr (inr (inr (inr (inr (inr (inr (inr (inr (inr (inr (inr (inr (inr (inr (inr (inr (inr (inr (inr (inr (inl refl)))))))))))))))))))))));
             tell = inl refl;
             ask = inr (inl (inr (inr (inr (inr (inl refl))))));
           };
           stages_back = record {
             window = inr (inr (inr (inl refl)));
             update = inr (inr (inr (inr (inl refl))));
-            emit = inr (inr (inr (inr (inr (inr (inr (inr (inr (inr (inr (inr (inr (inl refl)))))))))))));
-            finish = inr (inr (inr (inr (inr (inr (inr (inr (inr (inr (inr (inr (inr (inr (inl refl))))))))))))));
-            wait = inr (inr (inr (inr (inr (inr (inr (inr (inr (inr (inr (inr (inr (inr (inr (inr (inr (inl refl)))))))))))))))));
+            emit = inr (inr (inr (inr (inr (inr (inr (inr (inr (inr (inr (inr (inr (inr (inr (inr (inr (inr (inr (inl refl)))))))))))))))))));
+            finish = inr (inr (inr (inr (inr (inr (inr (inr (inr (inr (inr (inr (inr (inr (inr (inr (inr (inr (inr (inr (inl refl))))))))))))))))))));
+            wait = inr (inr (inr (inr (inr (inr (inr (inr (inr (inr (inr (inr (inr (inr (inr (inr (inr (inr (inr (inr (inr (inr (inr (inl refl)))))))))))))))))))))));
             tell = inl refl;
             ask = inr (inl (inr (inr (inl refl))));
           };
@@ -340,7 +341,7 @@ module _ (start : Start) (plan : PathPlan) (k j : Setting) (a b t t' : ℕ)
             told = refl;
             next = refl;
             window = inr (inr (inr (inl refl)));
-            syn = λ is. (refl, inr (inr (inr (inr (inr (inr (inl refl)))))));
+            syn = λ is. (refl, inr (inr (inr (inr (inr (inr (inr (inr (inl refl)))))))));
           });
           begins_back = inr (record {
             ready = refl;

@@ -1,5 +1,5 @@
 -- A keeps B's key: from then on it may send bytes.
-use Rattle.std.proofs.Common.{◌≡◌, refl, ℕ, ◌+◌, ◌<◌, ◌≤◌, min, true, inl, inr, Option, Some, None, List, ◌∷◌, arith}
+use Rattle.std.proofs.Common.{◌≡◌, refl, subst, ℕ, ◌+◌, ◌<◌, ◌≤◌, min, true, inl, inr, Option, Some, None, List, ◌∷◌, arith}
 use Rattle.std.proofs.lemmas.Bool.{both_ways}
 use Rattle.std.proofs.lemmas.List.Elements.{All-weaker}
 use Rattle.outside_kit.specs.declared.side.Side.TheVariants.{A, B}
@@ -17,7 +17,7 @@ use Rattle.pace.specs.Going.{Going}
 use Rattle.pace.specs.Moves.{MayFlag}
 use Rattle.pace.specs.Moves.Move.{goes_back, flags}
 use Rattle.clean_finish.specs.Segments.{Keys}
-use Rattle.clean_finish.specs.Shows.{Hand, EndIs, HeardIs, IsGranted, last_told, row_seen}
+use Rattle.clean_finish.specs.Shows.{AreTaken, Hand, EndIs, HeardIs, IsGranted, last_told, row_seen}
 use Rattle.clean_finish.specs.Running.{Half, Facing, IsSetting}
 use Rattle.clean_finish.proofs.AckNew.{records_same}
 use Rattle.clean_finish.proofs.Dropping.{apart, is_apart, stage_drops, settles_drop, begun_drops}
@@ -128,7 +128,7 @@ module _ {keys : Keys} {k j : Setting} {c : Profile} {begun begun_back : Lane} {
         data_fin = h.own.sending.data_fin;
         acked = h.own.sending.acked;
         came = h.own.sending.came;
-        shut = h.own.sending.shut;
+        shut = (λ e. h.own.sending.shut.0 nothing_waits, λ some. absurd (omega (arith, some)));
         granted = All-weaker (IsGranted h.out.sender h.waiting) (IsGranted out_after.sender 0)
             (λ span is. record { waits = is.waits; within = within h.out.granted nothing_waits is.within }) m.end.sending.granted h.own.sending.granted;
         bytes = λ some. omega arith;
@@ -144,6 +144,7 @@ module _ {keys : Keys} {k j : Setting} {c : Profile} {begun begun_back : Lane} {
         unmapped = h.own.receiving.unmapped;
         fin_told = h.own.receiving.fin_told;
         said = h.own.receiving.said;
+        unended = h.own.receiving.unended;
         unheard = h.own.receiving.unheard;
       };
       modes = record {
@@ -218,6 +219,7 @@ module _ {keys : Keys} {k j : Setting} {c : Profile} {begun begun_back : Lane} {
           edge = h.apps.book.edge;
           owner = h.apps.book.owner;
           marks = h.apps.book.marks;
+          taken = subst (λ (n : ℕ). AreTaken (h.out.granted + n) m.send.marks) nothing_waits h.apps.book.taken;
         };
         room = room_on h.out.granted nothing_waits h.apps.room;
       };

@@ -73,6 +73,7 @@ module _ {s : Side} {keys : Keys} {k j : Setting} {c : Profile} {begun begun_bac
         edge = h.apps.book.edge;
         owner = h.apps.book.owner;
         marks = h.apps.book.marks;
+        taken = h.apps.book.taken;
       };
       room = h.apps.room;
     };
@@ -96,6 +97,7 @@ module _ {s : Side} {keys : Keys} {k j : Setting} {c : Profile} {begun begun_bac
         edge = h.apps_back.book.edge;
         owner = h.apps_back.book.owner;
         marks = h.apps_back.book.marks;
+        taken = h.apps_back.book.taken;
       };
       room = h.apps_back.room;
     };

@@ -26,7 +26,7 @@ use Rattle.pace.specs.Moves.{MaySay, MaySend, IsBefore}
 use Rattle.pace.specs.Moves.Move.{goes_back, sends_none, says}
 use Rattle.clean_finish.specs.Segments.{Sent, Keys, copy_in, said, FliesAs}
 use Rattle.clean_finish.specs.Segments.Brings.{OpensSubflow}
-use Rattle.clean_finish.specs.Shows.{EndIs, IsGranted, WayIs}
+use Rattle.clean_finish.specs.Shows.{AreTaken, EndIs, IsGranted, WayIs}
 use Rattle.clean_finish.specs.Shows.IsToldEdge.{Same}
 use Rattle.clean_finish.specs.Running.{Has, Half, Facing, IsSetting, HasNotBegun, StageIs}
 use Rattle.clean_finish.proofs.Dropping.{differ, IsApart, stage_drops, settles_drop, begun_drops}
@@ -207,6 +207,12 @@ module _ {keys : Keys} {k j : Setting} {c : Profile} {begun begun_back : Lane} {
         not_two : {x : ℕ} → x ≡ 0 → 2 ≤ max x 1 → ⊥
         not_two is two = absurd (omega (arith, is, two))
 
+        none_low : {x : ℕ} → x ≡ 0 → x ≤ 1
+        none_low is = omega (arith, is)
+
+        pub none_yet : {g w : ℕ} → g ≡ 0 → w ≡ 0 → g + w ≡ 0
+        none_yet p q = omega (arith, p, q)
+
         max_none : (x : ℕ) → max x 0 ≡ x
         max_none x = omega arith
 
@@ -309,7 +315,7 @@ module _ {keys : Keys} {k j : Setting} {c : Profile} {begun begun_back : Lane} {
                 data_fin = max_none h.out.data_fin_sent ∙ h.own.sending.data_fin;
                 acked = h.own.sending.acked;
                 came = h.own.sending.came;
-                shut = h.own.sending.shut;
+                shut = (λ e. h.own.sending.shut.0 nothing_waits, λ some. absurd (omega (arith, some)));
                 granted = All-weaker (IsGranted h.out.sender h.waiting) (IsGranted out_after.sender 0)
                     (λ span is. record { waits = is.waits; within = within none_granted nothing_waits is.within }) m.end.sending.granted
                     h.own.sending.granted;
@@ -326,6 +332,7 @@ module _ {keys : Keys} {k j : Setting} {c : Profile} {begun begun_back : Lane} {
                 unmapped = h.own.receiving.unmapped;
                 fin_told = h.own.receiving.fin_told;
                 said = said_on h.own.receiving.said;
+                unended = λ is clear. none_low (none.syn refl).0;
                 unheard = λ is clear. (none.received, none.data_fin, λ one. absurd (no_keys one h.own.modes.shown none.ready));
               };
               modes = record {
@@ -403,7 +410,7 @@ module _ {keys : Keys} {k j : Setting} {c : Profile} {begun begun_back : Lane} {
                   known = h.apps.receives.known;
                   capacity = h.apps.receives.capacity;
                 };
-                book = record { edge = h.apps.book.edge; owner = h.apps.book.owner; marks = h.apps.book.marks };
+                book = record { edge = h.apps.book.edge; owner = h.apps.book.owner; marks = h.apps.book.marks; taken = subst (λ (n : ℕ). AreTaken n m.send.marks) (none_yet none_granted nothing_waits) h.apps.book.taken };
                 room = omega arith;
               };
               apps_back = record {
@@ -415,7 +422,7 @@ module _ {keys : Keys} {k j : Setting} {c : Profile} {begun begun_back : Lane} {
                   known = h.apps_back.receives.known;
                   capacity = h.apps_back.receives.capacity;
                 };
-                book = record { edge = h.apps_back.book.edge; owner = h.apps_back.book.owner; marks = h.apps_back.book.marks };
+                book = record { edge = h.apps_back.book.edge; owner = h.apps_back.book.owner; marks = h.apps_back.book.marks; taken = h.apps_back.book.taken };
                 room = h.apps_back.room;
               };
               stages = stage_waits A B ds n.end.treated.asked h.owes_back h.stage events

@@ -1,5 +1,5 @@
 -- Duties that come to nothing are passed, as long as no copy is treated.
-use Rattle.std.proofs.Common.{◌≡◌, refl, ℕ, Bool, false, ◌⊎◌, inl, inr, List, [], ◌∷◌}
+use Rattle.std.proofs.Common.{◌≡◌, refl, ℕ, Bool, false, ◌⊎◌, inl, inr, List, [], ◌∷◌, arith}
 use Rattle.std.proofs.lemmas.Bool.{both_ways}
 use Rattle.outside_kit.specs.declared.side.Side.{Side}
 use Rattle.outside_kit.specs.declared.side.Side.TheVariants.{A, B}
@@ -21,7 +21,7 @@ use Rattle.world_laws.specs.Openings.{PathPlan, Start}
 use Rattle.pace.specs.Lane.{Setting, Lane, all_left}
 use Rattle.pace.specs.Going.{Going}
 use Rattle.clean_finish.specs.Segments.{Keys}
-use Rattle.clean_finish.specs.Running.{Has, Bench, own_bench, other_bench, is_window, any_duty, AreBetween, ArePlain, Treats, IsSetting, Runs, keys_in}
+use Rattle.clean_finish.specs.Running.{Has, Bench, own_bench, other_bench, is_window, any_duty, AreBetween, ArePlain, IsMapped, Treats, IsSetting, Runs, keys_in}
 use Rattle.clean_finish.proofs.Dropping.{is_waited, differ}
 use Rattle.clean_finish.proofs.Passing.{free_drops, update_passes, data_passes, end_passes}
 use Rattle.clean_finish.proofs.Quiet.{is_quiet, is_finished, no_window}
@@ -32,6 +32,10 @@ waits_none : (q : Side) (a b : Bench) → a.waiting ≡ 0 → b.waiting ≡ 0 �
 waits_none A a b none none_b = none_b
 waits_none B a b none none_b = none
 
+unmapped : (q : Side) (a b : Bench) → a.waiting ≡ 0 → b.waiting ≡ 0 → IsMapped q (pick q a b)
+unmapped A a b none none_b one = absurd (omega (arith, none, one))
+unmapped B a b none none_b one = absurd (omega (arith, none_b, one))
+
 -- what is left of a turn in which no copy is treated
 pub plain_on : (keys : Keys) (a b : Bench) (ds : List Duty) → AreBetween a b → a.waiting ≡ 0 → b.waiting ≡ 0 → ArePlain ds
     → Treats keys a b ds
@@ -41,7 +45,10 @@ plain_on keys a b (duties.Step (step_duties.Look s) ∷ ds) between none none_b 
 plain_on keys a b (duties.Ask (ask_duties.Window s) ∷ ds) between none none_b plain = (between, none, none_b, plain.0, plain.1, plain.2)
 plain_on keys a b (duties.Send (send_duties.Update s) ∷ ds) between none none_b plain = (between, none, none_b, plain.0, plain.1, plain.2)
 plain_on keys a b (duties.Send (send_duties.Syn s) ∷ ds) between none none_b plain = (between, none, none_b, plain.0, plain.1, plain.2)
-plain_on keys a b (duties.Step (step_duties.Data q) ∷ ds) between none none_b plain = (between, waits_none q a b none none_b, (plain.1, plain.2))
+plain_on keys a b (duties.Send (send_duties.FastClose s) ∷ ds) between none none_b plain = (between, none, none_b, plain.0, plain.1, plain.2)
+plain_on keys a b (duties.Send (send_duties.ResetNoted s) ∷ ds) between none none_b plain = (between, none, none_b, plain.0, plain.1, plain.2)
+plain_on keys a b (duties.Ask (ask_duties.LeaveNoted s) ∷ ds) between none none_b plain = (between, none, none_b, plain.0, plain.1, plain.2)
+plain_on keys a b (duties.Step (step_duties.Data q) ∷ ds) between none none_b plain = (between, waits_none q a b none none_b, unmapped q a b none none_b, plain.1, plain.2)
 plain_on keys a b (duties.Send (send_duties.DataFin s) ∷ ds) between none none_b plain = (between, none, none_b, plain.0, plain.1, plain.2)
 plain_on keys a b (duties.Send (send_duties.Fin s) ∷ ds) between none none_b plain = (between, none, none_b, plain.0, plain.1, plain.2)
 plain_on keys a b (duties.Silent (silent_duties.Timer s) ∷ ds) between none none_b plain = (between, none, none_b, plain.0, plain.1, plain.2)
@@ -68,6 +75,8 @@ plain_on keys a b (duties.Send (send_duties.Again s) ∷ ds) between none none_b
 plain_on keys a b (duties.Send (send_duties.Answer s) ∷ ds) between none none_b plain = absurd (both_ways _ refl plain.0)
 plain_on keys a b (duties.Send (send_duties.ResetAnswer s) ∷ ds) between none none_b plain = absurd (both_ways _ refl plain.0)
 plain_on keys a b (duties.Ask (ask_duties.Return s) ∷ ds) between none none_b plain = absurd (both_ways _ refl plain.0)
+plain_on keys a b (duties.Ask (ask_duties.AbortSend s) ∷ ds) between none none_b plain = absurd (both_ways _ refl plain.0)
+plain_on keys a b (duties.Ask (ask_duties.AbortReceive s) ∷ ds) between none none_b plain = absurd (both_ways _ refl plain.0)
 plain_on keys a b (duties.Send (send_duties.Resend s) ∷ ds) between none none_b plain = absurd (both_ways _ refl plain.0)
 plain_on keys a b (duties.Ask (ask_duties.BreakAck s i) ∷ ds) between none none_b plain = absurd (both_ways _ refl plain.0)
 plain_on keys a b (duties.Send (send_duties.BreakReset s i) ∷ ds) between none none_b plain = absurd (both_ways _ refl plain.0)
@@ -167,7 +176,7 @@ module _ (start : Start) (plan : PathPlan) (k j : Setting) (s v : Lane) (t0 u0 :
               path = h.path;
               link = h.link;
               faces = data_passes ds h.faces is.1;
-              treats = plain_on keys _ _ ds t.0 is.0 t.1 t.2.1;
+              treats = plain_on keys _ _ ds t.0 is.0 t.1 t.4;
             }
 
         pub passes_data_b : data_stands p.profile B p.b (first_unsent p.b) ≡ false → Relation (duties.Step (step_duties.Data B) ∷ ds) → Relation ds
@@ -179,5 +188,5 @@ module _ (start : Start) (plan : PathPlan) (k j : Setting) (s v : Lane) (t0 u0 :
               path = h.path;
               link = h.link;
               faces = from_b keys k j s v a b books (with_agenda ds p) (data_passes ds back is.1);
-              treats = plain_on keys _ _ ds t.0 t.1 is.0 t.2.1;
+              treats = plain_on keys _ _ ds t.0 t.1 is.0 t.4;
             }

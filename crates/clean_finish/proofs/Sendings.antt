@@ -1,5 +1,5 @@
 -- An end sends a segment: both lanes and the link, whatever it brings.
-use Rattle.std.proofs.Common.{◌≡◌, refl, sym, subst, ℕ, ◌+◌, ◌≤◌, Bool, true, false, ◌⊎◌, inl, Option, List, [], ◌∷◌, ◌++◌}
+use Rattle.std.proofs.Common.{◌≡◌, refl, sym, subst, ℕ, ◌+◌, ◌≤◌, Bool, true, false, ◌⊎◌, inl, Option, List, [], ◌∷◌, ◌++◌, arith}
 use Rattle.outside_kit.specs.declared.side.Side.{Side}
 use Rattle.link_model.specs.declared.flight.Flight.{Flight}
 use Rattle.link_model.specs.Steps.{peer}
@@ -14,11 +14,15 @@ use Rattle.pace.specs.Rules.{sends, said_by}
 use Rattle.pace.specs.Moves.{Move, MaySay}
 use Rattle.pace.specs.Moves.Move.{goes_back, says}
 use Rattle.clean_finish.specs.Segments.{Sent, Keys, copy_in, FliesAs, CountsAs, TellsAs, AcknowledgesAs, ShowsFirst}
-use Rattle.clean_finish.specs.Shows.{Hand, brings_still, EndIs, WayIs}
+use Rattle.clean_finish.specs.Shows.{Hand, brings_still, AreTaken, EndIs, WayIs}
 use Rattle.clean_finish.specs.Running.{Has, StageIs, IsSettledSoon, HasNotBegun, Half, Facing}
 use Rattle.clean_finish.proofs.Opened.{waiting_on, before_waiting, stage_waits}
 use Rattle.clean_finish.proofs.Passing.{stands_then}
 use Rattle.clean_finish.proofs.Ways.{way_more}
+
+-- where it has no bytes
+pub same_bytes : {waiting : ℕ} (granted : ℕ) → waiting ≡ 0 → granted + 0 + 0 ≡ granted + waiting
+same_bytes granted none = omega (arith, none)
 
 module _ {s : Side} {keys : Keys} {k j : Setting} {c : Profile} {begun begun_back : Lane} {m n : Half} {clock until : ℕ} {es : List Duty}
     (h : Facing s keys k j c begun begun_back m n clock until es) (x : Sent) (shut : Bool)
@@ -44,7 +48,7 @@ module _ {s : Side} {keys : Keys} {k j : Setting} {c : Profile} {begun begun_bac
         (control : x.control ≡ out_after.control_sent) (shown : x.keys ≡ out_after.keys_sent)
         (other : WayIs c keys k (peer s) h.back.sender h.back.receiver h.back.datas h.out.acks hand e.tcp.send.una n.end.tcp.recv.edge n.flying)
         -- what is left to be done
-        (room : out_after.granted + waiting ≤ h.out.written) (events : Has (duties.Step step_duties.Events) ds)
+        (room : out_after.granted + waiting ≤ h.out.written) (bytes : out_after.granted + waiting ≡ h.out.granted + h.waiting) (events : Has (duties.Step step_duties.Events) ds)
         (stages : StageIs s (peer s) ds n.end.treated.asked h.owes_back h.stage)
         (stages_back : StageIs (peer s) s ds e.treated.asked owes (record (waiting_on h.stage_back) { tell = tell; update = update }))
         (settles : IsSettledSoon s ds e) (settles_back : IsSettledSoon (peer s) ds n.end)
@@ -117,6 +121,7 @@ module _ {s : Side} {keys : Keys} {k j : Setting} {c : Profile} {begun begun_bac
               edge = h.apps.book.edge;
               owner = h.apps.book.owner;
               marks = h.apps.book.marks;
+              taken = subst (λ (n : ℕ). AreTaken n m.send.marks) (sym bytes) h.apps.book.taken;
             };
             room = room;
           };
@@ -140,6 +145,7 @@ module _ {s : Side} {keys : Keys} {k j : Setting} {c : Profile} {begun begun_bac
               edge = h.apps_back.book.edge;
               owner = h.apps_back.book.owner;
               marks = h.apps_back.book.marks;
+              taken = h.apps_back.book.taken;
             };
             room = h.apps_back.room;
           };

@@ -155,7 +155,7 @@ module _ {s : Side} {keys : Keys} {k j : Setting} {c : Profile} {begun begun_bac
             (le_le now.numbers.granted now.numbers.written) in
             bytes_reason k h.out left.0 (h.own.sending.bytes (less_of h.waiting left.1))
         not_acked all up (inr (inr (inl shut))) =
-            let is = now.shut (sym h.own.sending.shut ∙ shut) in
+            let is = now.shut (sym (h.own.sending.shut.0 nothing_waits) ∙ shut) in
             bytes_reason k h.out (shut_open now.numbers.acked now.numbers.received is.0 now.numbers.written) is.1
         not_acked all up (inr (inr (inr some))) =
             let less = some_ahead m.end.tcp.send.una m.end.tcp.send.nxt m.end.tcp.send.records some h.own.subflow.records.tile in
@@ -334,6 +334,7 @@ module _ {s : Side} {keys : Keys} {k j : Setting} {c : Profile} {begun begun_bac
             unmapped = h.own.receiving.unmapped;
             fin_told = h.own.receiving.fin_told;
             said = h.own.receiving.said;
+            unended = h.own.receiving.unended;
             unheard = h.own.receiving.unheard;
           };
           modes = record {
@@ -407,6 +408,7 @@ module _ {s : Side} {keys : Keys} {k j : Setting} {c : Profile} {begun begun_bac
               edge = h.apps.book.edge;
               owner = h.apps.book.owner;
               marks = h.apps.book.marks;
+              taken = h.apps.book.taken;
             };
             room = h.apps.room;
           };

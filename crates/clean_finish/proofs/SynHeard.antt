@@ -155,6 +155,7 @@ module _ {keys : Keys} {k j : Setting} {c : Profile} {begun begun_back : Lane} {
         unmapped = h.own.receiving.unmapped;
         fin_told = h.own.receiving.fin_told;
         said = h.own.receiving.said;
+        unended = λ is. absurd (not_a is);
         unheard = λ is. absurd (not_a is);
       };
       modes = record {

@@ -115,6 +115,7 @@ module _ {s : Side} {keys : Keys} {k j : Setting} {c : Profile} {begun begun_bac
         unmapped = h.own.receiving.unmapped;
         fin_told = h.own.receiving.fin_told;
         said = h.own.receiving.said;
+        unended = λ is clear. h.own.receiving.unended is (sym same_clear ∙ clear);
         unheard = λ is clear. h.own.receiving.unheard is (sym same_clear ∙ clear);
       };
       modes = record {

@@ -190,7 +190,7 @@ module _ {s : Side} {keys : Keys} {k j : Setting} {c : Profile} {begun begun_bac
             data_fin = h.own.sending.data_fin;
             acked = h.own.sending.acked;
             came = h.own.sending.came;
-            shut = h.own.sending.shut;
+            shut = (λ e. h.own.sending.shut.0 waiting, λ some. absurd (omega (arith, some)));
             granted = All-weaker (IsGranted h.out.sender h.waiting) (IsGranted out_after.sender 0)
                 (λ span is. record { waits = is.waits; within = within h.out.granted waiting is.within }) m.end.sending.granted h.own.sending.granted;
             bytes = λ one. h.own.sending.bytes (bytes_some h.out.granted waiting one);
@@ -206,6 +206,7 @@ module _ {s : Side} {keys : Keys} {k j : Setting} {c : Profile} {begun begun_bac
             unmapped = h.own.receiving.unmapped;
             fin_told = h.own.receiving.fin_told;
             said = h.own.receiving.said;
+            unended = h.own.receiving.unended;
             unheard = h.own.receiving.unheard;
           };
           modes = record {

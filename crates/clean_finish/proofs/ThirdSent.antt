@@ -41,7 +41,7 @@ use Rattle.clean_finish.proofs.Opened.{waiting_on}
 use Rattle.clean_finish.proofs.Plainly.{plain_on}
 use Rattle.clean_finish.proofs.Quiet.{now_out, now_back}
 use Rattle.clean_finish.proofs.Saying.{end_after, own_said}
-use Rattle.clean_finish.proofs.Sendings.{sent_off}
+use Rattle.clean_finish.proofs.Sendings.{same_bytes, sent_off}
 use Rattle.clean_finish.proofs.Templates.{emission_plain, emission_emits}
 
 -- as a lane counts it
@@ -257,7 +257,7 @@ module _ {keys : Keys} {k j : Setting} {c : Profile} {begun begun_back : Lane} {
             fs gs f flies more same
             (record { some = some_edge edge_one; bytes = omega arith; most = most_edge j.total edge_one; end = λ e. absurd (omega (arith, e)) }, λ is e. omega arith)
             (refl, refl, refl, refl) refl (sent_one, refl, unshown, refl) (le_refl m.end.tcp.recv.edge) (le_refl m.end.tcp.recv.edge)
-            (one_again sent_one) (key_is unshown) done (room lane.numbers.granted) events
+            (one_again sent_one) (key_is unshown) done (room lane.numbers.granted) (same_bytes h.out.granted nothing_waits) events
             (stage_drops A B (duties.Send (send_duties.Acknowledge A)) ds n.end.treated.asked h.owes_back h.stage others h.stages)
             (answered_drops h.stage_back.update refl h.stages_back events)
             (inr timer) (settles_drop B (duties.Send (send_duties.Acknowledge A)) ds n.end (differ refl) h.settles_back) (some_max sent_one)

@@ -35,7 +35,7 @@ use Rattle.clean_finish.proofs.Opened.{no_repeat, waiting_on}
 use Rattle.clean_finish.proofs.Passing.{peer_is_other, same_update}
 use Rattle.clean_finish.proofs.Quiet.{now_out, now_back, phase_is}
 use Rattle.clean_finish.proofs.Saying.{end_after, own_said}
-use Rattle.clean_finish.proofs.Sendings.{sent_off}
+use Rattle.clean_finish.proofs.Sendings.{same_bytes, sent_off}
 use Rattle.clean_finish.proofs.TakenMeant.{acknowledges_some}
 
 -- an acknowledgement of an end that may use the DSS
@@ -346,7 +346,7 @@ module _ {s : Side} {keys : Keys} {k j : Setting} {c : Profile} {begun begun_bac
                 (refl, came, refl) refl (sent_some, refl, refl) (le_refl m.end.tcp.recv.edge) (le_refl m.end.tcp.recv.edge)
                 (sym same_control) (sym same_keys)
                 (way_none c keys k (peer s) h.back.sender h.back.receiver h.back.datas h.out.acks m.end.tcp.send.una n.end.tcp.recv.edge h.hand none n.flying h.way_back)
-                (room lane.numbers.granted) events
+                (room lane.numbers.granted) (same_bytes h.out.granted nothing_waits) events
                 (stage_drops s (peer s) (duties.Send (send_duties.Update s)) ds n.end.treated.asked h.owes_back h.stage others h.stages)
                 (updated_drops (peer s) s h.stages_back events)
                 (settles_drop s (duties.Send (send_duties.Update s)) ds (end_after h update h.out.shut) (differ refl) h.settles)

@@ -44,7 +44,7 @@ pub edge_more : (x : Sent) (edge : ℕ) (xs : List Sent) → edge_after edge (xs
 edge_more x edge [] = refl
 edge_more x edge (y ∷ ys) = edge_more x y.edge ys
 
-map_end : {X Y : Type 0} (f : X → Y) (xs : List X) (y : X) → map f (xs ++ y ∷ []) ≡ map f xs ++ f y ∷ []
+pub map_end : {X Y : Type 0} (f : X → Y) (xs : List X) (y : X) → map f (xs ++ y ∷ []) ≡ map f xs ++ f y ∷ []
 map_end f [] y = refl
 map_end f (x ∷ xs) y = ap (λ (zs : List _). f x ∷ zs) (map_end f xs y)
 

@@ -7,6 +7,7 @@ use Rattle.outside_kit.specs.declared.side.Side.TheVariants.{A, B}
 use Rattle.link_script.specs.Places.{same_side}
 use Rattle.path_segments.specs.Laws.{meant}
 use Rattle.send_book.specs.State.{Sending as SendBook}
+use Rattle.subflow_send.specs.Records.{Record}
 use Rattle.subflow_tcp.specs.Segments.{occupied}
 use Rattle.reassembly_book.specs.State.{Arriving as ArrivingBook}
 use Rattle.link_model.specs.declared.flight.Flight.{Flight}
@@ -31,7 +32,9 @@ use Rattle.path_agenda.specs.declared.duty.SilentDuty.TheVariants as silent_duti
 use Rattle.path_agenda.specs.declared.duty.StepDuty.TheVariants as step_duties
 use Rattle.path_core.specs.Arriving.{copy_of, items_of}
 use Rattle.path_core.specs.Starts.{PathStart}
+use Rattle.path_core.specs.Emission.{first_unsent}
 use Rattle.path_core.specs.Ends.{PathEnd}
+use Rattle.path_core.specs.OptionsOut.{mapping_of}
 use Rattle.path_core.specs.State.{PathState, Profile, end_at}
 use Rattle.path_core.specs.Values.{Carried, values}
 use Rattle.world_laws.specs.Openings.{PathPlan, Start, path_begins, opened_world}
@@ -82,7 +85,7 @@ pub record AppsShow (k : Setting) (lane : Lane) (waiting : ℕ) (writer : AppSta
   pub writes : WriterShows k lane writer send
   pub reads : ReaderShows k lane reader arrived
   pub receives : ReceiverIs k lane arrived
-  pub book : BookIs lane.sender send
+  pub book : BookIs lane.sender waiting send
   -- what waits to be sent was written
   pub room : lane.granted + waiting ≤ lane.written
 
@@ -282,7 +285,10 @@ is_plain (duties.Ask ask_duties.JoinAgain) = true
 is_plain (duties.Step (step_duties.Look s)) = true
 is_plain (duties.Ask (ask_duties.Window s)) = true
 is_plain (duties.Send (send_duties.Update s)) = true
+is_plain (duties.Ask (ask_duties.LeaveNoted s)) = true
+is_plain (duties.Send (send_duties.ResetNoted s)) = true
 is_plain (duties.Send (send_duties.Syn s)) = true
+is_plain (duties.Send (send_duties.FastClose s)) = true
 is_plain (duties.Step (step_duties.Data s)) = true
 is_plain (duties.Send (send_duties.DataFin s)) = true
 is_plain (duties.Send (send_duties.Fin s)) = true
@@ -308,7 +314,8 @@ any_duty is (d ∷ ds) = is d || any_duty is ds
 abbrev pub IsBefore : Duty → List Duty → Type 0
 IsBefore (duties.Send (send_duties.Update s)) ds = (any_duty (is_window s) ds ≡ false) × Has (duties.Step step_duties.Events) ds
 IsBefore (duties.Send (send_duties.Syn s)) ds = (any_duty (is_window s) ds ≡ false) × Has (duties.Step step_duties.Events) ds
-IsBefore (duties.Step (step_duties.Data s)) ds = Has (duties.Step step_duties.Events) ds
+IsBefore (duties.Step (step_duties.Data s)) ds =
+    (any_duty (is_window s) ds ≡ false) × Has (duties.Send (send_duties.DataFin s)) ds × Has (duties.Step step_duties.Events) ds
 IsBefore (duties.Send (send_duties.DataFin s)) ds = (any_duty (is_window s) ds ≡ false) × Has (duties.Step step_duties.Events) ds
 IsBefore (duties.Send (send_duties.Fin s)) ds = (any_duty (is_window s) ds ≡ false) × Has (duties.Step step_duties.Events) ds
 IsBefore (duties.Silent (silent_duties.Timer s)) ds = any_duty (is_syn s) ds ≡ false
@@ -321,6 +328,10 @@ abbrev pub ArePlain : List Duty → Type 0
 ArePlain [] = Unit {0}
 ArePlain (d ∷ ds) = (is_plain d ≡ true) × IsBefore d ds × ArePlain ds
 
+-- bytes that wait have the mapping of their place
+abbrev pub IsMapped : Side → Bench → Type 0
+IsMapped q x = 1 ≤ x.waiting → (r : Record) → first_unsent x.end ≡ Some r → r.mapping ≡ mapping_of x.profile q x.out.granted r.pos r.piece
+
 abbrev pub AreBetween : Bench → Bench → Type 0
 AreBetween a b = IsBetween A a × IsBetween B b
 
@@ -328,7 +339,8 @@ AreBetween a b = IsBetween A a × IsBetween B b
 -- nothing is said yet.
 abbrev pub Treats : Keys → Bench → Bench → List Duty → Type 0
 Treats keys a b [] = AreBetween a b × (a.waiting ≡ 0) × (b.waiting ≡ 0)
-Treats keys a b (duties.Step (step_duties.Data q) ∷ ds) = AreBetween a b × (pick q b.waiting a.waiting ≡ 0) × (Has (duties.Step step_duties.Events) ds × ArePlain ds)
+Treats keys a b (duties.Step (step_duties.Data q) ∷ ds) =
+    AreBetween a b × (pick q b.waiting a.waiting ≡ 0) × IsMapped q (pick q a b) × IsBefore (duties.Step (step_duties.Data q)) ds × ArePlain ds
 Treats keys a b (duties.Ask (ask_duties.SynHeard q) ∷ ds) =
     TreatsSyn q true b × IsBetween A a × (a.waiting ≡ 0) × (ds ≡ duties.Ask (ask_duties.PlainHandshake q) ∷ duties.Send (send_duties.SynAck q) ∷ emission q)
 Treats keys a b (duties.Ask (ask_duties.PlainHandshake q) ∷ ds) =

@@ -10,6 +10,8 @@ use Rattle.control_book.specs.Control.{Control}
 use Rattle.control_book.specs.Registry.{opening_paths}
 use Rattle.fallback_state.specs.declared.fall.Mode.{Mode}
 use Rattle.fallback_state.specs.declared.fall.Mode.TheVariants.{Starting, Sure}
+use Rattle.send_book.specs.declared.mark.ByteMark.{ByteMark}
+use Rattle.send_book.specs.Marks.{is_free_for}
 use Rattle.send_book.specs.State.{Sending as SendBook}
 use Rattle.path_segments.specs.Laws.{window_told}
 use Rattle.subflow_send.specs.declared.record.RecordKind.TheVariants.{Data}
@@ -177,7 +179,8 @@ pub record SendingIs (k : Setting) (out : Sender) (back : Receiver) (waiting : �
   pub data_fin : out.data_fin_sent ≡ count_of v.fin_sent
   pub acked : v.close.own_acked ≡ nat_lt k.total out.acked
   pub came : back.data_fin_came ≡ count_of v.close.peer_came
-  pub shut : v.shut ≡ out.shut
+  -- the grant of bytes that wait opened it again
+  pub shut : (waiting ≡ 0 → v.shut ≡ out.shut) × (1 ≤ waiting → v.shut ≡ false)
   pub granted : All (IsGranted out waiting) v.granted
   -- bytes go where they may, the DATA_FIN where there is a DSS, the FIN once that was acknowledged
   pub bytes : 1 ≤ out.granted + waiting → 1 ≤ out.ready
@@ -199,7 +202,8 @@ pub record ReceivingIs (s : Side) (j : Setting) (out : Sender) (owes : Bool) (ba
   pub fin_told : v.fin_told ≡ false
   -- a DATA_FIN that it said is one that it sent
   pub said : back.said ≤ out.data_fin_sent
-  -- until A heard a DSS no bytes came, and what it showed its keys with told all of its buffer
+  -- until A heard a DSS no bytes and no FIN came, and what it showed its keys with told all of its buffer
+  pub unended : s ≡ A → out.clear ≡ 0 → back.control_came ≤ 1
   pub unheard : s ≡ A → out.clear ≡ 0 → (back.received ≡ 0) × (back.data_fin_came ≡ 0) × (1 ≤ out.keys_sent → j.buffer ≤ v.told_edge + 31)
 
 -- ---- how an end stands to Multipath TCP
@@ -238,11 +242,22 @@ pub record EndIs (s : Side) (keys : Keys) (k j : Setting) (out : Sender) (back :
   pub modes : ModesAre s keys out back e.modes
   pub timer : out.timer ≡ seen_timer (e.tcp.timing.news || e.sending.news) e.tcp.timing.timer
 
--- marks of bytes that one path took: acknowledged, held by it, and free
-pub record BookIs (out : Sender) (b : SendBook) : Type 0 where
+-- path 0 may take the byte
+abbrev pub IsFree : ByteMark → Type 0
+IsFree m = is_free_for 0 m ≡ true
+
+-- The path took so many bytes, and behind them all are free.
+abbrev pub AreTaken : ℕ → List ByteMark → Type 0
+AreTaken zero marks = All IsFree marks
+AreTaken (suc n) [] = ⊥
+AreTaken (suc n) (m ∷ marks) = (is_free_for 0 m ≡ false) × AreTaken n marks
+
+-- the book of a stream that goes on one path, which took what was granted
+pub record BookIs (out : Sender) (waiting : ℕ) (b : SendBook) : Type 0 where
   pub edge : b.edge ≡ out.edge
   pub owner : b.owner ≡ None
   pub marks : length b.marks ≡ length b.written
+  pub taken : AreTaken (out.granted + waiting) b.marks
 
 -- one path is there, and nothing but Multipath TCP is known
 pub record ControlIs (s : Side) (keys : Keys) (b : Control) : Type 0 where

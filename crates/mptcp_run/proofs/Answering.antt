@@ -34,7 +34,7 @@ use Rattle.mptcp_run.specs.Task.{Task, Course, rounds, threads, told, task_from,
 use Rattle.mptcp_run.specs.Rounds.{all_turns}
 use Rattle.run_outside.proofs.Calls.{Told, all_then, cut_then, short_then, short_cut}
 use Rattle.mptcp_run.proofs.Logged.{whole_runs_are_told}
-use Rattle.mptcp_run.proofs.Promised.{plain_tasks_are_kept, whole_runs_give_prefixes, delivered_runs_give_files, stopped_runs_give_prefixes, cut_runs_give_prefixes, lines_cut_give_prefixes}
+use Rattle.mptcp_run.proofs.Promised.{plain_tasks_are_kept, whole_runs_give_prefixes, whole_runs_have_cause, delivered_runs_give_files, stopped_runs_give_prefixes, cut_runs_give_prefixes, lines_cut_give_prefixes}
 
 abbrev Ports : Type 0
 Ports = Port → Option (List ℕ)
@@ -365,6 +365,7 @@ module _ (content : List ℕ → Option (List ℕ)) (line : Line) (loads_before 
           whole = h.whole;
           puts_are = refl;
           logged = whole_runs_are_told task status held holds kept plain.ranges.few_paths some h.whole;
+          caused = whole_runs_have_cause task status held holds plain h.whole;
         });
         prefixes = prefixes (whole_runs_give_prefixes task status held holds plain h.whole);
         calls = h.calls;

@@ -6,8 +6,9 @@ use Rattle.outside_kit.specs.Outside.{HoldsAfter}
 use Rattle.outside_kit.specs.declared.side.Side.TheVariants.{A, B}
 use Rattle.pipe_model.specs.Prefix.{IsPrefix}
 use Rattle.path_core.specs.Octets.{octets}
+use Rattle.world_laws.specs.AbortCause.{PeerStopped}
 use Rattle.world_laws.specs.Openings.{start_of}
-use Rattle.world_laws.specs.Outcomes.{outcome_by, outcome_of, output_of, tells_end, was_told, notes_of}
+use Rattle.world_laws.specs.Outcomes.{outcome_by, outcome_of, output_of, tells_abort, tells_end, was_told, notes_of}
 use Rattle.world_laws.specs.Serial.{steps_and, round_and, spelled}
 use Rattle.world_laws.specs.Worlds.{Turn, world_step, end_round, world_run}
 use Rattle.world_laws.proofs.PromisesOfScripts.{plain_scripts_keep_all_promises, plain_scripts_are_shown_of_values}
@@ -17,7 +18,7 @@ use Rattle.run_outside.specs.declared.status.Status.TheVariants.{Delivered}
 use Rattle.run_outside.specs.Ports.{HoldsWithin}
 use Rattle.world_core.specs.RoundEnds.{round_ends, last_end}
 use Rattle.mptcp_run.specs.Putting.{status_of, read_so_far, world_after}
-use Rattle.mptcp_run.specs.Promised.{IsPlainTask, EndsWithRound, HoldsPrefixOf, HoldsPrefixIfBound, PlainTasksAreKept, WholeRunsGivePrefixes, DeliveredRunsGiveFiles, StoppedRunsGivePrefixes, CutRunsGivePrefixes, LinesCutGivePrefixes}
+use Rattle.mptcp_run.specs.Promised.{IsPlainTask, IsAbortCaused, EndsWithRound, HoldsPrefixOf, HoldsPrefixIfBound, PlainTasksAreKept, WholeRunsGivePrefixes, WholeRunsHaveCause, DeliveredRunsGiveFiles, StoppedRunsGivePrefixes, CutRunsGivePrefixes, LinesCutGivePrefixes}
 use Rattle.mptcp_run.specs.Task.{Connection, Task, Course, rounds, threads, told, first_world, AreTurnsOf}
 use Rattle.mptcp_run.proofs.RoundsWoven.{woven_to_the_end}
 
@@ -160,6 +161,23 @@ lines_cut_give_prefixes task turns old new plain ports = record {
   read_by_b = prefix_held _ _ (read_so_far B task turns) task.file_a ports.read_by_b (b_has_a_prefix task plain turns);
   read_by_a = prefix_held _ _ (read_so_far A task turns) task.file_b ports.read_by_a (a_has_a_prefix task plain turns);
 }
+
+-- ---- aborted
+
+cause_of : (w : Connection) (aborted_a aborted_b delivered dead : Bool) → (aborted_a ≡ true → PeerStopped A w) → (aborted_b ≡ true → PeerStopped B w)
+    → IsAbortCaused (status_of (outcome_by aborted_a aborted_b delivered dead)) w
+cause_of w true b both dead at_a at_b = at_a refl
+cause_of w false true both dead at_a at_b = at_b refl
+cause_of w false false true dead at_a at_b = tt
+cause_of w false false false true at_a at_b = tt
+cause_of w false false false false at_a at_b = tt
+
+pub whole_runs_have_cause : WholeRunsHaveCause
+whole_runs_have_cause task status old new plain whole =
+    let w : Connection = world_after task whole.turns in
+    let cause = (plain_tasks_are_kept task whole.turns plain).promises.aborts in
+    subst (λ s. IsAbortCaused s w) (sym whole.status_is)
+    (cause_of w (was_told tells_abort (notes_of A w.crew)) (was_told tells_abort (notes_of B w.crew)) _ _ (cause A) (cause B))
 
 -- ---- delivered
 

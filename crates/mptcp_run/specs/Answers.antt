@@ -18,8 +18,8 @@ use Rattle.mptcp_run.specs.Made.{Bench}
 use Rattle.run_outside.specs.Plan.{AddsAll, AddsCut, AddsLoadsTo, loads_of, plan_of}
 use Rattle.mptcp_run.specs.Plan.{puts_so_far, all_puts}
 use Rattle.run_outside.specs.Ports.{IsUntouched}
-use Rattle.mptcp_run.specs.Promised.{IsAlwaysKept, ReadersHaveFiles, ReadersHavePrefixes, ReadersHavePrefixesIfBound}
-use Rattle.mptcp_run.specs.Putting.{IsWhole, IsStopped}
+use Rattle.mptcp_run.specs.Promised.{IsAbortCaused, IsAlwaysKept, ReadersHaveFiles, ReadersHavePrefixes, ReadersHavePrefixesIfBound}
+use Rattle.mptcp_run.specs.Putting.{IsWhole, IsStopped, world_after}
 use Rattle.run_outside.specs.Script.{script_meaning}
 use Rattle.run_outside.specs.Reading.{script_of, log_reading}
 use Rattle.mptcp_run.specs.Task.{Task, task_of}
@@ -38,11 +38,12 @@ pub record WasRead (content : List ℕ → Option (List ℕ)) (line : Line) : Ty
   pub kept : IfSome (task_of content line) IsAlwaysKept
 
 -- A run of a task came to its own end: the ports hold the run of all its turns, these are the puts
--- of them, and the log tells them.
+-- of them, the log tells them, and an abort by a reader's peer has its cause.
 pub record HasRun (task : Task) (status : Status) (puts : List Call) (held holds : Ports) : Type 0 where
   pub whole : IsWhole task status held holds
   pub puts_are : puts ≡ all_puts task whole.turns
   pub logged : LogTellsTheRun task whole.turns status held holds
+  pub caused : IsAbortCaused status (world_after task whole.turns)
 
 -- It stopped at a turn that can't be made: the ports hold the rounds before, and these are their
 -- puts.

@@ -6,6 +6,7 @@ use Rattle.outside_kit.specs.declared.port.Port.{Port}
 use Rattle.outside_kit.specs.declared.port.Port.TheVariants.{ReadByA, ReadByB}
 use Rattle.outside_kit.specs.Outside.{HoldsAfter}
 use Rattle.pipe_model.specs.Prefix.{IsPrefix}
+use Rattle.world_laws.specs.AbortCause.{PeerStopped}
 use Rattle.world_laws.specs.Laws.{WritesTheFiles}
 use Rattle.world_laws.specs.Openings.{start_of}
 use Rattle.world_laws.specs.PlainScripts.{IsPlainScript, KeepsAllPromises, IsShownOfValues}
@@ -13,12 +14,12 @@ use Rattle.world_laws.specs.RoundDone.{EndsOnTime, RoundIsDone, round_of}
 use Rattle.world_laws.specs.Worlds.{Turn, all_over}
 use Rattle.path_core.specs.Octets.{octets}
 use Rattle.run_outside.specs.declared.status.Status.{Status}
-use Rattle.run_outside.specs.declared.status.Status.TheVariants.{Delivered}
+use Rattle.run_outside.specs.declared.status.Status.TheVariants.{Delivered, Aborted}
 use Rattle.mptcp_run.specs.Ends.{HoldsSomeRounds, HoldsToLine}
 use Rattle.mptcp_run.specs.Putting.{world_after, IsWhole, IsStopped}
 use Rattle.run_outside.specs.declared.input.Input.{Input}
 use Rattle.run_outside.specs.Inputs.{AreWithinLimits}
-use Rattle.mptcp_run.specs.Task.{Task, Course, rounds, threads, told, task_of}
+use Rattle.mptcp_run.specs.Task.{Connection, Task, Course, rounds, threads, told, task_of}
 
 -- no line of the script alters a payload, and both files are shorter than 2^31 - 2 octets
 abbrev pub IsPlainTask : Task → Type 0
@@ -63,6 +64,12 @@ module _ (file_a file_b : Option (List ℕ)) (old new : Port → Option (List �
     pub read_by_b : IfSome file_a (λ file. HoldsPrefixIfBound (old ReadByB) (new ReadByB) file)
     pub read_by_a : IfSome file_b (λ file. HoldsPrefixIfBound (old ReadByA) (new ReadByA) file)
 
+-- where the status is that a reader was told of an abort by its peer, the peer's application had asked for a fast close, and the
+-- reader's side had accepted one with its own key
+abbrev pub IsAbortCaused : Status → Connection → Type 0
+IsAbortCaused (Aborted reader) w = PeerStopped reader w
+IsAbortCaused _ w = Unit {0}
+
 -- The connection after these turns.
 pub record IsKept (task : Task) (turns : List Turn) : Type 0 where
   -- In each direction what was read is a prefix of what was written, what was acknowledged was
@@ -103,6 +110,12 @@ abbrev pub DeliveredRunsGiveFiles : Type 0
 DeliveredRunsGiveFiles =
     (task : Task) (old new : Port → Option (List ℕ)) → IsPlainTask task → EndsWithRound task.course
     → IsWhole task Delivered old new → ReadersHaveFiles (Some task.file_a) (Some task.file_b) old new
+
+-- whose last state shows why it was aborted
+abbrev pub WholeRunsHaveCause : Type 0
+WholeRunsHaveCause =
+    (task : Task) (status : Status) (old new : Port → Option (List ℕ)) → IsPlainTask task
+    → (whole : IsWhole task status old new) → IsAbortCaused status (world_after task whole.turns)
 
 -- a run that stopped at a turn that can't be made
 abbrev pub StoppedRunsGivePrefixes : Type 0

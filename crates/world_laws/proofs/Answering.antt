@@ -37,14 +37,13 @@ use Rattle.path_core.specs.Events.{died}
 use Rattle.path_core.specs.Opening.{syn_ack_of}
 use Rattle.path_core.specs.Joining.{keys_begun, asked_at, join_heard_ask, joined_by, join_taken, answered_join_heard, refusal_of, answered_refusal, with_mode_refused}
 use Rattle.path_core.specs.Passing.{first_record, first_segment, answer_of, answer_occasion, answered_answer, answered_again, outgoing_or, dead_answer, answered_dead, resend_occasion, resend_of, answered_resend, rate_ask}
-use Rattle.path_core.specs.OptionsOut.{ack_said, syn_ack_said, record_or_ack, reset_options, segment_of}
+use Rattle.path_core.specs.OptionsOut.{ack_said, carried_said, syn_ack_said, record_or_ack, reset_options, segment_of}
 use Rattle.path_core.specs.Handover.{sends, having_sent, sent_on}
 use Rattle.path_core.specs.Standing.{ack_out_ask, after_ack_out, answered_ack_out, ack_segment}
 use Rattle.path_core.specs.State.{PathState, Profile, end_at, goes_on, left, with_agenda}
 use Rattle.path_core.specs.Values.{Carried, values}
 use Rattle.path_core.specs.Words.{is_side_a}
 use Rattle.path_core.specs.FastClosing.{answered_fast_close, fast_close_of, having_fast_closed, with_fast_closed}
-use Rattle.path_core.specs.Segments.{carried_said}
 use Rattle.world_laws.proofs.Doing.{has_last, with_fin_sent, sends_the_fin, fin_goes, wants_ack_out}
 use Rattle.world_laws.proofs.Growing.{receiver_stays}
 use Rattle.world_laws.proofs.Ending.{Did, did_nothing, told_end, finished_shows, unfinished_if}

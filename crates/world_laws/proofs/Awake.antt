@@ -1,5 +1,5 @@
 -- A's end of a path that joins does nothing before A's book began a join, and never falls back: over octets as over values.
-use Rattle.std.proofs.Common.{◌≡◌, refl, sym, ◌∙◌, ap, subst, inl, inr, ℕ, ◌&&◌, ◌||◌, not, is_some, nat_lt, length, Bool, true, false, if◌then◌else◌, Option, Some, None, List, [], ◌∷◌, ◌++◌}
+use Rattle.std.proofs.Common.{◌≡◌, refl, sym, ◌∙◌, ap, subst, ℕ, ◌&&◌, ◌||◌, not, is_some, nat_lt, length, Bool, true, false, if◌then◌else◌, Option, Some, None, List, [], ◌∷◌, ◌++◌}
 use Rattle.std.proofs.lemmas.Bool.{both_ways, false≢true}
 use Rattle.outside_kit.specs.declared.side.Side.{Side}
 use Rattle.outside_kit.specs.declared.side.Side.TheVariants.{A, B}
@@ -73,25 +73,25 @@ use Rattle.world_laws.proofs.KeysWoken.{is_up, NoWaking, WakesNone, joined_wakes
 
 -- no more is said, and A's side falls no more
 pub record Less (ds es : List Duty) : Type 0 where
-  pub said : speaks (inl A) es ≡ true → speaks (inl A) ds ≡ true
-  pub falls : speaks (inr A) es ≡ true → speaks (inr A) ds ≡ true
+  pub said : speaks (Voice.Says A) es ≡ true → speaks (Voice.Says A) ds ≡ true
+  pub falls : speaks (Voice.Falls A) es ≡ true → speaks (Voice.Falls A) ds ≡ true
 
 same_less : (ds : List Duty) → Less ds ds
 same_less ds = record { said = λ is. is; falls = λ is. is }
 
 tail_less : (ds : List Duty) → Less ds (tail_of ds)
-tail_less ds = record { said = λ is. tail_speaks (inl A) ds is; falls = λ is. tail_speaks (inr A) ds is }
+tail_less ds = record { said = λ is. tail_speaks (Voice.Says A) ds is; falls = λ is. tail_speaks (Voice.Falls A) ds is }
 
-replaced_less : (d : Duty) (ds : List Duty) → is_said_by (inl A) d ≡ false → is_said_by (inr A) d ≡ false → Less ds (replaced d ds)
-replaced_less d ds silent calm = record { said = λ is. replaced_speaks (inl A) d ds silent is; falls = λ is. replaced_speaks (inr A) d ds calm is }
+replaced_less : (d : Duty) (ds : List Duty) → is_said_by (Voice.Says A) d ≡ false → is_said_by (Voice.Falls A) d ≡ false → Less ds (replaced d ds)
+replaced_less d ds silent calm = record { said = λ is. replaced_speaks (Voice.Says A) d ds silent is; falls = λ is. replaced_speaks (Voice.Falls A) d ds calm is }
 
 -- a list that isn't the path's own
-new_less : (ds es : List Duty) → speaks (inl A) es ≡ false → speaks (inr A) es ≡ false → Less ds es
+new_less : (ds es : List Duty) → speaks (Voice.Says A) es ≡ false → speaks (Voice.Falls A) es ≡ false → Less ds es
 new_less ds es silent calm = record { said = λ is. absurd (both_ways _ silent is); falls = λ is. absurd (both_ways _ calm is) }
 
 -- ---- templates
 
-meant_calm : (joined : Bool) (s : Side) (count : ℕ) (m : Meaning) → speaks (inr A) (template_by joined s count m) ≡ false
+meant_calm : (joined : Bool) (s : Side) (count : ℕ) (m : Meaning) → speaks (Voice.Falls A) (template_by joined s count m) ≡ false
 meant_calm joined s count means.Ignored = refl
 meant_calm joined s count means.Unwanted = refl
 meant_calm joined s count means.Opens = refl
@@ -105,14 +105,14 @@ meant_calm joined s count means.Unacknowledging = refl
 meant_calm joined s count means.Ahead = refl
 meant_calm joined s count (means.Taken pos acknowledged) = came_calm A s count
 
-template_calm : (joined : Bool) (s : Side) (count : ℕ) (v : Judged) → speaks (inr A) (template_judged joined s count v) ≡ false
+template_calm : (joined : Bool) (s : Side) (count : ℕ) (v : Judged) → speaks (Voice.Falls A) (template_judged joined s count v) ≡ false
 template_calm joined s count judged.Asks = refl
 template_calm joined s count judged.Lacks = refl
 template_calm joined s count judged.Forged = refl
 template_calm joined s count (judged.As m) = meant_calm joined s count m
 
 -- A says what an end says that is up, where it heard a copy
-template_said : (s : Side) (count : ℕ) (v : Judged) (tcp : EndState) → WakesNone (taken_as v) tcp → speaks (inl A) (template_judged true s count v) ≡ true → (A ≡ s) × (is_up tcp ≡ true)
+template_said : (s : Side) (count : ℕ) (v : Judged) (tcp : EndState) → WakesNone (taken_as v) tcp → speaks (Voice.Says A) (template_judged true s count v) ≡ true → (A ≡ s) × (is_up tcp ≡ true)
 template_said s count judged.Asks tcp none spoken = absurd (false≢true spoken)
 template_said s count judged.Lacks tcp none spoken = absurd (false≢true spoken)
 template_said s count judged.Forged tcp none spoken = absurd (false≢true spoken)
@@ -170,8 +170,8 @@ keys_identity replies.Done o m = refl
 module _ {C : Type 0} (k : Codec C) (W : Type 0) where
   pub record Awake (p : PathState C) : Type 0 where
     pub woken : is_joined p.profile ≡ true → is_up p.a.tcp ≡ true → W
-    pub known : is_joined p.profile ≡ true → speaks (inl A) p.agenda ≡ true → W
-    pub calm : is_joined p.profile ≡ true → speaks (inr A) p.agenda ≡ true → ⊥
+    pub known : is_joined p.profile ≡ true → speaks (Voice.Says A) p.agenda ≡ true → W
+    pub calm : is_joined p.profile ≡ true → speaks (Voice.Falls A) p.agenda ≡ true → ⊥
     pub plain : is_joined p.profile ≡ true → p.a.modes.identity ≡ false
 
   -- A's end is up where it was, and fell back where it had
@@ -189,8 +189,8 @@ module _ {C : Type 0} (k : Codec C) (W : Type 0) where
   up_goes B e p up same = tt
 
   -- what is said then is said by a side that joined
-  goes_by : (s : Side) (e : PathEnd) (ds : List Duty) (p : PathState C) → Goes s p e → (is_joined p.profile ≡ true → speaks (inl A) ds ≡ true → W)
-      → (is_joined p.profile ≡ true → speaks (inr A) ds ≡ true → ⊥) → Awake p → Awake (goes_on s e ds p)
+  goes_by : (s : Side) (e : PathEnd) (ds : List Duty) (p : PathState C) → Goes s p e → (is_joined p.profile ≡ true → speaks (Voice.Says A) ds ≡ true → W)
+      → (is_joined p.profile ≡ true → speaks (Voice.Falls A) ds ≡ true → ⊥) → Awake p → Awake (goes_on s e ds p)
   goes_by A e ds p g said calm h = record { woken = λ joins up. h.woken joins (g.0 up); known = said; calm = calm; plain = λ joins. g.1 ∙ h.plain joins }
   goes_by B e ds p g said calm h = record { woken = h.woken; known = said; calm = calm; plain = h.plain }
 
@@ -278,12 +278,12 @@ module _ {C : Type 0} (k : Codec C) (W : Type 0) where
   passed_profile _ p = refl
 
   -- of a list of duties in place of the path's own
-  settled_awake : (ds : List Duty) (p : PathState C) → Awake p → (is_joined p.profile ≡ true → speaks (inl A) ds ≡ true → W) → (is_joined p.profile ≡ true → speaks (inr A) ds ≡ true → ⊥) → Awake (settled ds p)
+  settled_awake : (ds : List Duty) (p : PathState C) → Awake p → (is_joined p.profile ≡ true → speaks (Voice.Says A) ds ≡ true → W) → (is_joined p.profile ≡ true → speaks (Voice.Falls A) ds ≡ true → ⊥) → Awake (settled ds p)
   settled_awake [] p h known calm = record { woken = h.woken; known = known; calm = calm; plain = h.plain }
   settled_awake (d ∷ ds) p h known calm =
       by (stands d p)
       (settled_awake ds (passed d p) (passed_awake d p h)
-      (λ joins is. known (sym (ap is_joined (passed_profile d p)) ∙ joins) (tail_speaks (inl A) (d ∷ ds) is)) (λ joins is. calm (sym (ap is_joined (passed_profile d p)) ∙ joins) (tail_speaks (inr A) (d ∷ ds) is)))
+      (λ joins is. known (sym (ap is_joined (passed_profile d p)) ∙ joins) (tail_speaks (Voice.Says A) (d ∷ ds) is)) (λ joins is. calm (sym (ap is_joined (passed_profile d p)) ∙ joins) (tail_speaks (Voice.Falls A) (d ∷ ds) is)))
     where
       by : (b : Bool) → Awake (settled ds (passed d p)) → Awake (if b then with_agenda (d ∷ ds) p else settled ds (passed d p))
       by true rest = record { woken = h.woken; known = known; calm = calm; plain = h.plain }
@@ -302,8 +302,8 @@ module _ {C : Type 0} (k : Codec C) (W : Type 0) where
   line_awake false p h = agenda rest_of_turn p (new_less p.agenda rest_of_turn refl refl) h
   line_awake true p h = record {
     woken = λ joins. up joins (is_dead p.a.tcp.state);
-    known = λ joins is. absurd (both_ways _ (silent (inl A) (is_dead p.a.tcp.state) (is_dead p.b.tcp.state)) is);
-    calm = λ joins is. both_ways _ (silent (inr A) (is_dead p.a.tcp.state) (is_dead p.b.tcp.state)) is;
+    known = λ joins is. absurd (both_ways _ (silent (Voice.Says A) (is_dead p.a.tcp.state) (is_dead p.b.tcp.state)) is);
+    calm = λ joins is. both_ways _ (silent (Voice.Falls A) (is_dead p.a.tcp.state) (is_dead p.b.tcp.state)) is;
     plain = λ joins. fell joins (is_dead p.a.tcp.state);
   }
     where
@@ -340,7 +340,7 @@ module _ {C : Type 0} (k : Codec C) (W : Type 0) where
       e : PathEnd
       e = end_at s p
 
-      own : (s : Side) → is_up (end_at s p).tcp ≡ true → is_joined p.profile ≡ true → speaks (inl A) (template_fired false s) ≡ true → W
+      own : (s : Side) → is_up (end_at s p).tcp ≡ true → is_joined p.profile ≡ true → speaks (Voice.Says A) (template_fired false s) ≡ true → W
       own A up joins is = h.woken joins up
       own B up joins is = absurd (false≢true is)
 
@@ -381,7 +381,7 @@ module _ {C : Type 0} (k : Codec C) (W : Type 0) where
             asked_identity m heard.options (cleared_in m state (answered_in m items p.a.modes)) ∙ join_identity m state items p.a.modes,
           )
 
-      said : (s : Side) → speaks (inl A) (template_judged true s (length (items_of true s heard)) (judged_in true s heard (end_at s p))) ≡ true → is_joined p.profile ≡ true → W
+      said : (s : Side) → speaks (Voice.Says A) (template_judged true s (length (items_of true s heard)) (judged_in true s heard (end_at s p))) ≡ true → is_joined p.profile ≡ true → W
       said B is joins = let both = template_said B (length (items_of true B heard)) (judged_in true B heard p.b) p.b.tcp (joined_wakes_none heard.rst (items_of true B heard) p.b (copy_of heard)) is in cc
       said A is joins =
           h.woken joins (template_said A (length (items_of true A heard)) (judged_in true A heard p.a) p.a.tcp (joined_wakes_none heard.rst (items_of true A heard) p.a (copy_of heard)) is).1
@@ -486,14 +486,14 @@ module _ {C : Type 0} (k : Codec C) (W : Type 0) where
   heard_answered_awake : (s : Side) (item : Heard) (r : Reply) (p : PathState C) → Said s p → So (heard_ask k s item p) r → Awake p → Awake (answered_heard k s item r p)
   heard_answered_awake s (says.DataAck next window) r p said so h = by (is_acked r && nat_lt 0 next)
     where
-      told : (s : Side) → Said s p → is_joined p.profile ≡ true → speaks (inl A) (replaced (duties.Ask (ask_duties.AckHeard s)) p.agenda) ≡ true → W
+      told : (s : Side) → Said s p → is_joined p.profile ≡ true → speaks (Voice.Says A) (replaced (duties.Ask (ask_duties.AckHeard s)) p.agenda) ≡ true → W
       told A said joins is = said joins
-      told B said joins is = h.known joins (replaced_speaks (inl A) (duties.Ask (ask_duties.AckHeard B)) p.agenda refl is)
+      told B said joins is = h.known joins (replaced_speaks (Voice.Says A) (duties.Ask (ask_duties.AckHeard B)) p.agenda refl is)
 
       by : (b : Bool) → Awake (goes_on s (with_acked next r (end_at s p)) (if b then replaced (duties.Ask (ask_duties.AckHeard s)) p.agenda else left p) p)
       by true =
           goes_by s (with_acked next r (end_at s p)) (replaced (duties.Ask (ask_duties.AckHeard s)) p.agenda) p (same_goes s (with_acked next r (end_at s p)) p refl refl refl) (told s said)
-          (λ joins is. h.calm joins (replaced_speaks (inr A) (duties.Ask (ask_duties.AckHeard s)) p.agenda refl is)) h
+          (λ joins is. h.calm joins (replaced_speaks (Voice.Falls A) (duties.Ask (ask_duties.AckHeard s)) p.agenda refl is)) h
       by false = same s (with_acked next r (end_at s p)) (left p) p refl refl refl (tail_less p.agenda) h
   heard_answered_awake s (says.Mapping fin) r p said so h = by (is_clash (end_at s p)) so
     where
@@ -555,21 +555,21 @@ module _ {C : Type 0} (k : Codec C) (W : Type 0) where
   joined_awake s (Some keys) None r p is so h = agenda _ p (replaced_less (duties.Send (send_duties.Refuse s)) p.agenda refl refl) h
   joined_awake A (Some keys) (Some asked) r p is so h =
       let now : W = so (ap (λ o. is_some o) is) in
-      record { woken = λ joins up. now; known = λ joins spoken. now; calm = λ joins spoken. h.calm joins (replaced_speaks (inr A) (duties.Send (send_duties.SynAck A)) p.agenda refl spoken); plain = h.plain }
+      record { woken = λ joins up. now; known = λ joins spoken. now; calm = λ joins spoken. h.calm joins (replaced_speaks (Voice.Falls A) (duties.Send (send_duties.SynAck A)) p.agenda refl spoken); plain = h.plain }
   joined_awake B (Some keys) (Some asked) r p is so h =
       record {
         woken = h.woken;
-        known = λ joins spoken. h.known joins (replaced_speaks (inl A) (duties.Send (send_duties.SynAck B)) p.agenda refl spoken);
-        calm = λ joins spoken. h.calm joins (replaced_speaks (inr A) (duties.Send (send_duties.SynAck B)) p.agenda refl spoken);
+        known = λ joins spoken. h.known joins (replaced_speaks (Voice.Says A) (duties.Send (send_duties.SynAck B)) p.agenda refl spoken);
+        calm = λ joins spoken. h.calm joins (replaced_speaks (Voice.Falls A) (duties.Send (send_duties.SynAck B)) p.agenda refl spoken);
         plain = h.plain;
       }
 
   -- a duty of a side that says something
-  by_duty : (s : Side) (d : Duty) (p : PathState C) → (is_joined p.profile ≡ true → is_said_by (inl A) d ≡ true → W) → ((t : Side) → is_said_by (inl t) d ≡ same_side t s) → Said s p
+  by_duty : (s : Side) (d : Duty) (p : PathState C) → (is_joined p.profile ≡ true → is_said_by (Voice.Says A) d ≡ true → W) → ((t : Side) → is_said_by (Voice.Says t) d ≡ same_side t s) → Said s p
   by_duty A d p said same = λ joins. said joins (same A)
   by_duty B d p said same = tt
 
-  answered_awake : (d : Duty) (r : Reply) (p : PathState C) → (is_joined p.profile ≡ true → is_said_by (inl A) d ≡ true → W) → (is_joined p.profile ≡ true → is_said_by (inr A) d ≡ true → ⊥)
+  answered_awake : (d : Duty) (r : Reply) (p : PathState C) → (is_joined p.profile ≡ true → is_said_by (Voice.Says A) d ≡ true → W) → (is_joined p.profile ≡ true → is_said_by (Voice.Falls A) d ≡ true → ⊥)
       → So (ask_for k d p) r → Awake p → Awake (answered k d r p)
   answered_awake (duties.Ask ask_duties.JoinAgain) r p said falls so h =
       begun_awake r (replaced (duties.Ask (ask_duties.Leave A)) p.agenda) (left p) p so (replaced_less (duties.Ask (ask_duties.Leave A)) p.agenda refl refl) (tail_less p.agenda) h
@@ -599,8 +599,8 @@ module _ {C : Type 0} (k : Codec C) (W : Type 0) where
   answered_awake (duties.Ask (ask_duties.PlainData s)) r p said falls so h = told_awake s fall.PlainData r p (by_duty s (duties.Ask (ask_duties.PlainData s)) p (λ joins. said joins) (λ t. refl)) so h
   answered_awake (duties.Ask (ask_duties.GoIdentity A)) r p said falls so h = record {
     woken = h.woken;
-    known = λ joins spoken. h.known joins (tail_speaks (inl A) p.agenda spoken);
-    calm = λ joins spoken. h.calm joins (tail_speaks (inr A) p.agenda spoken);
+    known = λ joins spoken. h.known joins (tail_speaks (Voice.Says A) p.agenda spoken);
+    calm = λ joins spoken. h.calm joins (tail_speaks (Voice.Falls A) p.agenda spoken);
     plain = λ joins. absurd (falls joins refl);
   }
   answered_awake (duties.Ask (ask_duties.GoIdentity B)) r p said falls so h = goes B (in_identity p.b) (left p) p tt (tail_less p.agenda) h
@@ -632,8 +632,8 @@ module _ {C : Type 0} (k : Codec C) (W : Type 0) where
       by [] is = settles p h
       by (d ∷ ds) is =
           settles (answered k d r p)
-          (answered_awake d r p (λ joins said. h.known joins (subst (λ xs. speaks (inl A) xs ≡ true) (sym is) (first_speaks (inl A) d ds said)))
-          (λ joins falls. h.calm joins (subst (λ xs. speaks (inr A) xs ≡ true) (sym is) (first_speaks (inr A) d ds falls))) (so (ask_for k d p) (ap (λ xs. asks_first k xs p) is)) h)
+          (answered_awake d r p (λ joins said. h.known joins (subst (λ xs. speaks (Voice.Says A) xs ≡ true) (sym is) (first_speaks (Voice.Says A) d ds said)))
+          (λ joins falls. h.calm joins (subst (λ xs. speaks (Voice.Falls A) xs ≡ true) (sym is) (first_speaks (Voice.Falls A) d ds falls))) (so (ask_for k d p) (ap (λ xs. asks_first k xs p) is)) h)
 
   pub begins_awake : (p : PathState C) → Awake p → Awake (begins_turn p)
   begins_awake p h =

@@ -1,6 +1,6 @@
 -- What is known of the sides that joined: B answers a join after A began one, and an end that may finish, of a path that joins, has
 -- joined. And a side that fell back to plain TCP fell back by its control book, on no path that joins.
-use Rattle.std.proofs.Common.{◌≡◌, refl, sym, ◌∙◌, ap, subst, ℕ, zero, suc, ⊎_elim, inr, ◌+◌, is_some, Bool, true, false, if◌then◌else◌, Option, Some, None, List, [], ◌∷◌, map, nat_lt, arith}
+use Rattle.std.proofs.Common.{◌≡◌, refl, sym, ◌∙◌, ap, subst, ℕ, zero, suc, ⊎_elim, ◌+◌, is_some, Bool, true, false, if◌then◌else◌, Option, Some, None, List, [], ◌∷◌, map, nat_lt, arith}
 use Rattle.std.proofs.lemmas.Bool.{false≢true, both_ways, lt-ltb}
 use Rattle.std.specs.List.{slice_get}
 use Rattle.std.specs.Option.{IfSome}
@@ -36,9 +36,9 @@ use Rattle.world_laws.specs.Worlds.{WorldState, Turn, crew_after, asked, stepped
 use Rattle.world_laws.proofs.Journaling.{books_after}
 use Rattle.world_laws.proofs.Falls.{IsNoJoin, same_joined}
 use Rattle.world_laws.proofs.KeysRight.{is_past}
-use Rattle.world_laws.proofs.KeysWoken.{speaks, itself, first_speaks}
+use Rattle.world_laws.proofs.KeysWoken.{speaks, itself, Voice, first_speaks}
 use Rattle.world_laws.proofs.KeysHeld.{AskedIs, end_is, asked_is}
-use Rattle.world_laws.proofs.KeysAgree.{Joined, FellBack, KeysAsk, PathKeys, WorldIs, MemberIs, with_nonces, joined_stays, member_asks_are, turn_keys, opened_keys}
+use Rattle.world_laws.proofs.KeysAgree.{Joined, FellBack, NoMore, Past, KeysAsk, PathKeys, WorldIs, MemberIs, with_nonces, joined_stays, member_asks_are, turn_keys, opened_keys}
 use Rattle.world_laws.proofs.Opened.{opened_actors}
 use Rattle.world_laws.proofs.RoundFrame.{takes_keeps, first_keeps}
 
@@ -187,30 +187,30 @@ module _ (key_a key_b number : ℕ) (six : SixBooks) (p : PathState Carried) (nu
   joins_at : (n : ℕ) → number ≡ suc n → is_joined p.profile ≡ true
   joins_at n is = ap (λ m. nat_lt 0 m) (numbered ∙ is) ∙ lt-ltb 0 (suc n) (omega arith)
 
-  asks_join : (o : Option Asked) → is_some o ≡ true → IfSome o (AskedIs (with_nonces key_a key_b false h.nonce_a h.nonce_b) false (Joined six) (FellBack six) (is_joined p.profile) B) → Joined six A
+  asks_join : (o : Option Asked) → is_some o ≡ true → IfSome o (AskedIs (with_nonces key_a key_b false h.nonce_a h.nonce_b) false (Joined six) (Past six NoMore) (is_joined p.profile) B) → Joined six A
   asks_join None some is = absurd (false≢true some)
   asks_join (Some asked) some is = is.1.1.0
 
   duty_joined : (d : Duty) (ds : List Duty) → p.agenda ≡ d ∷ ds → FirstStands (d ∷ ds) p → DutyJoined six d
   duty_joined (duties.Ask (ask_duties.JoinHeard B)) ds is first =
-      asks_join (asked_at B p) first (asked_is (with_nonces key_a key_b false h.nonce_a h.nonce_b) false (Joined six) (FellBack six) (is_joined p.profile) B p.b.treated.items h.is.b.items)
+      asks_join (asked_at B p) first (asked_is (with_nonces key_a key_b false h.nonce_a h.nonce_b) false (Joined six) (Past six NoMore) (is_joined p.profile) B p.b.treated.items h.is.b.items)
   duty_joined (duties.Ask (ask_duties.JoinHeard A)) ds is first = tt
   duty_joined (duties.Ask (ask_duties.GoIdentity s)) ds is first =
-      (h.is.known (inr s) (subst (λ xs. speaks (inr s) xs ≡ true) (sym is) (first_speaks (inr s) (duties.Ask (ask_duties.GoIdentity s)) ds (itself s)))).1
+      (h.is.known (Voice.Falls s) (subst (λ xs. speaks (Voice.Falls s) xs ≡ true) (sym is) (first_speaks (Voice.Falls s) (duties.Ask (ask_duties.GoIdentity s)) ds (itself s)))).1
   duty_joined (duties.Step step_duties.Events) ds is first = tt
   duty_joined _ ds is first = tt
 
   path_joined : PathJoined six number p
   path_joined = record {
     heard = λ d ds is. duty_joined d ds is (subst (λ xs. FirstStands xs p) is h.settled);
-    joined = λ n is s may. (end_is (with_nonces key_a key_b false h.nonce_a h.nonce_b) false (Joined six) (FellBack six) s p h.is).past (joins_at n is) (finish_past (end_at s p).tcp.state may);
+    joined = λ n is s may. (end_is (with_nonces key_a key_b false h.nonce_a h.nonce_b) false (Joined six) (Past six NoMore) s p h.is).past (joins_at n is) (finish_past (end_at s p).tcp.state may);
     plain = λ n is s. by s (joins_at n is) (end_at s p).modes.identity refl;
-    fell = λ s is. ((end_is (with_nonces key_a key_b false h.nonce_a h.nonce_b) false (Joined six) (FellBack six) s p h.is).modes.fell is).1;
+    fell = λ s is. ((end_is (with_nonces key_a key_b false h.nonce_a h.nonce_b) false (Joined six) (Past six NoMore) s p h.is).modes.fell is).1;
   }
     where
       by : (s : Side) → is_joined p.profile ≡ true → (b : Bool) → (end_at s p).modes.identity ≡ b → b ≡ false
       by s joins true is =
-          absurd (both_ways _ ((end_is (with_nonces key_a key_b false h.nonce_a h.nonce_b) false (Joined six) (FellBack six) s p h.is).modes.fell is).0 joins)
+          absurd (both_ways _ ((end_is (with_nonces key_a key_b false h.nonce_a h.nonce_b) false (Joined six) (Past six NoMore) s p h.is).modes.fell is).0 joins)
       by s joins false is = refl
 
 member_joined : (start : Start) (number : ℕ) (six : SixBooks) (m : Actor Carried) → IsNumbered (suc (suc number)) m → MemberIs start.key_a start.key_b false six m → MemberJoined six number m

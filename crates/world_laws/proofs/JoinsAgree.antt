@@ -80,7 +80,7 @@ use Rattle.world_laws.proofs.Falls.{Fallen, event_falls}
 use Rattle.world_laws.proofs.KeysMet.{is_sign_duty, signs}
 use Rattle.world_laws.proofs.KeysLearned.{mode_told, ModeGains, FellGains, CallGains, Gains, PathMet, more_met}
 use Rattle.world_laws.proofs.KeysTaken.{takes_met, begun_turn}
-use Rattle.world_laws.proofs.KeysWoken.{is_said_by, speaks}
+use Rattle.world_laws.proofs.KeysWoken.{Voice, is_said_by, speaks}
 use Rattle.world_laws.proofs.KeysHeld.{IsSign}
 use Rattle.world_laws.proofs.RoundFrame.{takes_keeps, first_keeps}
 use Rattle.world_laws.proofs.KeysAgree.{MemberIs, WorldIs, KeysAsk, member_asks_are, turn_keys, opened_keys, joins_untold}
@@ -263,11 +263,11 @@ module _ (p : PathState Carried) where
       by false is = absurd (both_ways _ (no_key A (key_heard (end_at A p).treated.items)) (ap is_fell (same_Some _ x is) ∙ fell))
 
   -- a sign is told by a side that joined, on a path that joins
-  sign_speaks : (ds : List Duty) → signs ds ≡ true → speaks (inl A) ds ≡ true
+  sign_speaks : (ds : List Duty) → signs ds ≡ true → speaks (Voice.Says A) ds ≡ true
   sign_speaks [] is = is
   sign_speaks (d ∷ ds) is = by (is_sign_duty d) refl is (sign_speaks ds)
     where
-      said : (d : Duty) → is_sign_duty d ≡ true → is_said_by (inl A) d ≡ true
+      said : (d : Duty) → is_sign_duty d ≡ true → is_said_by (Voice.Says A) d ≡ true
       said (duties.Step (step_duties.Heard A index)) is = refl
       said (duties.Ask (ask_duties.AckHeard A)) is = refl
       said (duties.Step (step_duties.Heard B index)) is = absurd (false≢true is)
@@ -275,9 +275,9 @@ module _ (p : PathState Carried) where
       said (duties.Step step_duties.Events) is = absurd (false≢true is)
       said _ is = absurd (false≢true is)
 
-      by : (b : Bool) → is_sign_duty d ≡ b → b || signs ds ≡ true → (signs ds ≡ true → speaks (inl A) ds ≡ true) → is_said_by (inl A) d || speaks (inl A) ds ≡ true
-      by true sign is rest = ap (λ c. c || speaks (inl A) ds) (said d sign)
-      by false sign is rest = or_right (is_said_by (inl A) d) (speaks (inl A) ds) (rest is)
+      by : (b : Bool) → is_sign_duty d ≡ b → b || signs ds ≡ true → (signs ds ≡ true → speaks (Voice.Says A) ds ≡ true) → is_said_by (Voice.Says A) d || speaks (Voice.Says A) ds ≡ true
+      by true sign is rest = ap (λ c. c || speaks (Voice.Says A) ds) (said d sign)
+      by false sign is rest = or_right (is_said_by (Voice.Says A) d) (speaks (Voice.Says A) ds) (rest is)
 
 -- ---- A's control book
 
@@ -632,7 +632,7 @@ module _ (key_a key_b : ℕ) where
       → MemberMet (Knew six.control_a) m → Knew six.control_a
   member_signs six (App a) x is fell keys fine h = app_signs (Knew six.control_a) a.agenda a x is fell
   member_signs six (Path p) x is fell keys fine (inl joins) =
-      asked_sign p (Knew six.control_a) x is fell (λ sign. inl (fine.joined (keys.is.known (inl A) (sign_speaks p p.agenda sign) joins).0))
+      asked_sign p (Knew six.control_a) x is fell (λ sign. inl (fine.joined (keys.is.known (Voice.Says A) (sign_speaks p p.agenda sign) joins).0))
   member_signs six (Path p) x is fell keys fine (inr h) = asked_first p (Knew six.control_a) x is fell h
 
   takes_member : (six : SixBooks) (x : Ask) (m : Actor Carried) → member_asks values m ≡ Some x → Gains (Knew (after_ask x six).control_a) x (reply_of six x)

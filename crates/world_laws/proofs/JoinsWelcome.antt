@@ -57,10 +57,10 @@ use Rattle.path_core.specs.Starts.{waiting_path}
 use Rattle.world_laws.specs.Welcome.{IsWelcome, NextIsWelcome, WelcomesNext, EachCopyIsWelcome}
 use Rattle.world_laws.specs.Worlds.{WorldState, Turn, crew_after, asked, stepped, all_over, greatest, begins, after_turn, world_run}
 use Rattle.world_laws.proofs.JoinsAgree.{WorldMet, run_met, opened_met}
-use Rattle.world_laws.proofs.KeysAgree.{Joined, FellBack, MemberIs, with_nonces}
+use Rattle.world_laws.proofs.KeysAgree.{Joined, NoMore, Past, MemberIs, with_nonces}
 use Rattle.world_laws.proofs.Opened.{opened_actors}
 use Rattle.world_laws.proofs.Finding.{find_every, one_side}
-use Rattle.world_laws.proofs.KeysRight.{Secrets, drawn_key, drawn_nonce, IsFor, JoinIs, OptionIs, ItemIs, SegmentIs, EndIs, HasKey, Needs, needs_key, items_are}
+use Rattle.world_laws.proofs.KeysRight.{Deed, Secrets, drawn_key, drawn_nonce, IsFor, JoinIs, OptionIs, ItemIs, SegmentIs, EndIs, HasKey, Needs, needs_key, items_are}
 use Rattle.world_laws.proofs.KeysWoken.{is_opens, is_up, open_is_up}
 use Rattle.world_laws.proofs.KeysHeld.{PathIs, FlightIs, arrived_is, end_is, join_found}
 use Rattle.world_laws.proofs.Roles.{HasRoles, CopyTells, role_at, arrived_tells, takes_roles, begins_roles}
@@ -103,7 +103,7 @@ some_meant (o ∷ options) some = refl
 
 -- ---- an end of a path that joins
 
-module _ (k : Secrets) (w back : Side → Type 0) (s : Side) (e : PathEnd) (h : EndIs k true w back true s e) (items : List Heard) (said : Every (ItemIs k true w back true s) items) where
+module _ (k : Secrets) (w : Side → Type 0) (did : Deed → Side → Type 0) (s : Side) (e : PathEnd) (h : EndIs k true w did true s e) (items : List Heard) (said : Every (ItemIs k true w did true s) items) where
   -- A takes what B answers
   answer_right : is_up e.tcp ≡ true → s ≡ A → (o : Option JoinForm) → is_some o ≡ true → IfSome o (λ form. (is_of_step step.Answer form ≡ true) × ((true ≡ true) → JoinIs k true (peer s) form))
       → is_some (result_ok (answer_taken e.modes.own_key (peer_key_of e.modes) e.modes.own_nonce (answer_heard (join_value o)))) ≡ true
@@ -213,8 +213,8 @@ half_open_is _ is = absurd (false≢true is)
 
 -- ---- what an end of a path that joins makes of it
 
-module _ (k : Secrets) (w back : Side → Type 0) (s : Side) (e : PathEnd) (h : EndIs k true w back true s e) (role : is_apart s e.tcp.state ≡ false) (heard : HeardSegment)
-    (said : Every (ItemIs k true w back true s) (items_of true s heard)) (tells : (copy_of heard).syn ≡ true → TellsJoin s (items_of true s heard)) where
+module _ (k : Secrets) (w : Side → Type 0) (did : Deed → Side → Type 0) (s : Side) (e : PathEnd) (h : EndIs k true w did true s e) (role : is_apart s e.tcp.state ≡ false) (heard : HeardSegment)
+    (said : Every (ItemIs k true w did true s) (items_of true s heard)) (tells : (copy_of heard).syn ≡ true → TellsJoin s (items_of true s heard)) where
   abbrev items : List Heard
   items = items_of true s heard
 
@@ -244,8 +244,8 @@ module _ (k : Secrets) (w back : Side → Type 0) (s : Side) (e : PathEnd) (h : 
 
   answers_join : s ≡ A → is_up e.tcp ≡ true → (copy_of heard).syn ≡ true → is_some (join_answer items e.modes) ≡ true
   answers_join side up syn =
-      answer_right k w back s e h items said up side (join_heard step.Answer items) (subst (λ t. TellsJoin t items) side (tells syn))
-      (by (join_heard step.Answer items) (join_found k true w back true s step.Answer items said) (λ form. of_form step.Answer items form))
+      answer_right k w did s e h items said up side (join_heard step.Answer items) (subst (λ t. TellsJoin t items) side (tells syn))
+      (by (join_heard step.Answer items) (join_found k true w did true s step.Answer items said) (λ form. of_form step.Answer items form))
     where
       by : (o : Option JoinForm) → IfSome o (λ form. (true ≡ true) × (IsFor s form × (w (peer s) × ((true ≡ true) → JoinIs k true (peer s) form)))) → ((form : JoinForm) → o ≡ Some form → is_of_step step.Answer form ≡ true)
           → IfSome o (λ form. (is_of_step step.Answer form ≡ true) × ((true ≡ true) → JoinIs k true (peer s) form))
@@ -258,8 +258,8 @@ module _ (k : Secrets) (w back : Side → Type 0) (s : Side) (e : PathEnd) (h : 
       third : is_half_open e.tcp.state ≡ true → is_some (third_in items) ≡ true → is_third_right items e.modes ≡ true
       third half some =
           let is = half_open_is e.tcp.state half in
-          third_right k w back s e h items said (open_is_up e.tcp is.1) (at_b is.0) (join_heard step.Third items) some
-          (found (join_heard step.Third items) (join_found k true w back true s step.Third items said))
+          third_right k w did s e h items said (open_is_up e.tcp is.1) (at_b is.0) (join_heard step.Third items) some
+          (found (join_heard step.Third items) (join_found k true w did true s step.Third items said))
         where
           found : (o : Option JoinForm) → IfSome o (λ form. (true ≡ true) × (IsFor s form × (w (peer s) × ((true ≡ true) → JoinIs k true (peer s) form)))) → IfSome o (λ form. (true ≡ true) → JoinIs k true (peer s) form)
           found None is = tt
@@ -329,23 +329,23 @@ module _ (s : Side) (e : PathEnd) (heard : HeardSegment) (reset : (copy_of heard
 
 -- ---- a path
 
-pub path_welcomes : (k : Secrets) (w back : Side → Type 0) (p : PathState Carried) → PathIs k true w back p → HasRoles p → NextIsWelcome values p
-path_welcomes k w back p h roles due heard next is some = by (arriving due p.link) refl is
+pub path_welcomes : (k : Secrets) (w : Side → Type 0) (did : Deed → Side → Type 0) (p : PathState Carried) → PathIs k true w did p → HasRoles p → NextIsWelcome values p
+path_welcomes k w did p h roles due heard next is some = by (arriving due p.link) refl is
   where
-    to_end : (f : Flight Carried) → arriving due p.link ≡ Some f → SegmentIs k true w back p.profile (peer due.to) f.carried.segment × TellsKey (is_joined p.profile) due.to f.carried.segment
+    to_end : (f : Flight Carried) → arriving due p.link ≡ Some f → SegmentIs k true w did p.profile (peer due.to) f.carried.segment × TellsKey (is_joined p.profile) due.to f.carried.segment
     to_end f there =
-        let found = find_every (FlightIs k true w back p.profile) (is_due due) p.link.under_way f h.copies there in
+        let found = find_every (FlightIs k true w did p.profile) (is_due due) p.link.under_way f h.copies there in
         let told = find_every (CopyTells (is_joined p.profile)) (is_due due) p.link.under_way f roles.copies there in
         let parts = and_parts (f.tick == due.tick) (same_side f.to due.to && f.number == due.copy) found.1 in
         let to = one_side f.to due.to (and_parts (same_side f.to due.to) (f.number == due.copy) parts.1).0 in
-        (subst (λ s. SegmentIs k true w back p.profile (peer s) f.carried.segment) to found.0, subst (λ s. TellsKey (is_joined p.profile) s f.carried.segment) to told.0)
+        (subst (λ s. SegmentIs k true w did p.profile (peer s) f.carried.segment) to found.0, subst (λ s. TellsKey (is_joined p.profile) s f.carried.segment) to told.0)
 
-    joined : (s : Side) (b : Bool) → is_joined p.profile ≡ b → (sg : PlainSegment) → SegmentIs k true w back p.profile (peer s) sg → TellsKey (is_joined p.profile) s sg → is_nil (meant sg).options ≡ false
+    joined : (s : Side) (b : Bool) → is_joined p.profile ≡ b → (sg : PlainSegment) → SegmentIs k true w did p.profile (peer s) sg → TellsKey (is_joined p.profile) s sg → is_nil (meant sg).options ≡ false
         → IsWelcome (judged_in b s (meant sg) (end_at s p))
     joined s false joins sg said tells some = tt
     joined s true joins sg said tells some =
-        end_welcomes k w back s (end_at s p) (subst (λ b. EndIs k true w back b s (end_at s p)) joins (end_is k true w back s p h)) (role_at s p roles joins) (meant sg)
-        (items_are k true w back true s sg (subst (λ b. Every (OptionIs k true w back b (peer s)) sg.options) joins said))
+        end_welcomes k w did s (end_at s p) (subst (λ b. EndIs k true w did b s (end_at s p)) joins (end_is k true w did s p h)) (role_at s p roles joins) (meant sg)
+        (items_are k true w did true s sg (subst (λ b. Every (OptionIs k true w did b (peer s)) sg.options) joins said))
         (tells_join s sg (subst (λ b. TellsKey b s sg) joins tells) (some_meant sg.options some))
 
     by : (o : Option (Flight Carried)) → arriving due p.link ≡ o → heard_in values due.to o p ≡ Some heard → IsWelcome (judged_in (is_joined p.profile) due.to heard (end_at due.to p))
@@ -354,7 +354,7 @@ path_welcomes k w back p h roles due heard next is some = by (arriving due p.lin
         let both = to_end f there in
         let same = same_Some (meant (as_arrived f.carried)) heard is in
         subst (λ x. IsWelcome (judged_in (is_joined p.profile) due.to x (end_at due.to p))) same
-        (joined due.to (is_joined p.profile) refl (as_arrived f.carried) (arrived_is k true w back p.profile (peer due.to) f.carried both.0) (arrived_tells (is_joined p.profile) due.to f.carried both.1)
+        (joined due.to (is_joined p.profile) refl (as_arrived f.carried) (arrived_is k true w did p.profile (peer due.to) f.carried both.0) (arrived_tells (is_joined p.profile) due.to f.carried both.1)
         (ap (λ x. is_nil x.options) same ∙ some))
 
 -- ---- worlds
@@ -438,4 +438,4 @@ each_copy_is_welcome start turns = record {
 
     by : (m : Actor Carried) → MemberIs start.key_a start.key_b true six m → MemberRoles m → WelcomesNext values m
     by (App a) keys member = tt
-    by (Path p) keys member = path_welcomes (with_nonces start.key_a start.key_b true keys.nonce_a keys.nonce_b) (Joined six) (FellBack six) p keys.is member
+    by (Path p) keys member = path_welcomes (with_nonces start.key_a start.key_b true keys.nonce_a keys.nonce_b) (Joined six) (Past six NoMore) p keys.is member

@@ -28,7 +28,7 @@ use Rattle.actor_desk.specs.declared.ask.Reply.{Reply}
 use Rattle.actor_desk.specs.declared.ask.Reply.TheVariants as replies
 use Rattle.world_laws.specs.Promises.{tells_other_key, tells_wrong_join}
 use Rattle.world_laws.specs.Worlds.{begins}
-use Rattle.world_laws.proofs.KeysRight.{Secrets, drawn_key}
+use Rattle.world_laws.proofs.KeysRight.{Deed, Secrets, drawn_key}
 use Rattle.world_laws.proofs.KeysHeld.{IsSign}
 use Rattle.world_laws.proofs.KeysKept.{AskIs}
 use Rattle.world_laws.proofs.KeysRight.{drawn_key}
@@ -101,29 +101,29 @@ keys_told own other mine peer_key c is h =
     if_book own other (mine == c.keys.own) (controlling.after_event 0 false events.KeysHeard (controlling.after_peer_key peer_key c)) c
     (record { own_is = h.own_is; peer_is = is; confirmed = λ confirmed. ap (λ n. Some n) is }) h
 
-pub call_is : (k : Secrets) (right : Bool) (w back : Side → Type 0) (s : Side) (c : Control) (call : ControlCall) → AskIs k right w back (asks.Control s call) → BookIs (drawn_key k right s) (drawn_key k right (peer s)) c
+pub call_is : (k : Secrets) (right : Bool) (w : Side → Type 0) (did : Deed → Side → Type 0) (s : Side) (c : Control) (call : ControlCall) → AskIs k right w did (asks.Control s call) → BookIs (drawn_key k right s) (drawn_key k right (peer s)) c
     → BookIs (drawn_key k right s) (drawn_key k right (peer s)) (controlling.after c call)
-call_is k right w back s c (control_calls.Look path) is h = notice_is _ _ (control.notice_on c path) path c h
-call_is k right w back s c (control_calls.PeerKey key) is h = record { own_is = h.own_is; peer_is = is; confirmed = λ confirmed. ap (λ n. Some n) is }
-call_is k right w back s c (control_calls.Keys own other) is h = keys_told _ _ own other c is.1 h
-call_is k right w back s c (control_calls.Fell path event) is h = same_book _ _ c _ refl (fell_confirms path (sole_path c.paths path) event c.fall is) h
-call_is k right w back s c (control_calls.JoinBegin path) is h =
+call_is k right w did s c (control_calls.Look path) is h = notice_is _ _ (control.notice_on c path) path c h
+call_is k right w did s c (control_calls.PeerKey key) is h = record { own_is = h.own_is; peer_is = is; confirmed = λ confirmed. ap (λ n. Some n) is }
+call_is k right w did s c (control_calls.Keys own other) is h = keys_told _ _ own other c is.1 h
+call_is k right w did s c (control_calls.Fell path event) is h = same_book _ _ c _ refl (fell_confirms path (sole_path c.paths path) event c.fall is) h
+call_is k right w did s c (control_calls.JoinBegin path) is h =
     let d : Control = controlling.after_join (record c { paths = with_phase path Opening c.paths }) in
     if_book (drawn_key k right s) (drawn_key k right (peer s)) (control.is_sure c.fall.mode) d c (same_book _ _ c d refl refl h) h
-call_is k right w back s c (control_calls.JoinHeard path token) is h =
+call_is k right w did s c (control_calls.JoinHeard path token) is h =
     if_book (drawn_key k right s) (drawn_key k right (peer s)) (token == token_of c.keys.own && c.fall.confirmed && (control.is_starting c.fall.mode || control.is_sure c.fall.mode))
     (controlling.after_join c) c (same_book _ _ c (controlling.after_join c) refl refl h) h
-call_is k right w back s c (control_calls.Live path backup) is h = same_book _ _ c _ refl refl h
-call_is k right w back s c (control_calls.Dead path) is h = same_book _ _ c _ refl refl h
-call_is k right w back s c (control_calls.Rate path window rtt) is h = same_book _ _ c _ refl refl h
-call_is k right w back s c (control_calls.Backup path on) is h = absurd is
-call_is k right w back s c (control_calls.Announce id) is h = absurd is
-call_is k right w back s c (control_calls.Withdraw id) is h = absurd is
-call_is k right w back s c (control_calls.Heard id address port hmac) is h = absurd is
-call_is k right w back s c (control_calls.Echoed id) is h = absurd is
-call_is k right w back s c (control_calls.Removed id) is h = absurd is
-call_is k right w back s c control_calls.FastClose is h = same_book _ _ c _ refl refl h
-call_is k right w back s c (control_calls.FastHeard key) is h =
+call_is k right w did s c (control_calls.Live path backup) is h = same_book _ _ c _ refl refl h
+call_is k right w did s c (control_calls.Dead path) is h = same_book _ _ c _ refl refl h
+call_is k right w did s c (control_calls.Rate path window rtt) is h = same_book _ _ c _ refl refl h
+call_is k right w did s c (control_calls.Backup path on) is h = absurd is
+call_is k right w did s c (control_calls.Announce id) is h = absurd is
+call_is k right w did s c (control_calls.Withdraw id) is h = absurd is
+call_is k right w did s c (control_calls.Heard id address port hmac) is h = absurd is
+call_is k right w did s c (control_calls.Echoed id) is h = absurd is
+call_is k right w did s c (control_calls.Removed id) is h = absurd is
+call_is k right w did s c control_calls.FastClose is h = same_book _ _ c _ refl refl h
+call_is k right w did s c (control_calls.FastHeard key) is h =
     let d : Control = controlling.after_event 0 false events.Stop c in
     if_book (drawn_key k right s) (drawn_key k right (peer s)) (key == c.keys.own) d c (same_book _ _ c d refl refl h) h
 
@@ -216,8 +216,8 @@ fast_untold test stopped other key c = by (key == c.keys.own)
     by true = stopped
     by false = other c.keys.own
 
-module _ (k : Secrets) (right : Bool) (w back : Side → Type 0) (s : Side) (c : Control) (h : BookIs (drawn_key k right s) (drawn_key k right (peer s)) c) where
-  pub key_untold : (call : ControlCall) → AskIs k right w back (asks.Control s call) → tells_other_key (replies.Control (control.reply_to c call)) ≡ false
+module _ (k : Secrets) (right : Bool) (w : Side → Type 0) (did : Deed → Side → Type 0) (s : Side) (c : Control) (h : BookIs (drawn_key k right s) (drawn_key k right (peer s)) c) where
+  pub key_untold : (call : ControlCall) → AskIs k right w did (asks.Control s call) → tells_other_key (replies.Control (control.reply_to c call)) ≡ false
   key_untold (control_calls.Look path) is = refl
   key_untold (control_calls.PeerKey key) is = refl
   key_untold (control_calls.Keys own other) is = keys_untold tells_other_key (λ key. refl) own c (is.0 ∙ sym h.own_is)
@@ -236,7 +236,7 @@ module _ (k : Secrets) (right : Bool) (w back : Side → Type 0) (s : Side) (c :
   key_untold control_calls.FastClose is = refl
   key_untold (control_calls.FastHeard key) is = fast_untold tells_other_key refl (λ own. refl) key c
 
-  pub join_untold : right ≡ true → (call : ControlCall) → AskIs k right w back (asks.Control s call) → tells_wrong_join (replies.Control (control.reply_to c call)) ≡ false
+  pub join_untold : right ≡ true → (call : ControlCall) → AskIs k right w did (asks.Control s call) → tells_wrong_join (replies.Control (control.reply_to c call)) ≡ false
   join_untold sure (control_calls.Look path) is = refl
   join_untold sure (control_calls.PeerKey key) is = refl
   join_untold sure (control_calls.Keys own other) is = keys_untold tells_wrong_join (λ key. refl) own c (is.0 ∙ sym h.own_is)

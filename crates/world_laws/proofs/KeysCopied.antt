@@ -1,5 +1,5 @@
 -- What a copy that arrives makes of what the end of a path that joins knows.
-use Rattle.std.proofs.Common.{◌≡◌, refl, sym, ◌∙◌, subst, ℕ, ◌||◌, is_some, length, Bool, true, false, if◌then◌else◌, Option, Some, None, List, position, inl, inr}
+use Rattle.std.proofs.Common.{◌≡◌, refl, sym, ◌∙◌, subst, ℕ, ◌||◌, is_some, length, Bool, true, false, if◌then◌else◌, Option, Some, None, List, position}
 use Rattle.std.proofs.lemmas.Bool.{false≢true}
 use Rattle.std.specs.Option.{IfSome}
 use Rattle.outside_kit.specs.declared.side.Side.{Side}
@@ -34,21 +34,21 @@ use Rattle.path_core.specs.Joins.{is_joined, join_answer, join_asked}
 use Rattle.path_core.specs.State.{PathState, end_at, with_end, goes_on}
 use Rattle.path_core.specs.Values.{Carried, as_arrived, values}
 use Rattle.world_laws.proofs.KeysHeld.{VoiceIs, arrived_is, in_removed, FlightIs, AreKnown, PathIs, end_is, goes_by, agenda_is, AnswerIs, answer_is_right}
-use Rattle.world_laws.proofs.KeysRight.{Secrets, is_past, known_in, SegmentIs, ItemIs, ModesAre, EndIs, Needs, Knows, met_needs, needs_key, same_knows, same_modes, heard_items_are}
-use Rattle.world_laws.proofs.KeysWoken.{is_up, is_lively, arrived_waits, held_past, copy_up, copy_past, WakesNone, joined_wakes_none, speaks, came_said, came_calm, same_or_calm}
+use Rattle.world_laws.proofs.KeysRight.{Deed, Secrets, is_past, known_in, SegmentIs, ItemIs, ModesAre, EndIs, Needs, Knows, met_needs, needs_key, same_knows, same_modes, heard_items_are}
+use Rattle.world_laws.proofs.KeysWoken.{is_up, is_lively, arrived_waits, held_past, copy_up, copy_past, WakesNone, joined_wakes_none, Voice, speaks, came_said, came_calm, came_goes_on, same_or_calm}
 
-module _ (k : Secrets) (right : Bool) (w back : Side → Type 0) where
+module _ (k : Secrets) (right : Bool) (w : Side → Type 0) (did : Deed → Side → Type 0) where
   -- ---- a copy
 
   -- what a copy that is taken as this tells of the join
   record JoinTold (s : Side) (m n : Modes) : Type 0 where
-    pub modes : ModesAre k right w back true s n
-    pub stays : Knows k right w back s m → Knows k right w back s n
+    pub modes : ModesAre k right w did true s n
+    pub stays : Knows k right w did s m → Knows k right w did s n
 
-  same_told : (s : Side) (m n : Modes) → known_in n ≡ known_in m → ModesAre k right w back true s m → JoinTold s m n
-  same_told s m n same h = record { modes = same_modes k right w back true s m n same h; stays = λ has. same_knows k right w back s m n same has }
+  same_told : (s : Side) (m n : Modes) → known_in n ≡ known_in m → ModesAre k right w did true s m → JoinTold s m n
+  same_told s m n same h = record { modes = same_modes k right w did true s m n same h; stays = λ has. same_knows k right w did s m n same has }
 
-  answer_told : (s : Side) (o : Option JoinAnswer) (m : Modes) → IfSome o (AnswerIs k right w back true s) → Knows k right w back s m → ModesAre k right w back true s m → JoinTold s m (with_answer o m)
+  answer_told : (s : Side) (o : Option JoinAnswer) (m : Modes) → IfSome o (AnswerIs k right w did true s) → Knows k right w did s m → ModesAre k right w did true s m → JoinTold s m (with_answer o m)
   answer_told s None m is knows h = same_told s m m refl h
   answer_told s (Some answer) m is knows h = record {
     modes = record {
@@ -64,7 +64,7 @@ module _ (k : Secrets) (right : Bool) (w back : Side → Type 0) where
   }
 
   -- a copy that B takes while it is half open clears it
-  taken_told : (s : Side) (b : Bool) (m : Modes) → (b ≡ true → w B) → ModesAre k right w back true s m → JoinTold s m (record m { clear = m.clear || b })
+  taken_told : (s : Side) (b : Bool) (m : Modes) → (b ≡ true → w B) → ModesAre k right w did true s m → JoinTold s m (record m { clear = m.clear || b })
   taken_told s b m half h = record {
     modes = record { own = h.own; nonce = h.nonce; peer_is = h.peer_is; joins = h.joins; third = h.third; cleared = λ joins now. by m.clear refl now; fell = h.fell };
     stays = λ has. (has.0, λ sure. stay s (has.1 sure));
@@ -78,9 +78,9 @@ module _ (k : Secrets) (right : Bool) (w back : Side → Type 0) where
       stay A has = has
       stay B has = has
 
-  told_join : (s : Side) (items : List Heard) (m : Meaning) (state : EndPhase) (modes : Modes) → Every (ItemIs k right w back true s) items → (is_lively m ≡ true → Knows k right w back s modes)
-      → (is_half_open state ≡ true → w B) → ModesAre k right w back true s modes → JoinTold s modes (cleared_in m state (answered_in m items modes))
-  told_join s items (means.Accepts acknowledged) state modes said knows half h = answer_told s (join_answer items modes) modes (answer_is_right k right w back true s modes items said) (knows refl) h
+  told_join : (s : Side) (items : List Heard) (m : Meaning) (state : EndPhase) (modes : Modes) → Every (ItemIs k right w did true s) items → (is_lively m ≡ true → Knows k right w did s modes)
+      → (is_half_open state ≡ true → w B) → ModesAre k right w did true s modes → JoinTold s modes (cleared_in m state (answered_in m items modes))
+  told_join s items (means.Accepts acknowledged) state modes said knows half h = answer_told s (join_answer items modes) modes (answer_is_right k right w did true s modes items said) (knows refl) h
   told_join s items (means.Taken pos acknowledged) state modes said knows half h = taken_told s (is_half_open state) modes half h
   told_join s items means.Ignored state modes said knows half h = same_told s modes modes refl h
   told_join s items means.Unwanted state modes said knows half h = same_told s modes modes refl h
@@ -100,9 +100,9 @@ module _ (k : Secrets) (right : Bool) (w back : Side → Type 0) where
 
   -- what it makes of the end of a path that joins
   record CopyTold (s : Side) (e f : PathEnd) : Type 0 where
-    pub is : EndIs k right w back true s f
+    pub is : EndIs k right w did true s f
     pub waits : is_waiting f.tcp.state ≡ true → is_waiting e.tcp.state ≡ true
-    pub stays : Knows k right w back s e.modes → Knows k right w back s f.modes
+    pub stays : Knows k right w did s e.modes → Knows k right w did s f.modes
 
   half_past : (state : EndPhase) → is_half_open state ≡ true → is_past state ≡ true
   half_past phase.SynReceived is = refl
@@ -110,13 +110,13 @@ module _ (k : Secrets) (right : Bool) (w back : Side → Type 0) where
   half_past _ is = absurd (false≢true is)
 
   -- A accepts a copy alone that answers the join
-  some_answer : (s : Side) (o : Option JoinAnswer) → is_some o ≡ true → IfSome o (AnswerIs k right w back true s) → w B
+  some_answer : (s : Side) (o : Option JoinAnswer) → is_some o ≡ true → IfSome o (AnswerIs k right w did true s) → w B
   some_answer s None some is = absurd (false≢true some)
   some_answer s (Some answer) some is = subst (λ t. w (peer t)) is.0 is.1.0
 
   told_copy : (s : Side) (told : List KeptMapping) (answer : Outgoing) (now : ℕ) (heard : HeardSegment) (m : Meaning) (e : PathEnd) → WakesNone m e.tcp
       → ((acknowledged : ℕ) → m ≡ means.Accepts acknowledged → is_some (join_answer (items_of true s heard) e.modes) ≡ true)
-      → Every (ItemIs k right w back true s) (items_of true s heard) → EndIs k right w back true s e → CopyTold s e (copy_judged true told answer s now heard m e)
+      → Every (ItemIs k right w did true s) (items_of true s heard) → EndIs k right w did true s e → CopyTold s e (copy_judged true told answer s now heard m e)
   told_copy s told answer now heard m e none accepts said h =
       let items = items_of true s heard in
       let held : EndState = (with_held told heard m e).tcp in
@@ -125,14 +125,15 @@ module _ (k : Secrets) (right : Bool) (w back : Side → Type 0) where
       let up = copy_up m (owes_by m items) (hint_of items) now (copy_of heard) heard.payload e.tcp none in
       let told_modes : Modes = cleared_in m held.state (answered_in m items e.modes) in
       let same = asked_leaves m heard.options told_modes in
-      let stays = λ (has : Knows k right w back s e.modes). same_knows k right w back s told_modes (asked_in m heard.options told_modes) same (join.stays has) in
+      let stays = λ (has : Knows k right w did s e.modes). same_knows k right w did s told_modes (asked_in m heard.options told_modes) same (join.stays has) in
       record {
         is = record {
-          modes = same_modes k right w back true s told_modes (asked_in m heard.options told_modes) same join.modes;
+          modes = same_modes k right w did true s told_modes (asked_in m heard.options told_modes) same join.modes;
           items = said;
           woken = λ joined woken. stays (h.woken refl (up.up woken));
           past = λ joined so. copy_past m (owes_by m items) (hint_of items) now (copy_of heard) heard.payload e.tcp (w B) none.no_syn
-              (λ acknowledged same. some_answer s (join_answer items e.modes) (accepts acknowledged same) (answer_is_right k right w back true s e.modes items said)) (h.past refl) so;
+              (λ acknowledged same. some_answer s (join_answer items e.modes) (accepts acknowledged same) (answer_is_right k right w did true s e.modes items said)) (h.past refl) so;
+          carries = h.carries;
         };
         waits = up.waits;
         stays = stays;
@@ -194,7 +195,7 @@ module _ (k : Secrets) (right : Bool) (w back : Side → Type 0) where
       silent false is = cc
 
   -- what it makes due is said by an end that is up
-  template_is : (s t : Side) (count : ℕ) (v : Judged) (tcp : EndState) → WakesNone (taken_as v) tcp → speaks (inl t) (template_judged true s count v) ≡ true → (t ≡ s) × (is_up tcp ≡ true)
+  template_is : (s t : Side) (count : ℕ) (v : Judged) (tcp : EndState) → WakesNone (taken_as v) tcp → speaks (Voice.Says t) (template_judged true s count v) ≡ true → (t ≡ s) × (is_up tcp ≡ true)
   template_is s t count judged.Asks tcp none spoken = absurd (false≢true spoken)
   template_is s t count judged.Lacks tcp none spoken = absurd (false≢true spoken)
   template_is s t count judged.Forged tcp none spoken = absurd (false≢true spoken)
@@ -210,41 +211,45 @@ module _ (k : Secrets) (right : Bool) (w back : Side → Type 0) where
   template_is s t count (judged.As means.Ahead) tcp none spoken = (same_or_calm t s spoken, none.lively refl)
   template_is s t count (judged.As (means.Taken pos acknowledged)) tcp none spoken = (came_said t s count spoken, none.lively refl)
 
-  -- and no side falls by it
-  meant_calm : (joined : Bool) (s t : Side) (count : ℕ) (m : Meaning) → speaks (inr t) (template_by joined s count m) ≡ false
-  meant_calm joined s t count means.Ignored = refl
-  meant_calm joined s t count means.Unwanted = refl
-  meant_calm joined s t count means.Opens = refl
-  meant_calm true s t count (means.Accepts acknowledged) = refl
-  meant_calm false s t count (means.Accepts acknowledged) = refl
-  meant_calm joined s t count means.RepeatedSyn = refl
-  meant_calm joined s t count means.Outside = refl
-  meant_calm joined s t count means.Kills = refl
-  meant_calm joined s t count means.Challenged = refl
-  meant_calm joined s t count means.Unacknowledging = refl
-  meant_calm joined s t count means.Ahead = refl
-  meant_calm joined s t count (means.Taken pos acknowledged) = came_calm t s count
+  -- and no side falls or aborts by it
+  abbrev IsCalm : Side → List Duty → Type 0
+  IsCalm t ds = (speaks (Voice.Falls t) ds ≡ false) × (speaks (Voice.Aborts t) ds ≡ false)
 
-  template_calm : (joined : Bool) (s t : Side) (count : ℕ) (v : Judged) → speaks (inr t) (template_judged joined s count v) ≡ false
-  template_calm joined s t count judged.Asks = refl
-  template_calm joined s t count judged.Lacks = refl
-  template_calm joined s t count judged.Forged = refl
+  meant_calm : (joined : Bool) (s t : Side) (count : ℕ) (m : Meaning) → IsCalm t (template_by joined s count m)
+  meant_calm joined s t count means.Ignored = (refl, refl)
+  meant_calm joined s t count means.Unwanted = (refl, refl)
+  meant_calm joined s t count means.Opens = (refl, refl)
+  meant_calm true s t count (means.Accepts acknowledged) = (refl, refl)
+  meant_calm false s t count (means.Accepts acknowledged) = (refl, refl)
+  meant_calm joined s t count means.RepeatedSyn = (refl, refl)
+  meant_calm joined s t count means.Outside = (refl, refl)
+  meant_calm joined s t count means.Kills = (refl, refl)
+  meant_calm joined s t count means.Challenged = (refl, refl)
+  meant_calm joined s t count means.Unacknowledging = (refl, refl)
+  meant_calm joined s t count means.Ahead = (refl, refl)
+  meant_calm joined s t count (means.Taken pos acknowledged) = (came_calm t s count, came_goes_on t s count)
+
+  template_calm : (joined : Bool) (s t : Side) (count : ℕ) (v : Judged) → IsCalm t (template_judged joined s count v)
+  template_calm joined s t count judged.Asks = (refl, refl)
+  template_calm joined s t count judged.Lacks = (refl, refl)
+  template_calm joined s t count judged.Forged = (refl, refl)
   template_calm joined s t count (judged.As m) = meant_calm joined s t count m
 
   -- the end of either side is that of this one
-  pub own_knows : (s t : Side) (e : PathEnd) (p : PathState Carried) → t ≡ s → Knows k right w back s e.modes → Knows k right w back t (end_at t (with_end s e p)).modes
+  pub own_knows : (s t : Side) (e : PathEnd) (p : PathState Carried) → t ≡ s → Knows k right w did s e.modes → Knows k right w did t (end_at t (with_end s e p)).modes
   own_knows A A e p same has = has
   own_knows B B e p same has = has
   own_knows A B e p same has = cc
   own_knows B A e p same has = cc
 
-  -- what is said, where no side falls
-  pub voices : (p : PathState Carried) (ds : List Duty) → ((t : Side) → speaks (inl t) ds ≡ true → VoiceIs k right w back p (inl t)) → ((t : Side) → speaks (inr t) ds ≡ false) → AreKnown k right w back p ds
-  voices p ds said calm (inl t) spoken = said t spoken
-  voices p ds said calm (inr t) spoken = absurd (false≢true (sym (calm t) ∙ spoken))
+  -- what is said, where no side falls or aborts
+  pub voices : (p : PathState Carried) (ds : List Duty) → ((t : Side) → speaks (Voice.Says t) ds ≡ true → VoiceIs k right w did p (Voice.Says t)) → ((t : Side) → IsCalm t ds) → AreKnown k right w did p ds
+  voices p ds said calm (Voice.Says t) spoken = said t spoken
+  voices p ds said calm (Voice.Falls t) spoken = absurd (false≢true (sym (calm t).0 ∙ spoken))
+  voices p ds said calm (Voice.Aborts t) spoken = absurd (false≢true (sym (calm t).1 ∙ spoken))
 
-  heard_is : (s : Side) (now : ℕ) (sg : PlainSegment) (p : PathState Carried) → SegmentIs k right w back p.profile (peer s) sg → PathIs k right w back p → PathIs k right w back (heard_at now s (Some (meant sg)) p)
-  heard_is s now sg p said h = by (is_joined p.profile) refl (end_is k right w back s p h) (heard_items_are k right w back (is_joined p.profile) s (end_at s p) sg said)
+  heard_is : (s : Side) (now : ℕ) (sg : PlainSegment) (p : PathState Carried) → SegmentIs k right w did p.profile (peer s) sg → PathIs k right w did p → PathIs k right w did (heard_at now s (Some (meant sg)) p)
+  heard_is s now sg p said h = by (is_joined p.profile) refl (end_is k right w did s p h) (heard_items_are k right w did (is_joined p.profile) s (end_at s p) sg said)
     where
       e : PathEnd
       e = end_at s p
@@ -258,37 +263,38 @@ module _ (k : Secrets) (right : Bool) (w back : Side → Type 0) where
       answer : Outgoing
       answer = reset_for p.profile s heard
 
-      by : (joined : Bool) → is_joined p.profile ≡ joined → EndIs k right w back joined s e → Every (ItemIs k right w back joined s) (items_of joined s heard)
-          → PathIs k right w back (goes_on s (copy_judged joined told answer s now heard (taken_as (judged_in joined s heard e)) e) (template_of joined s (items_of joined s heard) (judged_in joined s heard e)) p)
+      by : (joined : Bool) → is_joined p.profile ≡ joined → EndIs k right w did joined s e → Every (ItemIs k right w did joined s) (items_of joined s heard)
+          → PathIs k right w did (goes_on s (copy_judged joined told answer s now heard (taken_as (judged_in joined s heard e)) e) (template_of joined s (items_of joined s heard) (judged_in joined s heard e)) p)
       by true is own items =
           let v : Judged = judged_in true s heard e in
           let none : WakesNone (taken_as v) e.tcp = joined_wakes_none heard.rst (items_of true s heard) e (copy_of heard) in
           let copy = told_copy s told answer now heard (taken_as v) e none (λ acknowledged same. accepts_answer heard.rst (items_of true s heard) (meaning_of (copy_of heard) e.tcp) e acknowledged same) items own in
-          goes_by k right w back s _ _ p (subst (λ j. EndIs k right w back j s (copy_judged true told answer s now heard (taken_as v) e)) (sym is) copy.is) copy.waits
+          goes_by k right w did s _ _ p (subst (λ j. EndIs k right w did j s (copy_judged true told answer s now heard (taken_as v) e)) (sym is) copy.is) copy.waits
           (voices (with_end s (copy_judged true told answer s now heard (taken_as v) e) p) (template_of true s (items_of true s heard) v) (λ t spoken joined.
           let said_by = template_is s t (length (items_of true s heard)) v e.tcp none spoken in
           own_knows s t _ p said_by.0 (copy.stays (own.woken refl said_by.1))) (λ t. template_calm true s t (length (items_of true s heard)) v)) h
       by false is own items =
           let m : Meaning = meaning_of (copy_of heard) e.tcp in
-          goes_by k right w back s _ _ p
-          (subst (λ j. EndIs k right w back j s (copy_judged false told answer s now heard m e)) (sym is)
+          goes_by k right w did s _ _ p
+          (subst (λ j. EndIs k right w did j s (copy_judged false told answer s now heard m e)) (sym is)
           (record {
-            modes = same_modes k right w back false s e.modes (asked_in m heard.options e.modes) (asked_leaves m heard.options e.modes) own.modes;
+            modes = same_modes k right w did false s e.modes (asked_in m heard.options e.modes) (asked_leaves m heard.options e.modes) own.modes;
             items = items;
             woken = λ joined. absurd (false≢true joined);
             past = λ joined. absurd (false≢true joined);
+            carries = own.carries;
           }))
           (λ waiting. arrived_waits m (owes_by m (items_of false s heard)) (hint_of (items_of false s heard)) now (copy_of heard) heard.payload e.tcp waiting)
           (voices (with_end s (copy_judged false told answer s now heard m e) p) (template_of false s (items_of false s heard) (judged.As m)) (λ t spoken joined. absurd (false≢true (sym is ∙ joined))) (λ t. template_calm false s t (length (items_of false s heard)) (judged.As m))) h
 
-  pub copy_is : (s : Side) (o : Option (Flight Carried)) (q p : PathState Carried) → ((f : Flight Carried) → o ≡ Some f → SegmentIs k right w back p.profile (peer s) f.carried.segment) → PathIs k right w back p
-      → PathIs k right w back (copy_heard s (heard_in values s o q) p)
-  copy_is s None q p said h = agenda_is k right w back (emission s) p (λ t spoken. absurd (false≢true spoken)) h
-  copy_is s (Some f) q p said h = heard_is s p.clock (as_arrived f.carried) p (arrived_is k right w back p.profile (peer s) f.carried (said f refl)) h
+  pub copy_is : (s : Side) (o : Option (Flight Carried)) (q p : PathState Carried) → ((f : Flight Carried) → o ≡ Some f → SegmentIs k right w did p.profile (peer s) f.carried.segment) → PathIs k right w did p
+      → PathIs k right w did (copy_heard s (heard_in values s o q) p)
+  copy_is s None q p said h = agenda_is k right w did (emission s) p (λ t spoken. absurd (false≢true spoken)) h
+  copy_is s (Some f) q p said h = heard_is s p.clock (as_arrived f.carried) p (arrived_is k right w did p.profile (peer s) f.carried (said f refl)) h
 
-  pub delivered_is : (due : Due) (p : PathState Carried) → PathIs k right w back p → PathIs k right w back (record (at_tick due.tick p) { link = after_delivery due p.link })
+  pub delivered_is : (due : Due) (p : PathState Carried) → PathIs k right w did p → PathIs k right w did (record (at_tick due.tick p) { link = after_delivery due p.link })
   delivered_is due p h = record { a = h.a; b = h.b; copies = rest (position (is_due due) p.link.under_way); known = h.known; waits = h.waits }
     where
-      rest : (o : Option ℕ) → Every (FlightIs k right w back p.profile) (without o p.link.under_way)
+      rest : (o : Option ℕ) → Every (FlightIs k right w did p.profile) (without o p.link.under_way)
       rest None = h.copies
       rest (Some place) = record { each = λ i f at. let there = in_removed p.link.under_way place i f at in h.copies.each there.0 f there.1 }

@@ -1,5 +1,5 @@
 -- What the ends of a path know of keys and nonces, and hear of them, and how they go on.
-use Rattle.std.proofs.Common.{◌≡◌, refl, ◌∙◌, ap, subst, ℕ, zero, suc, ◌+◌, ◌==◌, not, inl, inr, ◌||◌, Bool, true, false, if◌then◌else◌, Option, Some, None, Ok, Err, List, [], ◌∷◌, remove}
+use Rattle.std.proofs.Common.{◌≡◌, refl, ◌∙◌, ap, subst, ℕ, zero, suc, ◌+◌, ◌==◌, not, ◌||◌, Bool, true, false, if◌then◌else◌, Option, Some, None, Ok, Err, List, [], ◌∷◌, remove}
 use Rattle.std.proofs.lemmas.Bool.{both_ways, false≢true}
 use Rattle.std.specs.List.{slice_get}
 use Rattle.std.specs.Option.{IfSome, option_or}
@@ -55,7 +55,7 @@ use Rattle.path_core.specs.State.{PathState, Profile, end_at, with_end, with_age
 use Rattle.path_core.specs.Fallback.{mode_in, fell_in, after_fell}
 use Rattle.path_core.specs.Values.{Carried, as_arrived, carried_by, stripped, altered, values}
 use Rattle.join_handshake.specs.Heard.{answer_heard, answer_taken, syn_heard}
-use Rattle.world_laws.proofs.KeysRight.{Secrets, is_past, known_in, OfB, IsFor, sure_if, drawn_key, drawn_nonce, JoinIs, OptionIs, SegmentIs, ItemIs, ModesAre, EndIs, HasMet, Knows, met_needs, same_knows, same_end}
+use Rattle.world_laws.proofs.KeysRight.{Deed, Secrets, told_in, is_past, known_in, OfB, IsFor, sure_if, drawn_key, drawn_nonce, JoinIs, OptionIs, SegmentIs, ItemIs, ModesAre, EndIs, HasMet, Knows, met_needs, same_knows, same_end}
 use Rattle.world_laws.proofs.KeysWoken.{NoWaking, Voice, is_said_by, speaks, tail_speaks}
 use Rattle.world_laws.proofs.Saying.{flights_kept}
 
@@ -142,31 +142,33 @@ IsSign fall.PlainAck = Unit {0}
 IsSign fall.InfiniteHeard = Unit {0}
 IsSign _ = ⊥
 
-module _ (k : Secrets) (right : Bool) (w back : Side → Type 0) where
+module _ (k : Secrets) (right : Bool) (w : Side → Type 0) (did : Deed → Side → Type 0) where
   abbrev pub FlightIs : Profile → Flight Carried → Type 0
-  FlightIs c f = SegmentIs k right w back c (peer f.to) f.carried.segment
+  FlightIs c f = SegmentIs k right w did c (peer f.to) f.carried.segment
 
   -- on a path that joins
   abbrev pub OnJoined : Profile → Type 0 → Type 0
   OnJoined c P = is_joined c ≡ true → P
 
-  -- what is still to be said needs what its end knows, and a side that falls isn't on a path that joins
+  -- What is still to be said needs what its end knows, and a side that falls isn't on a path that joins. A side that aborts was stopped
+  -- by the peer, whose application asked for it.
   abbrev pub VoiceIs : PathState Carried → Voice → Type 0
-  VoiceIs p (inl t) = OnJoined p.profile (Knows k right w back t (end_at t p).modes)
-  VoiceIs p (inr t) = (is_joined p.profile ≡ false) × back t
+  VoiceIs p (Voice.Says t) = OnJoined p.profile (Knows k right w did t (end_at t p).modes)
+  VoiceIs p (Voice.Falls t) = (is_joined p.profile ≡ false) × did Deed.Fell t
+  VoiceIs p (Voice.Aborts t) = did Deed.Stopped t × did Deed.Closed (peer t)
 
   abbrev pub AreKnown : PathState Carried → List Duty → Type 0
   AreKnown p ds = (x : Voice) → speaks x ds ≡ true → VoiceIs p x
 
   pub record PathIs (p : PathState Carried) : Type 0 where
-    pub a : EndIs k right w back (is_joined p.profile) A p.a
-    pub b : EndIs k right w back (is_joined p.profile) B p.b
+    pub a : EndIs k right w did (is_joined p.profile) A p.a
+    pub b : EndIs k right w did (is_joined p.profile) B p.b
     pub copies : Every (FlightIs p.profile) p.link.under_way
     pub known : AreKnown p p.agenda
     -- A waits on no path but those that join
     pub waits : is_waiting p.a.tcp.state ≡ true → is_joined p.profile ≡ true
 
-  pub end_is : (s : Side) (p : PathState Carried) → PathIs p → EndIs k right w back (is_joined p.profile) s (end_at s p)
+  pub end_is : (s : Side) (p : PathState Carried) → PathIs p → EndIs k right w did (is_joined p.profile) s (end_at s p)
   end_is A p h = h.a
   end_is B p h = h.b
 
@@ -181,44 +183,48 @@ module _ (k : Secrets) (right : Bool) (w back : Side → Type 0) where
 
   -- an end of this side that knows what it knew
   abbrev pub Stays : Side → PathEnd → PathState Carried → Type 0
-  Stays s e p = OnJoined p.profile (Knows k right w back s (end_at s p).modes → Knows k right w back s e.modes)
+  Stays s e p = OnJoined p.profile (Knows k right w did s (end_at s p).modes → Knows k right w did s e.modes)
 
   -- it waits only where it waited
   abbrev Still : Side → PathEnd → PathState Carried → Type 0
   Still s e p = is_waiting e.tcp.state ≡ true → is_waiting (end_at s p).tcp.state ≡ true
 
-  pub goes_by : (s : Side) (e : PathEnd) (ds : List Duty) (p : PathState Carried) → EndIs k right w back (is_joined p.profile) s e → Still s e p → AreKnown (with_end s e p) ds → PathIs p
+  pub goes_by : (s : Side) (e : PathEnd) (ds : List Duty) (p : PathState Carried) → EndIs k right w did (is_joined p.profile) s e → Still s e p → AreKnown (with_end s e p) ds → PathIs p
       → PathIs (goes_on s e ds p)
   goes_by A e ds p own still known h = record { a = own; b = h.b; copies = h.copies; known = by known; waits = λ waiting. h.waits (still waiting) }
     where
       by : AreKnown (with_end A e p) ds → (x : Voice) → speaks x ds ≡ true → VoiceIs (goes_on A e ds p) x
-      by all (inl A) spoken = all (inl A) spoken
-      by all (inl B) spoken = all (inl B) spoken
-      by all (inr t) spoken = all (inr t) spoken
+      by all (Voice.Says A) spoken = all (Voice.Says A) spoken
+      by all (Voice.Says B) spoken = all (Voice.Says B) spoken
+      by all (Voice.Falls t) spoken = all (Voice.Falls t) spoken
+      by all (Voice.Aborts t) spoken = all (Voice.Aborts t) spoken
   goes_by B e ds p own still known h = record { a = h.a; b = own; copies = h.copies; known = by known; waits = h.waits }
     where
       by : AreKnown (with_end B e p) ds → (x : Voice) → speaks x ds ≡ true → VoiceIs (goes_on B e ds p) x
-      by all (inl A) spoken = all (inl A) spoken
-      by all (inl B) spoken = all (inl B) spoken
-      by all (inr t) spoken = all (inr t) spoken
+      by all (Voice.Says A) spoken = all (Voice.Says A) spoken
+      by all (Voice.Says B) spoken = all (Voice.Says B) spoken
+      by all (Voice.Falls t) spoken = all (Voice.Falls t) spoken
+      by all (Voice.Aborts t) spoken = all (Voice.Aborts t) spoken
 
   -- an end that knows what it knew lets all be known
   pub with_voice : (s : Side) (e : PathEnd) (p : PathState Carried) → Stays s e p → (x : Voice) → VoiceIs p x → VoiceIs (with_end s e p) x
-  with_voice A e p stays (inl A) has = λ is. stays is (has is)
-  with_voice B e p stays (inl B) has = λ is. stays is (has is)
-  with_voice A e p stays (inl B) has = has
-  with_voice B e p stays (inl A) has = has
-  with_voice A e p stays (inr t) has = has
-  with_voice B e p stays (inr t) has = has
+  with_voice A e p stays (Voice.Says A) has = λ is. stays is (has is)
+  with_voice B e p stays (Voice.Says B) has = λ is. stays is (has is)
+  with_voice A e p stays (Voice.Says B) has = has
+  with_voice B e p stays (Voice.Says A) has = has
+  with_voice A e p stays (Voice.Falls t) has = has
+  with_voice B e p stays (Voice.Falls t) has = has
+  with_voice A e p stays (Voice.Aborts t) has = has
+  with_voice B e p stays (Voice.Aborts t) has = has
 
   -- the other end knows what it knew
   pub fewer_known : (s : Side) (e : PathEnd) (ds : List Duty) (p : PathState Carried) → Fewer p ds → Stays s e p → PathIs p → AreKnown (with_end s e p) ds
   fewer_known s e ds p fewer stays h x spoken = with_voice s e p stays x (h.known x (fewer x spoken))
 
-  pub goes_is : (s : Side) (e : PathEnd) (ds : List Duty) (p : PathState Carried) → EndIs k right w back (is_joined p.profile) s e → Still s e p → Fewer p ds → Stays s e p → PathIs p → PathIs (goes_on s e ds p)
+  pub goes_is : (s : Side) (e : PathEnd) (ds : List Duty) (p : PathState Carried) → EndIs k right w did (is_joined p.profile) s e → Still s e p → Fewer p ds → Stays s e p → PathIs p → PathIs (goes_on s e ds p)
   goes_is s e ds p own still fewer stays h = goes_by s e ds p own still (fewer_known s e ds p fewer stays h) h
 
-  pub with_is : (s : Side) (e : PathEnd) (p : PathState Carried) → EndIs k right w back (is_joined p.profile) s e → Still s e p → Stays s e p → PathIs p → PathIs (with_end s e p)
+  pub with_is : (s : Side) (e : PathEnd) (p : PathState Carried) → EndIs k right w did (is_joined p.profile) s e → Still s e p → Stays s e p → PathIs p → PathIs (with_end s e p)
   with_is s e p own still stays h = by s (goes_is s e p.agenda p own still (λ x is. is) stays h)
     where
       by : (s : Side) → PathIs (goes_on s e p.agenda p) → PathIs (with_end s e p)
@@ -229,9 +235,10 @@ module _ (k : Secrets) (right : Bool) (w back : Side → Type 0) where
   agenda_is ds p fewer h = record { a = h.a; b = h.b; copies = h.copies; known = by; waits = h.waits }
     where
       by : (x : Voice) → speaks x ds ≡ true → VoiceIs (with_agenda ds p) x
-      by (inl A) spoken = h.known (inl A) (fewer (inl A) spoken)
-      by (inl B) spoken = h.known (inl B) (fewer (inl B) spoken)
-      by (inr t) spoken = h.known (inr t) (fewer (inr t) spoken)
+      by (Voice.Says A) spoken = h.known (Voice.Says A) (fewer (Voice.Says A) spoken)
+      by (Voice.Says B) spoken = h.known (Voice.Says B) (fewer (Voice.Says B) spoken)
+      by (Voice.Falls t) spoken = h.known (Voice.Falls t) (fewer (Voice.Falls t) spoken)
+      by (Voice.Aborts t) spoken = h.known (Voice.Aborts t) (fewer (Voice.Aborts t) spoken)
 
   -- what is said by a duty in the place of the first one may be said
   pub replaced_known : (s : Side) (d : Duty) (e : PathEnd) (p : PathState Carried) → ((x : Voice) → is_said_by x d ≡ true → VoiceIs (with_end s e p) x) → Stays s e p → PathIs p
@@ -247,37 +254,37 @@ module _ (k : Secrets) (right : Bool) (w back : Side → Type 0) where
           at false said rest = with_voice s e p stays x (known x (tail_speaks x (first ∷ ds) rest))
 
   pub stays_same : (s : Side) (e : PathEnd) (p : PathState Carried) → known_in e.modes ≡ known_in (end_at s p).modes → Stays s e p
-  stays_same s e p same is knows = same_knows k right w back s (end_at s p).modes e.modes same knows
+  stays_same s e p same is knows = same_knows k right w did s (end_at s p).modes e.modes same knows
 
-  pub kept_end : (joined : Bool) (s : Side) (e f : PathEnd) → known_in f.modes ≡ known_in e.modes → f.treated.items ≡ e.treated.items → NoWaking e.tcp f.tcp → EndIs k right w back joined s e
-      → EndIs k right w back joined s f
-  kept_end joined s e f same items up h = same_end k right w back joined s e f same items up.up up.past h
+  pub kept_end : (joined : Bool) (s : Side) (e f : PathEnd) → known_in f.modes ≡ known_in e.modes → told_in f ≡ told_in e → NoWaking e.tcp f.tcp → EndIs k right w did joined s e
+      → EndIs k right w did joined s f
+  kept_end joined s e f same told up h = same_end k right w did joined s e f same told up.up up.past h
 
   -- with the same keys, and nothing more heard
   pub same_goes : (s : Side) (e : PathEnd) (ds : List Duty) (p : PathState Carried) → known_in e.modes ≡ known_in (end_at s p).modes
-      → e.treated.items ≡ (end_at s p).treated.items → NoWaking (end_at s p).tcp e.tcp → Fewer p ds → PathIs p → PathIs (goes_on s e ds p)
-  same_goes s e ds p same items up fewer h =
-      goes_is s e ds p (kept_end (is_joined p.profile) s (end_at s p) e same items up (end_is s p h)) up.waits fewer (stays_same s e p same) h
+      → told_in e ≡ told_in (end_at s p) → NoWaking (end_at s p).tcp e.tcp → Fewer p ds → PathIs p → PathIs (goes_on s e ds p)
+  same_goes s e ds p same told up fewer h =
+      goes_is s e ds p (kept_end (is_joined p.profile) s (end_at s p) e same told up (end_is s p h)) up.waits fewer (stays_same s e p same) h
 
   -- ---- a segment is handed over
 
-  changed_is : (c : Profile) (s : Side) (strips alters : Bool) (carried : Carried) → SegmentIs k right w back c s carried.segment
-      → SegmentIs k right w back c s (changed stripped altered strips alters carried).segment
+  changed_is : (c : Profile) (s : Side) (strips alters : Bool) (carried : Carried) → SegmentIs k right w did c s carried.segment
+      → SegmentIs k right w did c s (changed stripped altered strips alters carried).segment
   changed_is c s true true carried h = h
   changed_is c s true false carried h = h
   changed_is c s false true carried h = h
   changed_is c s false false carried h = h
 
   -- so does what arrives
-  pub arrived_is : (c : Profile) (s : Side) (carried : Carried) → SegmentIs k right w back c s carried.segment → SegmentIs k right w back c s (as_arrived carried)
+  pub arrived_is : (c : Profile) (s : Side) (carried : Carried) → SegmentIs k right w did c s carried.segment → SegmentIs k right w did c s (as_arrived carried)
   arrived_is c s carried h = by carried.stripped
     where
-      by : (b : Bool) → SegmentIs k right w back c s (record carried.segment { options = (if b then [] else carried.segment.options) })
+      by : (b : Bool) → SegmentIs k right w did c s (record carried.segment { options = (if b then [] else carried.segment.options) })
       by true = Every-nil _
       by false = h
 
-  pub sent_is : (s : Side) (segment : PlainSegment) (e : PathEnd) (ds : List Duty) (p : PathState Carried) → SegmentIs k right w back p.profile s segment
-      → EndIs k right w back (is_joined p.profile) s e → Still s e p → Fewer p ds → Stays s e p → PathIs p → PathIs (sent_on values s segment e ds p)
+  pub sent_is : (s : Side) (segment : PlainSegment) (e : PathEnd) (ds : List Duty) (p : PathState Carried) → SegmentIs k right w did p.profile s segment
+      → EndIs k right w did (is_joined p.profile) s e → Still s e p → Fewer p ds → Stays s e p → PathIs p → PathIs (sent_on values s segment e ds p)
   sent_is A segment e ds p said own still fewer stays h = let g = goes_is A e ds p own still fewer stays h in record {
     a = own;
     b = h.b;
@@ -291,9 +298,10 @@ module _ (k : Secrets) (right : Bool) (w back : Side → Type 0) where
   }
     where
       by : AreKnown (goes_on A e ds p) ds → (x : Voice) → speaks x ds ≡ true → VoiceIs (sent_on values A segment e ds p) x
-      by all (inl A) spoken = all (inl A) spoken
-      by all (inl B) spoken = all (inl B) spoken
-      by all (inr t) spoken = all (inr t) spoken
+      by all (Voice.Says A) spoken = all (Voice.Says A) spoken
+      by all (Voice.Says B) spoken = all (Voice.Says B) spoken
+      by all (Voice.Falls t) spoken = all (Voice.Falls t) spoken
+      by all (Voice.Aborts t) spoken = all (Voice.Aborts t) spoken
   sent_is B segment e ds p said own still fewer stays h = let g = goes_is B e ds p own still fewer stays h in record {
     a = h.a;
     b = own;
@@ -307,43 +315,44 @@ module _ (k : Secrets) (right : Bool) (w back : Side → Type 0) where
   }
     where
       by : AreKnown (goes_on B e ds p) ds → (x : Voice) → speaks x ds ≡ true → VoiceIs (sent_on values B segment e ds p) x
-      by all (inl A) spoken = all (inl A) spoken
-      by all (inl B) spoken = all (inl B) spoken
-      by all (inr t) spoken = all (inr t) spoken
+      by all (Voice.Says A) spoken = all (Voice.Says A) spoken
+      by all (Voice.Says B) spoken = all (Voice.Says B) spoken
+      by all (Voice.Falls t) spoken = all (Voice.Falls t) spoken
+      by all (Voice.Aborts t) spoken = all (Voice.Aborts t) spoken
 
   -- by an end with the same keys, to which nothing more was said
-  pub same_sent : (s : Side) (segment : PlainSegment) (e : PathEnd) (ds : List Duty) (p : PathState Carried) → SegmentIs k right w back p.profile s segment
-      → known_in e.modes ≡ known_in (end_at s p).modes → e.treated.items ≡ (end_at s p).treated.items → NoWaking (end_at s p).tcp e.tcp → Fewer p ds → PathIs p
+  pub same_sent : (s : Side) (segment : PlainSegment) (e : PathEnd) (ds : List Duty) (p : PathState Carried) → SegmentIs k right w did p.profile s segment
+      → known_in e.modes ≡ known_in (end_at s p).modes → told_in e ≡ told_in (end_at s p) → NoWaking (end_at s p).tcp e.tcp → Fewer p ds → PathIs p
       → PathIs (sent_on values s segment e ds p)
-  same_sent s segment e ds p said same items up fewer h =
-      sent_is s segment e ds p said (kept_end (is_joined p.profile) s (end_at s p) e same items up (end_is s p h)) up.waits fewer (stays_same s e p same) h
+  same_sent s segment e ds p said same told up fewer h =
+      sent_is s segment e ds p said (kept_end (is_joined p.profile) s (end_at s p) e same told up (end_is s p h)) up.waits fewer (stays_same s e p same) h
 
   -- ---- ends
 
-  pub died_is : (joined : Bool) (s : Side) (e : PathEnd) → EndIs k right w back joined s e → EndIs k right w back joined s (died e)
-  died_is joined s e h = record { modes = h.modes; items = Every-nil _; woken = λ is up. absurd (false≢true up); past = λ is so. absurd (false≢true so) }
+  pub died_is : (joined : Bool) (s : Side) (e : PathEnd) → EndIs k right w did joined s e → EndIs k right w did joined s (died e)
+  died_is joined s e h = record { modes = h.modes; items = Every-nil _; woken = λ is up. absurd (false≢true up); past = λ is so. absurd (false≢true so); carries = tt }
 
-  pub refused_is : (joined : Bool) (s : Side) (r : Reply) (e : PathEnd) → EndIs k right w back joined s e → EndIs k right w back joined s (with_mode_refused r e)
+  pub refused_is : (joined : Bool) (s : Side) (r : Reply) (e : PathEnd) → EndIs k right w did joined s e → EndIs k right w did joined s (with_mode_refused r e)
   refused_is joined s r e h = kept_end joined s e (with_mode_refused r e) refl refl (record { up = λ x. x; waits = λ x. x; past = λ x. x }) h
 
-  pub unless_dead_is : (joined : Bool) (s : Side) (e : PathEnd) → EndIs k right w back joined s e → EndIs k right w back joined s (died_unless_dead e)
+  pub unless_dead_is : (joined : Bool) (s : Side) (e : PathEnd) → EndIs k right w did joined s e → EndIs k right w did joined s (died_unless_dead e)
   unless_dead_is joined s e h = by (is_dead e.tcp.state)
     where
-      by : (b : Bool) → EndIs k right w back joined s (if b then e else died e)
+      by : (b : Bool) → EndIs k right w did joined s (if b then e else died e)
       by true = h
       by false = died_is joined s e h
 
-  pub fell_is : (joined : Bool) (s : Side) (event : FallEvent) (r : Reply) (e : PathEnd) → EndIs k right w back joined s e → EndIs k right w back joined s (after_fell event r e)
+  pub fell_is : (joined : Bool) (s : Side) (event : FallEvent) (r : Reply) (e : PathEnd) → EndIs k right w did joined s e → EndIs k right w did joined s (after_fell event r e)
   fell_is joined s event r e h = kept_end joined s e (after_fell event r e) (fell_leaves event r e.modes) refl (record { up = λ x. x; waits = λ x. x; past = λ x. x }) h
 
   -- ---- what was heard
 
   module _ (joined : Bool) where
-    pub key_found : (s : Side) (items : List Heard) → Every (ItemIs k right w back joined s) items → IfSome (key_heard items) (λ key. key ≡ drawn_key k right (peer s))
+    pub key_found : (s : Side) (items : List Heard) → Every (ItemIs k right w did joined s) items → IfSome (key_heard items) (λ key. key ≡ drawn_key k right (peer s))
     key_found s [] h = tt
     key_found s (item ∷ items) h = by item (h.each 0 item refl) (key_found s items (record { each = λ i x at. h.each (suc i) x at }))
       where
-        by : (item : Heard) → ItemIs k right w back joined s item → IfSome (key_heard items) (λ key. key ≡ drawn_key k right (peer s))
+        by : (item : Heard) → ItemIs k right w did joined s item → IfSome (key_heard items) (λ key. key ≡ drawn_key k right (peer s))
             → IfSome (key_heard (item ∷ items)) (λ key. key ≡ drawn_key k right (peer s))
         by (says.PeerKey key) own rest = own
         by says.Dss own rest = rest
@@ -352,11 +361,11 @@ module _ (k : Secrets) (right : Bool) (w back : Side → Type 0) where
     abbrev pub PairIs : Side → KeyPair → Type 0
     PairIs s keys = (joined ≡ false) × ((keys.own ≡ drawn_key k right s) × (keys.peer ≡ drawn_key k right (peer s)))
 
-    pub pair_found : (s : Side) (items : List Heard) → Every (ItemIs k right w back joined s) items → IfSome (keys_heard items) (PairIs s)
+    pub pair_found : (s : Side) (items : List Heard) → Every (ItemIs k right w did joined s) items → IfSome (keys_heard items) (PairIs s)
     pair_found s [] h = tt
     pair_found s (item ∷ items) h = by item (h.each 0 item refl) (pair_found s items (record { each = λ i x at. h.each (suc i) x at }))
       where
-        by : (item : Heard) → ItemIs k right w back joined s item → IfSome (keys_heard items) (PairIs s) → IfSome (keys_heard (item ∷ items)) (PairIs s)
+        by : (item : Heard) → ItemIs k right w did joined s item → IfSome (keys_heard items) (PairIs s) → IfSome (keys_heard (item ∷ items)) (PairIs s)
         by (says.Keys own other) pair rest = pair
         by says.Dss pair rest = rest
         by _ pair rest = rest
@@ -364,7 +373,7 @@ module _ (k : Secrets) (right : Bool) (w back : Side → Type 0) where
     abbrev pub FormIs : Side → JoinForm → Type 0
     FormIs s form = (joined ≡ true) × (IsFor s form × (w (peer s) × (right ≡ true → JoinIs k right (peer s) form)))
 
-    pub join_found : (s : Side) (of_step : JoinStep) (items : List Heard) → Every (ItemIs k right w back joined s) items → IfSome (join_heard of_step items) (FormIs s)
+    pub join_found : (s : Side) (of_step : JoinStep) (items : List Heard) → Every (ItemIs k right w did joined s) items → IfSome (join_heard of_step items) (FormIs s)
     join_found s of_step [] h = tt
     join_found s of_step (item ∷ items) h = by item (h.each 0 item refl) (join_found s of_step items (record { each = λ i x at. h.each (suc i) x at }))
       where
@@ -373,7 +382,7 @@ module _ (k : Secrets) (right : Bool) (w back : Side → Type 0) where
         form f true is rest = is
         form f false is rest = rest
 
-        by : (item : Heard) → ItemIs k right w back joined s item → IfSome (join_heard of_step items) (FormIs s) → IfSome (join_heard of_step (item ∷ items)) (FormIs s)
+        by : (item : Heard) → ItemIs k right w did joined s item → IfSome (join_heard of_step items) (FormIs s) → IfSome (join_heard of_step (item ∷ items)) (FormIs s)
         by (says.Join f) is rest = form f (is_of_step of_step f) is rest
         by says.Dss is rest = rest
         by _ is rest = rest
@@ -402,7 +411,7 @@ module _ (k : Secrets) (right : Bool) (w back : Side → Type 0) where
     asked_for s (Some (Answer backup id hmac nonce)) is = tt
     asked_for s (Some (Third hmac)) is = tt
 
-    pub asked_is : (s : Side) (items : List Heard) → Every (ItemIs k right w back joined s) items → IfSome (join_asked items) (AskedIs s)
+    pub asked_is : (s : Side) (items : List Heard) → Every (ItemIs k right w did joined s) items → IfSome (join_asked items) (AskedIs s)
     asked_is s items h = asked_for s (join_heard step.Syn items) (join_found s step.Syn items h)
 
     abbrev pub AnswerIs : Side → JoinAnswer → Type 0
@@ -423,14 +432,14 @@ module _ (k : Secrets) (right : Bool) (w back : Side → Type 0) where
         by true = (answer_at_a s backup id hmac nonce is.1.0, (is.1.1.0, λ sure. (is.1.1.1 sure).1))
         by false = tt
 
-    pub answer_is_right : (s : Side) (m : Modes) (items : List Heard) → Every (ItemIs k right w back joined s) items → IfSome (join_answer items m) (AnswerIs s)
+    pub answer_is_right : (s : Side) (m : Modes) (items : List Heard) → Every (ItemIs k right w did joined s) items → IfSome (join_answer items m) (AnswerIs s)
     answer_is_right s m items h = answered_so s m (join_heard step.Answer items) (join_found s step.Answer items h)
 
   -- ---- an end learns
 
   -- the peer's key, and on the path that opens the connection, that it may send a DSS
-  pub rekeyed : (joined : Bool) (s : Side) (key : ℕ) (clear : Bool) (m : Modes) → key ≡ drawn_key k right (peer s) → (joined ≡ true → clear ≡ true → m.clear ≡ true) → ModesAre k right w back joined s m
-      → ModesAre k right w back joined s (record m { peer_key = Some key; clear = clear })
+  pub rekeyed : (joined : Bool) (s : Side) (key : ℕ) (clear : Bool) (m : Modes) → key ≡ drawn_key k right (peer s) → (joined ≡ true → clear ≡ true → m.clear ≡ true) → ModesAre k right w did joined s m
+      → ModesAre k right w did joined s (record m { peer_key = Some key; clear = clear })
   rekeyed joined s key clear m is was h = record {
     own = h.own;
     nonce = h.nonce;
@@ -441,7 +450,7 @@ module _ (k : Secrets) (right : Bool) (w back : Side → Type 0) where
     fell = h.fell;
   }
 
-  pub rekeyed_knows : (s : Side) (key : ℕ) (clear : Bool) (m : Modes) → key ≡ drawn_key k right (peer s) → Knows k right w back s m → Knows k right w back s (record m { peer_key = Some key; clear = clear })
+  pub rekeyed_knows : (s : Side) (key : ℕ) (clear : Bool) (m : Modes) → key ≡ drawn_key k right (peer s) → Knows k right w did s m → Knows k right w did s (record m { peer_key = Some key; clear = clear })
   rekeyed_knows A key clear m is knows = (knows.0, λ sure. ap (λ n. Some n) is)
   rekeyed_knows B key clear m is knows = (knows.0, λ sure. (ap (λ n. Some n) is, (knows.1 sure).1))
 
@@ -450,33 +459,34 @@ module _ (k : Secrets) (right : Bool) (w back : Side → Type 0) where
 
   -- the book noted them, or nothing changes
   pub keys_are : (joined : Bool) (s : Side) (r : Reply) (o : Option KeyPair) (e : PathEnd) → IfSome o (PairIs joined s)
-      → EndIs k right w back joined s e → EndIs k right w back joined s (after_keys r o e)
+      → EndIs k right w did joined s e → EndIs k right w did joined s (after_keys r o e)
   keys_are joined s r o e pair h = record {
     modes = modes r o pair;
     items = h.items;
     woken = λ is up. knows r o pair (h.woken is up);
     past = h.past;
+    carries = h.carries;
   }
     where
-      modes : (r : Reply) (o : Option KeyPair) → IfSome o (PairIs joined s) → ModesAre k right w back joined s (keys_in r o e.modes)
+      modes : (r : Reply) (o : Option KeyPair) → IfSome o (PairIs joined s) → ModesAre k right w did joined s (keys_in r o e.modes)
       modes (replies.Send reply) o pair = h.modes
       modes (replies.Reassembly reply) o pair = h.modes
       modes replies.Done o pair = h.modes
       modes (replies.Control reply) o pair = by reply o pair
         where
-          by : (reply : ControlReply) (o : Option KeyPair) → IfSome o (PairIs joined s) → ModesAre k right w back joined s (keys_in (replies.Control reply) o e.modes)
+          by : (reply : ControlReply) (o : Option KeyPair) → IfSome o (PairIs joined s) → ModesAre k right w did joined s (keys_in (replies.Control reply) o e.modes)
           by control_replies.Noted (Some keys) pair = rekeyed joined s keys.peer true e.modes pair.1.1 (λ joins now. never_joins joined _ pair.0 joins) h.modes
           by control_replies.Noted None pair = h.modes
           by control_replies.NotYet o pair = h.modes
           by _ o pair = h.modes
 
-      knows : (r : Reply) (o : Option KeyPair) → IfSome o (PairIs joined s) → Knows k right w back s e.modes → Knows k right w back s (keys_in r o e.modes)
+      knows : (r : Reply) (o : Option KeyPair) → IfSome o (PairIs joined s) → Knows k right w did s e.modes → Knows k right w did s (keys_in r o e.modes)
       knows (replies.Send reply) o pair has = has
       knows (replies.Reassembly reply) o pair has = has
       knows replies.Done o pair has = has
       knows (replies.Control reply) o pair has = by reply o pair
         where
-          by : (reply : ControlReply) (o : Option KeyPair) → IfSome o (PairIs joined s) → Knows k right w back s (keys_in (replies.Control reply) o e.modes)
+          by : (reply : ControlReply) (o : Option KeyPair) → IfSome o (PairIs joined s) → Knows k right w did s (keys_in (replies.Control reply) o e.modes)
           by control_replies.Noted (Some keys) pair = rekeyed_knows s keys.peer true e.modes pair.1.1 has
           by control_replies.Noted None pair = has
           by control_replies.NotYet o pair = has
@@ -488,13 +498,13 @@ module _ (k : Secrets) (right : Bool) (w back : Side → Type 0) where
       m : Modes
       m = (end_at s p).modes
 
-      knows : (r : Reply) (o : Option KeyPair) → IfSome o (PairIs (is_joined p.profile) s) → Knows k right w back s (keys_in r o m)
+      knows : (r : Reply) (o : Option KeyPair) → IfSome o (PairIs (is_joined p.profile) s) → Knows k right w did s (keys_in r o m)
       knows (replies.Send reply) o pair = has
       knows (replies.Reassembly reply) o pair = has
       knows replies.Done o pair = has
       knows (replies.Control reply) o pair = by reply o pair
         where
-          by : (reply : ControlReply) (o : Option KeyPair) → IfSome o (PairIs (is_joined p.profile) s) → Knows k right w back s (keys_in (replies.Control reply) o m)
+          by : (reply : ControlReply) (o : Option KeyPair) → IfSome o (PairIs (is_joined p.profile) s) → Knows k right w did s (keys_in (replies.Control reply) o m)
           by control_replies.Noted (Some keys) pair = rekeyed_knows s keys.peer true m pair.1.1 has
           by control_replies.Noted None pair = has
           by control_replies.NotYet o pair = has
@@ -510,7 +520,7 @@ module _ (k : Secrets) (right : Bool) (w back : Side → Type 0) where
   sure_right true is sure = sure
   sure_right false is sure = absurd (false≢true is)
 
-  pub opened_end : (s : Side) (o : Option KeyPair) (e : PathEnd) → IfSome o (BeginIs s) → EndIs k right w back true s e → (s ≡ A) → EndIs k right w back true s (opened_by o e)
+  pub opened_end : (s : Side) (o : Option KeyPair) (e : PathEnd) → IfSome o (BeginIs s) → EndIs k right w did true s e → (s ≡ A) → EndIs k right w did true s (opened_by o e)
   opened_end s None e is h a = h
   opened_end A (Some keys) e is h a = record {
     modes = record {
@@ -525,6 +535,7 @@ module _ (k : Secrets) (right : Bool) (w back : Side → Type 0) where
     items = h.items;
     woken = λ joined up. (is.1.0, λ sure. ap (λ n. Some n) (is.1.1 sure));
     past = λ joined so. h.past refl (begun (is_waiting e.tcp.state) so);
+    carries = h.carries;
   }
     where
       begun : (b : Bool) → is_past (if b then after_begin e.tcp else e.tcp).state ≡ true → is_past e.tcp.state ≡ true
@@ -532,13 +543,13 @@ module _ (k : Secrets) (right : Bool) (w back : Side → Type 0) where
       begun false so = so
   opened_end B (Some keys) e is h a = cc
 
-  pub opened_stays : (o : Option KeyPair) (e : PathEnd) → IfSome o (BeginIs A) → Knows k right w back A e.modes → Knows k right w back A (opened_by o e).modes
+  pub opened_stays : (o : Option KeyPair) (e : PathEnd) → IfSome o (BeginIs A) → Knows k right w did A e.modes → Knows k right w did A (opened_by o e).modes
   opened_stays None e is has = has
   opened_stays (Some keys) e is has = (is.1.0, λ sure. ap (λ n. Some n) (is.1.1 sure))
 
   -- B hears the join that A asks for
-  pub joined_end : (s : Side) (keys : KeyPair) (asked : Asked) (e : PathEnd) → BeginIs s keys → AskedIs true s asked → EndIs k right w back true s e
-      → EndIs k right w back true s (joined_by keys asked e)
+  pub joined_end : (s : Side) (keys : KeyPair) (asked : Asked) (e : PathEnd) → BeginIs s keys → AskedIs true s asked → EndIs k right w did true s e
+      → EndIs k right w did true s (joined_by keys asked e)
   joined_end s keys asked e is heard h = record {
     modes = record {
       own = is.0;
@@ -552,12 +563,13 @@ module _ (k : Secrets) (right : Bool) (w back : Side → Type 0) where
     items = h.items;
     woken = λ joined up. (is.1.0, λ sure. met_needs k right s (joined_by keys asked e).modes (met sure));
     past = λ joined so. subst w heard.1.0 is.1.0;
+    carries = h.carries;
   }
     where
       met : right ≡ true → HasMet k right s (joined_by keys asked e).modes
       met sure = (ap (λ n. Some n) (is.1.1 sure), (heard.1.1.1 sure).1)
 
-  pub joined_knows : (s : Side) (keys : KeyPair) (asked : Asked) (e : PathEnd) → BeginIs s keys → AskedIs true s asked → Knows k right w back s (joined_by keys asked e).modes
+  pub joined_knows : (s : Side) (keys : KeyPair) (asked : Asked) (e : PathEnd) → BeginIs s keys → AskedIs true s asked → Knows k right w did s (joined_by keys asked e).modes
   joined_knows s keys asked e is heard = (is.1.0, λ sure. met_needs k right s (joined_by keys asked e).modes (ap (λ n. Some n) (is.1.1 sure), (heard.1.1.1 sure).1))
 
   pub joined_waits : (keys : KeyPair) (asked : Asked) (e : PathEnd) → is_waiting (joined_by keys asked e).tcp.state ≡ true → is_waiting e.tcp.state ≡ true
@@ -568,7 +580,7 @@ module _ (k : Secrets) (right : Bool) (w back : Side → Type 0) where
       by false waiting = waiting
 
   -- this side knows, and the other one does where it knew
-  pub to_both : (s t : Side) (e : PathEnd) (p : PathState Carried) → Knows k right w back s e.modes → (same_side t s ≡ false → Knows k right w back t (end_at t p).modes) → Knows k right w back t (end_at t (with_end s e p)).modes
+  pub to_both : (s t : Side) (e : PathEnd) (p : PathState Carried) → Knows k right w did s e.modes → (same_side t s ≡ false → Knows k right w did t (end_at t p).modes) → Knows k right w did t (end_at t (with_end s e p)).modes
   to_both A A e p own other = own
   to_both B B e p own other = own
   to_both A B e p own other = other refl
@@ -576,12 +588,12 @@ module _ (k : Secrets) (right : Bool) (w back : Side → Type 0) where
 
 -- ---- the more sides joined
 
-module _ (k : Secrets) (right : Bool) (w back u gone : Side → Type 0) (more : (s : Side) → w s → u s) (further : (s : Side) → back s → gone s) where
+module _ (k : Secrets) (right : Bool) (w u : Side → Type 0) (did does : Deed → Side → Type 0) (more : (s : Side) → w s → u s) (further : (d : Deed) (s : Side) → did d s → does d s) where
   more_b : (s : Side) → OfB s (w B) → OfB s (u B)
   more_b A h = h
   more_b B h = more B h
 
-  more_option : (joined : Bool) (s : Side) (o : PlainOption) → OptionIs k right w back joined s o → OptionIs k right u gone joined s o
+  more_option : (joined : Bool) (s : Side) (o : PlainOption) → OptionIs k right w did joined s o → OptionIs k right u does joined s o
   more_option joined s (Capable flag_a flag_c keys) h = h
   more_option joined s (Join form) h = (h.0, (more s h.1.0, h.1.1))
   more_option joined s (Dss next mapping) h = λ joins. more_b s (h joins)
@@ -589,26 +601,26 @@ module _ (k : Secrets) (right : Bool) (w back u gone : Side → Type 0) (more : 
   more_option joined s (Remove ids) h = h
   more_option joined s (Prio backup) h = h
   more_option joined s (Fail place) h = h
-  more_option joined s (FastClose key) h = h
+  more_option joined s (FastClose key) h = further Deed.Closed s h
   more_option joined s (Reset transient reason) h = h
 
-  more_item : (joined : Bool) (s : Side) (item : Heard) → ItemIs k right w back joined s item → ItemIs k right u gone joined s item
+  more_item : (joined : Bool) (s : Side) (item : Heard) → ItemIs k right w did joined s item → ItemIs k right u does joined s item
   more_item joined s (says.Keys own other) h = h
   more_item joined s (says.PeerKey key) h = h
   more_item joined s (says.Join form) h = (h.0, (h.1.0, (more (peer s) h.1.1.0, h.1.1.1)))
   more_item joined s (says.Notice notice) h = h
   more_item joined s says.Fail h = h
-  more_item joined s (says.FastClose key) h = h
+  more_item joined s (says.FastClose key) h = further Deed.Closed (peer s) h
   more_item joined s says.Dss h = λ joins. more_b (peer s) (h joins)
   more_item joined s (says.Mapping fin) h = h
   more_item joined s (says.InfiniteMapping place position) h = h
   more_item joined s (says.DataAck next window) h = h
   more_item joined s (says.DataFin place) h = h
 
-  more_knows : (s : Side) (m : Modes) → Knows k right w back s m → Knows k right u gone s m
+  more_knows : (s : Side) (m : Modes) → Knows k right w did s m → Knows k right u does s m
   more_knows s m h = (more s h.0, h.1)
 
-  more_end : (joined : Bool) (s : Side) (e : PathEnd) → EndIs k right w back joined s e → EndIs k right u gone joined s e
+  more_end : (joined : Bool) (s : Side) (e : PathEnd) → EndIs k right w did joined s e → EndIs k right u does joined s e
   more_end joined s e h = record {
     modes = record {
       own = h.modes.own;
@@ -617,14 +629,19 @@ module _ (k : Secrets) (right : Bool) (w back u gone : Side → Type 0) (more : 
       joins = h.modes.joins;
       third = λ owes. let knows = h.modes.third owes in (more s knows.0, knows.1);
       cleared = λ joins now. more B (h.modes.cleared joins now);
-      fell = λ is. let both = h.modes.fell is in (both.0, further s both.1);
+      fell = λ is. let both = h.modes.fell is in (both.0, further Deed.Fell s both.1);
     };
     items = record { each = λ i x at. more_item joined s x (h.items.each i x at) };
     woken = λ joins up. more_knows s e.modes (h.woken joins up);
     past = λ joins so. more B (h.past joins so);
+    carries = by e.notices.carrier h.carries;
   }
+    where
+      by : (o : Option ℕ) → IfSome o (λ key. did Deed.Closed s) → IfSome o (λ key. does Deed.Closed s)
+      by None closed = tt
+      by (Some key) closed = further Deed.Closed s closed
 
-  pub more_is : (p : PathState Carried) → PathIs k right w back p → PathIs k right u gone p
+  pub more_is : (p : PathState Carried) → PathIs k right w did p → PathIs k right u does p
   more_is p h = record {
     a = more_end (is_joined p.profile) A p.a h.a;
     b = more_end (is_joined p.profile) B p.b h.b;
@@ -633,6 +650,7 @@ module _ (k : Secrets) (right : Bool) (w back u gone : Side → Type 0) (more : 
     waits = h.waits;
   }
     where
-      more_voice : (x : Voice) → VoiceIs k right w back p x → VoiceIs k right u gone p x
-      more_voice (inl t) has = λ joins. more_knows t (end_at t p).modes (has joins)
-      more_voice (inr t) has = (has.0, further t has.1)
+      more_voice : (x : Voice) → VoiceIs k right w did p x → VoiceIs k right u does p x
+      more_voice (Voice.Says t) has = λ joins. more_knows t (end_at t p).modes (has joins)
+      more_voice (Voice.Falls t) has = (has.0, further Deed.Fell t has.1)
+      more_voice (Voice.Aborts t) has = (further Deed.Stopped t has.0, further Deed.Closed (peer t) has.1)

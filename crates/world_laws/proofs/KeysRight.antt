@@ -33,9 +33,8 @@ use Rattle.path_core.specs.declared.modes.Modes.{Modes}
 use Rattle.path_core.specs.Arriving.{options_heard, ack_items, is_mapping, mapping_items, data_fin_items, infinite_items, map_items, key_items, join_items, items_in, items_of}
 use Rattle.path_core.specs.Ends.{PathEnd}
 use Rattle.path_core.specs.Joins.{is_joined, peer_key_of, join_options, third_options}
-use Rattle.path_core.specs.OptionsOut.{capable_options, syn_options, key_options, opening_options, ack_options, data_fin_mapping, is_first_piece, first_piece_options, piece_options, piece_mapping, owes_mapping, plain_options, fin_options, record_options, reset_options, reset_said, ack_said, syn_ack_said, record_or_ack}
+use Rattle.path_core.specs.OptionsOut.{capable_options, syn_options, key_options, opening_options, ack_options, data_fin_mapping, is_first_piece, first_piece_options, piece_options, piece_mapping, owes_mapping, plain_options, fin_options, record_options, reset_options, reset_said, ack_said, carried_said, syn_ack_said, record_or_ack}
 use Rattle.path_core.specs.State.{Profile}
-use Rattle.path_core.specs.Segments.{carried_said}
 use Rattle.dss_mapping.specs.Mappings.{octets_in}
 
 every_one : {X : Type 0} {P : X → Type 0} (x : X) → P x → Every P (x ∷ [])
@@ -63,6 +62,20 @@ pub record Known : Type 0 where
 
 abbrev pub known_in : Modes → Known
 known_in m = record { own_key = m.own_key; peer_key = m.peer_key; own_nonce = m.own_nonce; peer_nonce = m.peer_nonce; owes_third = m.owes_third; clear = m.clear; identity = m.identity }
+
+-- what a side did: it fell back to plain TCP; its application asked for a fast close; it was stopped by the peer's
+pub data Deed : Type 0 where
+  Fell : Deed
+  Closed : Deed
+  Stopped : Deed
+
+-- what was said to an end, and the fast close that it carries
+pub record Told : Type 0 where
+  pub items : List Heard
+  pub carrier : Option ℕ
+
+abbrev pub told_in : PathEnd → Told
+told_in e = record { items = e.treated.items; carrier = e.notices.carrier }
 
 -- it began, and maybe died since; or its timer runs
 abbrev pub is_woken : PathEnd → Bool
@@ -153,13 +166,15 @@ module _ (k : Secrets) (right : Bool) where
   needs_key A m h = h
   needs_key B m h = h.0
 
--- And that the control book of a side began a join, or answered one; and that it fell back to plain TCP.
-module _ (k : Secrets) (right : Bool) (w back : Side → Type 0) where
-  -- an MP_JOIN is said on a path that joins alone, by a side that joined; and there B says a DSS once it answered
+-- And that the control book of a side began a join, or answered one; and what else the side did.
+module _ (k : Secrets) (right : Bool) (w : Side → Type 0) (did : Deed → Side → Type 0) where
+  -- an MP_JOIN is said on a path that joins alone, by a side that joined; and there B says a DSS once it answered. MP_FASTCLOSE is
+  -- said by a side whose application asked for it.
   abbrev pub OptionIs : Bool → Side → PlainOption → Type 0
   OptionIs joined s (Capable flag_a flag_c keys) = sure_if k right joined ≡ true → KeysAre k right s keys
   OptionIs joined s (Join form) = (joined ≡ true) × (w s × (right ≡ true → JoinIs k right s form))
   OptionIs joined s (Dss next mapping) = joined ≡ true → OfB s (w B)
+  OptionIs joined s (FastClose key) = did Deed.Closed s
   OptionIs joined s _ = Unit {0}
 
   abbrev pub SegmentIs : Profile → Side → PlainSegment → Type 0
@@ -172,6 +187,7 @@ module _ (k : Secrets) (right : Bool) (w back : Side → Type 0) where
   ItemIs joined s (says.PeerKey key) = key ≡ drawn_key k right (peer s)
   ItemIs joined s (says.Join form) = (joined ≡ true) × (IsFor s form × (w (peer s) × (right ≡ true → JoinIs k right (peer s) form)))
   ItemIs joined s says.Dss = joined ≡ true → OfB (peer s) (w B)
+  ItemIs joined s (says.FastClose key) = did Deed.Closed (peer s)
   ItemIs joined s _ = Unit {0}
 
   -- ---- an end
@@ -187,13 +203,14 @@ module _ (k : Secrets) (right : Bool) (w back : Side → Type 0) where
     pub joins : m.owes_third ≡ true → joined ≡ true
     pub third : m.owes_third ≡ true → w s × (right ≡ true → HasMet k right s m)
     pub cleared : joined ≡ true → m.clear ≡ true → w B
-    pub fell : m.identity ≡ true → (joined ≡ false) × back s
+    pub fell : m.identity ≡ true → (joined ≡ false) × did Deed.Fell s
 
   pub record EndIs (joined : Bool) (s : Side) (e : PathEnd) : Type 0 where
     pub modes : ModesAre joined s e.modes
     pub items : Every (ItemIs joined s) e.treated.items
     pub woken : joined ≡ true → is_woken e ≡ true → Knows s e.modes
     pub past : joined ≡ true → is_past e.tcp.state ≡ true → w B
+    pub carries : IfSome e.notices.carrier (λ key. did Deed.Closed s)
 
   pub same_knows : (s : Side) (m n : Modes) → known_in n ≡ known_in m → Knows s m → Knows s n
   same_knows s m n same h = (h.0, λ sure. same_needs k right s m n same (h.1 sure))
@@ -211,13 +228,14 @@ module _ (k : Secrets) (right : Bool) (w back : Side → Type 0) where
   }
 
   -- an end that knows the same, to which the same was said, and which didn't wake
-  pub same_end : (joined : Bool) (s : Side) (e f : PathEnd) → known_in f.modes ≡ known_in e.modes → f.treated.items ≡ e.treated.items
+  pub same_end : (joined : Bool) (s : Side) (e f : PathEnd) → known_in f.modes ≡ known_in e.modes → told_in f ≡ told_in e
       → (is_woken f ≡ true → is_woken e ≡ true) → (is_past f.tcp.state ≡ true → is_past e.tcp.state ≡ true) → EndIs joined s e → EndIs joined s f
-  same_end joined s e f same items awake past h = record {
+  same_end joined s e f same told awake past h = record {
     modes = same_modes joined s e.modes f.modes same h.modes;
-    items = subst (Every (ItemIs joined s)) (sym items) h.items;
+    items = subst (Every (ItemIs joined s)) (sym (ap (λ x. x.items) told)) h.items;
     woken = λ is woken. same_knows s e.modes f.modes same (h.woken is (awake woken));
     past = λ is so. h.past is (past so);
+    carries = subst (λ o. IfSome o (λ key. did Deed.Closed s)) (sym (ap (λ x. x.carrier) told)) h.carries;
   }
 
   -- ---- what it sends
@@ -278,9 +296,9 @@ module _ (k : Secrets) (right : Bool) (w back : Side → Type 0) where
     pub ack_is : (position : ℕ) (fin : Option ℕ) → SegmentIs c s (ack_said c s position fin e)
     ack_is position fin = ack_options_are fin
 
-    pub carried_is : (is_joined c ≡ true → OfB s (w B)) → (o : Option ℕ) → SegmentIs c s (carried_said c s o e)
-    carried_is knows (Some key) = every_two _ _ knows tt
-    carried_is knows None = ack_options_are None
+    pub carried_is : (is_joined c ≡ true → OfB s (w B)) → (o : Option ℕ) → IfSome o (λ key. did Deed.Closed s) → SegmentIs c s (carried_said c s o e)
+    carried_is knows (Some key) closed = every_two _ _ knows closed
+    carried_is knows None closed = ack_options_are None
 
     -- where it knows what it has to, its SYN is right, and so is its DSS
     module _ (knows : is_joined c ≡ true → Knows s e.modes) where
@@ -436,7 +454,7 @@ module _ (k : Secrets) (right : Bool) (w back : Side → Type 0) where
     items_in_are s window (Remove ids) h = removed_noted (λ notice. tt) ids
     items_in_are s window (Prio backup) h = noted (λ notice. tt) (notes.Prio backup)
     items_in_are s window (Fail place) h = every_one says.Fail tt
-    items_in_are s window (FastClose key) h = every_one (says.FastClose key) tt
+    items_in_are s window (FastClose key) h = every_one (says.FastClose key) h
     items_in_are s window (Reset transient reason) h = Every-nil _
 
     all_items : (s : Side) (window : ℕ) (options : List PlainOption) → Every (OptionIs joined (peer s)) options

@@ -321,7 +321,8 @@ module _ (T : Type 0) where
       by : (s : Side) → Fewer p.agenda (replaced (duties.Ask (ask_duties.Dead s)) p.agenda)
       by A = other_fewer (duties.Ask (ask_duties.Dead A)) p.agenda refl refl
       by B = other_fewer (duties.Ask (ask_duties.Dead B)) p.agenda refl refl
-  answered_met (duties.Ask (ask_duties.LeaveNoted s)) r p none sign gains h = inl (agenda_met T (replaced (duties.Ask (ask_duties.Dead s)) p.agenda) p (by s) h)
+  answered_met (duties.Ask (ask_duties.LeaveNoted s)) r p none sign gains h =
+      inl (goes_met T s (died (end_at s p)) (replaced (duties.Ask (ask_duties.Dead s)) p.agenda) p (died_goes T s p) (by s) h)
     where
       by : (s : Side) → Fewer p.agenda (replaced (duties.Ask (ask_duties.Dead s)) p.agenda)
       by A = other_fewer (duties.Ask (ask_duties.Dead A)) p.agenda refl refl

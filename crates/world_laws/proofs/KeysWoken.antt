@@ -1,5 +1,5 @@
 -- Which steps wake an end, and which duties say what an end that began says.
-use Rattle.std.proofs.Common.{◌≡◌, refl, sym, ◌∙◌, ap, subst, ℕ, zero, suc, ◌+◌, not, ◌||◌, ◌&&◌, nat_lt, nat_le, is_some, IsSome, ◌⊎◌, inl, inr, Bool, true, false, if◌then◌else◌, Option, Some, None, List, [], ◌∷◌}
+use Rattle.std.proofs.Common.{◌≡◌, refl, sym, ◌∙◌, ap, subst, ℕ, zero, suc, ◌+◌, not, ◌||◌, ◌&&◌, nat_lt, nat_le, is_some, IsSome, Bool, true, false, if◌then◌else◌, Option, Some, None, List, [], ◌∷◌}
 use Rattle.std.proofs.lemmas.Bool.{false≢true}
 use Rattle.std.specs.List.{list_any}
 use Rattle.std.specs.Option.{IfSome, option_and_then}
@@ -420,18 +420,28 @@ module _ (rst : Bool) (items : List Heard) (e : PathEnd) where
 
 -- ---- duties
 
--- a side that says what an end says that began, or tells its control book of a fall; or a side that falls
-abbrev pub Voice : Type 0
-Voice = Side ⊎ Side
+-- a side that says what an end says that began, or tells its control book of a fall; a side that falls; one that tells its reassembly
+-- book of the peer's fast close
+pub data Voice : Type 0 where
+  Says : (side : Side) → Voice
+  Falls : (side : Side) → Voice
+  Aborts : (side : Side) → Voice
 
--- it is that side, and it says something; or it falls
+-- it is that side, and it says something; or it falls; or it aborts
 abbrev pub tells : Voice → Side → Bool
-tells (inl s) t = same_side s t
-tells (inr s) t = false
+tells (Voice.Says s) t = same_side s t
+tells (Voice.Falls s) t = false
+tells (Voice.Aborts s) t = false
 
 abbrev pub falls : Voice → Side → Bool
-falls (inl s) t = false
-falls (inr s) t = same_side s t
+falls (Voice.Says s) t = false
+falls (Voice.Falls s) t = same_side s t
+falls (Voice.Aborts s) t = false
+
+abbrev pub aborts : Voice → Side → Bool
+aborts (Voice.Says s) t = false
+aborts (Voice.Falls s) t = false
+aborts (Voice.Aborts s) t = same_side s t
 
 abbrev pub is_said_by : Voice → Duty → Bool
 is_said_by x (duties.Send (send_duties.SynAck t)) = tells x t
@@ -446,6 +456,7 @@ is_said_by x (duties.Ask (ask_duties.AckHeard t)) = tells x t
 is_said_by x (duties.Step (step_duties.PlainAck t)) = tells x t
 is_said_by x (duties.Ask (ask_duties.PlainData t)) = tells x t
 is_said_by x (duties.Ask (ask_duties.GoIdentity t)) = falls x t
+is_said_by x (duties.Ask (ask_duties.AbortReceive t)) = aborts x t
 is_said_by x _ = false
 
 abbrev pub speaks : Voice → List Duty → Bool
@@ -467,36 +478,45 @@ pub first_speaks : (x : Voice) (d : Duty) (ds : List Duty) → is_said_by x d �
 first_speaks x d ds is = ap (λ b. b || speaks x ds) is
 
 -- other sides say nothing by such duties, and none falls
-heard_calm : (s t : Side) (from count : ℕ) (ds : List Duty) → same_side s t ≡ false → speaks (inl s) (heard_and t from count ds) ≡ speaks (inl s) ds
+heard_calm : (s t : Side) (from count : ℕ) (ds : List Duty) → same_side s t ≡ false → speaks (Voice.Says s) (heard_and t from count ds) ≡ speaks (Voice.Says s) ds
 heard_calm s t from zero ds other = refl
-heard_calm s t from (suc count) ds other = ap (λ b. b || speaks (inl s) (heard_and t (from + 1) count ds)) other ∙ heard_calm s t (from + 1) count ds other
+heard_calm s t from (suc count) ds other = ap (λ b. b || speaks (Voice.Says s) (heard_and t (from + 1) count ds)) other ∙ heard_calm s t (from + 1) count ds other
 
-heard_falls : (s t : Side) (from count : ℕ) (ds : List Duty) → speaks (inr s) (heard_and t from count ds) ≡ speaks (inr s) ds
+heard_falls : (s t : Side) (from count : ℕ) (ds : List Duty) → speaks (Voice.Falls s) (heard_and t from count ds) ≡ speaks (Voice.Falls s) ds
 heard_falls s t from zero ds = refl
 heard_falls s t from (suc count) ds = heard_falls s t (from + 1) count ds
 
-pub tells_same : (x : Voice) (s : Side) → tells x s ≡ true → x ≡ inl s
-tells_same (inl A) A is = refl
-tells_same (inl B) B is = refl
-tells_same (inl A) B is = absurd (false≢true is)
-tells_same (inl B) A is = absurd (false≢true is)
-tells_same (inr t) s is = absurd (false≢true is)
+heard_aborts : (s t : Side) (from count : ℕ) (ds : List Duty) → speaks (Voice.Aborts s) (heard_and t from count ds) ≡ speaks (Voice.Aborts s) ds
+heard_aborts s t from zero ds = refl
+heard_aborts s t from (suc count) ds = heard_aborts s t (from + 1) count ds
 
-pub falls_same : (x : Voice) (s : Side) → falls x s ≡ true → x ≡ inr s
-falls_same (inr A) A is = refl
-falls_same (inr B) B is = refl
-falls_same (inr A) B is = absurd (false≢true is)
-falls_same (inr B) A is = absurd (false≢true is)
-falls_same (inl t) s is = absurd (false≢true is)
+pub tells_same : (x : Voice) (s : Side) → tells x s ≡ true → x ≡ Voice.Says s
+tells_same (Voice.Says A) A is = refl
+tells_same (Voice.Says B) B is = refl
+tells_same (Voice.Says A) B is = absurd (false≢true is)
+tells_same (Voice.Says B) A is = absurd (false≢true is)
+tells_same (Voice.Falls t) s is = absurd (false≢true is)
+tells_same (Voice.Aborts t) s is = absurd (false≢true is)
 
-pub came_said : (s t : Side) (count : ℕ) → speaks (inl s) (copy_came t count) ≡ true → s ≡ t
+pub falls_same : (x : Voice) (s : Side) → falls x s ≡ true → x ≡ Voice.Falls s
+falls_same (Voice.Falls A) A is = refl
+falls_same (Voice.Falls B) B is = refl
+falls_same (Voice.Falls A) B is = absurd (false≢true is)
+falls_same (Voice.Falls B) A is = absurd (false≢true is)
+falls_same (Voice.Says t) s is = absurd (false≢true is)
+falls_same (Voice.Aborts t) s is = absurd (false≢true is)
+
+pub came_said : (s t : Side) (count : ℕ) → speaks (Voice.Says s) (copy_came t count) ≡ true → s ≡ t
 came_said A A count is = refl
 came_said B B count is = refl
 came_said A B count is = absurd (false≢true (sym (heard_calm A B 0 count (payload_came B) refl) ∙ is))
 came_said B A count is = absurd (false≢true (sym (heard_calm B A 0 count (payload_came A) refl) ∙ is))
 
-pub came_calm : (s t : Side) (count : ℕ) → speaks (inr s) (copy_came t count) ≡ false
+pub came_calm : (s t : Side) (count : ℕ) → speaks (Voice.Falls s) (copy_came t count) ≡ false
 came_calm s t count = heard_falls s t 0 count (payload_came t)
+
+pub came_goes_on : (s t : Side) (count : ℕ) → speaks (Voice.Aborts s) (copy_came t count) ≡ false
+came_goes_on s t count = heard_aborts s t 0 count (payload_came t)
 
 pub same_or_calm : (s t : Side) → same_side s t || false ≡ true → s ≡ t
 same_or_calm A A is = refl

@@ -287,6 +287,11 @@ checked_recalls : (checksums : Bool) (o : Option KeptMapping) (e : PathEnd) → 
 checked_recalls checksums None e = recalls_all e e refl
 checked_recalls checksums (Some kept) e = either_recalls (is_wrong checksums kept e.tcp) e _ _ (recalls_all e _ refl) (recalls_all e _ refl)
 
+-- the peer's fast close
+stopped_follows : (s : Side) (stopped : Bool) (n : ℕ) (ds : List Duty) → Follows n ds → Follows n (if stopped then stops s else ds)
+stopped_follows s true n ds f = tt
+stopped_follows s false n ds f = f
+
 -- the first duty is none of these
 abbrev IsOther : Duty → Type 0
 IsOther (duties.Step step_duties.Events) = ⊥
@@ -581,11 +586,6 @@ module _ {C : Type 0} where
   told_follows : (n : ℕ) (b : Bool) (index : ℕ) (ds : List Duty) (p : PathState C) → Follows n ds → Follows n (told_next B b (with_agenda (duties.Step (step_duties.Heard B index) ∷ ds) p))
   told_follows n true index ds p f = f
   told_follows n false index ds p f = f
-
-  -- the peer's fast close
-  stopped_follows : (s : Side) (stopped : Bool) (n : ℕ) (ds : List Duty) → Follows n ds → Follows n (if stopped then stops s else ds)
-  stopped_follows s true n ds f = tt
-  stopped_follows s false n ds f = f
 
   heard_goes : (k : Codec C) (index : ℕ) (ds : List Duty) (r : Reply) (p : PathState C) (o : Option Heard)
       → let m = with_agenda (duties.Step (step_duties.Heard B index) ∷ ds) p in let q = answered_item k B o r m in Goes (duties.Step (step_duties.Heard B index)) ds m q q.agenda

@@ -119,3 +119,4 @@ pub mod FellEver
 pub mod WrittenShort
 pub mod RoundsDone
 pub mod Stopping
+pub mod Causing

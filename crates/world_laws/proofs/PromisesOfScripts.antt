@@ -21,6 +21,7 @@ use Rattle.path_core.specs.Starts.{key_of}
 use Rattle.world_laws.specs.Openings.{PathPlan, plan_of, plans_from, start_of}
 use Rattle.world_laws.specs.Laws.{CanRunPath}
 use Rattle.world_laws.specs.PlainScripts.{alters_payload, PlainScriptsStartPlainly, PlainScriptsKeepAllPromises, PlainScriptsAreShownOfValues, ScriptsCanRun}
+use Rattle.world_laws.proofs.Causing.{aborts_have_cause_in_octets}
 use Rattle.world_laws.proofs.FallsRight.{falls_in_octets, falls_last_in_octets, places_in_octets}
 use Rattle.world_laws.proofs.GrantingOnce.{granted_once}
 use Rattle.world_laws.proofs.LowHalves.{short_numbers}
@@ -121,6 +122,7 @@ plain_scripts_keep_all_promises script file_a file_b turns h =
       lasting = falls_last_in_octets start turns starts.0 starts.1;
       places = places_in_octets start turns starts.0 starts.1;
       granted = granted_once octets start turns;
+      aborts = aborts_have_cause_in_octets start turns starts.0 starts.1;
     }
 
 pub plain_scripts_are_shown_of_values : PlainScriptsAreShownOfValues

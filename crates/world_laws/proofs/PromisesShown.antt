@@ -28,7 +28,7 @@ same_notes_at i [] = refl
 same_notes_at zero (c ∷ crew) = refl
 same_notes_at (suc i) (c ∷ crew) = same_notes_at i crew
 
-same_notes_of : (s : Side) (w : WorldState Carried) → notes_of s (shown_world w).crew ≡ notes_of s w.crew
+pub same_notes_of : (s : Side) (w : WorldState Carried) → notes_of s (shown_world w).crew ≡ notes_of s w.crew
 same_notes_of s w = same_notes_at (pick s 0 1) w.crew
 
 same_output : (s : Side) (w : WorldState Carried) → output_of s (shown_world w) ≡ output_of s w

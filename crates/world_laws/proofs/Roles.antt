@@ -30,7 +30,7 @@ use Rattle.stream_lanes.specs.Words.{Every}
 use Rattle.stream_lanes.proofs.Lists.{Every-nil}
 use Rattle.actor_desk.specs.declared.ask.Reply.{Reply}
 use Rattle.actor_desk.specs.Words.{tail_of}
-use Rattle.path_agenda.specs.Agenda.{breaks, emission, leaves, resets, rest_of_turn, start_of_turn}
+use Rattle.path_agenda.specs.Agenda.{breaks, emission, leaves, resets, rest_of_turn, start_of_turn, stops}
 use Rattle.path_agenda.specs.Items.{key_heard, keys_heard}
 use Rattle.path_agenda.specs.Words.{replaced}
 use Rattle.path_agenda.specs.declared.duty.Duty.{Duty}
@@ -42,6 +42,7 @@ use Rattle.path_agenda.specs.declared.duty.StepDuty.TheVariants as step_duties
 use Rattle.path_agenda.specs.declared.heard.Heard.{Heard}
 use Rattle.path_agenda.specs.declared.heard.Heard.TheVariants as says
 use Rattle.path_agenda.specs.declared.keys.KeyPair.{KeyPair}
+use Rattle.path_core.specs.FastClosing.{is_stopped_by}
 use Rattle.path_core.specs.declared.event.Event.{Event}
 use Rattle.path_core.specs.declared.event.Event.TheVariants as happenings
 use Rattle.path_core.specs.declared.judged.Judged.{Judged}
@@ -59,14 +60,13 @@ use Rattle.path_core.specs.Joins.{is_joined}
 use Rattle.path_core.specs.Opening.{after_keys, answered_opened, answered_peer_key, with_peer_key}
 use Rattle.path_core.specs.Passing.{after_pass_fin, answer_occasion, answer_of, resend_occasion, answered_fin_heard, answered_plain_fin, answered_piece, dead_answer, first_record, is_fin_set, is_placed, piece_of, resend_of}
 use Rattle.path_core.specs.Deliver.{Piece, after_check, after_pieces, mapping_here, is_wrong, with_learned, with_skipped, forgotten_by}
-use Rattle.path_core.specs.OptionsOut.{ack_said, reset_options, record_or_ack, syn_ack_said}
+use Rattle.path_core.specs.OptionsOut.{ack_said, carried_said, reset_options, record_or_ack, syn_ack_said}
 use Rattle.path_core.specs.Handover.{having_sent, sent_on}
 use Rattle.path_core.specs.Standing.{after_ack_out, answered_ack_out}
 use Rattle.path_core.specs.State.{PathState, end_at, goes_on, left, with_agenda, with_end}
 use Rattle.path_core.specs.Steps.{settled, answers, takes, begins_turn}
 use Rattle.path_core.specs.Treating.{after_keep, answered_heard, answered_item, answered_plain_ack, breaks_by_ack, counts, is_clash, is_dropped, item_of, item_passed, with_acked, with_data_fin, with_plain_ack}
 use Rattle.path_core.specs.Values.{Carried, as_arrived, carried_by, stripped, altered, values}
-use Rattle.path_core.specs.Segments.{carried_said}
 use Rattle.world_laws.proofs.KeysHeld.{in_removed}
 use Rattle.world_laws.proofs.KeysWoken.{WakesNone, joined_wakes_none}
 use Rattle.world_laws.proofs.KeysMet.{is_apart, finish_apart, passed_apart, apart_stays, arrived_state, TellsKey, no_syn, record_or_ack_tells, syn_ack_tells, IsNoSyn, reset_answers, outgoing_tells}
@@ -383,7 +383,7 @@ heard_answered_roles s (says.PeerKey key) r p h = agenda_roles (left p) p h
 heard_answered_roles s (says.Join form) r p h = agenda_roles (left p) p h
 heard_answered_roles s (says.Notice notice) r p h = agenda_roles (left p) p h
 heard_answered_roles s says.Fail r p h = agenda_roles (left p) p h
-heard_answered_roles s (says.FastClose key) r p h = agenda_roles (left p) p h
+heard_answered_roles s (says.FastClose key) r p h = agenda_roles (if is_stopped_by r then stops s else left p) p h
 
 item_answered_roles : (s : Side) (o : Option Heard) (r : Reply) (p : PathState Carried) → HasRoles p → HasRoles (answered_item values s o r p)
 item_answered_roles s None r p h = agenda_roles (left p) p h

@@ -329,12 +329,12 @@ module _ {C : Type 0} where
     resets_go B e reason other = on B e (resets B reason) refl (inl refl) (inr other)
 
     stops_done : (s : Side) → IsPaid p.profile (peer s) (end_at (peer s) p) (refused (peer s)) → Granting (with_agenda (stops s) p) refused
-    stops_done A other = agenda_on p refused (stops A) refl each
+    stops_done A other = agenda_on (stops A) refl each
       where
         each : (t : Side) → Pays p (stops A) refused t
         each A = inl refl
         each B = inr other
-    stops_done B other = agenda_on p refused (stops B) refl each
+    stops_done B other = agenda_on (stops B) refl each
       where
         each : (t : Side) → Pays p (stops B) refused t
         each A = inr other

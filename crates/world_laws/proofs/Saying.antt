@@ -25,10 +25,9 @@ use Rattle.stream_lanes.specs.Words.{Every}
 use Rattle.stream_lanes.proofs.Lists.{Every-nil, Every-push}
 use Rattle.path_core.specs.Ends.{PathEnd}
 use Rattle.path_core.specs.Joins.{is_joined, join_options, third_options}
-use Rattle.path_core.specs.OptionsOut.{place_numbered, owes_mapping, plain_options, fin_options, capable_options, syn_options, key_options, opening_options, data_fin_mapping, ack_options, is_first_piece, first_piece_options, piece_options, piece_mapping, record_options, reset_options, segment_of, ack_said, record_said, syn_ack_said, fin_said, reset_said, record_or_ack}
+use Rattle.path_core.specs.OptionsOut.{place_numbered, owes_mapping, plain_options, fin_options, capable_options, syn_options, key_options, opening_options, data_fin_mapping, ack_options, is_first_piece, first_piece_options, piece_options, piece_mapping, record_options, reset_options, segment_of, ack_said, carried_said, record_said, syn_ack_said, fin_said, reset_said, record_or_ack}
 use Rattle.path_core.specs.State.{Profile}
 use Rattle.path_core.specs.Words.{is_side_a}
-use Rattle.path_core.specs.Segments.{carried_said}
 use Rattle.world_laws.proofs.Showing.{HasSub, HasNone, HasMapping, HasNumber, HasFin, KindShows, RecordShows, WindowShows, OptionShows, SegmentShows}
 
 window_at : (next window : ℕ) (acks : List AckCopy) → WindowShows next window acks → (syn : Bool) → HasNone acks (window_told syn window)

@@ -80,7 +80,7 @@ module _ (six : SixBooks) (others : Others) (p : PathState Carried) (ab ba : Lan
     done_side = answering.agenda_side six others p ab ba h ready s (pick s ab ba) (pick s ba ab) (left p) (did_nothing p.profile s (pick s ab ba) (pick s ba ab) e shows)
 
     -- what the end holds is given back, and it is dead
-    LeavesAt : ℕ → Type 0
+    abbrev LeavesAt : ℕ → Type 0
     LeavesAt path = Makes (asks.Send s (ReturnBytes path)) (answered_leave_noted s p)
 
     leaves_noted : e.treated.asked ≡ false → LeavesAt (path_of p)

@@ -399,6 +399,7 @@ module _ (p : PathState Carried) where
   idle_mild (duties.Step step_duties.Events) idle = step_mild (next_event p)
   idle_mild (duties.Ask (ask_duties.Leave s)) idle = tt
   idle_mild (duties.Ask (ask_duties.LeaveNoted s)) idle = tt
+  idle_mild (duties.Send (send_duties.ResetNoted s)) idle = tt
   idle_mild (duties.Ask (ask_duties.Dead s)) idle = tt
   idle_mild duties.End idle = tt
   idle_mild _ idle = absurd (false≢true idle)

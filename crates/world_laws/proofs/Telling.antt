@@ -49,11 +49,10 @@ use Rattle.path_core.specs.declared.modes.Modes.{Modes}
 use Rattle.path_core.specs.Ends.{PathEnd, Sending, Receiving, Treated}
 use Rattle.path_core.specs.Joins.{is_joined, peer_key_of, join_options, third_options}
 use Rattle.path_core.specs.Passing.{outgoing_or}
-use Rattle.path_core.specs.OptionsOut.{spelled_by, bare_mapping, checksum_in, place_numbered, checksum_told, owes_mapping, plain_options, capable_options, syn_options, key_options, opening_options, data_fin_mapping, ack_options, piece_mapping, is_first_piece, first_piece_options, piece_options, fin_options, record_options, reset_options, segment_of, ack_said, record_said, syn_ack_said, fin_said, reset_said, record_or_ack}
+use Rattle.path_core.specs.OptionsOut.{spelled_by, bare_mapping, checksum_in, place_numbered, checksum_told, is_syn_unsent, owes_mapping, own_reset, plain_options, capable_options, syn_options, key_options, opening_options, data_fin_mapping, ack_options, piece_mapping, is_first_piece, first_piece_options, piece_options, fin_options, record_options, reset_options, segment_of, ack_said, carried_said, record_said, syn_ack_said, fin_said, reset_said, record_or_ack}
 use Rattle.path_core.specs.Shown.{IsFarReset}
 use Rattle.path_core.specs.State.{Profile}
 use Rattle.path_core.proofs.Sayable.{carried_can}
-use Rattle.path_core.specs.Segments.{carried_said}
 
 abbrev pub IsShort : ℕ → Type 0
 IsShort n = n < 2 ^ 31
@@ -604,10 +603,14 @@ module _ (c : Profile) (s : Side) (path : c.spelling.path ≤ 15) (mss : c.mss <
   pub reset_tells : (reason : Option ℕ) → IfSome reason (λ n. n < 256) → SegmentTells c s (reset_said c reason e)
   reset_tells reason low = by e.modes.identity
     where
-      said : (options : List PlainOption) → One options → SegmentTells c s (segment_of c (reset_segment e.tcp) options [] e)
-      said options one = segment_tells (reset_segment e.tcp) options [] (omega arith) (inr h.sender.next) tt (λ is. none_more e.tcp.send.nxt h.sender.next) one
+      at : (unsent : Bool) → IsShort (if unsent then 0 else e.tcp.send.nxt)
+      at true = omega arith
+      at false = h.sender.next
 
-      by : (b : Bool) → SegmentTells c s (segment_of c (reset_segment e.tcp) (if b then [] else reset_options reason) [] e)
+      said : (options : List PlainOption) → One options → SegmentTells c s (segment_of c (own_reset e) options [] e)
+      said options one = segment_tells (own_reset e) options [] (omega arith) (inr (at (is_syn_unsent e))) tt (λ is. none_more _ (at (is_syn_unsent e))) one
+
+      by : (b : Bool) → SegmentTells c s (segment_of c (own_reset e) (if b then [] else reset_options reason) [] e)
       by true = said [] tt
       by false = said (reset_options reason) (reset_options_tell reason low)
 

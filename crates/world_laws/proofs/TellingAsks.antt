@@ -12,12 +12,11 @@ use Rattle.control_book.specs.declared.call.ControlCall.TheVariants as calls
 use Rattle.control_book.specs.declared.call.ControlReply.TheVariants as answers
 use Rattle.control_book.specs.declared.call.Notice.{Notice}
 use Rattle.control_book.specs.declared.call.Notice.TheVariants as notices
-use Rattle.control_book.specs.Control.{Control, peer_or_zero, withdrawals_on}
+use Rattle.control_book.specs.Control.{Control, peer_or_zero}
 use Rattle.control_book.specs.Registry.{stands as stands_path, sole, standby}
 use Rattle.control_book.specs.Replies as control
 use Rattle.control_book.specs.Steps as controlling
 use Rattle.control_book.specs.Replies.{address_notice, announcement, carries, look_reply, resets}
-use Rattle.control_book.specs.declared.call.ControlReply.TheVariants as control_replies
 use Rattle.subflow_send.specs.Records.{Record}
 use Rattle.stream_lanes.specs.Words.{Every}
 use Rattle.actor_desk.specs.declared.ask.Ask.{Ask}
@@ -54,7 +53,6 @@ use Rattle.world_laws.proofs.Replying.{every_item}
 use Rattle.world_laws.proofs.Telling.{IsKey, ItemTells, known_item}
 use Rattle.world_laws.proofs.TellingRules.{AreKeys, heard_key, heard_keys, NoticeTells}
 use Rattle.world_laws.proofs.TellingSteps.{KeysAreShort, PathTells, tells_at}
-use Rattle.address_manager.specs.IdSet.{lowest}
 
 -- ---- what a control book answers
 
@@ -86,10 +84,10 @@ module _ (c : Control) (h : KeysAreShort c.keys) where
 
 -- the key of a fast close is the peer's
 notice_key : (c : Control) (h : KeysAreShort c.keys) (path : ℕ) → NoticeTells (replies.Control (look_reply path c))
-notice_key c h path = by (resets c path) (carries c path) (announcement c path) (lowest (withdrawals_on c.notices.withdrawals path))
+notice_key c h path = by (resets c path) (carries c path) (announcement c path) _
   where
     by : (resets carries : Bool) (announced withdrawn : Option ℕ)
-        → NoticeTells (replies.Control (control_replies.Standing c.fall.mode (standby c.paths c.addresses.backups path) (sole c.paths path)
+        → NoticeTells (replies.Control (answers.Standing c.fall.mode (standby c.paths c.addresses.backups path) (sole c.paths path)
         (if resets then notices.Reset else (if carries then notices.Carrier (peer_or_zero c.keys.peer) else address_notice announced withdrawn))))
     by true carries announced withdrawn = tt
     by false true announced withdrawn = peer_short c.keys.peer h.peer

@@ -69,7 +69,7 @@ use Rattle.path_core.specs.Joining.{keys_begun, asked_at, join_heard_ask, joined
 use Rattle.path_core.specs.Opening.{with_peer_key, peer_key_ask, answered_peer_key, keys_ask, after_keys, opened_ask, answered_opened, syn_ack_of}
 use Rattle.path_core.specs.Passing.{having_asked, with_peer_data_fin, plain_fin, with_fin_told, answered_plain_fin, piece_ask, answered_piece, is_placed, piece_of, data_fin_of, fin_ask, answered_fin_heard, is_fin_set, rate_ask, after_rate, first_record, first_segment, answer_of, answer_occasion, dead_answer, answered_dead, resend_occasion, resend_of}
 use Rattle.path_core.specs.Deliver.{Piece, after_piece, with_learned}
-use Rattle.path_core.specs.OptionsOut.{ack_said, syn_ack_said, record_or_ack}
+use Rattle.path_core.specs.OptionsOut.{ack_said, carried_said, syn_ack_said, record_or_ack}
 use Rattle.path_core.specs.Handover.{sends, having_sent, sent_on}
 use Rattle.path_core.specs.Standing.{look_ask, after_look, ack_out_ask, after_ack_out, answered_ack_out, ack_segment}
 use Rattle.path_core.specs.State.{PathState, Profile, end_at, goes_on, left, path_of, with_agenda}
@@ -78,7 +78,6 @@ use Rattle.path_core.specs.Handover.{with_told}
 use Rattle.path_core.specs.Treating.{is_clash, breaks_by_ack, plain_ack_ask, answered_plain_ack, with_plain_ack, plain_next, subflow_ack_ask, answered_subflow_ack, told_next, is_acked, mapping_ask, answered_mapping, heard_ask, answered_heard, with_acked, with_data_fin, item_ask, answered_item, item_of}
 use Rattle.path_core.specs.Values.{Carried, values}
 use Rattle.path_core.specs.FastClosing.{is_stopped_by, answered_fast_close, fast_close_of, fast_heard_ask, having_fast_closed}
-use Rattle.path_core.specs.Segments.{carried_said}
 use Rattle.world_laws.proofs.Answering.{IsReady}
 use Rattle.world_laws.proofs.Ending.{unfinished_if}
 use Rattle.world_laws.proofs.Lanes.{flags_of, Others, duo_at}

@@ -479,7 +479,7 @@ module _ (c : Profile) (s : Side) (e : PathEnd) (h : EndTells c s e) where
   pub died_tells : EndTells c s (died e)
   died_tells =
       let told = dead_tells false nothing_treated (record { items = Every-nil _; answer = tt; acknowledged = omega arith }) in
-      record { sender = told.sender; edge = told.edge; stream = told.stream; window = told.window; modes = told.modes; treated = told.treated; carrier = told.carrier }
+      record { sender = told.sender; edge = told.edge; stream = told.stream; window = told.window; modes = told.modes; treated = told.treated; carrier = tt }
 
   pub died_unless_tells : EndTells c s (died_unless_dead e)
   died_unless_tells = by (states.is_dead e.tcp.state)

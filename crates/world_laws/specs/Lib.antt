@@ -21,3 +21,4 @@ pub mod Agreement
 pub mod Laws
 pub mod RoundDone
 pub mod Stopping
+pub mod AbortCause

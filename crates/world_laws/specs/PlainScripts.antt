@@ -7,6 +7,7 @@ use Rattle.link_script.specs.declared.script.ScriptLine.TheVariants.{Alter}
 use Rattle.link_script.specs.Scripts.{HasRanges}
 use Rattle.path_core.specs.Octets.{octets}
 use Rattle.path_core.specs.Values.{values}
+use Rattle.world_laws.specs.AbortCause.{AbortsHaveCause}
 use Rattle.world_laws.specs.Agreement.{MappingsAgree}
 use Rattle.world_laws.specs.FallsRight.{FallsAreRight, FallsLast, PositionsArePlaces}
 use Rattle.world_laws.specs.Fresh.{shown_world}
@@ -49,6 +50,7 @@ pub record KeepsAllPromises (w : WorldState (List ℕ)) : Type 0 where
   pub lasting : FallsLast octets w
   pub places : PositionsArePlaces w
   pub granted : GrantedOnce w
+  pub aborts : AbortsHaveCause w
 
 -- so it keeps all promises, whatever the order of the steps
 abbrev pub PlainScriptsKeepAllPromises : Type 0

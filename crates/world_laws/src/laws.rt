@@ -1,4 +1,5 @@
 //! What holds of every connection, as clauses of functions that do nothing.
+ghost use Rattle.world_laws.specs.AbortCause.{AbortsHaveCause};
 ghost use Rattle.world_laws.specs.Agreement.{MappingsAgree};
 ghost use Rattle.world_laws.specs.FallsRight.{FallsAreRight, FallsLast, PositionsArePlaces};
 ghost use Rattle.world_laws.specs.Granted.{GrantedOnce};
@@ -191,6 +192,14 @@ pub fn aborted_readers_hear_that_alone()
     ensures values { Always values (λ start w. AbortIsLast values w) }
 {}
 
+/// A law: at every moment a reader is told that its peer aborted the connection only where the peer's application had asked for a
+/// fast close, and the reader's side had accepted one that has the side's own key (RFC 8684, section 3.5). Over segments as values
+/// this holds whatever the script does.
+pub fn aborts_have_a_cause()
+    ensures values { Always values (λ start w. AbortsHaveCause w) }
+    ensures octets { IsPromisedOfOctets AbortsHaveCause }
+{}
+
 /// A law: each turn is on each of the two pipes one step that the pipe allows, or none.
 pub fn each_turn_is_one_pipe_step_or_none()
     ensures values { IsPromised (EachTurnIsOneStep values) }
@@ -206,8 +215,8 @@ pub fn nothing_is_refused()
 /// A law: a connection by a script that alters no payload, with files shorter than 2^31 - 2 octets, starts plainly, with
 /// numbers that fit; so over octets it keeps every promise, in whatever order its actors go: both sides keep their word, nothing
 /// follows the end, each turn is on each pipe one step or none, nothing is refused, keys never differ, joins are right, no copy is
-/// refused for what it says of a join, mappings agree, falls are right and last, positions are places after one, and each byte is
-/// granted to a path once at most. And it is the connection over segments as values, shown in octets, whose short data numbers go
+/// refused for what it says of a join, mappings agree, falls are right and last, positions are places after one, each byte is
+/// granted to a path once at most, and an abort that a reader is told of has its cause. And it is the connection over segments as values, shown in octets, whose short data numbers go
 /// short.
 pub fn plain_scripts_keep_all_promises()
     ensures starts { PlainScriptsStartPlainly }
