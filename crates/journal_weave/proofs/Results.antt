@@ -18,3 +18,7 @@ at_ok (Err e) h = tt
 pub never_stamps : {T P : Type 0} (r : Result T Refusal) → r ≡ Err Stamps → IfErr r (λ refusal. refusal ≡ Memory) → P
 never_stamps (Ok x) is h = cc
 never_stamps (Err refusal) is h = cc
+
+-- of which error it is
+pub same_error : {T E : Type 0} (r : Result T E) (d e : E) → r ≡ Err d → r ≡ Err e → d ≡ e
+same_error r d e is was = cc

@@ -1,13 +1,14 @@
-use Rattle.std.proofs.Common.{◌≡◌, sym, ◌∙◌, ap, subst, ℕ, List}
+use Rattle.std.proofs.Common.{refl, sym, ◌∙◌, ap, subst, ℕ, Err, List}
 use Rattle.std.proofs.lemmas.Result.{IfOk-weaker}
 use Rattle.std.specs.List.{slice_get}
+use Rattle.stamped_book.specs.declared.stamped.Refusal.TheVariants.{Stamps}
 use Rattle.actor_desk.specs.Journals.{ArePaired, order_of}
 use Rattle.world_laws.specs.Actors.{ActorCrew}
 use Rattle.world_laws.specs.StampedBooks.{journals_of}
 use Rattle.journal_weave.specs.Rounds.{known_by}
 use Rattle.journal_weave.specs.Weaving.{AreOwn, lists_in}
 use Rattle.journal_weave.proofs.RoundsWoven.{are_actors, have_turned, lists_own, still_paired, whole_woven}
-use Rattle.journal_weave.proofs.Results.{at_ok, never_stamps, when_ok}
+use Rattle.journal_weave.proofs.Results.{at_ok, never_stamps, same_error, when_ok}
 use Rattle.journal_weave.proofs.rounds.woven_round.Goals as goal
 
 pub round_at_tables-told-requires-after_bounds : goal.round_at_tables-told-requires-after_bounds
@@ -46,4 +47,5 @@ pub returns-in-Ok-clause-used_up : goal.returns-in-Ok-clause-used_up
 returns-in-Ok-clause-used_up g c is = never_stamps c.put_in_order-order.result is c.put_in_order-order.ensures.err
 
 pub returns-in-Err-clause-used_up : goal.returns-in-Err-clause-used_up
-returns-in-Err-clause-used_up g c is = c.round_at_tables-told.ensures.used_up (c.in-Err.is ∙ is)
+returns-in-Err-clause-used_up g c is =
+    c.round_at_tables-told.ensures.used_up (c.in-Err.is ∙ ap Err (same_error _ c.in-Err.refusal Stamps refl is))
