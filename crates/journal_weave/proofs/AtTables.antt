@@ -3,7 +3,7 @@ use Rattle.std.proofs.Common.{◌≡◌, refl, sym, ◌∙◌, ap, subst, ℕ, z
 use Rattle.std.proofs.lemmas.List.{map-append, append_cancel_left, get_or-map, length-map}
 use Rattle.std.specs.List.{Contains, slice_get, slice_index_or}
 use Rattle.stamped_book.specs.declared.stamped.Entry.{Entry}
-use Rattle.stamped_book.specs.Journal.{Journaled, IsJournal}
+use Rattle.stamped_book.specs.Journal.{Journaled}
 use Rattle.send_book.specs.Steps as sending
 use Rattle.reassembly_book.specs.Steps as arriving
 use Rattle.control_book.specs.Replies as controlling
@@ -21,7 +21,7 @@ use Rattle.ruled_desk.specs.Gaining.{IsGained, by_book, list_at}
 use Rattle.ruled_desk.specs.WholeRounds.{IsWholeRound}
 use Rattle.world_laws.specs.Actors.{Actor, ActorCrew, member_asks, member_takes}
 use Rattle.world_laws.specs.Fine.{lists_of}
-use Rattle.world_laws.specs.Weaving.{BooksGrew, JournalGrew}
+use Rattle.world_laws.specs.Weaving.{BooksGrew}
 use Rattle.world_laws.proofs.Occurring.{In, contains_in, in_contains}
 use Rattle.journal_weave.specs.Journals.{AreJournals}
 use Rattle.journal_weave.proofs.JournalsGrown.{journal_grew}
@@ -49,8 +49,8 @@ module _ (top : ℕ) (crew after : List Crew) (books left : StampedBooks) (round
       let before = get_or-map (λ (c : Crew). c.list) crew i d [] within in
       let behind = get_or-map (λ (c : Crew). c.list) after i d [] (omega (arith, round.many, within)) in
       let same : g.gained ≡ t.notes =
-          append_cancel_left (list_at (lists_of crew) i) g.gained t.notes
-          (sym g.new_is ∙ behind ∙ t.made.list ∙ ap (λ l. l ++ t.notes) (sym before)) in
+      append_cancel_left (list_at (lists_of crew) i) g.gained t.notes
+      (sym g.new_is ∙ behind ∙ t.made.list ∙ ap (λ l. l ++ t.notes) (sym before)) in
       let inside : In x t.notes = contains_in t.notes x (subst (λ l. Contains l x) same g.stands) in
       let high = steps_above t.notes (slice_index_or crew i d).pass.actor (slice_index_or crew i d).member (slice_index_or crew i d).pass.stamp t.made.steps x inside in
       omega (arith, high, known i d within)

@@ -1,5 +1,5 @@
 -- What a journal gained in a round by threads: entries of calls above the stamp with which it began.
-use Rattle.std.proofs.Common.{◌≡◌, ◌∙◌, ap, subst, ℕ, ◌<◌, List, [], ◌∷◌, ◌++◌}
+use Rattle.std.proofs.Common.{◌∙◌, ap, subst, ℕ, ◌<◌, List, [], ◌∷◌, ◌++◌}
 use Rattle.stamped_book.specs.declared.stamped.Entry.{Entry}
 use Rattle.stamped_book.specs.Journal.{Journaled, replay, IsJournal, last_stamp}
 use Rattle.stream_lanes.specs.Words.{Every}

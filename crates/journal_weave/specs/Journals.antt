@@ -1,5 +1,4 @@
 -- What holds of the journals of the six books.
-use Rattle.std.specs.Prelude.{ℕ}
 use Rattle.stamped_book.specs.Journal.{IsJournal, Rise}
 use Rattle.send_book.specs.Steps as sending
 use Rattle.reassembly_book.specs.Steps as arriving
