@@ -1,9 +1,7 @@
 -- What of a list whose stamps rise is above a stamp stands at its end.
-use Rattle.std.proofs.Common.{◌≡◌, refl, sym, ◌∙◌, ap, ℕ, zero, suc, ◌<◌, ◌≤◌, Bool, true, false, cond, nat_lt, nat_le, List, [], ◌∷◌, length, map, drop, filter, get_or, arith}
+use Rattle.std.proofs.Common.{◌≡◌, refl, ◌∙◌, ap, ℕ, zero, suc, ◌<◌, ◌≤◌, true, false, cond, nat_lt, nat_le, List, [], ◌∷◌, length, drop, filter, get_or, arith}
 use Rattle.std.specs.List.Sorted.{IsPartitionPoint, IsPartitionedBy}
 use Rattle.std.proofs.lemmas.Bool.{leb-true, le-leb, lt-ltb, le-ltb, leb-false}
-use Rattle.stamped_book.specs.declared.stamped.Entry.{Entry}
-use Rattle.stamped_book.specs.Journal.{Rise}
 use Rattle.actor_desk.specs.declared.ask.Note.{Note}
 use Rattle.world_laws.specs.Fine.{NotesRise}
 
@@ -50,20 +48,3 @@ module _ {X : Type 0} (stamp : X → ℕ) where
 pub notes_rising : (before : ℕ) (notes : List Note) → NotesRise before notes → Rising (λ n. n.stamp) before notes
 notes_rising before [] rise = tt
 notes_rising before (n ∷ notes) rise = (rise.0, notes_rising n.stamp notes rise.1)
-
-pub entries_rising : {C R : Type 0} (before : ℕ) (entries : List (Entry C R)) → Rise before entries → Rising (λ e. e.stamp) before entries
-entries_rising before [] rise = tt
-entries_rising before (e ∷ entries) rise = (rise.0, entries_rising e.stamp entries rise.1)
-
--- above a stamp before or after the entries are shown as notes
-pub above_shown : {C R : Type 0} (make : Entry C R → Note) → ((e : Entry C R) → (make e).stamp ≡ e.stamp) → (after : ℕ) (entries : List (Entry C R))
-    → map make (filter (λ e. nat_lt after e.stamp) entries) ≡ filter (λ n. nat_lt after n.stamp) (map make entries)
-above_shown make is after [] = refl
-above_shown make is after (e ∷ entries) = by (nat_lt after e.stamp) (ap (nat_lt after) (is e)) (above_shown make is after entries)
-  where
-    by : (b : Bool) → nat_lt after (make e).stamp ≡ b
-        → map make (filter (λ e. nat_lt after e.stamp) entries) ≡ filter (λ n. nat_lt after n.stamp) (map make entries)
-        → map make (cond b (e ∷ filter (λ e. nat_lt after e.stamp) entries) (filter (λ e. nat_lt after e.stamp) entries))
-        ≡ filter (λ n. nat_lt after n.stamp) (make e ∷ map make entries)
-    by true it rest = ap (λ ns. make e ∷ ns) rest ∙ sym (ap (λ c. cond c (make e ∷ filter (λ n. nat_lt after n.stamp) (map make entries)) (filter (λ n. nat_lt after n.stamp) (map make entries))) it)
-    by false it rest = rest ∙ sym (ap (λ c. cond c (make e ∷ filter (λ n. nat_lt after n.stamp) (map make entries)) (filter (λ n. nat_lt after n.stamp) (map make entries))) it)

@@ -1,14 +1,10 @@
--- Lists and journals, gathered one by one.
-use Rattle.std.proofs.Common.{◌≡◌, refl, sym, ◌∙◌, ap, subst, ℕ, zero, suc, ◌<◌, ◌≤◌, ◌==◌, Bool, true, false, cond, if◌then◌else◌, List, [], ◌∷◌, ◌++◌, length, drop, get_or, append_assoc, arith}
-use Rattle.std.specs.Borrow.{Bor}
+-- The lists of all actors, gathered one by one.
+use Rattle.std.proofs.Common.{◌≡◌, refl, sym, ◌∙◌, ap, subst, ℕ, zero, suc, ◌<◌, ◌≤◌, List, [], ◌∷◌, length, drop, get_or, arith}
 use Rattle.actor_desk.specs.declared.actor.Crew.{Crew}
 use Rattle.actor_desk.specs.declared.ask.Note.{Note}
 use Rattle.actor_desk.specs.Journals.{above, in_order, with_notes}
 use Rattle.world_laws.specs.Fine.{NotesRise}
-use Rattle.journal_weave.specs.Weaving.{AreOwn, asked_at, book_of, lists_in}
-use Rattle.actor_desk.proofs.Inserting.{lent}
-
--- ---- the order
+use Rattle.journal_weave.specs.Weaving.{AreOwn, lists_in}
 
 own_at : (first : ℕ) (lists : List (List Note)) (i : ℕ) (d : List Note) → AreOwn first lists → i < length lists → NotesRise 0 (get_or lists i d)
 own_at first [] i d own within = absurd (omega (arith, within))
@@ -44,30 +40,3 @@ order_more after crew left i c added old new is within added_is new_is old_is =
     new_is ∙ ap (λ xs. with_notes xs old) (added_is ∙ ap (above after) (sym (list_at crew i c low)))
     ∙ ap (with_notes (above after (get_or (lists_in crew) i []))) (old_is ∙ ap (λ k. in_order after (drop k (lists_in crew))) is)
     ∙ sym (order_at after (lists_in crew) i (let e = many crew in omega (arith, e, low)))
-
--- ---- the calls at one book
-
--- a note more, which is one of them or isn't
-pub asked_more : (book : ℕ) (order : List (Bor Note)) (i : ℕ) (note : Bor Note) (taken : Bool) (old new : List Note) → i < length order → note ≡ get_or order i note
-    → (book_of note.now.ask == book) ≡ taken → new ≡ (if taken then old ++ note.now ∷ [] else old)
-    → old ++ asked_at book (lent (drop i order)) ≡ asked_at book (lent order) → new ++ asked_at book (lent (drop (suc i) order)) ≡ asked_at book (lent order)
-asked_more book order i note taken old new within is test new_is all = by taken test new_is
-  where
-    front : (order : List (Bor Note)) (i : ℕ) → i < length order → asked_at book (lent (drop i order))
-        ≡ cond (book_of (get_or order i note).now.ask == book) ((get_or order i note).now ∷ asked_at book (lent (drop (suc i) order))) (asked_at book (lent (drop (suc i) order)))
-    front [] i within = absurd (omega (arith, within))
-    front (x ∷ order) zero within = refl
-    front (x ∷ order) (suc i) within = front order i (omega (arith, within))
-
-    here : asked_at book (lent (drop i order)) ≡ cond (book_of note.now.ask == book) (note.now ∷ asked_at book (lent (drop (suc i) order))) (asked_at book (lent (drop (suc i) order)))
-    here = subst (λ (n : Bor Note). asked_at book (lent (drop i order)) ≡ cond (book_of n.now.ask == book) (n.now ∷ asked_at book (lent (drop (suc i) order))) (asked_at book (lent (drop (suc i) order))))
-        (sym is) (front order i within)
-
-    by : (b : Bool) → (book_of note.now.ask == book) ≡ b → new ≡ (if b then old ++ note.now ∷ [] else old)
-        → new ++ asked_at book (lent (drop (suc i) order)) ≡ asked_at book (lent order)
-    by true t e =
-        ap (λ xs. xs ++ asked_at book (lent (drop (suc i) order))) e ∙ append_assoc old (note.now ∷ []) (asked_at book (lent (drop (suc i) order)))
-        ∙ ap (λ xs. old ++ xs) (sym (here ∙ ap (λ c. cond c (note.now ∷ asked_at book (lent (drop (suc i) order))) (asked_at book (lent (drop (suc i) order)))) t)) ∙ all
-    by false t e =
-        ap (λ xs. xs ++ asked_at book (lent (drop (suc i) order))) e
-        ∙ ap (λ xs. old ++ xs) (sym (here ∙ ap (λ c. cond c (note.now ∷ asked_at book (lent (drop (suc i) order))) (asked_at book (lent (drop (suc i) order)))) t)) ∙ all

@@ -1,9 +1,9 @@
-pub mod Strays
+mod Results
 pub mod Paired
 pub mod Driven
 pub mod Above
 pub mod Gathered
-pub mod FirstStray
 mod JournalsGrown
 mod TurnsTaken
+mod AtTables
 pub mod RoundsWoven

@@ -1,8 +1,7 @@
--- Lists and journals are paired exactly where each book's notes of the order are what its journal has.
-use Rattle.std.proofs.Common.{◌≡◌, refl, sym, ◌∙◌, ap, subst, ℕ, zero, suc, ◌<◌, inl, inr, ◌==◌, false, Some, List, [], ◌∷◌, length, map, arith}
-use Rattle.std.proofs.lemmas.Bool.{eq-eqb}
+-- Where lists and journals are paired, each book's notes of the order are what its journal has.
+use Rattle.std.proofs.Common.{◌≡◌, refl, sym, ◌∙◌, ap, subst, ℕ, zero, suc, ◌<◌, inl, inr, false, Some, List, [], ◌∷◌, map, arith}
 use Rattle.std.proofs.lemmas.Option.{same_Some, slice_get_within}
-use Rattle.std.specs.List.{Contains, slice_get}
+use Rattle.std.specs.List.{slice_get}
 use Rattle.outside_kit.specs.declared.side.Side.TheVariants.{A, B}
 use Rattle.stamped_book.specs.declared.stamped.Entry.{Entry}
 use Rattle.stamped_book.specs.Journal.{Rise}
@@ -13,12 +12,10 @@ use Rattle.actor_desk.specs.declared.ask.Note.{Note}
 use Rattle.actor_desk.specs.Journals.{is_local, ArePaired, above, in_order, send_note, reassembly_note, control_note}
 use Rattle.world_laws.specs.Fine.{NotesRise}
 use Rattle.world_laws.specs.StampedBooks.{journals_of}
-use Rattle.world_laws.proofs.Occurring.{In, contains_in, in_contains, occurs_from, occurs_where}
-use Rattle.world_laws.proofs.WeavingOrder.{AreNumbered, rises_climb, in_filter, filter_in, in_above, above_in, in_order_of, order_has, asked_in_order}
-use Rattle.journal_weave.specs.declared.fault.Strayed.{Strayed}
-use Rattle.journal_weave.specs.declared.fault.WeaveFault.TheVariants as faults
-use Rattle.journal_weave.specs.Weaving.{AreOwn, JournalsRise, IsFault, book_of, asked_at, StraysAt, IsFirstStrayed, AreAllAsked}
-use Rattle.journal_weave.proofs.Strays.{no_stray}
+use Rattle.world_laws.proofs.Occurring.{In}
+use Rattle.world_laws.proofs.WeavingOrder.{AreNumbered, rises_climb, asked_in_order}
+use Rattle.journal_weave.specs.Journals.{JournalsRise}
+use Rattle.journal_weave.specs.Weaving.{AreOwn, book_of, asked_at, AreAllAsked}
 
 -- ---- lists
 
@@ -75,44 +72,18 @@ journals_numbered books h = (
 
 -- ---- books
 
-asked_below : (x : Ask) → is_local x ≡ false → book_of x < 6
-asked_below (asks.Send A call) book = omega arith
-asked_below (asks.Send B call) book = omega arith
-asked_below (asks.Reassembly A call) book = omega arith
-asked_below (asks.Reassembly B call) book = omega arith
-asked_below (asks.Control A call) book = omega arith
-asked_below (asks.Control B call) book = omega arith
-asked_below (asks.Local step) book = cc
-
 below_asked : (x : Ask) (book : ℕ) → book < 6 → book_of x ≡ book → is_local x ≡ false
 below_asked (asks.Send s call) book few is = refl
 below_asked (asks.Reassembly s call) book few is = refl
 below_asked (asks.Control s call) book few is = refl
 below_asked (asks.Local step) book few is = absurd (omega (arith, few, is))
 
-some_at : {X : Type 0} (xs : List X) (i : ℕ) → i < length xs → (x : X) × (slice_get xs i ≡ Some x)
-some_at [] i within = absurd (omega (arith, within))
-some_at (x ∷ xs) zero within = (x, refl)
-some_at (x ∷ xs) (suc i) within = some_at xs i (omega (arith, within))
-
 mapped_at : {X Y : Type 0} (f : X → Y) (xs : List X) (i : ℕ) (y : Y) → slice_get (map f xs) i ≡ Some y → (x : X) × (slice_get xs i ≡ Some x) × (y ≡ f x)
 mapped_at f [] i y at = cc
 mapped_at f (x ∷ xs) zero y at = (x, refl, sym (same_Some (f x) y at))
 mapped_at f (x ∷ xs) (suc i) y at = mapped_at f xs i y at
 
-map_at : {X Y : Type 0} (f : X → Y) (xs : List X) (i : ℕ) (x : X) → slice_get xs i ≡ Some x → slice_get (map f xs) i ≡ Some (f x)
-map_at f [] i x at = cc
-map_at f (y ∷ xs) zero x at = ap (λ z. Some (f z)) (same_Some y x at)
-map_at f (y ∷ xs) (suc i) x at = map_at f xs i x at
-
-get_in : {X : Type 0} (xs : List X) (i : ℕ) (x : X) → slice_get xs i ≡ Some x → In x xs
-get_in [] i x at = cc
-get_in (y ∷ xs) zero x at = inl (same_Some y x at)
-get_in (y ∷ xs) (suc i) x at = inr (get_in xs i x at)
-
 module _ (after : ℕ) (lists : List (List Note)) (books : StampedBooks) where
-  -- ---- where they are paired
-
   asked_is : AreOwn 0 lists → JournalsRise books → ArePaired after lists (journals_of books) → (book : ℕ) (journal : List Note)
       → slice_get (journals_of books) book ≡ Some journal → asked_at book (in_order after lists) ≡ above after journal
   asked_is own rise paired book journal at =
@@ -124,42 +95,6 @@ module _ (after : ℕ) (lists : List (List Note)) (books : StampedBooks) where
       → AreAllAsked (in_order after lists) (map (above after) (journals_of books))
   all_asked own rise paired book entries at =
       let from = mapped_at (above after) (journals_of books) book entries at in asked_is own rise paired book from.0 from.1 ∙ sym from.2
-
-  pub never_strayed : AreOwn 0 lists → JournalsRise books → ArePaired after lists (journals_of books) → (s : Strayed)
-      → IsFirstStrayed (in_order after lists) (map (above after) (journals_of books)) s → ⊥
-  never_strayed own rise paired s h =
-      let at = mapped_at (above after) (journals_of books) h.book h.journal h.of_book in
-      let same : asked_at h.book (in_order after lists) ≡ h.journal = asked_is own rise paired h.book at.0 at.1 ∙ sym at.2 in
-      no_stray h.journal s (subst (λ xs. StraysAt xs h.journal s) same h.strays)
-
-  -- ---- where each book's notes are its journal's
-
-  pub all_paired : JournalsRise books → AreAllAsked (in_order after lists) (map (above after) (journals_of books)) → ArePaired after lists (journals_of books)
-  all_paired rise all = record { notes = λ list n there of later book. noted list n there of later book; entries = λ journal n there of later. entered journal n there of later }
-    where
-      noted : (list : List Note) (n : Note) → Contains lists list → Contains list n → after < n.stamp → is_local n.ask ≡ false
-          → (journal : List Note) × Contains (journals_of books) journal × Contains journal n
-      noted list n there of later book =
-          let found = some_at (journals_of books) (book_of n.ask) (asked_below n.ask book) in
-          let same = all (book_of n.ask) (above after found.0) (map_at (above after) (journals_of books) (book_of n.ask) found.0 found.1) in
-          let ordered = order_has after lists n (occurs_from lists list n there of) later in
-          let asked = filter_in (λ m. book_of m.ask == book_of n.ask) (in_order after lists) n ordered (eq-eqb (book_of n.ask) (book_of n.ask) refl) in
-          let entry = in_above after found.0 n (subst (In n) same asked) in
-          (found.0, in_contains (journals_of books) found.0 (get_in (journals_of books) (book_of n.ask) found.0 found.1), in_contains found.0 n entry.0)
-
-      entered : (journal : List Note) (n : Note) → Contains (journals_of books) journal → Contains journal n → after < n.stamp
-          → (list : List Note) × Contains lists list × Contains list n
-      entered journal n there of later =
-          let found = in_get (journals_of books) journal (contains_in (journals_of books) journal there) in
-          let same = all found.0 (above after journal) (map_at (above after) (journals_of books) found.0 journal found.1) in
-          let entry = above_in after journal n (contains_in journal n of) later in
-          let asked = in_filter (λ m. book_of m.ask == found.0) (in_order after lists) n (subst (In n) (sym same) entry) in
-          occurs_where lists n (in_order_of after lists n asked.0).0
-
-  -- what a first pair tells
-  pub is_fault : AreOwn 0 lists → JournalsRise books → (s : Strayed) → IsFirstStrayed (in_order after lists) (map (above after) (journals_of books)) s
-      → IsFault after lists (journals_of books) (faults.Strayed s)
-  is_fault own rise s h = ((λ paired. never_strayed own rise paired s h), h)
 
 -- what is paired at every stamp is paired above each
 pub paired_above : (after : ℕ) (lists journals : List (List Note)) → ArePaired 0 lists journals → ArePaired after lists journals

@@ -1,24 +1,24 @@
--- A round by threads: where its lists and journals are paired, it is one of steps by stamp, then actor.
-use Rattle.std.proofs.Common.{◌≡◌, refl, sym, ◌∙◌, ap, subst, ℕ, true, List, [], ◌∷◌, length, map, Option, Some, None, arith}
-use Rattle.std.specs.Prelude.{Result, Ok, Err, IfOk, IfSome}
-use Rattle.std.specs.List.{slice_get}
+-- A round by threads at the tables: lists and journals are paired after it, and it is one of steps by stamp, then actor.
+use Rattle.std.proofs.Common.{◌≡◌, refl, sym, ◌∙◌, ap, subst, ℕ, zero, suc, ◌+◌, ◌<◌, true, Some, List, [], ◌∷◌, length, arith}
+use Rattle.std.specs.List.{slice_get, slice_index_or}
 use Rattle.stream_lanes.specs.Words.{Every}
 use Rattle.actor_desk.specs.Books.{StampedBooks}
 use Rattle.actor_desk.specs.Journals.{ArePaired, order_of}
 use Rattle.path_core.specs.Octets.{octets}
-use Rattle.subflow_worker.specs.Extending.{BooksExtend}
-use Rattle.world_laws.specs.Actors.{ActorCrew}
+use Rattle.ruled_desk.specs.Gaining.{StaysPaired}
+use Rattle.ruled_desk.specs.WholeRounds.{AreActors, IsWholeRound}
+use Rattle.world_laws.specs.Actors.{ActorCrew, member_asks, member_takes}
 use Rattle.world_laws.specs.Fine.{lists_of}
 use Rattle.world_laws.specs.StampedBooks.{journals_of}
-use Rattle.world_laws.specs.Weaving.{Begins, Worked, steps_by}
-use Rattle.world_laws.specs.Worlds.{WorldState, all_over, greatest, world_run}
+use Rattle.world_laws.specs.Weaving.{Begins, Worked}
+use Rattle.world_laws.specs.Worlds.{WorldState, all_over, greatest}
 use Rattle.world_laws.proofs.WeavingRounds.{woven_does}
-use Rattle.journal_weave.specs.declared.journals.JournalLengths.{JournalLengths}
-use Rattle.journal_weave.specs.Journals.{lengths_of, are_above, AreJournals}
-use Rattle.journal_weave.specs.Rounds.{IsWovenRound, StandsInOrder, WeavesTo, known_by}
+use Rattle.journal_weave.specs.Journals.{AreJournals}
+use Rattle.journal_weave.specs.Rounds.{HaveTurned, WeavesTo, known_by}
 use Rattle.journal_weave.specs.Weaving.{AreOwn, lists_in}
-use Rattle.journal_weave.proofs.JournalsGrown.{books_grew}
-use Rattle.journal_weave.proofs.TurnsTaken.{AllTurned, NoneRefused, all_stepped, each_over, each_own}
+use Rattle.journal_weave.proofs.AtTables.{books_grew}
+use Rattle.journal_weave.proofs.Paired.{paired_above}
+use Rattle.journal_weave.proofs.TurnsTaken.{all_stepped, each_over, each_own}
 
 abbrev Crew : Type 0
 Crew = ActorCrew (List ℕ)
@@ -49,33 +49,46 @@ known_top : (crew : List Crew) → Every (λ c. c.pass.stamp ≡ greatest 0 crew
 known_top [] known = refl
 known_top (c ∷ crew) known = known.each 0 c refl
 
+-- the actors have their places as their numbers
+pub are_actors : (crew : List Crew) (books : StampedBooks) → Begins (greatest 0 crew) (record { crew = crew; books = books }) → AreActors 0 crew
+are_actors crew books begins = from 0 crew (λ i n c is there. (begins.fine.crew.each i n c is there).numbered)
+  where
+    from : (first : ℕ) (xs : List Crew) → ((i n : ℕ) (c : Crew) → n ≡ first + i → slice_get xs i ≡ Some c → c.pass.actor ≡ n) → AreActors first xs
+    from first [] numbered = tt
+    from first (x ∷ xs) numbered = (numbered 0 first x (omega arith) refl, from (suc first) xs (λ i n c is there. numbered (suc i) n c (omega (arith, is)) there))
+
 -- these actors and books were left of a round that began with those
 module _ (crew after : List Crew) (books left : StampedBooks) (begins : Begins (greatest 0 crew) (record { crew = crew; books = books }))
-    (many : length after ≡ length crew) (turned : AllTurned crew after) where
+    (whole : IsWholeRound (member_asks octets) (member_takes octets) crew after books left) where
+  knows_top : (i : ℕ) (d : Crew) → i < length crew → (slice_index_or crew i d).pass.stamp ≡ greatest 0 crew
+  knows_top i d within = begins.known.each i (slice_index_or crew i d) (at_index crew i d within)
+    where
+      at_index : (xs : List Crew) (i : ℕ) (d : Crew) → i < length xs → slice_get xs i ≡ Some (slice_index_or xs i d)
+      at_index [] i d within = absurd (omega (arith, within))
+      at_index (x ∷ xs) zero d within = refl
+      at_index (x ∷ xs) (suc i) d within = at_index xs i d (omega (arith, within))
+
+  pub have_turned : HaveTurned crew after
+  have_turned = record { many = whole.many; turned = whole.turned }
+
   -- each list is its actor's
   pub lists_own : AreOwn 0 (lists_in after)
-  lists_own = each_own begins.fine.top 0 crew after many turned (λ i n c is there. begins.fine.crew.each i n c is there)
+  lists_own = each_own begins.fine.top 0 crew after whole.many whole.turned (λ i n c is there. begins.fine.crew.each i n c is there)
+
+  -- lists and journals are paired at every stamp
+  pub still_paired : StaysPaired → ArePaired 0 (lists_of after) (journals_of left)
+  still_paired stay = stay (lists_of crew) (lists_of after) (journals_of books) (journals_of left) whole.alike (begins.fine.paired 0)
 
   -- the steps in order are a round, by a stamp that each actor knew
-  pub left_woven : NoneRefused after → BooksExtend books left → AreJournals left → (top : ℕ) → top ≡ known_by (slice_get crew 0)
-      → (lengths : JournalLengths) → lengths ≡ lengths_of books → (actors : List ℕ) → StandsInOrder top lengths left after actors
+  pub whole_woven : StaysPaired → AreJournals left → (top : ℕ) → top ≡ known_by (slice_get crew 0) → (actors : List ℕ) → actors ≡ order_of top (lists_in after)
       → WeavesTo (record { crew = crew; books = books }) (record { crew = after; books = left }) actors
-  left_woven done extend are top top_is lengths lengths_are actors h =
+  whole_woven stay are top top_is actors order =
       let begun : top ≡ greatest 0 crew = top_is ∙ known_top crew begins.known in
-      subst (WeavesTo (record { crew = crew; books = books }) (record { crew = after; books = left })) (ap (λ t. order_of t (lists_of after)) (sym begun) ∙ sym h.order)
+      subst (WeavesTo (record { crew = crew; books = books }) (record { crew = after; books = left })) (ap (λ t. order_of t (lists_of after)) (sym begun) ∙ sym order)
       (worked_round (record { crew = crew; books = books }) (record { crew = after; books = left }) begins
       (record {
-        crew = all_stepped crew after many turned done (λ i c there. (begins.fine.crew.each i i c (omega arith) there).unrefused);
-        books = books_grew (greatest 0 crew) books left extend are
-            (subst (λ t. are_above t (lengths_of books) left ≡ true) begun (subst (λ l. are_above top l left ≡ true) lengths_are h.above));
-        paired = subst (λ t. ArePaired t (lists_of after) (journals_of left)) begun h.paired;
+        crew = all_stepped crew after whole.many whole.turned whole.done (λ i c there. (begins.fine.crew.each i i c (omega arith) there).unrefused);
+        books = books_grew (greatest 0 crew) crew after books left whole knows_top are;
+        paired = paired_above (greatest 0 crew) (lists_of after) (journals_of left) (still_paired stay);
       })
-      (each_over crew after many turned done))
-
--- ---- orders
-
--- what follows of each order that is found
-pub if_found : {V E : Type 0} (P Q : V → Type 0) (r : Result (Option V) E) → ((order : V) → P order → Q order) → IfOk r (λ o. IfSome o P) → IfOk r (λ o. IfSome o Q)
-if_found P Q (Ok (Some order)) f h = f order h
-if_found P Q (Ok None) f h = tt
-if_found P Q (Err e) f h = tt
+      (each_over crew after whole.many whole.turned whole.done))

@@ -1,16 +1,14 @@
 -- A round that workers made: its steps in one order.
-use Rattle.std.specs.Prelude.{ℕ, ◌≡◌, true, Option, Some, None, List}
-use Rattle.actor_desk.specs.Books.{StampedBooks}
+use Rattle.std.specs.Prelude.{ℕ, ◌≡◌, ◌<◌, length, true, Option, Some, None, List}
+use Rattle.std.specs.List.{slice_index_or}
 use Rattle.actor_desk.specs.declared.actor.Crew.{Crew}
-use Rattle.actor_desk.specs.Journals.{ArePaired, order_of}
+use Rattle.actor_desk.specs.Journals.{order_of}
 use Rattle.path_core.specs.Octets.{octets}
+use Rattle.subflow_worker.specs.Turns.{Turned}
+use Rattle.world_laws.specs.Actors.{ActorCrew, member_asks, member_takes}
 use Rattle.world_laws.specs.Fine.{lists_of}
-use Rattle.world_laws.specs.StampedBooks.{journals_of}
 use Rattle.world_laws.specs.Weaving.{steps_by}
 use Rattle.world_laws.specs.Worlds.{WorldState, all_over, greatest, world_run, AreLawful}
-use Rattle.journal_weave.specs.declared.journals.JournalLengths.{JournalLengths}
-use Rattle.journal_weave.specs.Journals.{are_above}
-use Rattle.journal_weave.specs.Weaving.{lists_in}
 
 -- The steps of a round: each is one of an actor whose turn hasn't ended, behind the last one each
 -- turn has, and they stand by stamp, then actor.
@@ -24,15 +22,15 @@ pub record WeavesTo (w v : WorldState (List ℕ)) (actors : List ℕ) : Type 0 w
   pub round : IsWovenRound actors w
   pub leads : world_run octets (steps_by actors) w ≡ v
 
+-- each actor took its turn, up to where it stopped
+pub record HaveTurned (crew after : List (ActorCrew (List ℕ))) : Type 0 where
+  pub many : length after ≡ length crew
+  pub turned : (i : ℕ) (d : ActorCrew (List ℕ)) → i < length crew
+      → Turned (member_asks octets) (member_takes octets) (slice_index_or crew i d) (slice_index_or after i d)
+
 -- ---- on the way
 
 -- the stamp that an actor knows
 abbrev pub known_by : {A : Type 0} → Option (Crew A) → ℕ
 known_by None = 0
 known_by (Some c) = c.pass.stamp
-
--- the steps above a stamp stand in order, and the journals gained nothing but them
-pub record StandsInOrder {A : Type 0} (stamp : ℕ) (lengths : JournalLengths) (books : StampedBooks) (crew : List (Crew A)) (actors : List ℕ) : Type 0 where
-  pub above : are_above stamp lengths books ≡ true
-  pub order : actors ≡ order_of stamp (lists_in crew)
-  pub paired : ArePaired stamp (lists_in crew) (journals_of books)

@@ -2,19 +2,12 @@
 //! the book's journal too; and a round by threads with its order.
 #![tactic(auto)]
 
-mod fault;
-mod gathering;
 mod journals;
 mod laws;
 mod ordering;
 mod rounds;
-mod same;
-mod shown;
-mod straying;
 mod weaving;
 
-pub use fault::{Strayed, WeaveFault};
-pub use journals::JournalLengths;
 pub use laws::woven_orders_do_the_same;
 pub use rounds::woven_round;
-pub use weaving::{weave, weave_paired};
+pub use weaving::weave;

@@ -1,6 +1,6 @@
 -- The next world of a run by threads: behind a round of theirs, or behind one of whole turns.
-use Rattle.std.proofs.Common.{◌≡◌, refl, sym, ◌∙◌, ap, subst, ℕ, ◌-◌, ◌<◌, Bool, true, false, not, Option, Some, None, Result, List, [], ◌∷◌, ◌++◌, length, map, arith}
-use Rattle.std.specs.Prelude.{Ok, Err, IfOk, IfErr, IfSome, OnOk}
+use Rattle.std.proofs.Common.{◌≡◌, refl, sym, ◌∙◌, ap, subst, ℕ, ◌-◌, ◌<◌, Bool, true, false, not, Result, List, [], ◌∷◌, ◌++◌, length, map, arith}
+use Rattle.std.specs.Prelude.{Ok, Err, IfOk, IfErr, OnOk}
 use Rattle.std.proofs.lemmas.Bool.{both_ways}
 use Rattle.std.specs.List.{slice_get}
 use Rattle.actor_desk.specs.Books.{StampedBooks}
@@ -9,7 +9,7 @@ use Rattle.world_laws.specs.Actors.{ActorCrew}
 use Rattle.world_laws.specs.Fine.{IsFine}
 use Rattle.world_laws.specs.Weaving as weaving
 use Rattle.world_laws.specs.Worlds.{end_round, greatest}
-use Rattle.journal_weave.specs.Rounds.{WeavesTo}
+use Rattle.journal_weave.specs.Rounds.{HaveTurned, WeavesTo}
 use Rattle.world_core.specs.Kept.{Kept, IsSound, standing, world}
 use Rattle.world_core.specs.Rounds.{RoundTo}
 use Rattle.mptcp_run.specs.declared.threads.Orders.{Orders}
@@ -19,21 +19,20 @@ use Rattle.mptcp_run.specs.Threads.{CanBeMadeAgain, GoesTo, IsWoven, LeadTo, Nex
 use Rattle.mptcp_run.specs.WovenRounds.{WovenTo, after_woven}
 use Rattle.mptcp_run.proofs.LogWoven.{steps_fine}
 use Rattle.mptcp_run.proofs.RoundsWoven.{serial_woven, lead_on}
-use Rattle.mptcp_run.proofs.TurnsTimely.{AllTurned, each_timely}
+use Rattle.mptcp_run.proofs.TurnsTimely.{each_timely}
 
 -- ---- orders
 
 -- what holds of an order that was found, from what else holds of it
-pub where_found : {V E : Type 0} (P Q : V → Type 0) (r : Result (Option V) E) → (has_order r ≡ true → (order : V) → P order → Q order)
-    → IfOk r (λ o. IfSome o P) → IfOk r (λ o. IfSome o Q)
-where_found P Q (Ok (Some order)) f h = f refl order h
-where_found P Q (Ok None) f h = tt
+where_found : {V E : Type 0} (P Q : V → Type 0) (r : Result V E) → (has_order r ≡ true → (order : V) → P order → Q order)
+    → IfOk r P → IfOk r Q
+where_found P Q (Ok order) f h = f refl order h
 where_found P Q (Err e) f h = tt
 
-pub found_order : {V E : Type 0} (P : V → Type 0) (r : Result (Option V) E) → has_order r ≡ true → IfOk r (λ o. IfSome o P) → (order : V) × P order
-found_order P (Ok (Some order)) is h = (order, h)
-found_order P (Ok None) is h = cc
-found_order P (Err e) is h = cc
+-- an order that was found, and what else holds then
+found_order : {V E T : Type 0} (P : V → Type 0) (r : Result V E) → has_order r ≡ true → IfOk r P → OnOk r T → (order : V) × P order × T
+found_order P (Ok order) is h t = (order, h, t)
+found_order P (Err e) is h t = cc
 
 -- what a result that is known tells
 pub when_ok : {T E P : Type 0} (r : Result T E) (x : T) → r ≡ Ok x → OnOk r P → P
@@ -44,10 +43,9 @@ pub when_err : {T E : Type 0} (P : E → Type 0) (r : Result T E) (e : E) → r 
 when_err P (Ok y) e is h = cc
 when_err P (Err d) e is h = let same : d ≡ e = cc in subst P same h
 
-pub when_some : {V E : Type 0} (P : V → Type 0) (r : Result (Option V) E) (order : V) → r ≡ Ok (Some order) → IfOk r (λ o. IfSome o P) → P order
-when_some P (Ok (Some x)) order is h = let same : x ≡ order = cc in subst P same h
-when_some P (Ok None) order is h = cc
-when_some P (Err e) order is h = cc
+pub if_ok : {T E : Type 0} (P : T → Type 0) (r : Result T E) (x : T) → r ≡ Ok x → IfOk r P → P x
+if_ok P (Ok y) x is h = let same : y ≡ x = cc in subst P same h
+if_ok P (Err e) x is h = cc
 
 not_false : (b : Bool) → not b ≡ false → b ≡ true
 not_false true is = refl
@@ -62,24 +60,24 @@ parts_begin k crew books is h =
     let begins = subst (λ (k : Kept). Begins k.state) is h in record { fine = begins.fine; known = begins.known }
 
 -- what is left of it is of a world again
-pub left_sound : (crew after : List (ActorCrew (List ℕ))) (books left : StampedBooks) → IsSound (world crew books) → length after ≡ length crew → AllTurned crew after
+left_sound : (crew after : List (ActorCrew (List ℕ))) (books left : StampedBooks) → IsSound (world crew books) → HaveTurned crew after
     → (actors : List ℕ) → WeavesTo (world crew books) (world after left) actors → IsSound (world after left)
-left_sound crew after books left sound many turned actors h = record {
+left_sound crew after books left sound have actors h = record {
   fine = subst IsFine h.leads (steps_fine actors (world crew books) sound.fine);
-  timely = record { each = λ i d at. each_timely crew after many turned (λ j c there. sound.timely.each j c there) i d at };
+  timely = record { each = λ i d at. each_timely crew after have.many have.turned (λ j c there. sound.timely.each j c there) i d at };
 }
 
 -- an order was found, or not
-module _ {V E : Type 0} (items : V → List ℕ) (r : Result (Option V) E) (found : Bool) (found_is : found ≡ has_order r)
+module _ {V E : Type 0} (items : V → List ℕ) (r : Result V E) (found : Bool) (found_is : found ≡ has_order r)
     (crew after : List (ActorCrew (List ℕ))) (books left : StampedBooks)
-    (order : IfOk r (λ o. IfSome o (λ order. WeavesTo (world crew books) (world after left) (items order)))) where
-  pub found_sound : IsSound (world crew books) → length after ≡ length crew → AllTurned crew after → not found ≡ false → IsSound (world after left)
-  found_sound sound many turned stands =
-      let one = found_order (λ order. WeavesTo (world crew books) (world after left) (items order)) r (sym found_is ∙ not_false found stands) order in
-      left_sound crew after books left sound many turned (items one.0) one.1
+    (order : IfOk r (λ order. WeavesTo (world crew books) (world after left) (items order))) where
+  pub found_sound : IsSound (world crew books) → OnOk r (HaveTurned crew after) → not found ≡ false → IsSound (world after left)
+  found_sound sound have stands =
+      let one = found_order (λ order. WeavesTo (world crew books) (world after left) (items order)) r (sym found_is ∙ not_false found stands) order have in
+      left_sound crew after books left sound one.2 (items one.0) one.1
 
   pub found_woven : (k next : Kept) → k ≡ standing (world crew books) → next ≡ record { failed = not found; state = world after left }
-      → IfOk r (λ o. IfSome o (λ order. IsWoven k.state next (items order)))
+      → IfOk r (λ order. IsWoven k.state next (items order))
   found_woven k next was is =
       where_found (λ order. WeavesTo (world crew books) (world after left) (items order)) (λ order. IsWoven k.state next (items order)) r
       (λ there order weaves. record {

@@ -1,5 +1,5 @@
 -- Rounds by threads: what one made, and what is kept of them so that they can be made again.
-use Rattle.std.specs.Prelude.{ℕ, ◌≡◌, Bool, true, false, Option, Some, None, Result, Ok, Err, List, [], ◌∷◌, map}
+use Rattle.std.specs.Prelude.{ℕ, ◌≡◌, Bool, true, false, Result, Ok, Err, List, [], ◌∷◌, map}
 use Rattle.journal_weave.specs.Rounds.{IsWovenRound, WeavesTo}
 use Rattle.world_core.specs.Kept.{Kept}
 use Rattle.mptcp_run.specs.declared.threads.Orders.{Orders}
@@ -9,9 +9,8 @@ use Rattle.mptcp_run.specs.WovenRounds.{WovenTo, after_woven}
 -- ---- a round
 
 -- an order was found
-abbrev pub has_order : {X E : Type 0} → Result (Option X) E → Bool
-has_order (Ok (Some order)) = true
-has_order (Ok None) = false
+abbrev pub has_order : {X E : Type 0} → Result X E → Bool
+has_order (Ok order) = true
 has_order (Err e) = false
 
 -- these are the steps of a round from this world on, up to its end, and the world after them

@@ -1,6 +1,6 @@
 //! Rounds in which each actor takes its turn in a thread of its own.
 
-ghost use Rattle.std.specs.Prelude.{◌≡◌, ◌+◌, ◌-◌, ◌^◌, ◌<◌, ◌++◌, [], ◌∷◌, true, false, length, map, IfOk, IfErr, IfSome, OnOk};
+ghost use Rattle.std.specs.Prelude.{◌≡◌, ◌+◌, ◌-◌, ◌^◌, ◌<◌, ◌++◌, [], ◌∷◌, true, false, length, map, IfOk, IfErr, OnOk};
 ghost use Rattle.link_script.specs.Scripts.{HasRanges};
 ghost use Rattle.world_core.specs.Kept.{standing};
 ghost use Rattle.world_core.specs.RoundEnds.{round_ends};
@@ -19,6 +19,7 @@ use crate::rounds::Run;
 use journal_weave::woven_round;
 use outside_kit::{Gate, Outside};
 use run_outside::{Input, Status};
+use stamped_book::Refusal;
 use std::alloc::{AllocError, Global};
 use std::mem;
 use std::sync::Wait;
@@ -30,28 +31,28 @@ use world_core::{World, round};
 pub struct Orders {
     /// The actors of the steps of each round.
     pub made: Vec<Vec<u8>>,
-    /// Threads make no further round: one couldn't be put in order.
+    /// Threads make no further round: stamps were used up in one.
     pub alone: bool,
 }
 
 /// Whether an order was found.
-fn has_order(order: &Result<Option<Vec<u8>>, AllocError>) -> bool
+fn has_order(order: &Result<Vec<u8>, Refusal>) -> bool
     ensures { result ≡ has_order order.now }
 {
-    matches!(order, Ok(Some(_)))
+    matches!(order, Ok(_))
 }
 
-/// The connection after the steps of a round by threads, and the actors of these steps; none where they can't be put in
-/// order. Without an order the connection has failed.
+/// The connection after the steps of a round by threads, and the actors of these steps. Where stamps were used up, or memory
+/// was, the connection has failed.
 fn by_threads<G: Gate + Sync, R: Threads + Wait + Sync>(
     rt: &R,
     alloc: Global,
     world: World,
     gate: &G,
-) -> (World, Result<Option<Vec<u8>>, AllocError>)
+) -> (World, Result<Vec<u8>, Refusal>)
     requires stands { world.failed ≡ false }
     requires begins { Begins world.state }
-    ensures { IfOk result.1 (λ order. IfSome order (λ order. IsWoven world.state result.0 order.items)) }
+    ensures { IfOk result.1 (λ order. IsWoven world.state result.0 order.items) }
 {
     let (books, mut crew) = world.into_parts();
     let (books, order) = woven_round(rt, alloc, &mut crew, books, gate);
@@ -122,7 +123,7 @@ fn with_round(orders: &mut Orders, order: Vec<u8>, world: &mut World) -> Result<
     Ok(())
 }
 
-/// The connection after one more round: by threads, or by whole turns once they couldn't make one.
+/// The connection after one more round: by threads, or by whole turns once stamps were used up.
 fn next_world<G: Gate + Sync, R: Threads + Wait + Sync>(
     rt: &R,
     alloc: Global,
@@ -147,15 +148,15 @@ fn next_world<G: Gate + Sync, R: Threads + Wait + Sync>(
     }
     let (mut world, order) = by_threads(rt, alloc, world, gate);
     match order {
-        Ok(Some(order)) => {
+        Ok(order) => {
             let told = with_round(orders, order, &mut world);
             (world, told)
         }
-        Ok(None) => {
+        Err(Refusal::Stamps) => {
             let told = go_on_alone(alloc, input, orders, &mut world);
             (world, told)
         }
-        Err(_) => (world, Err(AllocError)),
+        Err(Refusal::Memory) => (world, Err(AllocError)),
     }
 }
 
@@ -216,8 +217,8 @@ fn make_round<O: Outside, G: Gate + Sync, R: Threads + Wait + Sync>(
 }
 
 /// Makes at most so many rounds by threads from the opening on, and puts each; the last one is the first after which the
-/// connection doesn't go on. A round whose steps can't be put in order isn't put: the rounds before it are made again, and
-/// this and all later ones by whole turns.
+/// connection doesn't go on. A round in which stamps are used up isn't put: the rounds before it are made again, and this and
+/// all later ones by whole turns.
 pub fn make_threaded_rounds<O: Outside, G: Gate + Sync, R: Threads + Wait + Sync>(
     rt: &R,
     alloc: Global,

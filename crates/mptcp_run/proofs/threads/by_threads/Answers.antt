@@ -9,7 +9,7 @@ pub from_parts-requires-clause-sound : goal.from_parts-requires-clause-sound
 from_parts-requires-clause-sound g c =
     found_sound (λ order. order.items) c.woven_round-books.result.1 c.has_order-failed.result c.has_order-failed.ensures
     c.into_parts-books.result.1.items c.woven_round-books.new.crew.items c.into_parts-books.result.0 c.woven_round-books.result.0 c.woven_round-books.ensures.order
-    c.into_parts-books.ensures.sound c.woven_round-books.ensures.many c.woven_round-books.ensures.turned
+    c.into_parts-books.ensures.sound c.woven_round-books.ensures.turned
 
 pub returns : goal.returns
 returns g c =
