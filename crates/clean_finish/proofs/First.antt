@@ -191,6 +191,7 @@ module _ (k j : Setting) (window window_back : ℕ) (writer writer_back : Writer
       shown = shown;
     };
     timer = refl;
+    unstopped = refl;
   }
 
 -- ---- the world

@@ -165,6 +165,7 @@ module _ {keys : Keys} {k j : Setting} {c : Profile} {begun begun_back : Lane} {
         shown = up h.own.modes.shown unready;
       };
       timer = h.own.timer;
+      unstopped = h.own.unstopped;
     }
 
     abbrev pub keyed : Facing A keys k j c begun begun_back (record m { end = end_after; control = after_peer_key keys.b m.control }) n clock until ds

@@ -17,8 +17,10 @@ use Rattle.path_agenda.specs.declared.duty.Duty.{Duty}
 use Rattle.path_agenda.specs.declared.duty.Duty.TheVariants as duties
 use Rattle.path_agenda.specs.declared.duty.AskDuty.TheVariants as ask_duties
 use Rattle.path_agenda.specs.declared.duty.StepDuty.TheVariants as step_duties
-use Rattle.path_core.specs.Ends.{PathEnd}
-use Rattle.path_core.specs.Standing.{after_look}
+use Rattle.path_core.specs.Ends.{PathEnd, Notices}
+use Rattle.path_core.specs.Noticing.{after_notice as noticed}
+use Rattle.path_core.specs.Standing.{after_look, may_note}
+use Rattle.subflow_tcp.specs.States.{is_dead}
 use Rattle.path_core.specs.State.{Profile}
 use Rattle.pace.specs.Lane.{Setting, Lane}
 use Rattle.clean_finish.specs.Segments.{Keys}
@@ -49,6 +51,19 @@ notice_keeps s keys path notices.Nothing c is = is
 notice_keeps s keys path (notices.Announce id) c is = is
 notice_keeps s keys path (notices.Carrier key) c is = is
 notice_keeps s keys path notices.Reset c is = is
+
+if_unclosed : (b : Bool) (x y : Notices) → x.fast_closed ≡ false → y.fast_closed ≡ false → (if b then x else y).fast_closed ≡ false
+if_unclosed true x y at_x at_y = at_x
+if_unclosed false x y at_x at_y = at_y
+
+-- no notice says that MP_FASTCLOSE was sent
+never_closed : (dead : Bool) (n : Notice) (may : Bool) (old : Notices) → old.fast_closed ≡ false → (if dead then old else noticed n may old).fast_closed ≡ false
+never_closed true n may old none = none
+never_closed false notices.Nothing may old none = none
+never_closed false (notices.Announce id) may old none = if_unclosed may _ _ none none
+never_closed false (notices.Withdraw id) may old none = none
+never_closed false (notices.Carrier key) may old none = none
+never_closed false notices.Reset may old none = none
 
 module _ {s : Side} {keys : Keys} {k j : Setting} {c : Profile} {begun begun_back : Lane} {m n : Half} {clock until : ℕ} where
   module _ {ds : List Duty} (h : Facing s keys k j c begun begun_back m n clock until (duties.Step (step_duties.Look s) ∷ ds)) where
@@ -99,6 +114,7 @@ module _ {s : Side} {keys : Keys} {k j : Setting} {c : Profile} {begun begun_bac
         shown = h.own.modes.shown;
       };
       timer = h.own.timer;
+      unstopped = never_closed (is_dead m.end.tcp.state) (notice_on m.control 0) (may_note m.end) m.end.notices h.own.unstopped;
     }
 
     abbrev pub looked : Facing s keys k j c begun begun_back (record m { end = end_after; control = book_looked 0 m.control }) n clock until ds

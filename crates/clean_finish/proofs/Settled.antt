@@ -106,7 +106,7 @@ module _ {s : Side} {keys : Keys} {k j : Setting} {c : Profile} {begun begun_bac
         now = now_out ticks t u k_is j_is going going_back h
 
         abbrev runs : Bool
-        runs = is_timed (is_waiting m.end || m.end.modes.owes_third) m.end.tcp
+        runs = is_timed (is_waiting m.end || (m.end.modes.owes_third || m.end.notices.fast_closed)) m.end.tcp
 
         -- the SYN was sent
         has_sent : is_closed_to_segments m.end.tcp.state ≡ false → 1 ≤ h.out.control_sent
@@ -185,18 +185,19 @@ module _ {s : Side} {keys : Keys} {k j : Setting} {c : Profile} {begun begun_bac
             let up = not_true (is_closed_to_segments m.end.tcp.state) parts.0 in
             ⊎_elim (λ less. inl less) (λ all. not_acked all up (which parts.1)) (cases_lt h.out.control_acked h.out.control_sent)
           where
-            which : ((is_waiting m.end || m.end.modes.owes_third) || has_records m.end.tcp) ≡ true → (is_data_fin_owed m.end ≡ true)
+            which : ((is_waiting m.end || (m.end.modes.owes_third || m.end.notices.fast_closed)) || has_records m.end.tcp) ≡ true → (is_data_fin_owed m.end ≡ true)
                 ⊎ ((not (is_nil m.end.sending.granted) ≡ true) ⊎ ((m.end.sending.shut ≡ true) ⊎ (has_records m.end.tcp ≡ true)))
-            which some = by (is_data_fin_owed m.end) (not (is_nil m.end.sending.granted)) m.end.sending.shut m.end.modes.owes_third
-                (has_records m.end.tcp) h.own.modes.owes_third some
+            which some = by (is_data_fin_owed m.end) (not (is_nil m.end.sending.granted)) m.end.sending.shut m.end.modes.owes_third m.end.notices.fast_closed
+                (has_records m.end.tcp) h.own.modes.owes_third h.own.unstopped some
               where
-                by : (a b d e f : Bool) → e ≡ false → (((a || (b || d)) || e) || f) ≡ true
+                by : (a b d e g f : Bool) → e ≡ false → g ≡ false → (((a || (b || d)) || (e || g)) || f) ≡ true
                     → (a ≡ true) ⊎ ((b ≡ true) ⊎ ((d ≡ true) ⊎ (f ≡ true)))
-                by true b d e f third some = inl refl
-                by false true d e f third some = inr (inl refl)
-                by false false true e f third some = inr (inr (inl refl))
-                by false false false true f third some = absurd (both_ways _ third refl)
-                by false false false false f third some = inr (inr (inr some))
+                by true b d e g f third closed some = inl refl
+                by false true d e g f third closed some = inr (inl refl)
+                by false false true e g f third closed some = inr (inr (inl refl))
+                by false false false true g f third closed some = absurd (both_ways _ third refl)
+                by false false false false true f third closed some = absurd (both_ways _ closed refl)
+                by false false false false false f third closed some = inr (inr (inr some))
 
         -- ---- what it leaves
 
@@ -355,6 +356,7 @@ module _ {s : Side} {keys : Keys} {k j : Setting} {c : Profile} {begun begun_bac
             shown = h.own.modes.shown;
           };
           timer = timer_is;
+          unstopped = h.own.unstopped;
         }
 
         abbrev pub settled_on : Facing s keys k j c begun begun_back (record m { end = end_after }) n clock until ds

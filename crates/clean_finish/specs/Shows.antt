@@ -241,6 +241,8 @@ pub record EndIs (s : Side) (keys : Keys) (k j : Setting) (out : Sender) (back :
   pub receiving : ReceivingIs s j out owes back e.receiving
   pub modes : ModesAre s keys out back e.modes
   pub timer : out.timer ≡ seen_timer (e.tcp.timing.news || e.sending.news) e.tcp.timing.timer
+  -- no MP_FASTCLOSE was sent
+  pub unstopped : e.notices.fast_closed ≡ false
 
 -- path 0 may take the byte
 abbrev pub IsFree : ByteMark → Type 0
