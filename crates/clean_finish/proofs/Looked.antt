@@ -1,5 +1,5 @@
 -- The control book tells how the side stands: with Multipath TCP, and no path beside this one.
-use Rattle.std.proofs.Common.{◌≡◌, refl, sym, subst, ℕ, ◌≤◌, Bool, true, false, ◌&&◌, ◌⊎◌, inl, inr, List, ◌∷◌}
+use Rattle.std.proofs.Common.{◌≡◌, refl, sym, subst, ℕ, ◌≤◌, Bool, true, false, if◌then◌else◌, ◌&&◌, ◌⊎◌, inl, inr, List, ◌∷◌}
 use Rattle.std.specs.List.{list_any}
 use Rattle.outside_kit.specs.declared.side.Side.{Side}
 use Rattle.link_model.specs.Steps.{peer}
