@@ -1,6 +1,6 @@
 //! Rounds in which each actor takes its turn in a thread of its own, and their steps in one order.
 
-ghost use Rattle.std.specs.Prelude.{◌≡◌, ◌⊎◌, Err, IfOk, IfErr, OnOk};
+ghost use Rattle.std.specs.Prelude.{◌≡◌, ◌⊎◌, Err, length, IfOk, IfErr, OnOk};
 ghost use Rattle.std.specs.List.{slice_get};
 ghost use Rattle.stamped_book.specs.declared.stamped.Refusal.TheVariants.{Memory, Stamps};
 ghost use Rattle.actor_desk.specs.Journals.{ArePaired, order_of};
@@ -53,7 +53,7 @@ fn put_in_order<A>(
 /// actor. Each actor takes its turn in a thread of its own, or they do one after the other where no thread can be made. The books
 /// lie in tables for as long as the round takes, so each call that an actor notes stands in the called book's journal.
 ///
-/// After an error actors and books are of no use.
+/// After an error actors and books are of no use, but they are as many.
 ///
 /// # Errors
 ///
@@ -67,6 +67,7 @@ pub fn woven_round<G: Gate + Sync, R: Threads + Wait + Sync>(
     gate: &G,
 ) -> (Books, Result<Vec<u8>, Refusal>)
     requires begins { Begins (greatest 0 crew.old.items) (record { crew = crew.old.items; books = books }) }
+    ensures many { length crew.new.items ≡ length crew.old.items }
     ensures turned { OnOk result.1 (HaveTurned crew.old.items crew.new.items) }
     ensures order { IfOk result.1 (λ order. WeavesTo
         (record { crew = crew.old.items; books = books })

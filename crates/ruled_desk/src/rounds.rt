@@ -443,7 +443,7 @@ fn ride_all<A: Actor + Send, G: Gate + Sync, R: Threads + Wait + Sync>(
 }
 
 /// A round over these books, each in a table of its own for as long as the round takes: how [`ruled_round`] ended, and the books.
-/// The actors are those from 0 on. At Ok each made its turn to its end, and each entry that a journal gained is a note of an
+/// The actors are those from 0 on, and they are there again afterwards. At Ok each made its turn to its end, and each entry that a journal gained is a note of an
 /// actor's list, and each note of a call at a book that a list gained is an entry.
 ///
 /// # Errors
@@ -458,6 +458,7 @@ pub fn round_at_tables<A: Actor + Drop + Send, G: Gate + Sync, R: Threads + Wait
     gate: &G,
 ) -> (Result<(), Refusal>, Books)
     requires { AreActors 0 crew.old.items }
+    ensures many { length crew.new.items ≡ length crew.old.items }
     ensures ok { OnOk result.0 (IsWholeRound A.asks A.takes crew.old.items crew.new.items books result.1) }
     ensures used_up { result.0 ≡ Err Stamps → OneKnowsLast crew.new.items ⊎ OneIsFull result.1 }
 {

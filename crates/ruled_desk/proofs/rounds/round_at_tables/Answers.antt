@@ -1,7 +1,8 @@
-use Rattle.std.proofs.Common.{◌⊎◌, sym, ◌∙◌, ap, subst, List, OnOk, arith}
+use Rattle.std.proofs.Common.{◌≡◌, ◌⊎◌, sym, ◌∙◌, ap, subst, List, length, OnOk, arith}
+use Rattle.std.proofs.lemmas.List.{length-map}
 use Rattle.actor_desk.specs.declared.actor.Crew.{Crew}
 use Rattle.ruled_desk.specs.Riding.{AreNumbered}
-use Rattle.ruled_desk.specs.WholeRounds.{IsWholeRound, OneIsFull, OneKnowsLast, crew_of}
+use Rattle.ruled_desk.specs.WholeRounds.{IsWholeRound, OneIsFull, OneKnowsLast, crew_of, without_pass}
 use Rattle.ruled_desk.proofs.WholeRounds.{crew_again, lent_riders, numbered_riders}
 use Rattle.ruled_desk.proofs.rounds.round_at_tables.Goals as goal
 
@@ -25,3 +26,10 @@ returns-clause-used_up g c is =
     lent_riders (λ (crew : List (Crew g.row.A.Denot)). OneKnowsLast crew ⊎ OneIsFull c.ride_all-told.result.1) c.in-Ok.riders.len c.ride_all-told.new.riders
     c.in-Ok.riders.items c.dismount.new.crew.items (omega (arith, c.deref_mut.ensures.len, c.ride_all-told.ensures.many)) c.dismount.ensures
     (c.ride_all-told.ensures.used_up is)
+
+pub returns-clause-many : goal.returns-clause-many
+returns-clause-many g c =
+    lent_riders (λ (crew : List (Crew g.row.A.Denot)). length crew ≡ length c.args.crew.now.items) c.in-Ok.riders.len c.ride_all-told.new.riders
+    c.in-Ok.riders.items c.dismount.new.crew.items (omega (arith, c.deref_mut.ensures.len, c.ride_all-told.ensures.many)) c.dismount.ensures
+    (length-map c.ride_all-told.new.riders (λ rider. rider.crew) ∙ c.ride_all-told.ensures.many
+    ∙ ap (λ l. length l) (c.deref_mut.ensures.value ∙ c.in-Ok.ensures.riders) ∙ length-map c.args.crew.now.items without_pass)
