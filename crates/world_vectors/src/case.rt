@@ -5,7 +5,7 @@
 //! octets are told as `content.rt` says. `ORDER` is what the name `log` holds: `-` where there is no such content, `log` for
 //! the log of the last case whose words began with `--mode serial`, or `log` and edits of it, as `order.rt` says. `FAILS` is `-`, or
 //! the number of the call of the outside that fails, and how many octets it keeps of what it is to put. `SHOWN` is `log`,
-//! `sums` or `calls`.
+//! `sums`, `read` or `calls`.
 
 use crate::content::{content, with_line_ends};
 use crate::order::edited;
@@ -20,6 +20,8 @@ pub enum Shown {
     Log,
     /// How much each port holds, and digests.
     Sums,
+    /// How much the readers' ports hold, and digests.
+    Read,
     /// The sums, and the calls that were made on the outside.
     Calls,
 }
@@ -53,6 +55,22 @@ impl<'a> Case<'a> {
             order: word_at(fields, 4)?,
             fails: word_at(fields, 5)?,
             shown: shown_of(word_at(fields, 6)?)?,
+        })
+    }
+
+    /// The case of a run by threads, of which a line tells `SCRIPT | FILE_A | FILE_B` behind its first field.
+    pub fn by_threads(alloc: Global, line: &'a str) -> Result<Self, CaseFault> {
+        let fields: Vec<&'a str> = line.split(" | ").collect(alloc)?;
+        let fields = fields.as_slice();
+        Ok(Case {
+            words: "--mode run",
+            has_messages: false,
+            script: word_at(fields, 1)?,
+            file_a: word_at(fields, 2)?,
+            file_b: word_at(fields, 3)?,
+            order: "-",
+            fails: "-",
+            shown: Shown::Read,
         })
     }
 
@@ -97,6 +115,7 @@ fn shown_of(field: &str) -> Result<Shown, CaseFault> {
     match field {
         "log" => Ok(Shown::Log),
         "sums" => Ok(Shown::Sums),
+        "read" => Ok(Shown::Read),
         "calls" => Ok(Shown::Calls),
         _ => Err(CaseFault::Form),
     }

@@ -4,18 +4,21 @@
 //!
 //! `case.rt` tells the form of a case, which is printed before its answer. Of the answer, `log` shows what the readers' ports
 //! hold in hexadecimal digits, or `-` for nothing, and each line of the log with `;` for its LF; `sums` how many octets the
-//! readers' ports hold, how many lines the log has, and the SHA-256 of each; `calls` these sums, and the calls that were made on
-//! the outside: the name and the limit of a load, the port and the name of a bind, the port and the number of octets of a put.
+//! readers' ports hold, how many lines the log has, and the SHA-256 of each; `read` the same of the readers' ports alone; `calls` these sums,
+//! and the calls that were made on the outside: the name and the limit of a load, the port and the name of a bind, the port and the number
+//! of octets of a put. A line that begins with `meet` is a run by threads, as `meeting.rt` tells.
 #![tactic(auto)]
 
 mod case;
 mod content;
+mod meeting;
 mod order;
 mod recorder;
 mod report;
 
 use case::Case;
 use case_fields::CaseFault;
+use meeting::meeting;
 use mptcp_run::{Status, run, run_messages};
 use outside_kit::{OpenGate, Port};
 use recorder::Recorder;
@@ -68,7 +71,10 @@ fn respond<R: Threads + Wait + Sync>(
     if line.is_empty() || line.starts_with("#") {
         return Ok(String::from_str(alloc, line)?);
     }
-    answer(rt, alloc, line, log)
+    match line.split_once(" ") {
+        Some(("meet", fields)) => meeting(rt, alloc, line, fields),
+        _ => answer(rt, alloc, line, log),
+    }
 }
 
 fn main(rt: HostRuntime) -> io::Result<()> {

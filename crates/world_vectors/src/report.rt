@@ -53,10 +53,16 @@ fn ports(alloc: Global, outside: &Recorder) -> Result<String, AllocError> {
     Ok(text)
 }
 
-/// How much the ports hold, and digests.
-fn sums(alloc: Global, outside: &Recorder) -> Result<String, AllocError> {
+/// How much the readers' ports hold, and digests.
+fn read_sums(alloc: Global, outside: &Recorder) -> Result<String, AllocError> {
     let mut text = port_sums(alloc, "read-by-b", outside.port(Port::ReadByB))?;
     text.push_str(port_sums(alloc, "read-by-a", outside.port(Port::ReadByA))?.as_str())?;
+    Ok(text)
+}
+
+/// How much the ports hold, and digests.
+fn sums(alloc: Global, outside: &Recorder) -> Result<String, AllocError> {
+    let mut text = read_sums(alloc, outside)?;
     text.push_str(log_sums(alloc, outside.port(Port::Log))?.as_str())?;
     Ok(text)
 }
@@ -74,6 +80,7 @@ pub fn report(alloc: Global, shown: Shown, outside: &Recorder) -> Result<String,
     match shown {
         Shown::Log => ports(alloc, outside),
         Shown::Sums => sums(alloc, outside),
+        Shown::Read => read_sums(alloc, outside),
         Shown::Calls => sums_and_calls(alloc, outside),
     }
 }
