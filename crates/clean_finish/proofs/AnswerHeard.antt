@@ -243,5 +243,5 @@ module _ {keys : Keys} {k j : Setting} {c : Profile} {begun begun_back : Lane} {
         shown = h.own.modes.shown;
       };
       timer = refl;
-      unstopped = h.own.unstopped;
+      notices = h.own.notices;
     }

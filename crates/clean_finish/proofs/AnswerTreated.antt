@@ -231,7 +231,7 @@ module _ (start : Start) (plan : PathPlan) (k j : Setting) (s v : Lane) (t0 u0 :
               };
               link = h.link;
               faces = faces;
-              treats = (
+              treats = inl (
                 record {
                   side = refl;
                   sent = t.0.sent;

@@ -148,7 +148,7 @@ module _ {s : Side} {keys : Keys} {k j : Setting} {c : Profile} {begun begun_bac
           shown = h.own.modes.shown;
         };
         timer = h.own.timer;
-        unstopped = h.own.unstopped;
+        notices = h.own.notices;
       }
 
       abbrev pub window_asked : Facing s keys k j c begun begun_back (record m { end = end_after }) n clock until ds

@@ -41,7 +41,7 @@ either_true : (a b : Bool) → (a || b) ≡ true → (a ≡ true) ⊎ (b ≡ tru
 either_true true b e = inl refl
 either_true false b e = inr e
 
-is_clear : (b : Bool) → 1 ≤ count_of b → b ≡ true
+pub is_clear : (b : Bool) → 1 ≤ count_of b → b ≡ true
 is_clear true one = refl
 is_clear false one = absurd (omega (arith, one))
 

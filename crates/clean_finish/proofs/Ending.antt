@@ -144,5 +144,5 @@ module _ {s : Side} {keys : Keys} {k j : Setting} {c : Profile} {begun begun_bac
             shown = shown;
           };
           timer = h.own.timer;
-          unstopped = h.own.unstopped;
+          notices = h.own.notices;
         }

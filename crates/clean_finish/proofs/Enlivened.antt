@@ -23,6 +23,8 @@ lives_on s keys path backup c first is = record {
   first = record is.first { phase = Living };
   alone = ap (λ (n : ℕ). with_phase n Living c.paths) first
       ∙ ap (λ (ps : List RegistryPath). with_phase 0 Living ps) is.alone;
+  carrier = is.carrier;
+  stays = is.stays;
 }
 
 module _ {s : Side} {keys : Keys} {k j : Setting} {c : Profile} {begun begun_back : Lane} {m n : Half} {clock until : ℕ} where

@@ -191,7 +191,7 @@ module _ (k j : Setting) (window window_back : ℕ) (writer writer_back : Writer
       shown = shown;
     };
     timer = refl;
-    unstopped = refl;
+    notices = record { reset = refl; carrier = refl; fast_closed = refl };
   }
 
 -- ---- the world
@@ -233,6 +233,8 @@ module _ (start : Start) (plan : PathPlan) (k j : Setting) (a b t t' : ℕ)
       own_key = is;
       first = record { phase = Opening; removed = false; row = None };
       alone = opening_first;
+      carrier = refl;
+      stays = refl;
     }
 
     pub first_running : Running one_path plan k j (first_lane a) (first_lane b) (first_cast one_path)

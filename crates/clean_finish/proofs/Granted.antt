@@ -250,7 +250,7 @@ module _ {s : Side} {keys : Keys} {k j : Setting} {c : Profile} {begun begun_bac
             shown = h.own.modes.shown;
           };
           timer = h.own.timer;
-          unstopped = h.own.unstopped;
+          notices = h.own.notices;
         }
 
         abbrev pub granted_on : Facing s keys k j c begun begun_back (record m { end = end_after; send = send_after }) n clock until es

@@ -165,7 +165,7 @@ module _ {keys : Keys} {k j : Setting} {c : Profile} {begun begun_back : Lane} {
         shown = up h.own.modes.shown unready;
       };
       timer = h.own.timer;
-      unstopped = h.own.unstopped;
+      notices = h.own.notices;
     }
 
     abbrev pub keyed : Facing A keys k j c begun begun_back (record m { end = end_after; control = after_peer_key keys.b m.control }) n clock until ds
@@ -234,6 +234,8 @@ module _ {keys : Keys} {k j : Setting} {c : Profile} {begun begun_back : Lane} {
         own_key = h.control.own_key;
         first = h.control.first;
         alone = h.control.alone;
+        carrier = h.control.carrier;
+        stays = h.control.stays;
       };
       control_back = h.control_back;
       turn = h.turn;

@@ -1,15 +1,16 @@
 -- The control book tells how the side stands: with Multipath TCP, and no path beside this one.
-use Rattle.std.proofs.Common.{◌≡◌, refl, sym, subst, ℕ, ◌≤◌, Bool, true, false, if◌then◌else◌, ◌&&◌, ◌⊎◌, inl, inr, List, ◌∷◌}
+use Rattle.std.proofs.Common.{◌≡◌, refl, sym, subst, ap, ◌∙◌, ℕ, ◌≤◌, Bool, true, false, not, if◌then◌else◌, ◌&&◌, ◌||◌, ◌⊎◌, inl, inr, Option, Some, None, List, ◌∷◌}
+use Rattle.std.proofs.lemmas.Bool.{both_ways}
 use Rattle.std.specs.List.{list_any}
 use Rattle.outside_kit.specs.declared.side.Side.{Side}
 use Rattle.link_model.specs.Steps.{peer}
-use Rattle.address_manager.specs.IdSet.{is_member}
+use Rattle.address_manager.specs.IdSet.{is_member, lowest}
 use Rattle.control_book.specs.declared.call.Notice.{Notice}
 use Rattle.control_book.specs.declared.call.Notice.TheVariants as notices
 use Rattle.control_book.specs.declared.registry.PathState.{PathState as RegistryPath}
-use Rattle.control_book.specs.Control.{Control}
-use Rattle.control_book.specs.Registry.{every_path, opening_paths, serves_beside, standby}
-use Rattle.control_book.specs.Replies.{notice_on, look_reply}
+use Rattle.control_book.specs.Control.{Control, peer_or_zero, is_path, withdrawals_on}
+use Rattle.control_book.specs.Registry.{every_path, opening_paths, serves_beside, standby, state_of}
+use Rattle.control_book.specs.Replies.{address_notice, announcement, carries, is_aborted, notice_on, look_reply, resets}
 use Rattle.control_book.specs.Steps.{after_notice, after_look as book_looked}
 use Rattle.actor_desk.specs.declared.ask.Reply.TheVariants as replies
 use Rattle.actor_desk.specs.Words.{tail_of}
@@ -17,14 +18,16 @@ use Rattle.path_agenda.specs.declared.duty.Duty.{Duty}
 use Rattle.path_agenda.specs.declared.duty.Duty.TheVariants as duties
 use Rattle.path_agenda.specs.declared.duty.AskDuty.TheVariants as ask_duties
 use Rattle.path_agenda.specs.declared.duty.StepDuty.TheVariants as step_duties
-use Rattle.path_core.specs.Ends.{PathEnd, Notices}
-use Rattle.path_core.specs.Noticing.{after_notice as noticed}
-use Rattle.path_core.specs.Standing.{after_look, may_note}
+use Rattle.fallback_state.specs.declared.fall.Mode.{Mode}
 use Rattle.subflow_tcp.specs.States.{is_dead}
+use Rattle.path_core.specs.Ends.{PathEnd, Notices}
+use Rattle.path_core.specs.Noticing.{after_notice as after_noted}
+use Rattle.path_core.specs.Standing.{after_look, may_note}
 use Rattle.path_core.specs.State.{Profile}
 use Rattle.pace.specs.Lane.{Setting, Lane}
 use Rattle.clean_finish.specs.Segments.{Keys}
-use Rattle.clean_finish.specs.Shows.{EndIs, ControlIs}
+use Rattle.clean_finish.specs.Shows.{IsPlainMode, NoticesAre, EndIs, ControlIs}
+use Rattle.clean_finish.specs.Shows.IsPlainMode.{Starts, IsSure}
 use Rattle.clean_finish.specs.Running.{Has, Half, Facing, HasNotBegun}
 use Rattle.clean_finish.proofs.Dropping.{differ, behind, is_apart, stage_drops, settles_drop, begun_drops}
 
@@ -46,24 +49,62 @@ never_standby first paths backups is =
 -- a notice is told, or isn't
 notice_keeps : (s : Side) (keys : Keys) (path : ℕ) (n : Notice) (c : Control) → ControlIs s keys c → ControlIs s keys (after_notice n path c)
 notice_keeps s keys path (notices.Withdraw id) c is =
-    record { mode = is.mode; joined = is.joined; own_key = is.own_key; first = is.first; alone = is.alone }
+    record {
+      mode = is.mode;
+      joined = is.joined;
+      own_key = is.own_key;
+      first = is.first;
+      alone = is.alone;
+      carrier = is.carrier;
+      stays = is.stays;
+    }
 notice_keeps s keys path notices.Nothing c is = is
 notice_keeps s keys path (notices.Announce id) c is = is
 notice_keeps s keys path (notices.Carrier key) c is = is
 notice_keeps s keys path notices.Reset c is = is
 
-if_unclosed : (b : Bool) (x y : Notices) → x.fast_closed ≡ false → y.fast_closed ≡ false → (if b then x else y).fast_closed ≡ false
-if_unclosed true x y at_x at_y = at_x
-if_unclosed false x y at_x at_y = at_y
+abbrev is_of_address : Notice → Bool
+is_of_address notices.Nothing = true
+is_of_address (notices.Announce id) = true
+is_of_address (notices.Withdraw id) = true
+is_of_address (notices.Carrier key) = false
+is_of_address notices.Reset = false
 
--- no notice says that MP_FASTCLOSE was sent
-never_closed : (dead : Bool) (n : Notice) (may : Bool) (old : Notices) → old.fast_closed ≡ false → (if dead then old else noticed n may old).fast_closed ≡ false
-never_closed true n may old none = none
-never_closed false notices.Nothing may old none = none
-never_closed false (notices.Announce id) may old none = if_unclosed may _ _ none none
-never_closed false (notices.Withdraw id) may old none = none
-never_closed false (notices.Carrier key) may old none = none
-never_closed false notices.Reset may old none = none
+of_addresses : (announced withdrawn : Option ℕ) → is_of_address (address_notice announced withdrawn) ≡ true
+of_addresses (Some id) withdrawn = refl
+of_addresses None (Some id) = refl
+of_addresses None None = refl
+
+plain_aborts : (mode : Mode) → IsPlainMode mode → is_aborted mode ≡ false
+plain_aborts mode (Starts is) = ap is_aborted is
+plain_aborts mode (IsSure is) = ap is_aborted is
+
+-- a book that nothing stops tells addresses at most
+pub only_addresses : (s : Side) (keys : Keys) (c : Control) → ControlIs s keys c → is_of_address (notice_on c 0) ≡ true
+only_addresses s keys c is =
+    subst (λ (b : Bool). is_of_address (if b then notices.Reset else (if carries c 0 then notices.Carrier (peer_or_zero c.keys.peer) else others)) ≡ true)
+    (sym stays) (subst (λ (b : Bool). is_of_address (if b then notices.Carrier (peer_or_zero c.keys.peer) else others) ≡ true) (sym carried)
+    (of_addresses (announcement c 0) (lowest (withdrawals_on c.notices.withdrawals 0))))
+  where
+    others : Notice
+    others = address_notice (announcement c 0) (lowest (withdrawals_on c.notices.withdrawals 0))
+
+    carried : carries c 0 ≡ false
+    carried = ap (λ (o : Option ℕ). is_path o 0) is.carrier
+
+    kept : (state_of c.paths 0).removed ≡ false
+    kept = ap (λ (ps : List RegistryPath). (state_of ps 0).removed) is.alone ∙ is.stays
+
+    stays : resets c 0 ≡ false
+    stays = ap (λ (b : Bool). b && not (carries c 0) || (state_of c.paths 0).removed) (plain_aborts c.fall.mode is.mode) ∙ kept
+
+pub noted_on : (n : Notice) (may : Bool) (v : Notices) → is_of_address n ≡ true → NoticesAre v → NoticesAre (after_noted n may v)
+noted_on notices.Nothing may v of is = is
+noted_on (notices.Announce id) true v of is = record { reset = is.reset; carrier = is.carrier; fast_closed = is.fast_closed }
+noted_on (notices.Announce id) false v of is = is
+noted_on (notices.Withdraw id) may v of is = record { reset = is.reset; carrier = is.carrier; fast_closed = is.fast_closed }
+noted_on (notices.Carrier key) may v of is = absurd (both_ways _ refl of)
+noted_on notices.Reset may v of is = absurd (both_ways _ refl of)
 
 module _ {s : Side} {keys : Keys} {k j : Setting} {c : Profile} {begun begun_back : Lane} {m n : Half} {clock until : ℕ} where
   module _ {ds : List Duty} (h : Facing s keys k j c begun begun_back m n clock until (duties.Step (step_duties.Look s) ∷ ds)) where
@@ -91,6 +132,11 @@ module _ {s : Side} {keys : Keys} {k j : Setting} {c : Profile} {begun begun_bac
         window_on (inl is) = inl is
         window_on (inr there) = inr (behind ds (differ refl) there)
 
+    -- nothing but addresses is noted
+    pub notices_after : (dead : Bool) → NoticesAre (if dead then m.end.notices else after_noted (notice_on m.control 0) (may_note m.end) m.end.notices)
+    notices_after true = h.own.notices
+    notices_after false = noted_on (notice_on m.control 0) (may_note m.end) m.end.notices (only_addresses s keys m.control h.control) h.own.notices
+
     pub own_after : EndIs s keys k j h.out.sender h.back.receiver h.hand h.owes h.waiting end_after
     own_after = record {
       subflow = h.own.subflow;
@@ -114,7 +160,7 @@ module _ {s : Side} {keys : Keys} {k j : Setting} {c : Profile} {begun begun_bac
         shown = h.own.modes.shown;
       };
       timer = h.own.timer;
-      unstopped = never_closed (is_dead m.end.tcp.state) (notice_on m.control 0) (may_note m.end) m.end.notices h.own.unstopped;
+      notices = notices_after (is_dead m.end.tcp.state);
     }
 
     abbrev pub looked : Facing s keys k j c begun begun_back (record m { end = end_after; control = book_looked 0 m.control }) n clock until ds

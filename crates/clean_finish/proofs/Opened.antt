@@ -353,7 +353,7 @@ module _ {keys : Keys} {k j : Setting} {c : Profile} {begun begun_back : Lane} {
                 shown = subst (λ (x : ℕ). x ≤ h.out.ready) (sym (max_none h.out.keys_sent)) h.own.modes.shown;
               };
               timer = h.own.timer;
-              unstopped = h.own.unstopped;
+              notices = h.own.notices;
             }
 
             pub way_after : WayIs c keys j A out_after.sender out_after.receiver out_after.datas back_after.acks h.hand_back n.end.tcp.send.una

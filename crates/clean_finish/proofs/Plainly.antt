@@ -71,7 +71,7 @@ plain_on keys a b (duties.Silent (silent_duties.PassFin s) ∷ ds) between none 
 plain_on keys a b (duties.Ask (ask_duties.SubflowFin s) ∷ ds) between none none_b plain = absurd (both_ways _ refl plain.0)
 plain_on keys a b (duties.Ask (ask_duties.AckOut s) ∷ ds) between none none_b plain = absurd (both_ways _ refl plain.0)
 plain_on keys a b (duties.Ask (ask_duties.Rate s) ∷ ds) between none none_b plain = absurd (both_ways _ refl plain.0)
-plain_on keys a b (duties.Send (send_duties.Again s) ∷ ds) between none none_b plain = absurd (both_ways _ refl plain.0)
+plain_on keys a b (duties.Send (send_duties.Again s) ∷ ds) between none none_b plain = (between, none, none_b, plain.0, plain.1, plain.2)
 plain_on keys a b (duties.Send (send_duties.Answer s) ∷ ds) between none none_b plain = absurd (both_ways _ refl plain.0)
 plain_on keys a b (duties.Send (send_duties.ResetAnswer s) ∷ ds) between none none_b plain = absurd (both_ways _ refl plain.0)
 plain_on keys a b (duties.Ask (ask_duties.Return s) ∷ ds) between none none_b plain = absurd (both_ways _ refl plain.0)
@@ -124,6 +124,18 @@ module _ (start : Start) (plan : PathPlan) (k j : Setting) (s v : Lane) (t0 u0 :
 
         pub passes_join : Relation ((duties.Ask ask_duties.JoinAgain) ∷ ds) → Relation ds
         passes_join h = passes_free (duties.Ask ask_duties.JoinAgain) refl (λ x y t. (t.0, t.1, t.2, t.5)) h
+
+        pub passes_leave_noted : (q : Side) → Relation (duties.Ask (ask_duties.LeaveNoted q) ∷ ds) → Relation ds
+        passes_leave_noted q h = passes_free (duties.Ask (ask_duties.LeaveNoted q)) refl (λ x y t. (t.0, t.1, t.2, t.5)) h
+
+        pub passes_reset_noted : (q : Side) → Relation (duties.Send (send_duties.ResetNoted q) ∷ ds) → Relation ds
+        passes_reset_noted q h = passes_free (duties.Send (send_duties.ResetNoted q)) refl (λ x y t. (t.0, t.1, t.2, t.5)) h
+
+        pub passes_fast_close : (q : Side) → Relation (duties.Send (send_duties.FastClose q) ∷ ds) → Relation ds
+        passes_fast_close q h = passes_free (duties.Send (send_duties.FastClose q)) refl (λ x y t. (t.0, t.1, t.2, t.5)) h
+
+        pub passes_again : (q : Side) → Relation (duties.Send (send_duties.Again q) ∷ ds) → Relation ds
+        passes_again q h = passes_free (duties.Send (send_duties.Again q)) refl (λ x y t. (t.0, t.1, t.2, t.5)) h
 
         pub passes_fin : (q : Side) → Relation (duties.Send (send_duties.Fin q) ∷ ds) → Relation ds
         passes_fin q h = passes_free (duties.Send (send_duties.Fin q)) refl (λ x y t. (t.0, t.1, t.2, t.5)) h

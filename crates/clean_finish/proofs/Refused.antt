@@ -188,7 +188,7 @@ module _ {s : Side} {keys : Keys} {k j : Setting} {c : Profile} {begun begun_bac
               shown = h.own.modes.shown;
             };
             timer = h.own.timer;
-            unstopped = h.own.unstopped;
+            notices = h.own.notices;
           }
             where
               waits_on : {rest : List Record} {l : ℕ} → Waits k h.out.sender rest l → Waits k out_after.sender rest l

@@ -187,17 +187,19 @@ module _ {s : Side} {keys : Keys} {k j : Setting} {c : Profile} {begun begun_bac
           where
             which : ((is_waiting m.end || (m.end.modes.owes_third || m.end.notices.fast_closed)) || has_records m.end.tcp) ≡ true → (is_data_fin_owed m.end ≡ true)
                 ⊎ ((not (is_nil m.end.sending.granted) ≡ true) ⊎ ((m.end.sending.shut ≡ true) ⊎ (has_records m.end.tcp ≡ true)))
-            which some = by (is_data_fin_owed m.end) (not (is_nil m.end.sending.granted)) m.end.sending.shut m.end.modes.owes_third m.end.notices.fast_closed
-                (has_records m.end.tcp) h.own.modes.owes_third h.own.unstopped some
+            which some = by (is_data_fin_owed m.end) (not (is_nil m.end.sending.granted)) m.end.sending.shut (m.end.modes.owes_third || m.end.notices.fast_closed)
+                (has_records m.end.tcp) (neither m.end.modes.owes_third m.end.notices.fast_closed h.own.modes.owes_third h.own.notices.fast_closed) some
               where
-                by : (a b d e g f : Bool) → e ≡ false → g ≡ false → (((a || (b || d)) || (e || g)) || f) ≡ true
+                neither : (x y : Bool) → x ≡ false → y ≡ false → (x || y) ≡ false
+                neither x y p q = rw (p, q) refl
+
+                by : (a b d e f : Bool) → e ≡ false → (((a || (b || d)) || e) || f) ≡ true
                     → (a ≡ true) ⊎ ((b ≡ true) ⊎ ((d ≡ true) ⊎ (f ≡ true)))
-                by true b d e g f third closed some = inl refl
-                by false true d e g f third closed some = inr (inl refl)
-                by false false true e g f third closed some = inr (inr (inl refl))
-                by false false false true g f third closed some = absurd (both_ways _ third refl)
-                by false false false false true f third closed some = absurd (both_ways _ closed refl)
-                by false false false false false f third closed some = inr (inr (inr some))
+                by true b d e f third some = inl refl
+                by false true d e f third some = inr (inl refl)
+                by false false true e f third some = inr (inr (inl refl))
+                by false false false true f third some = absurd (both_ways _ third refl)
+                by false false false false f third some = inr (inr (inr some))
 
         -- ---- what it leaves
 
@@ -356,7 +358,7 @@ module _ {s : Side} {keys : Keys} {k j : Setting} {c : Profile} {begun begun_bac
             shown = h.own.modes.shown;
           };
           timer = timer_is;
-          unstopped = h.own.unstopped;
+          notices = h.own.notices;
         }
 
         abbrev pub settled_on : Facing s keys k j c begun begun_back (record m { end = end_after }) n clock until ds

@@ -176,5 +176,5 @@ module _ {keys : Keys} {k j : Setting} {c : Profile} {begun begun_back : Lane} {
         shown = h.own.modes.shown;
       };
       timer = h.own.timer;
-      unstopped = h.own.unstopped;
+      notices = h.own.notices;
     }

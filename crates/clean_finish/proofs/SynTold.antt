@@ -136,5 +136,5 @@ module _ {s : Side} {keys : Keys} {k j : Setting} {c : Profile} {begun begun_bac
         shown = h.own.modes.shown;
       };
       timer = same_timer ∙ h.own.timer;
-      unstopped = h.own.unstopped;
+      notices = h.own.notices;
     }

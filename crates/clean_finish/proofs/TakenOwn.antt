@@ -227,5 +227,5 @@ module _ {s : Side} {keys : Keys} {k j : Setting} {c : Profile} {begun begun_bac
             shown = h.own.modes.shown;
           };
           timer = timer_is;
-          unstopped = h.own.unstopped;
+          notices = h.own.notices;
         }

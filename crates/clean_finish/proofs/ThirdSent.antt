@@ -33,7 +33,7 @@ use Rattle.clean_finish.specs.Segments.{Sent, Keys, copy_in, said, FliesAs}
 use Rattle.clean_finish.specs.Segments.Brings.{ShowsKeys}
 use Rattle.clean_finish.specs.Shows.{Hand, brings_still, HeardIs, WayIs, last_told, row_seen}
 use Rattle.clean_finish.specs.Shows.IsToldEdge.{Before}
-use Rattle.clean_finish.specs.Running.{Has, Half, Facing, own_bench, other_bench, IsSetting, StageIs, Runs, keys_in}
+use Rattle.clean_finish.specs.Running.{Has, Half, Facing, own_bench, other_bench, IsSetting, StageIs, TreatsThird, Runs, keys_in}
 use Rattle.clean_finish.proofs.Dropping.{differ, behind, behind_or, IsApart, stage_drops, settles_drop, begun_drops}
 use Rattle.clean_finish.proofs.Hands.{in_hand, way_done}
 use Rattle.clean_finish.proofs.Linking.{carried_is, last_from_a, others_of_a, link_after_a}
@@ -285,10 +285,9 @@ module _ (start : Start) (plan : PathPlan) (k j : Setting) (s v : Lane) (t0 u0 :
         abbrev sends_off : PlainSegment → PathState Carried
         sends_off segment = sent_on values A segment (having_sent to_send.Ack p.clock segment p.a) (emission A) (with_agenda (duties.Send (send_duties.Acknowledge A) ∷ emission A) p)
 
-        third_goes : Relation (with_agenda (duties.Send (send_duties.Acknowledge A) ∷ emission A) p)
+        third_goes : (h : Relation (with_agenda (duties.Send (send_duties.Acknowledge A) ∷ emission A) p)) → TreatsThird A keys (own_bench h.faces) (other_bench h.faces) (emission A)
             → Relation (acknowledges values A (with_agenda (duties.Send (send_duties.Acknowledge A) ∷ emission A) p))
-        third_goes h =
-            let t = h.treats in
+        third_goes h t =
             let x = third plan.delay t0 u0 k_is j_is going going_back h.faces in
             let segment = said p.profile keys A x in
             let carried = carried_by p.profile.spelling A segment in
@@ -361,8 +360,9 @@ module _ (start : Start) (plan : PathPlan) (k j : Setting) (s v : Lane) (t0 u0 :
             shown : {r : ℕ} (y : ℕ) → r ≡ 1 → r ≤ max y 1
             shown y is = omega (arith, is)
 
-        pub answers_acknowledge : Relation (with_agenda (duties.Send (send_duties.Acknowledge A) ∷ ds) p)
+        pub third_answered : (h : Relation (with_agenda (duties.Send (send_duties.Acknowledge A) ∷ ds) p)) → TreatsThird A keys (own_bench h.faces) (other_bench h.faces) ds
             → Relation (acknowledges values A (with_agenda (duties.Send (send_duties.Acknowledge A) ∷ ds) p))
-        answers_acknowledge h =
-            subst (λ (es : List Duty). Relation (acknowledges values A (with_agenda (duties.Send (send_duties.Acknowledge A) ∷ es) p))) (sym h.treats.3)
-            (third_goes (subst (λ (es : List Duty). Relation (with_agenda (duties.Send (send_duties.Acknowledge A) ∷ es) p)) h.treats.3 h))
+        third_answered h t =
+            subst (λ (es : List Duty). (g : Relation (with_agenda (duties.Send (send_duties.Acknowledge A) ∷ es) p))
+            → TreatsThird A keys (own_bench g.faces) (other_bench g.faces) es → Relation (acknowledges values A (with_agenda (duties.Send (send_duties.Acknowledge A) ∷ es) p)))
+            (sym t.3) third_goes h t

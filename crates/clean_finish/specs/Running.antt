@@ -279,6 +279,18 @@ pub record TreatsCopy (q : Side) (keys : Keys) (brings tells : Bool) (x : Bench)
   -- what wants an acknowledgement, or occupies a position, is to be acknowledged
   pub owes : x.owes ≡ (list_any wants_ack x.end.treated.items || nat_lt 0 (occupied (copy_of (meant (said x.profile keys (peer q) sent)))))
 
+-- What a copy brings and acknowledges is taken; it is perhaps still to be acknowledged.
+pub record TreatsLast (q : Side) (x : Bench) : Type 0 where
+  pub sent : Sent
+  pub hand : x.hand ≡ Some (record { sent = sent; brings = false; tells = false })
+  pub idle : IsIdle x.back x.end.tcp
+  pub waiting : x.waiting ≡ 0
+  pub answered : min 1 x.back.control_came ≤ x.out.control_sent
+  pub ready : q ≡ A → min 1 x.back.control_came ≤ x.out.ready
+  pub shown : q ≡ A → x.out.ready ≤ x.out.keys_sent
+  -- it may use the DSS
+  pub clear : 1 ≤ x.out.clear
+
 -- the duties of a turn that treat no copy
 abbrev pub is_plain : Duty → Bool
 is_plain (duties.Ask ask_duties.JoinAgain) = true
@@ -292,6 +304,7 @@ is_plain (duties.Send (send_duties.FastClose s)) = true
 is_plain (duties.Step (step_duties.Data s)) = true
 is_plain (duties.Send (send_duties.DataFin s)) = true
 is_plain (duties.Send (send_duties.Fin s)) = true
+is_plain (duties.Send (send_duties.Again s)) = true
 is_plain (duties.Silent (silent_duties.Timer s)) = true
 is_plain (duties.Step step_duties.Events) = true
 is_plain duties.End = true
@@ -335,8 +348,15 @@ IsMapped q x = 1 ≤ x.waiting → (r : Record) → first_unsent x.end ≡ Some 
 abbrev pub AreBetween : Bench → Bench → Type 0
 AreBetween a b = IsBetween A a × IsBetween B b
 
+-- The acknowledgement answers the SYN/ACK, or a copy.
+abbrev pub TreatsThird : Side → Keys → Bench → Bench → List Duty → Type 0
+TreatsThird q keys a b ds = TreatsSynAck q false 1 keys a × IsBetween B b × (b.waiting ≡ 0) × (ds ≡ emission q)
+
+abbrev pub TreatsTaken : Side → Bench → Bench → List Duty → List Duty → Type 0
+TreatsTaken q a b ds es = TreatsLast q (pick q a b) × IsBetween (peer q) (pick q b a) × ((pick q b a).waiting ≡ 0) × (ds ≡ es)
+
 -- What is treated, by the duty that comes first. Bytes wait for nothing else but their sending. Of copies that are taken
--- nothing is said yet.
+-- it is said at their first duty, and from the question of what is acknowledged on.
 abbrev pub Treats : Keys → Bench → Bench → List Duty → Type 0
 Treats keys a b [] = AreBetween a b × (a.waiting ≡ 0) × (b.waiting ≡ 0)
 Treats keys a b (duties.Step (step_duties.Data q) ∷ ds) =
@@ -353,7 +373,11 @@ Treats keys a b (duties.Ask (ask_duties.PeerKey q) ∷ ds) =
     TreatsSynAck q false 0 keys a × IsBetween B b × (b.waiting ≡ 0) × (ds ≡ duties.Ask (ask_duties.Live q) ∷ duties.Send (send_duties.Acknowledge q) ∷ emission q)
 Treats keys a b (duties.Ask (ask_duties.Live q) ∷ ds) =
     TreatsSynAck q false 1 keys a × IsBetween B b × (b.waiting ≡ 0) × (ds ≡ duties.Send (send_duties.Acknowledge q) ∷ emission q)
-Treats keys a b (duties.Send (send_duties.Acknowledge q) ∷ ds) = TreatsSynAck q false 1 keys a × IsBetween B b × (b.waiting ≡ 0) × (ds ≡ emission q)
+Treats keys a b (duties.Ask (ask_duties.AckOut q) ∷ ds) =
+    TreatsTaken q a b ds (duties.Ask (ask_duties.Rate q) ∷ duties.Send (send_duties.Acknowledge q) ∷ duties.Send (send_duties.Again q) ∷ emission q)
+Treats keys a b (duties.Ask (ask_duties.Rate q) ∷ ds) =
+    TreatsTaken q a b ds (duties.Send (send_duties.Acknowledge q) ∷ duties.Send (send_duties.Again q) ∷ emission q)
+Treats keys a b (duties.Send (send_duties.Acknowledge q) ∷ ds) = TreatsThird q keys a b ds ⊎ TreatsTaken q a b ds (duties.Send (send_duties.Again q) ∷ emission q)
 Treats keys a b (duties.Ask (ask_duties.Opened q) ∷ ds) =
     TreatsCopy q keys true true (pick q a b) × IsBetween (peer q) (pick q b a) × ((pick q b a).waiting ≡ 0)
     × (ds ≡ duties.Ask (ask_duties.Live q) ∷ heard_and q 0 (length (pick q a b).end.treated.items) (payload_came q))

@@ -27,7 +27,7 @@ use Rattle.subflow_tcp.specs.States.{may_finish, is_closed_to_segments, is_half_
 use Rattle.actor_desk.specs.Words.{pick, tail_of}
 use Rattle.path_core.specs.declared.granted_piece.GrantedPiece.{GrantedPiece}
 use Rattle.path_core.specs.declared.modes.Modes.{Modes}
-use Rattle.path_core.specs.Ends.{PathEnd, Sending, Receiving}
+use Rattle.path_core.specs.Ends.{PathEnd, Sending, Receiving, Notices}
 use Rattle.path_core.specs.Standing.{is_connected}
 use Rattle.path_core.specs.State.{Profile}
 use Rattle.path_core.specs.Values.{Carried}
@@ -232,6 +232,12 @@ pub record ModesAre (s : Side) (keys : Keys) (out : Sender) (back : Receiver) (m
   -- the keys are shown by A alone
   pub shown : out.keys_sent ≤ pick s out.ready 0
 
+-- the end neither sends a fast close nor was told to be reset
+pub record NoticesAre (n : Notices) : Type 0 where
+  pub reset : n.reset ≡ false
+  pub carrier : n.carrier ≡ None
+  pub fast_closed : n.fast_closed ≡ false
+
 -- ---- an end, and the books of its side
 
 pub record EndIs (s : Side) (keys : Keys) (k j : Setting) (out : Sender) (back : Receiver) (hand : Option Hand) (owes : Bool) (waiting : ℕ)
@@ -241,8 +247,7 @@ pub record EndIs (s : Side) (keys : Keys) (k j : Setting) (out : Sender) (back :
   pub receiving : ReceivingIs s j out owes back e.receiving
   pub modes : ModesAre s keys out back e.modes
   pub timer : out.timer ≡ seen_timer (e.tcp.timing.news || e.sending.news) e.tcp.timing.timer
-  -- no MP_FASTCLOSE was sent
-  pub unstopped : e.notices.fast_closed ≡ false
+  pub notices : NoticesAre e.notices
 
 -- path 0 may take the byte
 abbrev pub IsFree : ByteMark → Type 0
@@ -268,6 +273,9 @@ pub record ControlIs (s : Side) (keys : Keys) (b : Control) : Type 0 where
   pub own_key : b.keys.own ≡ pick s keys.a keys.b
   pub first : RegistryPath
   pub alone : b.paths ≡ first ∷ tail_of opening_paths
+  -- nothing stops it
+  pub carrier : b.notices.carrier ≡ None
+  pub stays : first.removed ≡ false
 
 -- ---- the way from one side
 
