@@ -1,5 +1,5 @@
 -- The turns of a course, from what the rounds or turns of a loop come to.
-use Rattle.std.proofs.Common.{◌≡◌, refl, sym, ◌∙◌, ap, subst, ℕ, zero, suc, ◌+◌, Bool, true, false, inl, List, [], ◌∷◌, ◌++◌, length, Option, arith}
+use Rattle.std.proofs.Common.{◌≡◌, refl, sym, ◌∙◌, ap, subst, ℕ, zero, suc, Bool, true, false, inl, List, [], ◌∷◌, ◌++◌, length, Option, arith}
 use Rattle.outside_kit.specs.declared.port.Port.{Port}
 use Rattle.path_core.specs.Octets.{octets}
 use Rattle.world_laws.specs.Outcomes.{outcome_of}

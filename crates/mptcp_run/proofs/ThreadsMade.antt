@@ -1,8 +1,7 @@
 -- The next world of a run by threads: behind a round of theirs, or behind one of whole turns.
-use Rattle.std.proofs.Common.{◌≡◌, refl, sym, ◌∙◌, ap, subst, ℕ, ◌-◌, ◌<◌, Bool, true, false, not, Result, List, [], ◌∷◌, ◌++◌, length, map, arith}
+use Rattle.std.proofs.Common.{◌≡◌, refl, sym, ◌∙◌, ap, subst, ℕ, ◌-◌, Bool, true, false, not, Result, List, [], ◌∷◌, ◌++◌, map, arith}
 use Rattle.std.specs.Prelude.{Ok, Err, IfOk, IfErr, OnOk}
 use Rattle.std.proofs.lemmas.Bool.{both_ways}
-use Rattle.std.specs.List.{slice_get}
 use Rattle.actor_desk.specs.Books.{StampedBooks}
 use Rattle.path_core.specs.Octets.{octets}
 use Rattle.world_laws.specs.Actors.{ActorCrew}
@@ -16,7 +15,7 @@ use Rattle.mptcp_run.specs.declared.threads.Orders.{Orders}
 use Rattle.mptcp_run.specs.Rounds.{Begins}
 use Rattle.mptcp_run.specs.Task.{Connection}
 use Rattle.mptcp_run.specs.Threads.{CanBeMadeAgain, GoesTo, IsWoven, LeadTo, NextMade, actors_of, after_orders, has_order}
-use Rattle.mptcp_run.specs.WovenRounds.{WovenTo, after_woven}
+use Rattle.mptcp_run.specs.WovenRounds.{after_woven}
 use Rattle.mptcp_run.proofs.LogWoven.{steps_fine}
 use Rattle.mptcp_run.proofs.RoundsWoven.{serial_woven, lead_on}
 use Rattle.mptcp_run.proofs.TurnsTimely.{each_timely}

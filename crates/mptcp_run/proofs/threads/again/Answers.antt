@@ -1,4 +1,4 @@
-use Rattle.std.proofs.Common.{◌≡◌, ◌∙◌, ap, ℕ, Vec, Global, arith}
+use Rattle.std.proofs.Common.{◌≡◌, ap, ℕ, Vec, Global, arith}
 use Rattle.world_laws.specs.Worlds.{end_round}
 use Rattle.world_core.specs.Kept.{Kept, standing}
 use Rattle.mptcp_run.proofs.RoundsWoven.{again_more}

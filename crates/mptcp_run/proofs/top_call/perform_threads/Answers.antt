@@ -1,4 +1,3 @@
-use Rattle.std.proofs.Common.{refl}
 use Rattle.run_words.specs.Lines.{as_line}
 use Rattle.mptcp_run.specs.Task.{task_from, first_world}
 use Rattle.mptcp_run.specs.Task as course
