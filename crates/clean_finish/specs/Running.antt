@@ -46,7 +46,7 @@ use Rattle.pace.specs.Rounds.{Moves}
 use Rattle.clean_finish.specs.Books.{ReceiverIs}
 use Rattle.clean_finish.specs.Reading.{ReaderShows}
 use Rattle.clean_finish.specs.Segments.{Sent, Keys, is_opening, said}
-use Rattle.clean_finish.specs.Segments.Brings.{OpensSubflow}
+use Rattle.clean_finish.specs.Segments.Brings.{OpensSubflow, EndsSubflow}
 use Rattle.clean_finish.specs.Shows.{Hand, brings_still, IsIdle, EndIs, BookIs, ControlIs, WayIs}
 use Rattle.clean_finish.specs.Writing.{WriterShows}
 
@@ -291,6 +291,20 @@ pub record TreatsLast (q : Side) (x : Bench) : Type 0 where
   -- it may use the DSS
   pub clear : 1 ≤ x.out.clear
 
+-- a FIN that its lane has still to take: the receive edge is there
+pub record TreatsFin (q : Side) (x : Bench) : Type 0 where
+  pub sent : Sent
+  pub hand : x.hand ≡ Some (record { sent = sent; brings = true; tells = false })
+  pub brings : sent.brings ≡ EndsSubflow
+  pub places : x.end.tcp.recv.places ≡ []
+  pub fin : x.end.tcp.fin_at ≡ Some x.end.tcp.recv.edge
+  pub owes : x.owes ≡ true
+  pub waiting : x.waiting ≡ 0
+  pub answered : min 1 x.back.control_came ≤ x.out.control_sent
+  pub ready : q ≡ A → min 1 x.back.control_came ≤ x.out.ready
+  pub shown : q ≡ A → x.out.ready ≤ x.out.keys_sent
+  pub clear : 1 ≤ x.out.clear
+
 -- the duties of a turn that treat no copy
 abbrev pub is_plain : Duty → Bool
 is_plain (duties.Ask ask_duties.JoinAgain) = true
@@ -355,8 +369,13 @@ TreatsThird q keys a b ds = TreatsSynAck q false 1 keys a × IsBetween B b × (b
 abbrev pub TreatsTaken : Side → Bench → Bench → List Duty → List Duty → Type 0
 TreatsTaken q a b ds es = TreatsLast q (pick q a b) × IsBetween (peer q) (pick q b a) × ((pick q b a).waiting ≡ 0) × (ds ≡ es)
 
+-- from the question of what is acknowledged on
+abbrev pub last_duties : Side → List Duty
+last_duties q =
+    duties.Ask (ask_duties.AckOut q) ∷ duties.Ask (ask_duties.Rate q) ∷ duties.Send (send_duties.Acknowledge q) ∷ duties.Send (send_duties.Again q) ∷ emission q
+
 -- What is treated, by the duty that comes first. Bytes wait for nothing else but their sending. Of copies that are taken
--- it is said at their first duty, and from the question of what is acknowledged on.
+-- it is said at their first duty, and from the peer's FIN on.
 abbrev pub Treats : Keys → Bench → Bench → List Duty → Type 0
 Treats keys a b [] = AreBetween a b × (a.waiting ≡ 0) × (b.waiting ≡ 0)
 Treats keys a b (duties.Step (step_duties.Data q) ∷ ds) =
@@ -373,6 +392,10 @@ Treats keys a b (duties.Ask (ask_duties.PeerKey q) ∷ ds) =
     TreatsSynAck q false 0 keys a × IsBetween B b × (b.waiting ≡ 0) × (ds ≡ duties.Ask (ask_duties.Live q) ∷ duties.Send (send_duties.Acknowledge q) ∷ emission q)
 Treats keys a b (duties.Ask (ask_duties.Live q) ∷ ds) =
     TreatsSynAck q false 1 keys a × IsBetween B b × (b.waiting ≡ 0) × (ds ≡ duties.Send (send_duties.Acknowledge q) ∷ emission q)
+Treats keys a b (duties.Silent (silent_duties.PassFin q) ∷ ds) =
+    (TreatsLast q (pick q a b) ⊎ TreatsFin q (pick q a b)) × IsBetween (peer q) (pick q b a) × ((pick q b a).waiting ≡ 0)
+    × (ds ≡ duties.Ask (ask_duties.SubflowFin q) ∷ last_duties q)
+Treats keys a b (duties.Ask (ask_duties.SubflowFin q) ∷ ds) = TreatsTaken q a b ds (last_duties q)
 Treats keys a b (duties.Ask (ask_duties.AckOut q) ∷ ds) =
     TreatsTaken q a b ds (duties.Ask (ask_duties.Rate q) ∷ duties.Send (send_duties.Acknowledge q) ∷ duties.Send (send_duties.Again q) ∷ emission q)
 Treats keys a b (duties.Ask (ask_duties.Rate q) ∷ ds) =
