@@ -1,5 +1,5 @@
 -- The end that sends the bytes of a grant.
-use Rattle.std.proofs.Common.{◌≡◌, refl, sym, subst, ap, ◌∙◌, ℕ, ◌+◌, ◌-◌, ◌<◌, ◌≤◌, min, max, nat_lt, Bool, true, false, if◌then◌else◌, Option, Some, None, List, [], ◌∷◌, length, All, arith}
+use Rattle.std.proofs.Common.{◌≡◌, refl, sym, subst, ap, ◌∙◌, ℕ, ◌+◌, ◌-◌, ◌≤◌, min, max, nat_lt, Bool, true, false, None, List, [], ◌∷◌, length, arith}
 use Rattle.std.proofs.lemmas.List.Elements.{All-weaker}
 use Rattle.outside_kit.specs.declared.side.Side.{Side}
 use Rattle.outside_kit.specs.declared.side.Side.TheVariants.{A}
@@ -14,7 +14,7 @@ use Rattle.path_core.specs.State.{Profile}
 use Rattle.actor_desk.specs.Words.{pick}
 use Rattle.pace.specs.Lane.{Setting, Lane}
 use Rattle.clean_finish.specs.Segments.{Sent, Keys, said, data_fin_of, octets_of}
-use Rattle.clean_finish.specs.Shows.{Hand, EndIs, HeardIs, IsGranted, IsToldEdge, last_told, row_seen, brings_still}
+use Rattle.clean_finish.specs.Shows.{EndIs, HeardIs, IsGranted, IsToldEdge, last_told, row_seen, brings_still}
 use Rattle.clean_finish.specs.Running.{Half, Facing}
 use Rattle.clean_finish.proofs.Sendings.{out_after as sent_after, back_after as said_after}
 use Rattle.clean_finish.proofs.Sent.{sent_all}

@@ -1,5 +1,5 @@
 -- What a segment in hand brings is taken by its lane: keys, bytes, a DATA_FIN or a FIN.
-use Rattle.std.proofs.Common.{◌≡◌, refl, sym, subst, ap, ◌∙◌, ℕ, ◌+◌, ◌<◌, ◌≤◌, max, Bool, true, false, ◌||◌, ◌⊎◌, inl, inr, ⊎_elim, Option, List, ◌∷◌, ◌++◌, length, map, arith}
+use Rattle.std.proofs.Common.{◌≡◌, refl, sym, subst, ap, ◌∙◌, ℕ, ◌+◌, ◌<◌, ◌≤◌, Bool, true, false, ◌||◌, ◌⊎◌, inl, inr, Option, List, ◌∷◌, ◌++◌, length, map, arith}
 use Rattle.outside_kit.specs.declared.side.Side.{Side}
 use Rattle.link_model.specs.Steps.{peer}
 use Rattle.reassembly_book.specs.State.{Arriving}

@@ -1,8 +1,8 @@
 -- An end sends the bytes of a grant, with the DSS.
-use Rattle.std.proofs.Common.{◌≡◌, refl, sym, subst, ap, ◌∙◌, ℕ, ◌+◌, ◌-◌, ◌<◌, ◌≤◌, ◌^◌, min, max, Bool, true, false, not, cond, if◌then◌else◌, inl, inr, Option, Some, None, List, [], ◌∷◌, ◌++◌, length, le_refl, arith}
+use Rattle.std.proofs.Common.{◌≡◌, refl, sym, subst, ap, ◌∙◌, ℕ, ◌+◌, ◌<◌, ◌≤◌, ◌^◌, min, max, Bool, true, false, not, cond, inr, Option, Some, None, List, [], ◌∷◌, ◌++◌, length, le_refl, arith}
 use Rattle.std.proofs.lemmas.Bool.{both_ways}
 use Rattle.outside_kit.specs.declared.side.Side.{Side}
-use Rattle.outside_kit.specs.declared.side.Side.TheVariants.{A, B}
+use Rattle.outside_kit.specs.declared.side.Side.TheVariants.{A}
 use Rattle.link_model.specs.declared.flight.Flight.{Flight}
 use Rattle.link_model.specs.Steps.{peer}
 use Rattle.path_segments.specs.declared.segment.PathMapping.{PathMapping}
@@ -17,13 +17,13 @@ use Rattle.path_agenda.specs.declared.duty.Duty.{Duty}
 use Rattle.path_agenda.specs.declared.duty.Duty.TheVariants as duties
 use Rattle.path_agenda.specs.declared.duty.StepDuty.TheVariants as step_duties
 use Rattle.path_core.specs.Ends.{PathEnd}
-use Rattle.path_core.specs.OptionsOut.{mapping_of, place_numbered, checksum_told, piece_mapping, is_first_piece, record_said}
+use Rattle.path_core.specs.OptionsOut.{mapping_of, place_numbered, checksum_told, is_first_piece, record_said}
 use Rattle.path_core.specs.State.{Profile}
 use Rattle.path_core.specs.Values.{Carried}
 use Rattle.actor_desk.specs.Words.{pick, is_nil}
 use Rattle.world_laws.proofs.Doing.{place_is}
 use Rattle.pace.specs.Lane.{Setting, Telling, Lane, all_left}
-use Rattle.pace.specs.Rules.{is_same, repeats}
+use Rattle.pace.specs.Rules.{is_same}
 use Rattle.pace.specs.Going.{Going, pending}
 use Rattle.pace.specs.Moves.{MaySay, MaySend}
 use Rattle.pace.specs.Moves.Move.{sends_bytes}

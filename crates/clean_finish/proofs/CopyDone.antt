@@ -1,5 +1,5 @@
 -- A copy that needs no acknowledgement is done with.
-use Rattle.std.proofs.Common.{◌≡◌, refl, sym, subst, ap, ◌∙◌, ℕ, ◌+◌, ◌≤◌, Bool, false, ◌⊎◌, inl, inr, ⊎_elim, Option, None, List, ◌∷◌}
+use Rattle.std.proofs.Common.{◌≡◌, refl, subst, ap, ℕ, ◌≤◌, Bool, false, inl, inr, ⊎_elim, Option, None, List, ◌∷◌}
 use Rattle.std.proofs.lemmas.Bool.{both_ways}
 use Rattle.outside_kit.specs.declared.side.Side.{Side}
 use Rattle.link_model.specs.Steps.{peer}

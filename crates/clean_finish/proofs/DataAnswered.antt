@@ -1,5 +1,5 @@
 -- The steps in which an end asks for bytes and sends them.
-use Rattle.std.proofs.Common.{◌≡◌, refl, sym, subst, ap, ◌∙◌, ℕ, ◌+◌, ◌<◌, ◌≤◌, ◌^◌, ◌==◌, min, max, nat_le, nat_lt, if◌then◌else◌, Bool, true, false, not, ◌&&◌, ◌⊎◌, inl, inr, ⊎_elim, Option, Some, None, Result, Ok, Err, List, [], ◌∷◌, length, find, arith}
+use Rattle.std.proofs.Common.{◌≡◌, refl, sym, subst, ap, ◌∙◌, ℕ, ◌+◌, ◌<◌, ◌≤◌, ◌^◌, ◌==◌, max, nat_le, nat_lt, if◌then◌else◌, Bool, true, false, not, ◌&&◌, ◌⊎◌, inl, inr, Option, Some, None, Result, Ok, Err, List, [], ◌∷◌, length, find, arith}
 use Rattle.std.proofs.lemmas.Bool.{both_ways, leb-true, lt-ltb}
 use Rattle.outside_kit.specs.declared.side.Side.{Side}
 use Rattle.outside_kit.specs.declared.side.Side.TheVariants.{A, B}
@@ -8,7 +8,7 @@ use Rattle.link_model.specs.Steps.{after_send}
 use Rattle.path_segments.specs.Spelled.{PlainSegment}
 use Rattle.send_book.specs.declared.call.Span.{Span}
 use Rattle.send_book.specs.declared.call.Why.{Why}
-use Rattle.send_book.specs.declared.call.Why.TheVariants.{Ended, Backup, NothingFree, WindowShut}
+use Rattle.send_book.specs.declared.call.Why.TheVariants.{Ended, NothingFree, WindowShut}
 use Rattle.send_book.specs.declared.call.SendCall.TheVariants as send_calls
 use Rattle.send_book.specs.Steps.{decision, reply_by, given_by}
 use Rattle.subflow_send.specs.declared.record.RecordKind.TheVariants.{Data}
@@ -18,7 +18,6 @@ use Rattle.subflow_send.specs.Sendings.{never_sent}
 use Rattle.subflow_tcp.specs.declared.handshake.State.{State}
 use Rattle.subflow_tcp.specs.declared.segments.Occasion.TheVariants as to_send
 use Rattle.subflow_tcp.specs.States.{is_opening, is_closed_to_segments}
-use Rattle.actor_desk.specs.declared.ask.Ask.{Ask}
 use Rattle.actor_desk.specs.declared.ask.Ask.TheVariants as asks
 use Rattle.actor_desk.specs.declared.ask.Reply.TheVariants as replies
 use Rattle.actor_desk.specs.Desk.{SixBooks, reply_of, after_ask}
@@ -51,7 +50,6 @@ use Rattle.clean_finish.proofs.Granted.{span, mapped, granted_on}
 use Rattle.clean_finish.proofs.Granting.{some_sent, one_sent, is_ready, fits as fits_count, few_bytes, ahead, unacked, decides, size_some, may_refuse}
 use Rattle.clean_finish.proofs.Linking.{carried_is, last_from_a, last_from_b, others_of_a, others_of_b, link_after_a, link_after_b}
 use Rattle.clean_finish.proofs.Plainly.{plain_on}
-use Rattle.clean_finish.proofs.Quiet.{phase_is}
 use Rattle.clean_finish.proofs.Refused.{refused_on}
 use Rattle.clean_finish.proofs.TellsAll.{lane, came, sent_some}
 use Rattle.clean_finish.proofs.Turned.{from_a, from_b}

@@ -1,6 +1,6 @@
 -- An end sends its DATA_FIN, on an acknowledgement.
-use Rattle.std.proofs.Common.{◌≡◌, refl, sym, subst, ap, ◌∙◌, ℕ, zero, suc, ◌+◌, ◌-◌, ◌*◌, ◌==◌, ◌<◌, ◌≤◌, min, max, nat_lt, Bool, true, false, not, is_some, cond, if◌then◌else◌, ◌&&◌, ◌⊎◌, inl, inr, ⊎_elim, Option, Some, None, List, [], ◌∷◌, ◌++◌, length, map, le_refl, arith}
-use Rattle.std.proofs.lemmas.Bool.{both_ways, and_parts, leb-true}
+use Rattle.std.proofs.Common.{◌≡◌, refl, sym, subst, ap, ◌∙◌, ℕ, zero, suc, ◌+◌, ◌-◌, ◌<◌, ◌≤◌, min, max, Bool, true, false, not, is_some, cond, ◌&&◌, inl, inr, ⊎_elim, Option, Some, None, List, [], ◌∷◌, ◌++◌, le_refl, arith}
+use Rattle.std.proofs.lemmas.Bool.{both_ways}
 use Rattle.outside_kit.specs.declared.side.Side.{Side}
 use Rattle.outside_kit.specs.declared.side.Side.TheVariants.{A, B}
 use Rattle.link_model.specs.declared.flight.Flight.{Flight}
@@ -20,19 +20,18 @@ use Rattle.path_core.specs.Standing.{is_connected}
 use Rattle.path_core.specs.State.{Profile}
 use Rattle.path_core.specs.Values.{Carried}
 use Rattle.actor_desk.specs.Words.{pick}
-use Rattle.pace.specs.Lane.{Setting, Telling, Copy, Lane, Stage, data_ack, is_whole, all_left}
+use Rattle.pace.specs.Lane.{Setting, Telling, Copy, Lane, Stage, is_whole, all_left}
 use Rattle.pace.specs.Rules.{is_same, repeats}
 use Rattle.pace.specs.Going.{Going, pending}
 use Rattle.pace.specs.Moves.{MaySay, MaySend}
 use Rattle.pace.specs.Moves.Move.{sends_none}
-use Rattle.clean_finish.specs.Segments.{Sent, Keys, copy_in, dss_from, said, acknowledged_by, FliesAs, AcknowledgesAs}
+use Rattle.clean_finish.specs.Segments.{Sent, Keys, copy_in, dss_from, said, FliesAs, AcknowledgesAs}
 use Rattle.clean_finish.specs.Segments.Brings.{EndsStream}
-use Rattle.clean_finish.specs.Shows.{Hand, brings_still, known_by, HeardIs, IsPhase, IsToldEdge, WayIs, last_told, row_seen}
+use Rattle.clean_finish.specs.Shows.{Hand, brings_still, known_by, HeardIs, IsPhase, last_told, row_seen}
 use Rattle.clean_finish.specs.Shows.IsPhase.{Opening, Listening, HalfOpen, Open}
-use Rattle.clean_finish.specs.Shows.IsToldEdge.{Same, Before}
+use Rattle.clean_finish.specs.Shows.IsToldEdge.{Same}
 use Rattle.clean_finish.specs.Writing.{count_of}
 use Rattle.clean_finish.specs.Running.{Has, Half, Facing, IsSetting, StageIs}
-use Rattle.clean_finish.proofs.Dropping.{differ, behind, behind_or, IsApart, stage_drops, settles_drop, begun_drops}
 use Rattle.clean_finish.proofs.Hands.{way_none}
 use Rattle.clean_finish.proofs.Opened.{waiting_on}
 use Rattle.clean_finish.proofs.Passing.{end_passes}

@@ -1,8 +1,8 @@
 -- The receive edge moves over the FIN of the peer.
-use Rattle.std.proofs.Common.{◌≡◌, refl, sym, subst, ap, ◌∙◌, ℕ, ◌+◌, ◌-◌, ◌<◌, ◌≤◌, min, max, Bool, true, false, not, ◌⊎◌, inl, inr, ⊎_elim, Option, None, List, ◌∷◌, ◌++◌, length, arith}
+use Rattle.std.proofs.Common.{◌≡◌, refl, sym, subst, ap, ◌∙◌, ℕ, ◌+◌, ◌-◌, ◌<◌, ◌≤◌, min, max, Bool, true, false, ◌⊎◌, inl, inr, Option, List, ◌∷◌, ◌++◌, length, arith}
 use Rattle.std.proofs.lemmas.Bool.{both_ways}
 use Rattle.outside_kit.specs.declared.side.Side.{Side}
-use Rattle.outside_kit.specs.declared.side.Side.TheVariants.{A, B}
+use Rattle.outside_kit.specs.declared.side.Side.TheVariants.{B}
 use Rattle.link_model.specs.Steps.{peer}
 use Rattle.subflow_recv.specs.Receiving.{after_advance}
 use Rattle.subflow_tcp.specs.declared.handshake.State.{State}

@@ -1,7 +1,6 @@
 -- The steps in which the receive edge moves over the peer's FIN, or stays.
-use Rattle.std.proofs.Common.{◌≡◌, refl, sym, subst, ap, ◌∙◌, ℕ, zero, suc, ◌+◌, ◌-◌, ◌^◌, ◌<◌, ◌≤◌, ◌==◌, min, max, nat_lt, Bool, true, false, if◌then◌else◌, ◌&&◌, ◌⊎◌, inl, inr, ⊎_elim, Option, Some, None, List, [], ◌∷◌, drop, arith}
-use Rattle.std.proofs.lemmas.Bool.{both_ways, cases_lt, le-ltb, lt-ltb, eq-eqb, ne_eqb}
-use Rattle.outside_kit.specs.declared.side.Side.{Side}
+use Rattle.std.proofs.Common.{◌≡◌, refl, sym, subst, ap, ◌∙◌, ℕ, zero, suc, ◌+◌, ◌-◌, ◌^◌, ◌<◌, ◌≤◌, min, max, nat_lt, Bool, true, false, if◌then◌else◌, ◌&&◌, ◌⊎◌, inl, inr, ⊎_elim, Option, Some, None, List, [], ◌∷◌, drop, arith}
+use Rattle.std.proofs.lemmas.Bool.{cases_lt, le-ltb, lt-ltb, eq-eqb, ne_eqb}
 use Rattle.outside_kit.specs.declared.side.Side.TheVariants.{A, B}
 use Rattle.subflow_tcp.specs.Closing.{is_fin_next, after_passing_fin}
 use Rattle.subflow_tcp.specs.Judging.{is_at}
@@ -11,7 +10,6 @@ use Rattle.stream_apps.specs.Apps.{AppState}
 use Rattle.path_agenda.specs.declared.duty.Duty.{Duty}
 use Rattle.path_agenda.specs.declared.duty.Duty.TheVariants as duties
 use Rattle.path_agenda.specs.declared.duty.AskDuty.TheVariants as ask_duties
-use Rattle.path_agenda.specs.declared.duty.SendDuty.TheVariants as send_duties
 use Rattle.path_agenda.specs.declared.duty.SilentDuty.TheVariants as silent_duties
 use Rattle.path_core.specs.Passing.{after_pass_fin}
 use Rattle.path_core.specs.State.{PathState, with_agenda, with_end}
@@ -21,7 +19,7 @@ use Rattle.pace.specs.Lane.{Setting, Lane, Receiver, all_left}
 use Rattle.pace.specs.Going.{Going}
 use Rattle.clean_finish.specs.Segments.{Keys}
 use Rattle.clean_finish.specs.Shows.{IsIdle, HasCome}
-use Rattle.clean_finish.specs.Running.{Has, FacesOfA, FacesOfB, TreatsLast, TreatsFin, last_duties, own_bench, other_bench, IsSetting, Runs, keys_in}
+use Rattle.clean_finish.specs.Running.{TreatsLast, TreatsFin, last_duties, own_bench, other_bench, IsSetting, Runs, keys_in}
 use Rattle.clean_finish.proofs.Dropping.{apart, behind}
 use Rattle.clean_finish.proofs.FinPassed.{counts, fin_passed, received}
 use Rattle.clean_finish.proofs.Passing.{free_drops}

@@ -1,11 +1,11 @@
 -- An end sends its FIN, once its DATA_FIN is acknowledged and the peer's came.
-use Rattle.std.proofs.Common.{◌≡◌, refl, sym, subst, ap, ◌∙◌, ℕ, ◌+◌, ◌-◌, ◌<◌, ◌≤◌, min, max, nat_lt, Bool, true, false, not, if◌then◌else◌, ◌&&◌, ◌⊎◌, inl, inr, ⊎_elim, Option, None, List, [], ◌∷◌, ◌++◌, le_refl, arith}
+use Rattle.std.proofs.Common.{◌≡◌, refl, sym, subst, ap, ◌∙◌, ℕ, ◌+◌, ◌-◌, ◌<◌, ◌≤◌, min, max, Bool, true, false, not, if◌then◌else◌, ◌&&◌, ⊎_elim, Option, None, List, [], ◌∷◌, ◌++◌, le_refl, arith}
 use Rattle.std.proofs.lemmas.Bool.{both_ways, and_parts, ltb-true, ltb-false}
 use Rattle.outside_kit.specs.declared.side.Side.{Side}
-use Rattle.outside_kit.specs.declared.side.Side.TheVariants.{A, B}
+use Rattle.outside_kit.specs.declared.side.Side.TheVariants.{A}
 use Rattle.link_model.specs.declared.flight.Flight.{Flight}
 use Rattle.link_model.specs.Steps.{peer}
-use Rattle.subflow_tcp.specs.States.{may_finish, after_finish}
+use Rattle.subflow_tcp.specs.States.{may_finish}
 use Rattle.path_agenda.specs.declared.duty.Duty.{Duty}
 use Rattle.path_agenda.specs.declared.duty.Duty.TheVariants as duties
 use Rattle.path_agenda.specs.declared.duty.SendDuty.TheVariants as send_duties
@@ -34,7 +34,7 @@ use Rattle.clean_finish.proofs.Opened.{waiting_on}
 use Rattle.clean_finish.proofs.Quiet.{phase_is}
 use Rattle.clean_finish.proofs.Sendings.{same_bytes, sent_off}
 use Rattle.clean_finish.proofs.TakenMeant.{acknowledges_some}
-use Rattle.clean_finish.proofs.TellsAll.{lane, lane_back, all_told, came, sent_some, so, acks, all, near, least_told}
+use Rattle.clean_finish.proofs.TellsAll.{lane, all_told, came, sent_some, so, acks, all, near, least_told}
 
 -- the FIN at the next position
 pub fin_is : (c : Profile) (keys : Keys) (s : Side) (x : Sent) (e : PathEnd) → x.brings ≡ EndsSubflow → e.modes.identity ≡ false

@@ -1,9 +1,8 @@
 -- The end that sends its FIN.
-use Rattle.std.proofs.Common.{◌≡◌, refl, sym, subst, ap, ◌∙◌, ℕ, ◌+◌, ◌-◌, ◌<◌, ◌≤◌, min, max, nat_lt, Bool, true, false, if◌then◌else◌, Option, Some, None, List, [], ◌∷◌, length, All, arith}
+use Rattle.std.proofs.Common.{◌≡◌, refl, sym, subst, ap, ◌∙◌, ℕ, ◌+◌, ◌<◌, ◌≤◌, min, max, Bool, true, false, None, List, length, arith}
 use Rattle.std.proofs.lemmas.Bool.{both_ways}
 use Rattle.std.proofs.lemmas.List.Elements.{All-weaker}
 use Rattle.outside_kit.specs.declared.side.Side.{Side}
-use Rattle.outside_kit.specs.declared.side.Side.TheVariants.{A}
 use Rattle.subflow_tcp.specs.Closing.{after_finishing}
 use Rattle.subflow_tcp.specs.Dues.{nothing_due}
 use Rattle.subflow_tcp.specs.Emitting.{after_sending}
@@ -16,7 +15,7 @@ use Rattle.path_core.specs.State.{Profile}
 use Rattle.actor_desk.specs.Words.{pick}
 use Rattle.pace.specs.Lane.{Setting, Lane}
 use Rattle.clean_finish.specs.Segments.{Sent, Keys, said, data_fin_of, octets_of}
-use Rattle.clean_finish.specs.Shows.{Hand, IsOpen, EndIs, HeardIs, IsGranted, IsToldEdge, last_told, row_seen, brings_still}
+use Rattle.clean_finish.specs.Shows.{IsOpen, EndIs, HeardIs, IsGranted, IsToldEdge, last_told, row_seen, brings_still}
 use Rattle.clean_finish.specs.Shows.IsPhase.{Open}
 use Rattle.clean_finish.specs.Running.{Half, Facing}
 use Rattle.clean_finish.proofs.FinPushed.{fin_pushed}

@@ -1,10 +1,8 @@
 -- A sends its first bytes before it heard a DSS: they show both keys again (RFC 8684, section 3.1).
-use Rattle.std.proofs.Common.{◌≡◌, refl, sym, subst, ap, ◌∙◌, ℕ, ◌+◌, ◌-◌, ◌<◌, ◌≤◌, min, max, Bool, true, false, inl, inr, Option, Some, None, List, [], ◌∷◌, ◌++◌, length, le_refl, arith}
+use Rattle.std.proofs.Common.{◌≡◌, refl, sym, subst, ap, ℕ, ◌+◌, ◌-◌, ◌<◌, ◌≤◌, min, max, true, false, inl, inr, Option, Some, None, List, [], ◌∷◌, ◌++◌, length, le_refl, arith}
 use Rattle.std.proofs.lemmas.Bool.{both_ways}
-use Rattle.outside_kit.specs.declared.side.Side.{Side}
 use Rattle.outside_kit.specs.declared.side.Side.TheVariants.{A, B}
 use Rattle.link_model.specs.declared.flight.Flight.{Flight}
-use Rattle.link_model.specs.Steps.{peer}
 use Rattle.path_segments.specs.Laws.{window_told}
 use Rattle.subflow_send.specs.declared.record.RecordKind.TheVariants.{Data}
 use Rattle.subflow_send.specs.Records.{Record}
@@ -19,7 +17,7 @@ use Rattle.path_core.specs.Ends.{PathEnd}
 use Rattle.path_core.specs.OptionsOut.{mapping_of, checksum_told, is_first_piece, record_said}
 use Rattle.path_core.specs.State.{Profile}
 use Rattle.path_core.specs.Values.{Carried}
-use Rattle.pace.specs.Lane.{Setting, Lane, data_ack, is_whole, all_left}
+use Rattle.pace.specs.Lane.{Setting, Lane, is_whole, all_left}
 use Rattle.pace.specs.Rules.{is_same}
 use Rattle.pace.specs.Going.{Going, pending}
 use Rattle.pace.specs.Moves.{MaySay, MaySend}

@@ -1,15 +1,13 @@
 -- What the book of a stream that goes on one path decides to grant.
-use Rattle.std.proofs.Common.{◌≡◌, refl, sym, subst, ap, ◌∙◌, ℕ, ◌+◌, ◌-◌, ◌<◌, ◌≤◌, ◌==◌, min, nat_lt, nat_le, Bool, true, false, cond, ◌&&◌, ◌||◌, if◌then◌else◌, Option, Some, None, Result, Ok, Err, length, drop, position, arith}
+use Rattle.std.proofs.Common.{◌≡◌, refl, sym, ap, ◌∙◌, ℕ, ◌+◌, ◌-◌, ◌<◌, ◌≤◌, ◌==◌, min, nat_lt, nat_le, Bool, true, false, cond, ◌&&◌, ◌||◌, if◌then◌else◌, Option, Some, None, Ok, Err, length, drop, position, arith}
 use Rattle.std.specs.List.{prefix_len}
-use Rattle.std.proofs.lemmas.Bool.{both_ways, and_parts, eqb-true, ltb-true, ltb-false, leb-true, leb-false}
-use Rattle.send_book.specs.declared.call.Span.{Span}
-use Rattle.send_book.specs.declared.call.Why.{Why}
-use Rattle.send_book.specs.declared.call.Why.TheVariants.{Ended, Backup, NothingFree, WindowShut}
+use Rattle.std.proofs.lemmas.Bool.{and_parts, eqb-true, ltb-true, ltb-false, leb-true, leb-false}
+use Rattle.send_book.specs.declared.call.Why.TheVariants.{Ended, NothingFree, WindowShut}
 use Rattle.send_book.specs.Marks.{is_free_for}
 use Rattle.send_book.specs.State.{Sending, acked_len}
 use Rattle.send_book.specs.Steps.{is_for, first_free, run_len, span_at, decision}
 use Rattle.clean_finish.specs.Shows.{AreTaken}
-use Rattle.clean_finish.proofs.TakenMarks.{taken_within, next_free, free_behind, few_acked}
+use Rattle.clean_finish.proofs.TakenMarks.{next_free, free_behind, few_acked}
 
 -- Path 0 took so many bytes, and asks for `most` more.
 pub data GrantIs (taken most : ℕ) (b : Sending) : Type 0 where

@@ -1,6 +1,5 @@
 -- A grant: the bytes wait to be sent.
-use Rattle.std.proofs.Common.{◌≡◌, refl, sym, subst, ap, ◌∙◌, ℕ, ◌+◌, ◌-◌, ◌*◌, ◌<◌, ◌≤◌, min, nat_lt, Bool, true, false, if◌then◌else◌, ◌⊎◌, inl, inr, Option, Some, None, List, [], ◌∷◌, ◌++◌, length, take, drop, map, All, sum_by, le_refl, arith}
-use Rattle.std.proofs.lemmas.Bool.{both_ways}
+use Rattle.std.proofs.Common.{◌≡◌, refl, sym, subst, ap, ◌∙◌, ℕ, ◌+◌, ◌-◌, ◌<◌, ◌≤◌, min, Bool, true, if◌then◌else◌, inl, Some, List, [], ◌∷◌, ◌++◌, length, take, drop, map, sum_by, le_refl, arith}
 use Rattle.std.proofs.lemmas.Option.{same_Some}
 use Rattle.std.proofs.lemmas.List.Sums.{sum_by-append}
 use Rattle.std.proofs.lemmas.List.{length-take, length-drop}
@@ -13,7 +12,7 @@ use Rattle.send_book.specs.State.{Sending as SendBook, acked_len}
 use Rattle.send_book.specs.Steps.{part_of, change_part}
 use Rattle.subflow_send.specs.declared.record.RecordKind.TheVariants.{Data}
 use Rattle.subflow_send.specs.Records.{Record, Tile, span_of}
-use Rattle.subflow_send.specs.Rules.{is_unsent, octets_under_way, flight}
+use Rattle.subflow_send.specs.Rules.{is_unsent, octets_under_way}
 use Rattle.subflow_send.specs.Sendings.{never_sent}
 use Rattle.subflow_send.proofs.Whole.{Tile-push}
 use Rattle.subflow_tcp.specs.Sizes.{room}

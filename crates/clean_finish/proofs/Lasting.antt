@@ -4,7 +4,7 @@ use Rattle.std.proofs.lemmas.Bool.{both_ways}
 use Rattle.outside_kit.specs.declared.side.Side.{Side}
 use Rattle.outside_kit.specs.declared.side.Side.TheVariants.{A, B}
 use Rattle.link_model.specs.Laws.{plain_flight, going_to}
-use Rattle.link_model.specs.Steps.{peer, after_send}
+use Rattle.link_model.specs.Steps.{after_send}
 use Rattle.loss_recovery.specs.declared.windows.Pending.{Pending}
 use Rattle.path_segments.specs.Spelled.{PlainSegment}
 use Rattle.subflow_tcp.specs.declared.segments.Occasion.TheVariants as to_send
@@ -25,8 +25,8 @@ use Rattle.world_laws.specs.Openings.{PathPlan, Start}
 use Rattle.pace.specs.Lane.{Setting, Lane, all_left}
 use Rattle.pace.specs.Going.{Going}
 use Rattle.clean_finish.specs.Segments.{Keys, said, FliesAs}
-use Rattle.clean_finish.specs.Shows.{Hand, brings_still}
-use Rattle.clean_finish.specs.Running.{Has, Facing, FacesOfA, FacesOfB, Bench, IsBetween, TreatsLast, TreatsTaken, own_bench, other_bench, IsSetting, Runs, keys_in}
+use Rattle.clean_finish.specs.Shows.{brings_still}
+use Rattle.clean_finish.specs.Running.{Has, FacesOfA, FacesOfB, TreatsTaken, own_bench, other_bench, IsSetting, Runs, keys_in}
 use Rattle.clean_finish.proofs.AckSent.{ack, ack_sent, next_is}
 use Rattle.clean_finish.proofs.AskedAfter.{asked_after, out_passes}
 use Rattle.clean_finish.proofs.CopyDone.{copy_done}

@@ -1,5 +1,5 @@
 -- The congestion window grows by what the control book answers of all paths.
-use Rattle.std.proofs.Common.{◌≡◌, refl, sym, subst, ap, ◌∙◌, ℕ, ◌+◌, ◌≤◌, Bool, false, Option, Some, None, IfSome, inl, List, ◌∷◌, arith}
+use Rattle.std.proofs.Common.{◌≡◌, refl, sym, subst, ap, ◌∙◌, ℕ, ◌+◌, ◌≤◌, false, Option, Some, None, IfSome, inl, List, ◌∷◌, arith}
 use Rattle.outside_kit.specs.declared.side.Side.{Side}
 use Rattle.link_model.specs.Steps.{peer}
 use Rattle.control_book.specs.declared.registry.PathState.{PathState as RegistryPath}

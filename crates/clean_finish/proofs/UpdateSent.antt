@@ -1,5 +1,5 @@
 -- An end tells that its window has grown.
-use Rattle.std.proofs.Common.{◌≡◌, refl, sym, subst, ap, ◌∙◌, ℕ, ◌+◌, ◌-◌, ◌*◌, ◌==◌, ◌<◌, ◌≤◌, min, max, nat_lt, Bool, true, false, cond, if◌then◌else◌, ◌&&◌, ◌⊎◌, inl, inr, ⊎_elim, Option, Some, None, List, [], ◌∷◌, ◌++◌, length, map, le_refl, arith}
+use Rattle.std.proofs.Common.{◌≡◌, refl, sym, subst, ap, ◌∙◌, ℕ, ◌+◌, ◌-◌, ◌*◌, ◌<◌, ◌≤◌, min, max, Bool, true, false, inl, inr, ⊎_elim, Option, None, List, [], ◌∷◌, ◌++◌, le_refl, arith}
 use Rattle.std.proofs.lemmas.Bool.{both_ways, and_parts, leb-true}
 use Rattle.outside_kit.specs.declared.side.Side.{Side}
 use Rattle.outside_kit.specs.declared.side.Side.TheVariants.{A, B}
@@ -13,18 +13,17 @@ use Rattle.path_agenda.specs.declared.duty.SendDuty.TheVariants as send_duties
 use Rattle.path_agenda.specs.declared.duty.StepDuty.TheVariants as step_duties
 use Rattle.path_core.specs.Ends.{PathEnd}
 use Rattle.path_core.specs.OptionsOut.{ack_said}
-use Rattle.path_core.specs.Standing.{is_connected, tellable_edge, has_grown, is_update_due}
+use Rattle.path_core.specs.Standing.{is_connected, has_grown, is_update_due}
 use Rattle.path_core.specs.State.{Profile}
 use Rattle.path_core.specs.Values.{Carried}
 use Rattle.actor_desk.specs.Words.{pick}
-use Rattle.pace.specs.Lane.{Setting, Telling, Copy, Lane, Stage, data_ack, is_whole, all_left}
-use Rattle.pace.specs.Rules.{sent_by, said_by, repeats}
+use Rattle.pace.specs.Lane.{Setting, Lane, Stage, is_whole, all_left}
 use Rattle.pace.specs.Going.{Going, pending}
 use Rattle.pace.specs.Moves.{MaySay, MaySend}
 use Rattle.pace.specs.Moves.Move.{sends_none}
-use Rattle.clean_finish.specs.Segments.{Sent, Keys, copy_in, dss_from, said, acknowledged_by, FliesAs, AcknowledgesAs}
+use Rattle.clean_finish.specs.Segments.{Sent, Keys, copy_in, dss_from, said, FliesAs, AcknowledgesAs}
 use Rattle.clean_finish.specs.Segments.Brings.{Acknowledges}
-use Rattle.clean_finish.specs.Shows.{Hand, brings_still, HeardIs, IsPhase, IsToldEdge, WayIs, last_told, row_seen}
+use Rattle.clean_finish.specs.Shows.{Hand, brings_still, HeardIs, IsPhase, IsToldEdge, last_told, row_seen}
 use Rattle.clean_finish.specs.Shows.IsPhase.{Opening, Listening, HalfOpen, Open}
 use Rattle.clean_finish.specs.Shows.IsToldEdge.{Same, Before}
 use Rattle.clean_finish.specs.Writing.{count_of}
