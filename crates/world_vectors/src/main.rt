@@ -6,12 +6,14 @@
 //! hold in hexadecimal digits, or `-` for nothing, and each line of the log with `;` for its LF; `sums` how many octets the
 //! readers' ports hold, how many lines the log has, and the SHA-256 of each; `read` the same of the readers' ports alone; `calls` these sums,
 //! and the calls that were made on the outside: the name and the limit of a load, the port and the name of a bind, the port and the number
-//! of octets of a put. A line that begins with `meet` is a run by threads, as `meeting.rt` tells.
+//! of octets of a put. A line that begins with `meet` is a run by threads, as `meeting.rt` tells, and one
+//! with `round` a first round, as `opening.rt` does.
 #![tactic(auto)]
 
 mod case;
 mod content;
 mod meeting;
+mod opening;
 mod order;
 mod recorder;
 mod report;
@@ -20,6 +22,7 @@ use case::Case;
 use case_fields::CaseFault;
 use meeting::meeting;
 use mptcp_run::{Status, run, run_messages};
+use opening::first_round;
 use outside_kit::{OpenGate, Port};
 use recorder::Recorder;
 use report::report;
@@ -73,6 +76,7 @@ fn respond<R: Threads + Wait + Sync>(
     }
     match line.split_once(" ") {
         Some(("meet", fields)) => meeting(rt, alloc, line, fields),
+        Some(("round", _)) => first_round(rt, alloc, line),
         _ => answer(rt, alloc, line, log),
     }
 }
