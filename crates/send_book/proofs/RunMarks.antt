@@ -1,5 +1,5 @@
 -- What the runs tell of the marks of single bytes.
-use Rattle.std.proofs.Common.{◌≡◌, refl, sym, ◌∙◌, ap, ℕ, zero, suc, ◌+◌, ◌-◌, ◌*◌, ◌^◌, ◌<◌, ◌≤◌, min, max, Bool, true, false, not, cond, ◌&&◌, nat_le, if◌then◌else◌, List, [], ◌∷◌, ◌++◌, take, drop, map, replicate, count_by, Some, arith}
+use Rattle.std.proofs.Common.{◌≡◌, refl, sym, ◌∙◌, ap, ℕ, zero, suc, ◌+◌, ◌-◌, ◌*◌, ◌^◌, ◌<◌, ◌≤◌, min, max, Bool, true, false, not, cond, ◌&&◌, ◌||◌, nat_le, if◌then◌else◌, List, [], ◌∷◌, ◌++◌, take, drop, map, replicate, count_by, Some, arith}
 use Rattle.std.proofs.lemmas.Bool.{leb-true, leb-false}
 use Rattle.std.proofs.lemmas.List.{append-nil}
 use Rattle.std.proofs.lemmas.List.Folds.{sum_by-replicate}
@@ -12,7 +12,7 @@ use Rattle.range_marks.proofs.Cutting.{drop_run, drop_in_run, take_run, take_in_
 use Rattle.range_marks.proofs.SideBySide.{side_by_side-le}
 use Rattle.send_book.specs.declared.mark.ByteMark.{ByteMark}
 use Rattle.send_book.specs.declared.runs.Move.{Move}
-use Rattle.send_book.specs.Marks.{is_free_for, is_held_by, has_tried}
+use Rattle.send_book.specs.Marks.{is_free_for, is_held_by, has_tried, is_untouched}
 use Rattle.send_book.specs.Steps.{tried_first}
 use Rattle.send_book.specs.Kept.{first_in, free_up_to, held_in, gathered_in, moved_in, moved}
 
@@ -129,35 +129,37 @@ module _ (path : ℕ) where
           rw (count_by-same (is_held_by path) (run.to - run.from) run.mark (marks_of runs), is)
           (rest others (omega (arith, few, lie.0, lie.1)) bound ∙ omega arith)
 
-  pub gathered_in-none : (runs : List (Run ByteMark)) (from to : ℕ) → LieSideBySide from to runs
-      → gathered_in path true runs ≡ list_all (λ m. not (has_tried path m)) (marks_of runs)
+  pub gathered_in-none : (runs : List (Run ByteMark)) (from to : ℕ) → LieSideBySide from to runs → gathered_in path true runs ≡ list_all is_untouched (marks_of runs)
   gathered_in-none [] from to lie = refl
-  gathered_in-none (run ∷ runs) from to lie = by (has_tried path run.mark) refl (gathered_in-none runs run.to to lie.2)
+  gathered_in-none (run ∷ runs) from to lie = by (is_untouched run.mark) refl (gathered_in-none runs run.to to lie.2)
     where
-      by : (b : Bool) → has_tried path run.mark ≡ b → gathered_in path true runs ≡ list_all (λ m. not (has_tried path m)) (marks_of runs)
-          → (if b then false else gathered_in path true runs) ≡ list_all (λ m. not (has_tried path m)) (marks_of (run ∷ runs))
-      by true is rest = sym (list_all-no (λ m. not (has_tried path m)) (run.to - run.from) run.mark (marks_of runs) (rw is refl) (omega (arith, lie.0, lie.1)))
-      by false is rest = rest ∙ sym (list_all-yes (λ m. not (has_tried path m)) (run.to - run.from) run.mark (marks_of runs) (rw is refl))
+      by : (b : Bool) → is_untouched run.mark ≡ b → gathered_in path true runs ≡ list_all is_untouched (marks_of runs)
+          → (if b then gathered_in path true runs else (if true || not (has_tried path run.mark) then false else gathered_in path true runs))
+          ≡ list_all is_untouched (marks_of (run ∷ runs))
+      by true is rest = rest ∙ sym (list_all-yes is_untouched (run.to - run.from) run.mark (marks_of runs) is)
+      by false is rest = sym (list_all-no is_untouched (run.to - run.from) run.mark (marks_of runs) is (omega (arith, lie.0, lie.1)))
 
-  tried_first-yes : (n : ℕ) (m : ByteMark) (ms : List ByteMark) → has_tried path m ≡ true → tried_first path (replicate n m ++ ms) ≡ tried_first path ms
-  tried_first-yes zero m ms passes = refl
-  tried_first-yes (suc n) m ms passes = rw passes (tried_first-yes n m ms passes)
+  tried_first-new : (n : ℕ) (m : ByteMark) (ms : List ByteMark) → is_untouched m ≡ true → 0 < n → tried_first path (replicate n m ++ ms) ≡ list_all is_untouched ms
+  tried_first-new zero m ms new some = absurd (omega (arith, some))
+  tried_first-new (suc n) m ms new some = rw new (list_all-yes is_untouched n m ms new)
 
-  tried_first-no : (n : ℕ) (m : ByteMark) (ms : List ByteMark) → has_tried path m ≡ false → 0 < n
-      → tried_first path (replicate n m ++ ms) ≡ list_all (λ m. not (has_tried path m)) ms
-  tried_first-no zero m ms fails some = absurd (omega (arith, some))
-  tried_first-no (suc n) m ms fails some = rw fails (list_all-yes (λ m. not (has_tried path m)) n m ms (rw fails refl))
+  tried_first-yes : (n : ℕ) (m : ByteMark) (ms : List ByteMark) → is_untouched m ≡ false → has_tried path m ≡ true → tried_first path (replicate n m ++ ms) ≡ tried_first path ms
+  tried_first-yes zero m ms old passes = refl
+  tried_first-yes (suc n) m ms old passes = rw (old, passes) (tried_first-yes n m ms old passes)
 
-  pub gathered_in-first : (runs : List (Run ByteMark)) (from to : ℕ) → LieSideBySide from to runs
-      → gathered_in path false runs ≡ tried_first path (marks_of runs)
+  tried_first-no : (n : ℕ) (m : ByteMark) (ms : List ByteMark) → is_untouched m ≡ false → has_tried path m ≡ false → 0 < n → tried_first path (replicate n m ++ ms) ≡ false
+  tried_first-no zero m ms old fails some = absurd (omega (arith, some))
+  tried_first-no (suc n) m ms old fails some = rw (old, fails) refl
+
+  pub gathered_in-first : (runs : List (Run ByteMark)) (from to : ℕ) → LieSideBySide from to runs → gathered_in path false runs ≡ tried_first path (marks_of runs)
   gathered_in-first [] from to lie = refl
-  gathered_in-first (run ∷ runs) from to lie = by (has_tried path run.mark) refl (gathered_in-first runs run.to to lie.2)
+  gathered_in-first (run ∷ runs) from to lie = by (is_untouched run.mark) (has_tried path run.mark) refl refl (gathered_in-first runs run.to to lie.2)
     where
-      by : (b : Bool) → has_tried path run.mark ≡ b → gathered_in path false runs ≡ tried_first path (marks_of runs)
-          → (if b then (if false then false else gathered_in path false runs) else gathered_in path true runs)
-          ≡ tried_first path (marks_of (run ∷ runs))
-      by true is rest = rest ∙ sym (tried_first-yes (run.to - run.from) run.mark (marks_of runs) is)
-      by false is rest = gathered_in-none runs run.to to lie.2 ∙ sym (tried_first-no (run.to - run.from) run.mark (marks_of runs) is (omega (arith, lie.0, lie.1)))
+      by : (b c : Bool) → is_untouched run.mark ≡ b → has_tried path run.mark ≡ c → gathered_in path false runs ≡ tried_first path (marks_of runs)
+          → (if b then gathered_in path true runs else (if false || not c then false else gathered_in path false runs)) ≡ tried_first path (marks_of (run ∷ runs))
+      by true c new is rest = gathered_in-none runs run.to to lie.2 ∙ sym (tried_first-new (run.to - run.from) run.mark (marks_of runs) new (omega (arith, lie.0, lie.1)))
+      by false true old is rest = rest ∙ sym (tried_first-yes (run.to - run.from) run.mark (marks_of runs) old is)
+      by false false old is rest = sym (tried_first-no (run.to - run.from) run.mark (marks_of runs) old is (omega (arith, lie.0, lie.1)))
 
 take-nil : {X : Type 0} (n : ℕ) → take {A = X} n [] ≡ []
 take-nil zero = refl

@@ -1,5 +1,5 @@
 -- What a send book keeps: the marks in runs, of which the acknowledged ones are forgotten.
-use Rattle.std.specs.Prelude.{ℕ, ◌≡◌, ◌+◌, ◌-◌, ◌^◌, ◌<◌, ◌≤◌, min, max, Bool, true, false, not, nat_le, if◌then◌else◌, Option, Some, None, List, [], ◌∷◌, ◌++◌, length, take, drop, replicate, map}
+use Rattle.std.specs.Prelude.{ℕ, ◌≡◌, ◌+◌, ◌-◌, ◌^◌, ◌<◌, ◌≤◌, min, max, Bool, true, false, not, ◌||◌, nat_le, if◌then◌else◌, Option, Some, None, List, [], ◌∷◌, ◌++◌, length, take, drop, replicate, map}
 use Rattle.std.specs.List.{list_all}
 use Rattle.range_marks.specs.declared.run.Run.{Run}
 use Rattle.range_marks.specs.Marks.{Marks, marks_len}
@@ -8,7 +8,7 @@ use Rattle.send_book.specs.declared.mark.ByteMark.{ByteMark}
 use Rattle.send_book.specs.declared.mark.ByteMark.TheVariants.{Acked}
 use Rattle.send_book.specs.declared.runs.Move.{Move}
 use Rattle.send_book.specs.declared.runs.Move.TheVariants.{Keep, Give, TakeBack}
-use Rattle.send_book.specs.Marks.{is_acked, is_held_rightly, is_free_for, is_held_by, has_tried, given, returned}
+use Rattle.send_book.specs.Marks.{is_acked, is_held_rightly, is_free_for, is_held_by, has_tried, is_untouched, given, returned}
 use Rattle.send_book.specs.State.{Sending}
 
 -- the marks of all bytes
@@ -64,12 +64,12 @@ held_in path others (run ∷ runs) =
     if is_held_by path run.mark then held_in path (min (others + (run.to - run.from)) (2 ^ 64 - 1)) runs
     else held_in path others runs
 
--- the runs that the path tried come first, where none that it has not tried is behind
+-- the runs that the path tried come first, and behind them those that no path tried
 abbrev pub gathered_in : ℕ → Bool → List (Run ByteMark) → Bool
 gathered_in path behind [] = true
 gathered_in path behind (run ∷ runs) =
-    if has_tried path run.mark then (if behind then false else gathered_in path behind runs)
-    else gathered_in path true runs
+    if is_untouched run.mark then gathered_in path true runs
+    else (if behind || not (has_tried path run.mark) then false else gathered_in path behind runs)
 
 -- the marks from a place on and below another one, moved
 abbrev pub moved_in : Move → ℕ → ℕ → List (Run ByteMark) → List ByteMark

@@ -2,7 +2,7 @@
 use Rattle.std.specs.Prelude.{ℕ, Bool, true, false, not, ◌==◌, if◌then◌else◌}
 use Rattle.send_book.specs.declared.mark.ByteMark.{ByteMark}
 use Rattle.send_book.specs.declared.mark.ByteMark.TheVariants.{Acked, Held, Free}
-use Rattle.send_book.specs.Tried.{contains, insert}
+use Rattle.send_book.specs.Tried.{contains, has_none, insert}
 
 abbrev pub is_acked : ByteMark → Bool
 is_acked Acked = true
@@ -36,6 +36,12 @@ abbrev pub has_tried : ℕ → ByteMark → Bool
 has_tried path Acked = false
 has_tried path (Held holder tried) = contains path tried
 has_tried path (Free tried) = contains path tried
+
+-- the byte is as it was written: not acknowledged, and no path has tried it
+abbrev pub is_untouched : ByteMark → Bool
+is_untouched Acked = false
+is_untouched (Held holder tried) = false
+is_untouched (Free tried) = has_none tried
 
 -- a free byte that is given to this path
 abbrev pub given : ℕ → ByteMark → ByteMark

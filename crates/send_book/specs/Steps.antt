@@ -1,5 +1,5 @@
 -- What a send book answers to each call, and what the call makes of it, byte by byte.
-use Rattle.std.specs.Prelude.{ℕ, ◌+◌, ◌-◌, ◌^◌, ◌<◌, ◌≤◌, min, max, Bool, true, not, ◌&&◌, ◌||◌, ◌==◌, nat_lt, nat_le, if◌then◌else◌, Option, Some, None, Result, Ok, Err, List, [], ◌∷◌, ◌++◌, length, take, drop, replicate, map, count_by, position}
+use Rattle.std.specs.Prelude.{ℕ, ◌+◌, ◌-◌, ◌^◌, ◌<◌, ◌≤◌, min, max, Bool, true, false, not, ◌&&◌, ◌||◌, ◌==◌, nat_lt, nat_le, if◌then◌else◌, Option, Some, None, is_none, Result, Ok, Err, List, [], ◌∷◌, ◌++◌, length, take, drop, replicate, map, count_by, position}
 use Rattle.std.specs.List.{list_all, prefix_len}
 use Rattle.send_book.specs.declared.call.Span.{Span}
 use Rattle.send_book.specs.declared.call.SendCall.{SendCall}
@@ -12,7 +12,7 @@ use Rattle.send_book.specs.declared.call.Why.TheVariants.{Ended, Backup, Nothing
 use Rattle.send_book.specs.declared.mark.ByteMark.{ByteMark}
 use Rattle.send_book.specs.declared.mark.ByteMark.TheVariants.{Acked, Free}
 use Rattle.send_book.specs.Tried.{no_paths}
-use Rattle.send_book.specs.Marks.{is_free_for, is_held_by, has_tried, given, returned}
+use Rattle.send_book.specs.Marks.{is_free_for, is_held_by, has_tried, is_untouched, given, returned}
 use Rattle.send_book.specs.State.{Sending, acked_len}
 
 -- how many bytes aren't acknowledged
@@ -121,14 +121,15 @@ return_reply path b = Returned (count_by (is_held_by path) b.marks)
 abbrev pub after_return : ℕ → Sending → Sending
 after_return path b = record b { marks = map (returned path) b.marks }
 
--- GoInfinite: the bytes that this path tried come first among those that aren't acknowledged
+-- the bytes that this path tried come first, and behind them those that no path tried
 abbrev pub tried_first : ℕ → List ByteMark → Bool
 tried_first path [] = true
 tried_first path (mark ∷ marks) =
-    if has_tried path mark then tried_first path marks else list_all (λ m. not (has_tried path m)) marks
+    if is_untouched mark then list_all is_untouched marks else (if has_tried path mark then tried_first path marks else false)
 
+-- GoInfinite: so do those that aren't acknowledged, and the book wasn't given to a path alone before
 abbrev pub is_gathered : ℕ → Sending → Bool
-is_gathered path b = tried_first path (drop (acked_len b.marks) b.marks)
+is_gathered path b = is_none b.owner && tried_first path (drop (acked_len b.marks) b.marks)
 
 abbrev pub infinite_reply : ℕ → Sending → SendReply
 infinite_reply path b = if is_gathered path b then Infinite (acked_len b.marks) else Scattered

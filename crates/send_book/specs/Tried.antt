@@ -1,11 +1,16 @@
 -- A set of paths, as a truth value for each path from path 0 on.
-use Rattle.std.specs.Prelude.{ℕ, zero, suc, Bool, true, false, List, [], ◌∷◌, replicate, slice_index_or}
+use Rattle.std.specs.Prelude.{ℕ, zero, suc, Bool, true, false, List, [], ◌∷◌, replicate, slice_index_or, if◌then◌else◌}
 
 abbrev pub no_paths : List Bool
 no_paths = replicate 16 false
 
 abbrev pub contains : ℕ → List Bool → Bool
 contains path paths = slice_index_or paths path false
+
+-- none of the paths is one of these
+abbrev pub has_none : List Bool → Bool
+has_none [] = true
+has_none (one ∷ paths) = if one then false else has_none paths
 
 abbrev pub insert : ℕ → List Bool → List Bool
 insert zero [] = true ∷ []

@@ -1,4 +1,4 @@
-ghost use Rattle.std.specs.Prelude.{◌≡◌, ◌+◌, ◌-◌, ◌^◌, ◌<◌, ◌≤◌, List, ℕ, length, count_by, IfOk, IfSome, OnOk, OnErr};
+ghost use Rattle.std.specs.Prelude.{◌≡◌, ◌+◌, ◌-◌, ◌^◌, ◌<◌, ◌≤◌, List, ℕ, length, drop, count_by, IfOk, IfSome, OnOk, OnErr};
 ghost use Rattle.send_book.specs.Marks.{is_acked, is_held, is_free};
 ghost use Rattle.send_book.specs.State.{Tile};
 
@@ -51,7 +51,7 @@ impl Model for SendBook {
 impl SendBook {
     ghost use Rattle.send_book.specs.State.{new_sending, acked_len};
     ghost use Rattle.send_book.specs.Kept.{LiesWithin};
-    ghost use Rattle.send_book.specs.Steps.{bytes_taken, write_reply, after_write, close_reply, after_close, is_for, first_free, run_len, decision, end_of, grant_reply, after_grant, is_future, fin_after, ack_reply, after_ack, return_reply, after_return, is_gathered, infinite_reply, after_infinite, CanAsk, reply_to, after_call};
+    ghost use Rattle.send_book.specs.Steps.{bytes_taken, write_reply, after_write, close_reply, after_close, is_for, first_free, run_len, decision, end_of, grant_reply, after_grant, is_future, fin_after, ack_reply, after_ack, return_reply, after_return, tried_first, is_gathered, infinite_reply, after_infinite, CanAsk, reply_to, after_call};
 
     /// An open book of which `buffer` bytes, 1 to 1,048,576, may be unacknowledged. It takes no memory.
     pub fn new(alloc: Global, buffer: u64) -> Self
@@ -282,12 +282,20 @@ impl SendBook {
         Ok(())
     }
 
-    // Whether the bytes that the path tried come first among those that aren't acknowledged.
+    // Whether the bytes that the path tried come first among those that aren't acknowledged, and no path tried another.
+    fn comes_first(&self, path: u8) -> bool
+        requires { path < 16 }
+        ensures { result ≡ tried_first path (drop (acked_len self.now.marks) self.now.marks) }
+    {
+        gathered_in(self.marks.runs(), path)
+    }
+
+    // Whether the book may be given to the path alone.
     fn is_gathered(&self, path: u8) -> bool
         requires { path < 16 }
         ensures { result ≡ is_gathered path self.now }
     {
-        gathered_in(self.marks.runs(), path)
+        self.owner.is_none() && self.comes_first(path)
     }
 
     fn infinite_reply(&self, path: u8) -> SendReply

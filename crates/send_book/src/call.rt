@@ -108,6 +108,7 @@ pub enum SendReply {
         /// The first byte that isn't acknowledged.
         from: u64,
     },
-    /// The bytes that the path tried are not the first ones that aren't acknowledged.
+    /// The book was given to a path alone before, or the bytes that aren't acknowledged are not those that this path
+    /// tried and then those that no path tried.
     Scattered,
 }

@@ -1,5 +1,5 @@
 ghost use Rattle.std.specs.Prelude.{◌≡◌, ◌<◌};
-ghost use Rattle.send_book.specs.Marks.{is_free_for, is_held_by, has_tried, given, returned};
+ghost use Rattle.send_book.specs.Marks.{is_free_for, is_held_by, has_tried, is_untouched, given, returned};
 
 use crate::tried::Tried;
 
@@ -52,6 +52,16 @@ impl ByteMark {
         match self {
             ByteMark::Acked => false,
             ByteMark::Held { tried, .. } | ByteMark::Free { tried } => tried.contains(path),
+        }
+    }
+
+    /// Whether the byte is as it was written: not acknowledged, and no path has tried it.
+    pub fn is_untouched(self) -> bool
+        ensures { result ≡ is_untouched self }
+    {
+        match self {
+            ByteMark::Free { tried } => tried.is_empty(),
+            _ => false,
         }
     }
 

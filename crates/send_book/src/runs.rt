@@ -81,16 +81,16 @@ pub(crate) fn held_in(runs: Runs<'_, ByteMark>, path: u8) -> u64
     count
 }
 
-/// Whether the bytes that this path tried come first.
+/// Whether the bytes that this path tried come first, and behind them those that no path tried.
 pub(crate) fn gathered_in(runs: Runs<'_, ByteMark>, path: u8) -> bool
     requires { path < 16 }
     ensures { result ≡ gathered_in path false runs.entry }
 {
     let mut behind = false;
     for run in runs {
-        if !run.mark.has_tried(path) {
+        if run.mark.is_untouched() {
             behind = true;
-        } else if behind {
+        } else if behind || !run.mark.has_tried(path) {
             return false;
         }
     }

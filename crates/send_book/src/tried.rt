@@ -1,5 +1,5 @@
 ghost use Rattle.std.specs.Prelude.{◌≡◌, ◌<◌, ◌↔◌, IsTrue};
-ghost use Rattle.send_book.specs.Tried.{no_paths, insert, contains};
+ghost use Rattle.send_book.specs.Tried.{no_paths, has_none, insert, contains};
 
 use std::marker::Model;
 
@@ -33,6 +33,18 @@ impl Tried {
         ensures { result ≡ contains path self.now }
     {
         self.paths[usize::from(path)]
+    }
+
+    /// Whether none of the paths is one of these.
+    pub fn is_empty(&self) -> bool
+        ensures { result ≡ has_none self.now }
+    {
+        for one in &self.paths {
+            if *one {
+                return false;
+            }
+        }
+        true
     }
 
     /// Makes the path one of these.

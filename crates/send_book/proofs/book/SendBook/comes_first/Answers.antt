@@ -1,6 +1,6 @@
 use Rattle.std.proofs.Common.{◌∙◌}
 use Rattle.send_book.proofs.KeptMarks.{gathered-runs}
-use Rattle.send_book.proofs.book.SendBook.is_gathered.Goals as goal
+use Rattle.send_book.proofs.book.SendBook.comes_first.Goals as goal
 
 pub returns : goal.returns
 returns c =
