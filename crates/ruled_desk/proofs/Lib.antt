@@ -1,14 +1,5 @@
-mod Weights
-mod RuleWords
-mod RuleSteps
-mod RuleAdding
-mod RuleJoining
-mod Entering
-mod Putting
-mod Members
 mod Outs
 mod Ridden
-mod Calling
 mod PassesGiven
 mod Gaining
 pub mod Pairing

@@ -17,9 +17,9 @@ use Rattle.actor_desk.specs.Journals.{send_note, reassembly_note, control_note}
 use Rattle.subflow_worker.specs.Extending.{Extends, BooksExtend}
 use Rattle.subflow_worker.specs.Turns.{Turned}
 use Rattle.ruled_desk.specs.declared.rider.Rider.{Rider}
-use Rattle.ruled_desk.specs.Growing.{HasLastStamp}
+use Rattle.ruled_lock.specs.Growing.{HasLastStamp}
 use Rattle.ruled_desk.specs.Riding.{AreNumbered, HasPass, NotesFull, OneIsUsedUp, Rode, all_joined, given_pass, known_with, pass_taken}
-use Rattle.ruled_desk.specs.Seats.{GainsJust}
+use Rattle.ruled_lock.specs.Seats.{GainsJust}
 use Rattle.stamped_book.specs.Journal.{Journaled}
 use Rattle.ruled_desk.specs.SixSeats.{SixLocked, SixKnown, Passed, AllGainJust, all_known, nothing_known, notes_full}
 use Rattle.ruled_desk.specs.WholeRounds.{AreActors, IsWholeRound, OneIsFull, OneKnowsLast, crew_of, without_pass}

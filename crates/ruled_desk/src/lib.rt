@@ -1,21 +1,14 @@
 //! The six books of a connection, each in a table of its own behind a ticket lock: what the actors' passes note of their calls
-//! is what the journals gained.
-//!
-//! A table's rule says which seat has the book and which entries its journal has (`rule`); a step on one of its words keeps it.
-//! A call draws a ticket, waits until it is served, takes the book, enters, puts the book back, and serves the next ticket.
+//! is what the journals gained. A round by threads gives each actor a pass and a thread.
 #![tactic(auto)]
 
-mod answering;
 mod desk;
-mod held;
 mod laws;
-mod lock;
 mod mounting;
 mod passing;
 mod refusing;
 mod rider;
 mod rounds;
-mod rule;
 mod seats;
 
 pub use desk::{OpenFault, RootPass, RuledDesk, RuledPass};

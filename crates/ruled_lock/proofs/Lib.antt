@@ -1,0 +1,9 @@
+mod Weights
+mod RuleWords
+mod RuleSteps
+mod RuleAdding
+mod RuleJoining
+mod Entering
+mod Putting
+mod Members
+mod Calling
