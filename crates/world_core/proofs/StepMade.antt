@@ -22,7 +22,9 @@ use Rattle.world_laws.specs.StampedBooks.{answer_to}
 use Rattle.actor_desk.specs.Books.{StampedBooks}
 use Rattle.world_laws.specs.Worlds.{note_of, crew_after, asked, stepped, world_step, goes, is_going}
 use Rattle.world_laws.proofs.Pairing.{step_fine}
-use Rattle.world_core.specs.Hearing.{heard_by, heard_with, ShowsTheSame}
+use Rattle.world_core.specs.Hearing.{heard_by, heard_with, told_in, heard_report, ShowsTheSame}
+use Rattle.world_core.specs.declared.hearing.Told.{Told}
+use Rattle.world_core.specs.declared.hearing.Hearing.{Hearing}
 use Rattle.world_core.specs.Kept.{world, IsSound}
 use Rattle.world_core.specs.Steps.{note_if, crew_if, books_if, GoesUp, StampRises, stamp_or, note_by, next_note}
 use Rattle.world_laws.specs.Timely.{IsTimelyMember}
@@ -163,15 +165,19 @@ module _ (crew : List (ActorCrew (List ℕ))) (books : StampedBooks) (i : ℕ) (
 
 -- ---- as the code makes it: at a place that was found
 
+heard_as : (o : Option Note) (i : ℕ) (h : Hearing) → heard_with o i h ≡ heard_report (told_in o) i h
+heard_as None i h = refl
+heard_as (Some note) i h = refl
+
 module _ (crew : List (ActorCrew (List ℕ))) (books after : StampedBooks) (i j : ℕ) (c d : ActorCrew (List ℕ)) (same : j ≡ i)
     (within : j < length crew) (is : c ≡ slice_index_or crew j c) where
-  at_actor : {E : Type 0} (r : Result (Option Note) E) (P : ℕ → Type 0) → OnOk r (P i) → OnOk r (P j)
+  at_actor : {T E : Type 0} (r : Result T E) (P : ℕ → Type 0) → OnOk r (P i) → OnOk r (P j)
   at_actor r P = subst (λ n. OnOk r (P n)) (sym same)
 
   there : slice_get crew i ≡ Some c
   there = found crew i j c same within is
 
-  module _ {E : Type 0} (r : Result (Option Note) E) (crew_is : OnOk r (d ≡ crew_if (member_asks octets c.member) books c))
+  module _ {T E : Type 0} (r : Result T E) (crew_is : OnOk r (d ≡ crew_if (member_asks octets c.member) books c))
       (books_are : OnOk r (after ≡ books_if (member_asks octets c.member) c.pass books)) where
     both : OnOk r ((d ≡ crew_if (member_asks octets c.member) books c) × (after ≡ books_if (member_asks octets c.member) c.pass books))
     both = both_ok r (λ e f. (e, f)) crew_is books_are
@@ -184,11 +190,11 @@ module _ (crew : List (ActorCrew (List ℕ))) (books after : StampedBooks) (i j 
     advance_rises up = at_actor r (λ n. StampRises i (world crew books) (world (set crew n d) after))
         (both_ok r (λ b u. step_rises crew books after i c d there b.0 b.1 u) both up)
 
-    pub advance_hears : IfOk r (λ note. note ≡ note_if (member_asks octets c.member) books c.pass)
-        → IfOk r (λ note. heard_by (set crew j d) ≡ heard_with note i (heard_by crew))
-    advance_hears told = each_ok r
-        (λ note n b. ap (λ k. heard_by (set crew k d)) same ∙ step_hears crew books after i c d there b.0 b.1
-        ∙ ap (λ o. heard_with o i (heard_by crew)) (sym n)) told both
+    pub advance_hears : (tells : T → Option Told) → IfOk r (λ x. tells x ≡ told_in (note_if (member_asks octets c.member) books c.pass))
+        → IfOk r (λ x. heard_by (set crew j d) ≡ heard_report (tells x) i (heard_by crew))
+    advance_hears tells told = each_ok r
+        (λ x n b. ap (λ k. heard_by (set crew k d)) same ∙ step_hears crew books after i c d there b.0 b.1
+        ∙ heard_as (note_if (member_asks octets c.member) books c.pass) i (heard_by crew) ∙ ap (λ t. heard_report t i (heard_by crew)) (sym n)) told both
 
     pub advance_sound : OnOk r (length c.list < 2 ^ 57 → length d.list < 2 ^ 57) → OnOk r (IsSound (world crew books) → IsSound (world (set crew j d) after))
     advance_sound few = at_actor r (λ n. IsSound (world crew books) → IsSound (world (set crew n d) after))

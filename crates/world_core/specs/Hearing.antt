@@ -13,20 +13,40 @@ use Rattle.world_core.specs.declared.hearing.Hearing.{Hearing}
 abbrev pub told_by : List Note → Told
 told_by notes = record { end = was_told tells_end notes; abort = was_told tells_abort notes }
 
--- and by one more
+-- by one reply
+abbrev pub told_of : Reply → Told
+told_of reply = record { end = tells_end reply; abort = tells_abort reply }
+
+-- and by more
+abbrev pub with_told : Told → Told → Told
+with_told more told = record { end = told.end || more.end; abort = told.abort || more.abort }
+
 abbrev pub told_more : Reply → Told → Told
-told_more reply told = record { end = told.end || tells_end reply; abort = told.abort || tells_abort reply }
+told_more reply told = with_told (told_of reply) told
 
 -- the readers are the actors 0 and 1
+abbrev pub heard_told : ℕ → Told → Hearing → Hearing
+heard_told zero told h = record h { a = with_told told h.a }
+heard_told (suc zero) told h = record h { b = with_told told h.b }
+heard_told (suc (suc other)) told h = h
+
 abbrev pub heard_more : ℕ → Reply → Hearing → Hearing
-heard_more zero reply h = record h { a = told_more reply h.a }
-heard_more (suc zero) reply h = record h { b = told_more reply h.b }
-heard_more (suc (suc other)) reply h = h
+heard_more actor reply h = heard_told actor (told_of reply) h
 
 -- by the step that was made, if one was
 abbrev pub heard_with : Option Note → ℕ → Hearing → Hearing
 heard_with None actor h = h
 heard_with (Some note) actor h = heard_more actor note.reply h
+
+-- what a reader was told by it
+abbrev pub told_in : Option Note → Option Told
+told_in None = None
+told_in (Some note) = Some (told_of note.reply)
+
+-- heard by this actor, if anything
+abbrev pub heard_report : Option Told → ℕ → Hearing → Hearing
+heard_report None actor h = h
+heard_report (Some told) actor h = heard_told actor told h
 
 module _ {C : Type 0} where
   abbrev pub heard_by : List (ActorCrew C) → Hearing

@@ -1,15 +1,18 @@
 //! One step of an actor with the books.
 
-ghost use Rattle.std.specs.Prelude.{◌≡◌, ◌^◌, ◌<◌, ◌++◌, [], ◌∷◌, length, nat_lt, false, List, IfOk, OnOk, OnErr};
+ghost use Rattle.std.specs.Prelude.{◌≡◌, ◌^◌, ◌<◌, ◌++◌, [], ◌∷◌, length, nat_lt, false, List, Some, IfOk, IfSome, OnOk, OnErr, option_map};
+ghost use Rattle.std.specs.List.{slice_get};
 ghost use Rattle.actor_desk.specs.declared.ask.Note.{Note};
 ghost use Rattle.path_core.specs.Octets.{octets};
+ghost use Rattle.world_core.specs.Hearing.{told_in};
 ghost use Rattle.world_core.specs.Steps.{GoesUp, note_if, crew_if, books_if};
 ghost use Rattle.actor_desk.specs.Bounds.{TakesReply};
 ghost use Rattle.world_laws.specs.Actors.{member_asks, member_takes, is_over};
 
 use crate::asking::serve;
-use crate::member::Crew;
-use actor_desk::{Actor, Books, Note, Notes, Reply};
+use crate::member::{Crew, Member};
+use crate::report::Report;
+use actor_desk::{Actor, Books, Note, Notes};
 use stamped_book::Refusal;
 use std::alloc::{AllocError, Global};
 
@@ -30,28 +33,43 @@ fn take_back(list: &mut Notes)
     list.pop();
 }
 
+// The actor takes the reply of its note of this number, the first being 0.
+fn take_reply(member: &mut Member, list: &Notes, index: usize) -> Result<(), AllocError>
+    requires { IfSome (slice_get list.now index) (λ note. TakesReply (member_asks octets member.old) note.reply) }
+    ensures ok { (note : Note) → slice_get list.now index ≡ Some note
+        → OnOk result (member.new ≡ member_takes octets note.reply member.old) }
+    ensures err { OnErr result (member.new ≡ member.old) }
+{
+    match list.get(index) {
+        Some(note) => member.take(&note.reply),
+        None => Ok(()),
+    }
+}
+
 // Notes a step, and takes its reply, which is the last that can fail: the actor is then as it was.
-fn keep(crew: &mut Crew, note: Note, reply: &Reply) -> Result<(), AllocError>
-    requires { TakesReply (member_asks octets crew.old.member) reply.now }
-    ensures ok { OnOk result (crew.new ≡ record crew.old { member = member_takes octets reply.now crew.old.member; list = crew.old.list ++ note ∷ [] }) }
+fn keep(crew: &mut Crew, note: Note) -> Result<(), AllocError>
+    requires { TakesReply (member_asks octets crew.old.member) note.reply }
+    ensures ok { OnOk result (crew.new ≡ record crew.old { member = member_takes octets note.reply crew.old.member; list = crew.old.list ++ note ∷ [] }) }
     ensures err { OnErr result (crew.new ≡ crew.old) }
 {
+    let index = crew.list.len();
     crew.list.push(note)?;
-    let taken = crew.member.take(reply);
+    let taken = take_reply(&mut crew.member, &crew.list, index);
     if taken.is_err() {
         take_back(&mut crew.list);
     }
     taken
 }
 
-/// One step of the actor, and its note; none where its turn ended, and then nothing changes. Where there is no memory the
-/// books may have an entry more, and the actor's pass the stamp of it; its list and the actor itself are as before.
-pub(crate) fn step(
+/// One step of the actor, and what is wanted of its note; nothing where its turn ended, and then nothing changes. Where there is
+/// no memory the books may have an entry more, and the actor's pass the stamp of it; its list and the actor itself are as before.
+pub(crate) fn step<R: Report + Drop>(
     alloc: Global,
     crew: &mut Crew,
     books: &mut Books,
-) -> Result<Option<Note>, Refusal>
-    ensures note { IfOk result (λ note. note ≡ note_if (member_asks octets crew.old.member) books.old crew.old.pass) }
+) -> Result<Option<R>, Refusal>
+    ensures report { IfOk result (λ report. report ≡ option_map R.of (note_if (member_asks octets crew.old.member) books.old crew.old.pass)) }
+    ensures told { IfOk result (λ report. option_map R.told report ≡ told_in (note_if (member_asks octets crew.old.member) books.old crew.old.pass)) }
     ensures crew { OnOk result (crew.new ≡ crew_if (member_asks octets crew.old.member) books.old crew.old) }
     ensures books { OnOk result (books.new ≡ books_if (member_asks octets crew.old.member) crew.old.pass books.old) }
     ensures rises { OnOk result (is_over crew.old.member ≡ false → GoesUp crew.old.pass.stamp crew.new.pass.stamp) }
@@ -66,7 +84,7 @@ pub(crate) fn step(
         return Err(Refusal::Memory);
     }
     let note = serve(books, &mut crew.pass, ask)?;
-    let made = note.copy()?;
-    keep(crew, note, &made.reply)?;
-    Ok(Some(made))
+    let report = R::of(&note)?;
+    keep(crew, note)?;
+    Ok(Some(report))
 }

@@ -1,7 +1,7 @@
 //! What the readers were told: the outcome of a connection asks for it after each round.
 
 ghost use Rattle.std.specs.Prelude.{◌≡◌};
-ghost use Rattle.world_core.specs.Hearing.{told_by, told_more, heard_by, heard_more};
+ghost use Rattle.world_core.specs.Hearing.{told_of, told_by, heard_by, heard_told, with_told};
 ghost use Rattle.world_laws.specs.Outcomes.{tells_end, tells_abort, note_tells, was_told, notes_at};
 
 use crate::member::Crew;
@@ -53,14 +53,24 @@ fn is_abort(note: &Note) -> bool
     tells_abort(&note.reply)
 }
 
+/// What a reader is told by this reply.
+pub(crate) fn told_of(reply: &Reply) -> Told
+    ensures { result ≡ told_of reply.now }
+{
+    Told {
+        end: tells_end(reply),
+        abort: tells_abort(reply),
+    }
+}
+
 impl Told {
-    // One reply more.
-    fn with(self, reply: &Reply) -> Told
-        ensures { result ≡ told_more reply.now self }
+    // What was told, and this too.
+    fn with(self, more: Told) -> Told
+        ensures { result ≡ with_told more self }
     {
         Told {
-            end: self.end || tells_end(reply),
-            abort: self.abort || tells_abort(reply),
+            end: self.end || more.end,
+            abort: self.abort || more.abort,
         }
     }
 }
@@ -110,13 +120,13 @@ impl Hearing {
         }
     }
 
-    /// One reply more, to this actor.
-    pub fn take_reply(&mut self, actor: u8, reply: &Reply)
-        ensures { self.new ≡ heard_more actor reply.now self.old }
+    /// This was told more, to this actor.
+    pub fn take_told(&mut self, actor: u8, told: Told)
+        ensures { self.new ≡ heard_told actor told self.old }
     {
         match actor {
-            0 => self.a = self.a.with(reply),
-            1 => self.b = self.b.with(reply),
+            0 => self.a = self.a.with(told),
+            1 => self.b = self.b.with(told),
             _ => {}
         }
     }

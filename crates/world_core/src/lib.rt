@@ -11,6 +11,7 @@ mod input;
 mod looking;
 mod member;
 mod reading;
+mod report;
 mod round_end;
 mod stepped;
 mod stepping;

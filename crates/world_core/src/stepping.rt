@@ -1,9 +1,9 @@
 //! The steps of a connection.
 
-ghost use Rattle.std.specs.Prelude.{◌≡◌, ◌^◌, ◌<◌, length, true, false, is_some, None, IfOk, OnOk, OnErr};
+ghost use Rattle.std.specs.Prelude.{◌≡◌, ◌^◌, ◌<◌, length, true, false, is_some, None, IfOk, OnOk, OnErr, option_map};
 ghost use Rattle.path_core.specs.Octets.{octets};
 ghost use Rattle.world_core.specs.AsValues.{StepsAsValues};
-ghost use Rattle.world_core.specs.Hearing.{ShowsTheSame, heard_by, heard_with};
+ghost use Rattle.world_core.specs.Hearing.{ShowsTheSame, heard_by, heard_report};
 ghost use Rattle.world_core.specs.Kept.{IsSound, standing, world};
 ghost use Rattle.world_core.specs.Steps.{StampRises, next_note, stepped_by, is_made};
 ghost use Rattle.world_laws.specs.Fine.{lists_of};
@@ -12,32 +12,35 @@ ghost use Rattle.world_laws.specs.Worlds.{RunTo, world_step, is_going};
 ghost use Rattle.world_core.specs.declared.stepped.Stepped.TheVariants.{Ended};
 
 use crate::crew;
+use crate::hearing::{Told, told_of};
 use crate::member::Crew;
+use crate::report::Report;
 use crate::stepped::Stepped;
 use crate::world::World;
 use actor_desk::{Books, Note};
 use stamped_book::Refusal;
 use std::alloc::{AllocError, Global};
 
-// One step of this actor, where there is such a one.
-fn advance(
+// One step of this actor, where there is such a one, and what is wanted of its note.
+fn advance<R: Report + Drop>(
     alloc: Global,
     crew: &mut Vec<Crew>,
     books: &mut Books,
     actor: u8,
-) -> Result<Option<Note>, Refusal>
-    ensures note { IfOk result (λ note. note ≡ next_note actor (world crew.old.items books.old)) }
-    ensures going { IfOk result (λ note. is_some note ≡ is_going actor (world crew.old.items books.old)) }
+) -> Result<Option<R>, Refusal>
+    ensures report { IfOk result (λ report. report ≡ option_map R.of (next_note actor (world crew.old.items books.old))) }
+    ensures going { IfOk result (λ report. is_some report ≡ is_going actor (world crew.old.items books.old)) }
     ensures ok { OnOk result (world crew.new.items books.new ≡ world_step octets actor (world crew.old.items books.old)) }
-    ensures still { IfOk result (λ note. note ≡ None → world crew.new.items books.new ≡ world crew.old.items books.old) }
+    ensures still { IfOk result (λ report. report ≡ None → world crew.new.items books.new ≡ world crew.old.items books.old) }
     ensures rises { OnOk result (StampRises actor (world crew.old.items books.old) (world crew.new.items books.new)) }
-    ensures hears { IfOk result (λ note. heard_by crew.new.items ≡ heard_with note actor (heard_by crew.old.items)) }
+    ensures hears { IfOk result (λ report. heard_by crew.new.items
+        ≡ heard_report (option_map R.told report) actor (heard_by crew.old.items)) }
     ensures sound { OnOk result (IsSound (world crew.old.items books.old) → IsSound (world crew.new.items books.new)) }
     ensures many { length crew.new.items ≡ length crew.old.items }
     ensures err { OnErr result (ShowsTheSame crew.old.items crew.new.items) }
 {
     match crew.get_mut(usize::from(actor)) {
-        Some(actor) => crew::step(alloc, actor, books),
+        Some(actor) => crew::step::<R>(alloc, actor, books),
         None => Ok(None),
     }
 }
@@ -65,9 +68,9 @@ impl World {
             return Err(AllocError);
         }
         let alloc = *self.crew.allocator();
-        match advance(alloc, &mut self.crew, &mut self.books, actor) {
+        match advance::<Note>(alloc, &mut self.crew, &mut self.books, actor) {
             Ok(Some(note)) => {
-                self.hearing.take_reply(actor, &note.reply);
+                self.hearing.take_told(actor, told_of(&note.reply));
                 Ok(Stepped::Made(note))
             }
             Ok(None) => Ok(Stepped::Ended),
@@ -91,9 +94,20 @@ impl World {
         ensures was { OnOk result (self.old.failed ≡ false) }
         ensures err { OnErr result (self.new.failed ≡ true) }
     {
-        match self.step(actor)? {
-            Stepped::Made(_) => Ok(true),
-            Stepped::Ended => Ok(false),
+        if self.failed {
+            return Err(AllocError);
+        }
+        let alloc = *self.crew.allocator();
+        match advance::<Told>(alloc, &mut self.crew, &mut self.books, actor) {
+            Ok(Some(told)) => {
+                self.hearing.take_told(actor, told);
+                Ok(true)
+            }
+            Ok(None) => Ok(false),
+            Err(_) => {
+                self.failed = true;
+                Err(AllocError)
+            }
         }
     }
 
