@@ -1,5 +1,5 @@
 -- A reader is told of an abort by its peer only where the peer's application asked for a fast close, and its own side accepted it.
-use Rattle.std.proofs.Common.{◌≡◌, refl, sym, ◌∙◌, ap, subst, ℕ, ◌==◌, ◌||◌, is_some, Bool, true, false, if◌then◌else◌, Option, Some, None, List, [], ◌∷◌, ◌++◌, min, drop, length, take, arith}
+use Rattle.std.proofs.Common.{◌≡◌, refl, sym, ◌∙◌, ap, subst, ℕ, ◌==◌, ◌||◌, is_some, Bool, true, false, if◌then◌else◌, Option, Some, None, List, [], ◌∷◌, ◌++◌, take, arith}
 use Rattle.std.proofs.lemmas.Bool.{false≢true}
 use Rattle.std.specs.List.{list_any, slice_get}
 use Rattle.std.specs.Option.{IfSome}
@@ -8,7 +8,6 @@ use Rattle.outside_kit.specs.declared.side.Side.TheVariants.{A, B}
 use Rattle.stamped_book.specs.declared.stamped.Pass.{Pass}
 use Rattle.stamped_book.specs.Entering.{entry_of}
 use Rattle.link_model.specs.Steps.{peer}
-use Rattle.key_material.specs.KeyDigest.{token_of}
 use Rattle.reassembly_book.specs.declared.call.ReassemblyCall.{ReassemblyCall}
 use Rattle.reassembly_book.specs.declared.call.ReassemblyCall.TheVariants as calls
 use Rattle.reassembly_book.specs.declared.call.ReassemblyReply.TheVariants as reassembly_replies
@@ -28,7 +27,6 @@ use Rattle.stream_lanes.proofs.Lists.{in_map}
 use Rattle.actor_desk.specs.declared.ask.Ask.{Ask}
 use Rattle.actor_desk.specs.declared.ask.Ask.TheVariants as asks
 use Rattle.actor_desk.specs.declared.ask.Note.{Note}
-use Rattle.actor_desk.specs.declared.ask.Reply.{Reply}
 use Rattle.actor_desk.specs.declared.ask.Reply.TheVariants as replies
 use Rattle.actor_desk.specs.Books.{StampedBooks, books_in, after_entry}
 use Rattle.actor_desk.specs.Desk.{SixBooks, control_of, reassembly_of, reply_of, after_ask}
@@ -40,9 +38,8 @@ use Rattle.stream_apps.specs.AppSteps.{app_ask}
 use Rattle.path_agenda.specs.declared.duty.Duty.{Duty}
 use Rattle.path_core.specs.Duties.{ask_for}
 use Rattle.path_core.specs.FastClosing.{is_stopped_by}
-use Rattle.path_core.specs.Octets.{octets}
 use Rattle.path_core.specs.State.{PathState}
-use Rattle.path_core.specs.Steps.{asks_first, asks_of, takes}
+use Rattle.path_core.specs.Steps.{asks_first}
 use Rattle.path_core.specs.Values.{Carried, values}
 use Rattle.world_laws.specs.AbortCause.{asks_fast_close, note_asks_fast_close, accepts_fast_close, entry_accepts, control_journal, PeerStopped, AbortsHaveCause}
 use Rattle.world_laws.specs.Fresh.{shown_world}
@@ -51,11 +48,11 @@ use Rattle.world_laws.specs.Openings.{Start, opened_world}
 use Rattle.world_laws.specs.Outcomes.{tells_abort, note_tells, notes_of, was_told}
 use Rattle.world_laws.specs.Promises.{IsPromisedOfOctets}
 use Rattle.world_laws.specs.Worlds.{WorldState, Turn, greatest, note_of, world_run}
-use Rattle.world_laws.proofs.CastLifting.{Has, Stepwise, turns_have, opened_cast}
-use Rattle.world_laws.proofs.Casts.{Cast, Every-put, Fare, Seat, Walker, after_a, after_b, after_path, first_cast, first_fare, next_cast, opened_is, seat_after, walked, walker_there, walks_on, world_of}
+use Rattle.world_laws.proofs.CastLifting.{Has, turns_have}
+use Rattle.world_laws.proofs.Casts.{Cast, Every-put, Fare, Seat, Walker, after_a, after_b, after_path, first_cast, first_fare, next_cast, opened_is, walked, walker_there, walks_on, world_of}
 use Rattle.world_laws.proofs.Journaling.{books_after}
-use Rattle.world_laws.proofs.KeysAgree.{AsksFor, BooksAre, KeysAsk, NoMore, PathKnows, Tells, app_asks_are, ask_keeps, opened_books_are, opened_path, path_asks, path_more, path_next, path_same, path_takes}
-use Rattle.world_laws.proofs.KeysKept.{carrier_in, carrier_told}
+use Rattle.world_laws.proofs.KeysAgree.{AsksFor, BooksAre, NoMore, PathKnows, Tells, app_asks_are, ask_keeps, opened_books_are, opened_path, path_asks, path_more, path_next, path_same, path_takes}
+use Rattle.world_laws.proofs.KeysKept.{carrier_in}
 use Rattle.world_laws.proofs.KeysRight.{Deed}
 use Rattle.world_laws.proofs.PromisesMade.{run_fresh}
 use Rattle.world_laws.proofs.PromisesShown.{same_notes_of}

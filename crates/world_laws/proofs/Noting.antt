@@ -1,5 +1,5 @@
 -- What a copy notes of addresses and paths, where nothing is known of it.
-use Rattle.std.proofs.Common.{◌≡◌, ℕ, suc, Bool, true, false, Option, Some, None, List, [], ◌∷◌, map}
+use Rattle.std.proofs.Common.{ℕ, Bool, true, false, Option, Some, None, List, [], ◌∷◌, map}
 use Rattle.stream_lanes.specs.Words.{Every}
 use Rattle.stream_lanes.proofs.Lists.{Every-nil, Every-push, Every-append}
 use Rattle.key_material.specs.declared.address.Address.{Address}
