@@ -69,6 +69,20 @@ where
     }
 }
 
+/// The numbers at a place of the fields and at the next one, each in the range of its type.
+pub fn pair_at<A: FromStr + Drop, B: FromStr>(
+    fields: &[&str],
+    place: usize,
+) -> Result<(A, B), CaseFault>
+where
+    A::Err: Drop,
+    B::Err: Drop,
+{
+    let first = parsed_at(fields, place)?;
+    let second = parsed_at(fields, place.saturating_add(1))?;
+    Ok((first, second))
+}
+
 /// A truth value at a place of the fields: 0 or 1.
 pub fn truth_at(fields: &[&str], place: usize) -> Result<bool, CaseFault> {
     match word_at(fields, place)? {
