@@ -110,9 +110,9 @@ module _ {keys : Keys} {k j : Setting} {c : Profile} {begun begun_back : Lane} {
     stages_after = record {
       window = inl (done refl refl h.stages.window);
       update = inl (done refl refl h.stages.update);
-      emit = inr (inr (inr (inr (inr (inr (inr (inl refl)))))));
-      finish = inr (inr (inr (inr (inr (inr (inr (inr (inl refl))))))));
-      wait = inr (inr (inr (inr (inr (inr (inr (inr (inr (inr (inr (inl refl)))))))))));
+      emit = inr (inr (inr (inr (inr (inr (inr (inr (inl refl))))))));
+      finish = inr (inr (inr (inr (inr (inr (inr (inr (inr (inl refl)))))))));
+      wait = inr (inr (inr (inr (inr (inr (inr (inr (inr (inr (inr (inr (inl refl))))))))))));
       tell = inl (⊎_elim (λ is. is) (λ there. absurd (never_tells there)) h.stages.tell);
       ask = inl (⊎_elim (λ is. is) (λ there. absurd (never_asks there)) h.stages.ask);
     }
@@ -131,7 +131,7 @@ module _ {keys : Keys} {k j : Setting} {c : Profile} {begun begun_back : Lane} {
       update = inl (done refl refl h.stages_back.update);
       emit = inl (done refl refl h.stages_back.emit);
       finish = inl (done refl refl h.stages_back.finish);
-      wait = inr (inr (inr (inr (inr (inr (inr (inr (inr (inr (inr (inl refl)))))))))));
+      wait = inr (inr (inr (inr (inr (inr (inr (inr (inr (inr (inr (inr (inl refl))))))))))));
       tell = inr (inr (inr (inr (inr (inl refl))), refl));
       ask = inl refl;
     }
@@ -247,7 +247,7 @@ module _ {keys : Keys} {k j : Setting} {c : Profile} {begun begun_back : Lane} {
       control_back = h.control_back;
       turn = h.turn;
       turn_back = h.turn_back;
-      settles = inr (inr (inr (inr (inr (inr (inr (inr (inr (inr (inl refl))))))))));
+      settles = inr (inr (inr (inr (inr (inr (inr (inr (inr (inr (inr (inl refl)))))))))));
       settles_back = inl (all_settled B n.end h.settles_back);
       begins = inl (sent_some sent_one);
       begins_back = begins_back_after h.begins_back;

@@ -31,18 +31,18 @@ use Rattle.clean_finish.proofs.SynTold.{told_own}
 
 emits_three : (d e f : Duty) → Emits A (d ∷ e ∷ f ∷ emission A)
 emits_three d e f = record {
-  bytes = inr (inr (inr (inr (inr (inl refl)))));
-  end = inr (inr (inr (inr (inr (inr (inl refl))))));
-  timer = inr (inr (inr (inr (inr (inr (inr (inr (inl refl))))))));
-  events = inr (inr (inr (inr (inr (inr (inr (inr (inr (inl refl)))))))));
+  bytes = inr (inr (inr (inr (inr (inr (inl refl))))));
+  end = inr (inr (inr (inr (inr (inr (inr (inl refl)))))));
+  timer = inr (inr (inr (inr (inr (inr (inr (inr (inr (inl refl)))))))));
+  events = inr (inr (inr (inr (inr (inr (inr (inr (inr (inr (inl refl))))))))));
 }
 
 emits_two : (d e : Duty) → Emits A (d ∷ e ∷ emission A)
 emits_two d e = record {
-  bytes = inr (inr (inr (inr (inl refl))));
-  end = inr (inr (inr (inr (inr (inl refl)))));
-  timer = inr (inr (inr (inr (inr (inr (inr (inl refl)))))));
-  events = inr (inr (inr (inr (inr (inr (inr (inr (inl refl))))))));
+  bytes = inr (inr (inr (inr (inr (inl refl)))));
+  end = inr (inr (inr (inr (inr (inr (inl refl))))));
+  timer = inr (inr (inr (inr (inr (inr (inr (inr (inl refl))))))));
+  events = inr (inr (inr (inr (inr (inr (inr (inr (inr (inl refl)))))))));
 }
 
 -- once the SYN/ACK came both SYNs are acknowledged

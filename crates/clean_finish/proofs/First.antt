@@ -45,7 +45,7 @@ use Rattle.clean_finish.proofs.Writing.{turn_begins}
 use Rattle.clean_finish.proofs.Reading.{reading_begins}
 
 first_plain : ArePlain (tail_of (tail_of (tail_of start_of_turn)))
-first_plain = (refl, tt, (refl, (refl, inr (inr (inr (inr (inr (inr (inr (inr (inr (inr (inr (inr (inr (inr (inr (inr (inr (inr (inl refl))))))))))))))))))), (refl, tt, (refl, (refl, inr (inr (inr (inr (inr (inr (inr (inr (inr (inr (inr (inr (inr (inr (inr (inr (inl refl))))))))))))))))), (refl, tt, (refl, tt, (refl, (refl, inr (inr (inr (inr (inr (inr (inr (inr (inr (inr (inr (inr (inr (inl refl)))))))))))))), (refl, tt, (refl, (refl, inl refl, inr (inr (inr (inr (inr (inr (inr (inr (inr (inr (inr (inl refl)))))))))))), (refl, (refl, inr (inr (inr (inr (inr (inr (inr (inr (inr (inr (inl refl))))))))))), (refl, (refl, inr (inr (inr (inr (inr (inr (inr (inr (inr (inl refl)))))))))), (refl, refl, (refl, tt, (refl, tt, (refl, (refl, inr (inr (inr (inr (inr (inl refl)))))), (refl, tt, (refl, (refl, inl refl, inr (inr (inr (inl refl)))), (refl, (refl, inr (inr (inl refl))), (refl, (refl, inr (inl refl)), (refl, refl, (refl, refl, (refl, refl, tt))))))))))))))))))))))
+first_plain = (refl, tt, (refl, (refl, inr (inr (inr (inr (inr (inr (inr (inr (inr (inr (inr (inr (inr (inr (inr (inr (inr (inr (inr (inr (inl refl))))))))))))))))))))), (refl, tt, (refl, (refl, inr (inr (inr (inr (inr (inr (inr (inr (inr (inr (inr (inr (inr (inr (inr (inr (inr (inr (inl refl))))))))))))))))))), (refl, tt, (refl, tt, (refl, (refl, inr (inr (inr (inr (inr (inr (inr (inr (inr (inr (inr (inr (inr (inr (inr (inl refl)))))))))))))))), (refl, tt, (refl, tt, (refl, (refl, inl refl, inr (inr (inr (inr (inr (inr (inr (inr (inr (inr (inr (inr (inl refl))))))))))))), (refl, (refl, inr (inr (inr (inr (inr (inr (inr (inr (inr (inr (inr (inl refl)))))))))))), (refl, (refl, inr (inr (inr (inr (inr (inr (inr (inr (inr (inr (inl refl))))))))))), (refl, refl, (refl, tt, (refl, tt, (refl, (refl, inr (inr (inr (inr (inr (inr (inl refl))))))), (refl, tt, (refl, tt, (refl, (refl, inl refl, inr (inr (inr (inl refl)))), (refl, (refl, inr (inr (inl refl))), (refl, (refl, inr (inl refl)), (refl, refl, (refl, refl, (refl, refl, tt))))))))))))))))))))))))
 
 no : {X : Type 0} → false ≡ true → X
 no is = absurd (both_ways _ refl is)
@@ -315,18 +315,18 @@ module _ (start : Start) (plan : PathPlan) (k j : Setting) (a b t t' : ℕ)
           stages = record {
             window = inr (inr (inr (inr (inr (inl refl)))));
             update = inr (inr (inr (inr (inr (inr (inl refl))))));
-            emit = inr (inr (inr (inr (inr (inr (inr (inr (inr (inr (inr (inl refl)))))))))));
-            finish = inr (inr (inr (inr (inr (inr (inr (inr (inr (inr (inr (inr (inl refl))))))))))));
-            wait = inr (inr (inr (inr (inr (inr (inr (inr (inr (inr (inr (inr (inr (inr (inr (inr (inr (inr (inr (inr (inr (inr (inr (inl refl)))))))))))))))))))))));
+            emit = inr (inr (inr (inr (inr (inr (inr (inr (inr (inr (inr (inr (inl refl))))))))))));
+            finish = inr (inr (inr (inr (inr (inr (inr (inr (inr (inr (inr (inr (inr (inl refl)))))))))))));
+            wait = inr (inr (inr (inr (inr (inr (inr (inr (inr (inr (inr (inr (inr (inr (inr (inr (inr (inr (inr (inr (inr (inr (inr (inr (inr (inl refl)))))))))))))))))))))))));
             tell = inl refl;
             ask = inr (inl (inr (inr (inr (inr (inl refl))))));
           };
           stages_back = record {
             window = inr (inr (inr (inl refl)));
             update = inr (inr (inr (inr (inl refl))));
-            emit = inr (inr (inr (inr (inr (inr (inr (inr (inr (inr (inr (inr (inr (inr (inr (inr (inr (inr (inr (inl refl)))))))))))))))))));
-            finish = inr (inr (inr (inr (inr (inr (inr (inr (inr (inr (inr (inr (inr (inr (inr (inr (inr (inr (inr (inr (inl refl))))))))))))))))))));
-            wait = inr (inr (inr (inr (inr (inr (inr (inr (inr (inr (inr (inr (inr (inr (inr (inr (inr (inr (inr (inr (inr (inr (inr (inl refl)))))))))))))))))))))));
+            emit = inr (inr (inr (inr (inr (inr (inr (inr (inr (inr (inr (inr (inr (inr (inr (inr (inr (inr (inr (inr (inr (inl refl)))))))))))))))))))));
+            finish = inr (inr (inr (inr (inr (inr (inr (inr (inr (inr (inr (inr (inr (inr (inr (inr (inr (inr (inr (inr (inr (inr (inl refl))))))))))))))))))))));
+            wait = inr (inr (inr (inr (inr (inr (inr (inr (inr (inr (inr (inr (inr (inr (inr (inr (inr (inr (inr (inr (inr (inr (inr (inr (inr (inl refl)))))))))))))))))))))))));
             tell = inl refl;
             ask = inr (inl (inr (inr (inl refl))));
           };

@@ -46,10 +46,10 @@ not_a e = cc
 
 emits_behind : (d e : Duty) → Emits B (d ∷ e ∷ emission B)
 emits_behind d e = record {
-  bytes = inr (inr (inr (inr (inl refl))));
-  end = inr (inr (inr (inr (inr (inl refl)))));
-  timer = inr (inr (inr (inr (inr (inr (inr (inl refl)))))));
-  events = inr (inr (inr (inr (inr (inr (inr (inr (inl refl))))))));
+  bytes = inr (inr (inr (inr (inr (inl refl)))));
+  end = inr (inr (inr (inr (inr (inr (inl refl))))));
+  timer = inr (inr (inr (inr (inr (inr (inr (inr (inl refl))))))));
+  events = inr (inr (inr (inr (inr (inr (inr (inr (inr (inl refl)))))))));
 }
 
 -- a SYN that wasn't sent waits
@@ -181,7 +181,7 @@ module _ (start : Start) (plan : PathPlan) (k j : Setting) (s v : Lane) (t0 u0 :
             let alter : Side → Carried → Carried = λ side sent. altered sent in
             let rest = waits_syn j back.out.sender back.own.subflow.records.rest back.waiting back.own.subflow.records.waits t.0.unsent in
             let window = ⊎_elim (λ is. is) (λ there. absurd (no_window there)) none.window in
-            let events : Has (duties.Step step_duties.Events) (emission B) = inr (inr (inr (inr (inr (inr (inl refl)))))) in
+            let events : Has (duties.Step step_duties.Events) (emission B) = inr (inr (inr (inr (inr (inr (inr (inl refl))))))) in
             let last = last_from_b strip alter carried p.clock p.link h.path.unspoken h.link in
             let others = others_of_b strip alter carried p.clock p.link h.path.unspoken h.link in
             let fs = going_to A (after_send strip alter B carried p.clock p.link).under_way in
@@ -240,7 +240,8 @@ module _ (start : Start) (plan : PathPlan) (k j : Setting) (s v : Lane) (t0 u0 :
             no_window (inr (inr (inr (inr (inr (inr (inl same))))))) = differ refl same
             no_window (inr (inr (inr (inr (inr (inr (inr (inl same)))))))) = differ refl same
             no_window (inr (inr (inr (inr (inr (inr (inr (inr (inl same))))))))) = differ refl same
-            no_window (inr (inr (inr (inr (inr (inr (inr (inr (inr never))))))))) = never
+            no_window (inr (inr (inr (inr (inr (inr (inr (inr (inr (inl same)))))))))) = differ refl same
+            no_window (inr (inr (inr (inr (inr (inr (inr (inr (inr (inr never)))))))))) = never
 
         pub answers_syn_ack : Relation books (with_agenda (duties.Send (send_duties.SynAck B) ∷ ds) p)
             → Relation books (answered_syn_ack values B (with_agenda (duties.Send (send_duties.SynAck B) ∷ ds) p))

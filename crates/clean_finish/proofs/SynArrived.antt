@@ -135,9 +135,9 @@ module _ {keys : Keys} {k j : Setting} {c : Profile} {begun begun_back : Lane} {
     stages_after = record {
       window = inl (done refl refl h.stages.window);
       update = inl (done refl refl h.stages.update);
-      emit = inr (inr (inr (inr (inr (inr (inl refl))))));
-      finish = inr (inr (inr (inr (inr (inr (inr (inl refl)))))));
-      wait = inr (inr (inr (inr (inr (inr (inr (inr (inr (inr (inl refl))))))))));
+      emit = inr (inr (inr (inr (inr (inr (inr (inl refl)))))));
+      finish = inr (inr (inr (inr (inr (inr (inr (inr (inl refl))))))));
+      wait = inr (inr (inr (inr (inr (inr (inr (inr (inr (inr (inr (inl refl)))))))))));
       tell = inl (⊎_elim (λ is. is) (λ there. absurd (never_tells there)) h.stages.tell);
       ask = inl (⊎_elim (λ is. is) (λ there. absurd (never_asks there)) h.stages.ask);
     }
@@ -156,7 +156,7 @@ module _ {keys : Keys} {k j : Setting} {c : Profile} {begun begun_back : Lane} {
       update = inl (done refl refl h.stages_back.update);
       emit = inl (done refl refl h.stages_back.emit);
       finish = inl (done refl refl h.stages_back.finish);
-      wait = inr (inr (inr (inr (inr (inr (inr (inr (inr (inr (inl refl))))))))));
+      wait = inr (inr (inr (inr (inr (inr (inr (inr (inr (inr (inr (inl refl)))))))))));
       tell = inr (inl (inr (inr (inl refl))));
       ask = inl refl;
     }

@@ -339,7 +339,8 @@ module _ (start : Start) (plan : PathPlan) (k j : Setting) (s v : Lane) (t0 u0 :
             no_window (inr (inr (inr (inr (inr (inr (inl same))))))) = differ refl same
             no_window (inr (inr (inr (inr (inr (inr (inr (inl same)))))))) = differ refl same
             no_window (inr (inr (inr (inr (inr (inr (inr (inr (inl same))))))))) = differ refl same
-            no_window (inr (inr (inr (inr (inr (inr (inr (inr (inr never))))))))) = never
+            no_window (inr (inr (inr (inr (inr (inr (inr (inr (inr (inl same)))))))))) = differ refl same
+            no_window (inr (inr (inr (inr (inr (inr (inr (inr (inr (inr never)))))))))) = never
 
             unclear : (b : Bool) {x : ℕ} → x ≡ (if b then 1 else 0) → x ≡ 0 → b ≡ false
             unclear true is none = absurd (omega (arith, is, none))

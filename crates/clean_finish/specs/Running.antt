@@ -315,6 +315,7 @@ is_plain (duties.Ask (ask_duties.LeaveNoted s)) = true
 is_plain (duties.Send (send_duties.ResetNoted s)) = true
 is_plain (duties.Send (send_duties.Syn s)) = true
 is_plain (duties.Send (send_duties.FastClose s)) = true
+is_plain (duties.Send (send_duties.Notice s)) = true
 is_plain (duties.Step (step_duties.Data s)) = true
 is_plain (duties.Send (send_duties.DataFin s)) = true
 is_plain (duties.Send (send_duties.Fin s)) = true

@@ -167,6 +167,7 @@ module _ {C : Type 0} (k : Codec C) (p : PathState C) (low : path_of p < 16) whe
   path_asks_fair (duties.Ask (ask_duties.Window s)) = tt
   path_asks_fair (duties.Send (send_duties.Update s)) = tt
   path_asks_fair (duties.Send (send_duties.FastClose s)) = tt
+  path_asks_fair (duties.Send (send_duties.Notice s)) = tt
   path_asks_fair (duties.Send (send_duties.Syn s)) = tt
   path_asks_fair (duties.Step (step_duties.Data s)) = data_fair s (first_unsent (end_at s p))
   path_asks_fair (duties.Send (send_duties.DataFin s)) = tt
@@ -200,6 +201,8 @@ module _ {C : Type 0} (k : Codec C) (p : PathState C) (low : path_of p < 16) whe
   path_asks_fair (duties.Ask (ask_duties.Return s)) = tt
   path_asks_fair (duties.Ask (ask_duties.AbortSend s)) = tt
   path_asks_fair (duties.Ask (ask_duties.AbortReceive s)) = tt
+  path_asks_fair (duties.Ask (ask_duties.Announce s id)) = tt
+  path_asks_fair (duties.Ask (ask_duties.Withdraw s id)) = tt
   path_asks_fair (duties.Send (send_duties.Resend s)) = tt
   path_asks_fair (duties.Ask (ask_duties.BreakAck s reason)) = tt
   path_asks_fair (duties.Send (send_duties.BreakReset s reason)) = tt

@@ -10,7 +10,7 @@ heard_ends s from zero ds = refl
 heard_ends s from (suc count) ds = heard_ends s (from + 1) count ds
 
 pub templates_end : EveryTemplateEnds
-templates_end s count reason = rw (heard_ends s 0 count (payload_came s)) refl
+templates_end s count reason id = rw (heard_ends s 0 count (payload_came s)) refl
 
 pub chains_end : EveryChainEnds
 chains_end s index reason = record {

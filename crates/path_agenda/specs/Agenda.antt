@@ -15,8 +15,8 @@ rest_of_turn = duties.Step step_duties.Events ∷ duties.End ∷ []
 -- what an end sends, and then these
 abbrev pub emission_and : Side → List Duty → List Duty
 emission_and s ds =
-    duties.Send (send_duties.Syn s) ∷ duties.Send (send_duties.FastClose s) ∷ duties.Step (step_duties.Data s)
-    ∷ duties.Send (send_duties.DataFin s) ∷ duties.Send (send_duties.Fin s) ∷ duties.Silent (silent_duties.Timer s) ∷ ds
+    duties.Send (send_duties.Syn s) ∷ duties.Send (send_duties.FastClose s) ∷ duties.Send (send_duties.Notice s)
+    ∷ duties.Step (step_duties.Data s) ∷ duties.Send (send_duties.DataFin s) ∷ duties.Send (send_duties.Fin s) ∷ duties.Silent (silent_duties.Timer s) ∷ ds
 
 -- what follows every event at an end
 abbrev pub emission : Side → List Duty
@@ -88,6 +88,13 @@ expired s = duties.Ask (ask_duties.Return s) ∷ duties.Send (send_duties.Resend
 
 abbrev pub expired_for_ever : Side → List Duty
 expired_for_ever s = duties.Send (send_duties.Reset s) ∷ rest_of_turn
+
+-- a line of the script by which the side announces the address of an id, or takes it back
+abbrev pub announces : Side → ℕ → List Duty
+announces s id = duties.Ask (ask_duties.Announce s id) ∷ emission s
+
+abbrev pub withdraws : Side → ℕ → List Duty
+withdraws s id = duties.Ask (ask_duties.Withdraw s id) ∷ emission s
 
 -- the peer closed the connection at once: both books are told, and the end is reset
 abbrev pub stops : Side → List Duty

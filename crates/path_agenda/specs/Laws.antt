@@ -7,7 +7,7 @@ use Rattle.path_agenda.specs.declared.duty.Duty.TheVariants as duties
 use Rattle.path_agenda.specs.declared.duty.AskDuty.TheVariants as ask_duties
 use Rattle.path_agenda.specs.declared.duty.SendDuty.TheVariants as send_duties
 use Rattle.path_agenda.specs.declared.duty.StepDuty.TheVariants as step_duties
-use Rattle.path_agenda.specs.Agenda.{rest_of_turn, emission, start_of_turn, syn_came, syn_ack_came, join_came, refuses, join_answered, copy_came, syn_again, answers, answers_dead, expired, expired_for_ever, stops, leaves, breaks, resets}
+use Rattle.path_agenda.specs.Agenda.{rest_of_turn, emission, start_of_turn, syn_came, syn_ack_came, join_came, refuses, join_answered, copy_came, syn_again, answers, answers_dead, expired, expired_for_ever, announces, withdraws, stops, leaves, breaks, resets}
 use Rattle.path_agenda.specs.Weights.{weights}
 
 -- ---- the end of a turn
@@ -19,14 +19,14 @@ ends_once (duties.End ∷ []) = true
 ends_once (duties.End ∷ ds) = false
 ends_once (d ∷ ds) = ends_once ds
 
--- all templates, at an end of this side, for a copy that says so many things and a break with this reason
-abbrev pub templates : Side → ℕ → ℕ → List (List Duty)
-templates s count reason =
+-- all templates, at an end of this side, for a copy that says so many things, a break with this reason and an address of this id
+abbrev pub templates : Side → ℕ → ℕ → ℕ → List (List Duty)
+templates s count reason id =
     start_of_turn ∷ rest_of_turn ∷ emission s ∷ syn_came s ∷ syn_ack_came s ∷ join_came s ∷ refuses s ∷ join_answered s ∷ copy_came s count ∷ syn_again s ∷ answers s
-    ∷ answers_dead s ∷ expired s ∷ expired_for_ever s ∷ stops s ∷ leaves s ∷ breaks s reason ∷ resets s reason ∷ []
+    ∷ answers_dead s ∷ expired s ∷ expired_for_ever s ∷ announces s id ∷ withdraws s id ∷ stops s ∷ leaves s ∷ breaks s reason ∷ resets s reason ∷ []
 
 abbrev pub EveryTemplateEnds : Type 0
-EveryTemplateEnds = (s : Side) (count reason : ℕ) → list_all ends_once (templates s count reason) ≡ true
+EveryTemplateEnds = (s : Side) (count reason id : ℕ) → list_all ends_once (templates s count reason id) ≡ true
 
 -- ---- what takes the place of a duty
 

@@ -68,6 +68,11 @@ pub enum AskDuty {
     AbortSend(Side),
     /// And the reassembly book.
     AbortReceive(Side),
+    // ---- a line of the script
+    /// The side is to announce the address of this id: tells it (RFC 8684, section 3.4.1).
+    Announce { side: Side, id: u8 },
+    /// The side takes the address of this id back: tells it (section 3.4.2).
+    Withdraw { side: Side, id: u8 },
     // ---- death
     /// The side told that the end is to be reset, which never sent a segment: it is dead, and gives back its bytes.
     LeaveNoted(Side),
@@ -106,6 +111,8 @@ pub enum SendDuty {
     Syn(Side),
     /// MP_FASTCLOSE, where the end carries the fast close and never sent it (RFC 8684, section 3.5).
     FastClose(Side),
+    /// The first of what is to be noted to the peer: as long as there is something (sections 3.3.8 and 3.4).
+    Notice(Side),
     /// The DATA_FIN, where the stream's end is known.
     DataFin(Side),
     /// The FIN, where both directions of the data stream are closed.

@@ -1,7 +1,7 @@
 //! What is to be done in a turn, and after each kind of event. A rule that is added to one of them has to be a duty.
 
 ghost use Rattle.std.specs.Prelude.{◌≡◌, ◌≤◌, ◌∷◌, []};
-ghost use Rattle.path_agenda.specs.Agenda.{heard_and, rest_of_turn, emission, start_of_turn, syn_came, syn_ack_came, join_came, refuses, join_answered, payload_came, copy_came, syn_again, answers, answers_dead, expired, expired_for_ever, stops, leaves, breaks, resets};
+ghost use Rattle.path_agenda.specs.Agenda.{heard_and, rest_of_turn, emission, start_of_turn, syn_came, syn_ack_came, join_came, refuses, join_answered, payload_came, copy_came, syn_again, answers, answers_dead, expired, expired_for_ever, announces, withdraws, stops, leaves, breaks, resets};
 
 use crate::agenda::Agenda;
 use crate::duty::{AskDuty, Duty, SendDuty, SilentDuty, StepDuty};
@@ -23,6 +23,7 @@ impl Agenda {
         Agenda::of(&[
             Duty::Send(SendDuty::Syn(side)),
             Duty::Send(SendDuty::FastClose(side)),
+            Duty::Send(SendDuty::Notice(side)),
             Duty::Step(StepDuty::Data(side)),
             Duty::Send(SendDuty::DataFin(side)),
             Duty::Send(SendDuty::Fin(side)),
@@ -49,6 +50,7 @@ impl Agenda {
             Duty::Send(SendDuty::ResetNoted(a)),
             Duty::Send(SendDuty::Syn(a)),
             Duty::Send(SendDuty::FastClose(a)),
+            Duty::Send(SendDuty::Notice(a)),
             Duty::Step(StepDuty::Data(a)),
             Duty::Send(SendDuty::DataFin(a)),
             Duty::Send(SendDuty::Fin(a)),
@@ -57,6 +59,7 @@ impl Agenda {
             Duty::Send(SendDuty::ResetNoted(b)),
             Duty::Send(SendDuty::Syn(b)),
             Duty::Send(SendDuty::FastClose(b)),
+            Duty::Send(SendDuty::Notice(b)),
             Duty::Step(StepDuty::Data(b)),
             Duty::Send(SendDuty::DataFin(b)),
             Duty::Send(SendDuty::Fin(b)),
@@ -74,6 +77,7 @@ impl Agenda {
             duty,
             Duty::Send(SendDuty::Syn(side)),
             Duty::Send(SendDuty::FastClose(side)),
+            Duty::Send(SendDuty::Notice(side)),
             Duty::Step(StepDuty::Data(side)),
             Duty::Send(SendDuty::DataFin(side)),
             Duty::Send(SendDuty::Fin(side)),
@@ -100,6 +104,7 @@ impl Agenda {
             Duty::Send(SendDuty::SynAck(side)),
             Duty::Send(SendDuty::Syn(side)),
             Duty::Send(SendDuty::FastClose(side)),
+            Duty::Send(SendDuty::Notice(side)),
             Duty::Step(StepDuty::Data(side)),
             Duty::Send(SendDuty::DataFin(side)),
             Duty::Send(SendDuty::Fin(side)),
@@ -120,6 +125,7 @@ impl Agenda {
             Duty::Send(SendDuty::Acknowledge(side)),
             Duty::Send(SendDuty::Syn(side)),
             Duty::Send(SendDuty::FastClose(side)),
+            Duty::Send(SendDuty::Notice(side)),
             Duty::Step(StepDuty::Data(side)),
             Duty::Send(SendDuty::DataFin(side)),
             Duty::Send(SendDuty::Fin(side)),
@@ -152,6 +158,7 @@ impl Agenda {
             Duty::Send(SendDuty::Acknowledge(side)),
             Duty::Send(SendDuty::Syn(side)),
             Duty::Send(SendDuty::FastClose(side)),
+            Duty::Send(SendDuty::Notice(side)),
             Duty::Step(StepDuty::Data(side)),
             Duty::Send(SendDuty::DataFin(side)),
             Duty::Send(SendDuty::Fin(side)),
@@ -207,6 +214,7 @@ impl Agenda {
             Duty::Send(SendDuty::Resend(side)),
             Duty::Send(SendDuty::Syn(side)),
             Duty::Send(SendDuty::FastClose(side)),
+            Duty::Send(SendDuty::Notice(side)),
             Duty::Step(StepDuty::Data(side)),
             Duty::Send(SendDuty::DataFin(side)),
             Duty::Send(SendDuty::Fin(side)),
@@ -221,6 +229,20 @@ impl Agenda {
         ensures { result ≡ expired_for_ever side }
     {
         Agenda::before_rest(Duty::Send(SendDuty::Reset(side)))
+    }
+
+    /// The side is to announce the address of this id (RFC 8684, section 3.4.1): it is told, and then the side's end sends what it may.
+    pub fn announces(side: Side, id: u8) -> Self
+        ensures { result ≡ announces side id }
+    {
+        Agenda::before_emission(Duty::Ask(AskDuty::Announce { side, id }), side)
+    }
+
+    /// The side takes the address of this id back (RFC 8684, section 3.4.2): it is told, and then the side's end sends what it may.
+    pub fn withdraws(side: Side, id: u8) -> Self
+        ensures { result ≡ withdraws side id }
+    {
+        Agenda::before_emission(Duty::Ask(AskDuty::Withdraw { side, id }), side)
     }
 
     /// The peer closed the connection at once (RFC 8684, section 3.5): both books are told, and the end is reset.
@@ -274,7 +296,7 @@ fn things_heard(side: Side, count: usize) -> ArrayVec<Duty, 37>
 }
 
 /// What follows what a copy says: its acknowledgement, its payload, and the answers.
-fn payload_came(side: Side) -> [Duty; 23]
+fn payload_came(side: Side) -> [Duty; 24]
     ensures { result ≡ payload_came side }
 {
     [
@@ -295,6 +317,7 @@ fn payload_came(side: Side) -> [Duty; 23]
         Duty::Send(SendDuty::Again(side)),
         Duty::Send(SendDuty::Syn(side)),
         Duty::Send(SendDuty::FastClose(side)),
+        Duty::Send(SendDuty::Notice(side)),
         Duty::Step(StepDuty::Data(side)),
         Duty::Send(SendDuty::DataFin(side)),
         Duty::Send(SendDuty::Fin(side)),

@@ -14,15 +14,17 @@ use Rattle.path_core.specs.Joining.{is_never, keys_begun, opened_by}
 use Rattle.path_core.specs.Joins.{is_joined}
 use Rattle.path_core.proofs.Joined.{never_rests, opened_rests}
 use Rattle.actor_desk.specs.declared.ask.Reply.{Reply}
-use Rattle.path_agenda.specs.Agenda.{rest_of_turn, emission, leaves}
+use Rattle.path_agenda.specs.Agenda.{emission, announces, withdraws, leaves}
 use Rattle.path_core.specs.Codec.{Codec, HeardSegment}
 use Rattle.path_core.specs.Ends.{PathEnd}
-use Rattle.path_core.specs.Events.{tick_of, next_join, next_line, next_copy, next_fire, earlier, earliest, before, next_event, is_death, died, never_joined, died_unless_dead, after_line, line_taken, at_tick, joins_at_tick, told_at, copy_heard, heard_in, copy_taken, timer_fired, happens, happens_if, CanHappen}
+use Rattle.path_core.specs.Events.{tick_of, next_join, next_line, next_copy, next_fire, earlier, earliest, before, next_event, died, never_joined, died_unless_dead, with_priority, after_line, line_taken, at_tick, joins_at_tick, told_at, copy_heard, heard_in, copy_taken, timer_fired, happens, happens_if, CanHappen}
 use Rattle.path_core.specs.declared.event.Event.{Event}
 use Rattle.path_core.specs.declared.event.Event.TheVariants as happenings
 use Rattle.path_core.specs.Ranks.{ticks_left, one_if_due, due_copies, due_lines, due_timer, due_by_now}
 use Rattle.path_core.specs.State.{PathState, end_at, goes_on}
 use Rattle.path_core.specs.declared.lines.LineLeft.{LineLeft}
+use Rattle.path_core.specs.declared.lines.LineAction.{LineAction}
+use Rattle.path_core.specs.declared.lines.LineAction.TheVariants as actions
 use Rattle.path_core.specs.Turns.{TakesTime}
 use Rattle.actor_desk.specs.Words.{tail_of}
 use Rattle.actor_desk.proofs.Falling.{Then, Less}
@@ -149,22 +151,25 @@ module _ {C : Type 0} where
       one_less : due_lines p.clock p.lines ≡ one_if_due p.clock line.tick + due_lines p.clock (tail_of p.lines)
       one_less = rw is refl
 
-  line_calm : (death : Bool) (p : PathState C) → TakesTime p → Calm p (after_line death p)
-  line_calm true p t =
+  line_calm : (action : LineAction) (p : PathState C) → TakesTime p → Calm p (after_line action p)
+  line_calm actions.Die p t =
       let a = dead_rests p.clock p.a in let b = dead_rests p.clock p.b in
       record {
         ticks = omega arith;
         due = omega (arith, a.due, b.due);
         time = record { delay = t.delay; timer_a = a.timeout t.timer_a; timer_b = b.timeout t.timer_b };
       }
-  line_calm false p t = agenda_calm rest_of_turn p t
+  line_calm (actions.Prio s backup) p t =
+      goes_calm s (with_priority backup (end_at s p)) (emission s) p t (same_rests p.clock (end_at s p) (with_priority backup (end_at s p)) refl)
+  line_calm (actions.Announce s id) p t = agenda_calm (announces s id) p t
+  line_calm (actions.Withdraw s id) p t = agenda_calm (withdraws s id) p t
 
   line_lowers : (line : LineLeft) (lines : List LineLeft) (p : PathState C) → TakesTime p → p.lines ≡ line ∷ lines → line.tick < p.until
       → Lowers p (line_taken line p)
   line_lowers line lines p t is soon =
       let first = line_passes line lines p t is soon in
       passes_on p (record (at_tick line.tick p) { lines = tail_of p.lines }) (line_taken line p) first
-      (line_calm (is_death line.line) (record (at_tick line.tick p) { lines = tail_of p.lines }) first.time)
+      (line_calm line.action (record (at_tick line.tick p) { lines = tail_of p.lines }) first.time)
 
   -- ---- a copy
 

@@ -1,5 +1,5 @@
 -- Each reply of the asked kind lowers the numbers of a turn.
-use Rattle.std.proofs.Common.{◌≡◌, refl, subst, ℕ, ◌+◌, ◌-◌, ◌<◌, ◌≤◌, ◌&&◌, nat_lt, Bool, true, false, if◌then◌else◌, List, [], ◌∷◌, length, Option, Some, None, arith}
+use Rattle.std.proofs.Common.{◌≡◌, refl, subst, ℕ, ◌+◌, ◌-◌, ◌<◌, ◌≤◌, ◌&&◌, not, nat_lt, Bool, true, false, if◌then◌else◌, List, [], ◌∷◌, length, Option, Some, None, arith}
 use Rattle.std.proofs.lemmas.Bool.{leb-true, ltb-true}
 use Rattle.outside_kit.specs.declared.side.Side.{Side}
 use Rattle.outside_kit.specs.declared.side.Side.TheVariants.{A, B}
@@ -27,6 +27,7 @@ use Rattle.path_agenda.specs.Agenda.{breaks, resets, leaves, stops}
 use Rattle.path_core.specs.Breaking.{reset_of, reset_on, answered_break}
 use Rattle.path_core.specs.Codec.{Codec}
 use Rattle.path_core.specs.FastClosing.{fast_close_of, having_fast_closed, is_stopped_by}
+use Rattle.path_core.specs.Addressing.{is_note_due, note_of, having_noted, answered_note, after_peer_notice}
 use Rattle.path_core.specs.Duties.{stands, ask_for, answered}
 use Rattle.path_core.specs.Emission.{first_unsent, unsent_segment, having_sent_unsent, data_fin_segment, having_sent_data_fin, fin_segment_of, having_sent_fin, may_ask, data_stands, payload_size, grant_ask, data_ask, Grant, grant_in, granted, refused, answered_grant, answered_data}
 use Rattle.path_core.specs.Ends.{PathEnd}
@@ -49,13 +50,15 @@ use Rattle.subflow_tcp.specs.State.{EndState}
 use Rattle.path_agenda.specs.Weights.{weight, weights}
 use Rattle.path_core.specs.Ranks.{work}
 use Rattle.path_core.specs.Handover.{having_sent, sent_on}
-use Rattle.path_core.specs.Standing.{after_look, after_ack_out, answered_ack_out, ack_segment, acknowledges}
+use Rattle.path_core.specs.Standing.{may_note, after_look, after_ack_out, answered_ack_out, ack_segment, acknowledges}
 use Rattle.path_core.specs.OptionsOut.{mapping_of}
 use Rattle.path_core.specs.State.{PathState, Profile, end_at, with_agenda, goes_on, left, path_of}
 use Rattle.path_core.specs.Treating.{is_clash, is_acked, told_next, with_acked, answered_mapping, with_data_fin, answered_item, item_of, breaks_by_ack, with_plain_ack, answered_plain_ack, with_plain_acked}
 use Rattle.path_core.specs.Deliver.{with_learned}
 use Rattle.path_core.specs.Turns.{TakesTime}
 use Rattle.path_agenda.specs.Words.{replaced}
+use Rattle.path_agenda.specs.declared.notice.OwnNotice.{OwnNotice}
+use Rattle.actor_desk.specs.Words.{is_nil, tail_of}
 use Rattle.actor_desk.proofs.Falling.{Then}
 use Rattle.path_core.proofs.Happening.{event_lowers}
 use Rattle.path_core.proofs.Ranking.{Rests, same_rests, goes_calm, sent_calm, agenda_calm, Lowers, lowers}
@@ -108,6 +111,10 @@ first_true false y both = cc
 second_true : (x y : Bool) → (x && y) ≡ true → y ≡ true
 second_true true y both = both
 second_true false y both = cc
+
+one_shorter : (queue : List OwnNotice) → not (is_nil queue) ≡ true → length (tail_of queue) < length queue
+one_shorter [] some = cc
+one_shorter (notice ∷ queue) some = omega arith
 
 -- what is asked for has room
 asked_fits : (c : Profile) (s : Side) (e : PathEnd) → may_ask c s e ≡ true → payload_size c ≤ room e.tcp
@@ -199,6 +206,17 @@ module _ {C : Type 0} where
   plain_fin_lowers s false p t less heavy = refused_less s p t heavy
 
   -- ---- what is sent, and what is granted
+
+  -- one notice less is to be told
+  note_less : (k : Codec C) (s : Side) (p : PathState C) → TakesTime p → is_note_due (end_at s p) ≡ true → Lowers p (answered_note k s p)
+  note_less k A p t due =
+      lowers p (answered_note k A p)
+      (sent_calm k A (note_of A p) (having_noted A p) p.agenda p t (same_rests p.clock p.a (having_noted A p) refl))
+      (Then.Stays (omega arith) (Then.Stays (omega arith) (omega (arith, one_shorter p.a.notices.queue (second_true (may_note p.a) _ due)))))
+  note_less k B p t due =
+      lowers p (answered_note k B p)
+      (sent_calm k B (note_of B p) (having_noted B p) p.agenda p t (same_rests p.clock p.b (having_noted B p) refl))
+      (Then.Stays (omega arith) (Then.Stays (omega arith) (omega (arith, one_shorter p.b.notices.queue (second_true (may_note p.b) _ due)))))
 
   unsent_less : (k : Codec C) (s : Side) (r : Record) (p : PathState C) → TakesTime p → first_unsent (end_at s p) ≡ Some r
       → Lowers p (sent_on k s (unsent_segment s p) (having_sent_unsent s p) p.agenda p)
@@ -331,7 +349,9 @@ module _ {C : Type 0} where
       goes_less s (after_keys r (Some (record { own = own; peer = peer })) (end_at s p)) (left p) p t
       (same_rests p.clock (end_at s p) (after_keys r (Some (record { own = own; peer = peer })) (end_at s p)) refl) heavy.done
   heard_lowers k s (Some (says.Join form)) r p t next heavy = agenda_less (left p) p t heavy.done
-  heard_lowers k s (Some (says.Notice notice)) r p t next heavy = agenda_less (left p) p t heavy.done
+  heard_lowers k s (Some (says.Notice notice)) r p t next heavy =
+      goes_less s (after_peer_notice notice r (end_at s p)) (left p) p t
+      (same_rests p.clock (end_at s p) (after_peer_notice notice r (end_at s p)) refl) heavy.done
   heard_lowers k s (Some says.Fail) r p t next heavy = agenda_less (left p) p t heavy.done
   heard_lowers k s (Some (says.FastClose key)) r p t next heavy = fast_heard_less s (is_stopped_by r) p t heavy
 
@@ -378,6 +398,7 @@ module _ {C : Type 0} where
   answered_lowers k (duties.Send (send_duties.Update s)) ds r p t is stands kind = acked_less k s p t (left_less _ ds p is)
   answered_lowers k (duties.Send (send_duties.FastClose s)) ds r p t is stands kind =
       sent_less k s (fast_close_of s p) (having_fast_closed s p) (left p) p t (same_rests p.clock (end_at s p) (having_fast_closed s p) refl) (left_less _ ds p is)
+  answered_lowers k (duties.Send (send_duties.Notice s)) ds r p t is stands kind = note_less k s p t stands
   answered_lowers k (duties.Send (send_duties.Syn s)) ds r p t is stands kind =
       sent_less k s (unsent_segment s p) (having_sent_unsent s p) (left p) p t (same_rests p.clock (end_at s p) (having_sent_unsent s p) refl) (left_less _ ds p is)
   answered_lowers k (duties.Step (step_duties.Data s)) ds r p t is stands kind = data_lowers k s (first_unsent (end_at s p)) r p t (left_less _ ds p is) refl stands kind
@@ -437,6 +458,8 @@ module _ {C : Type 0} where
   answered_lowers k (duties.Ask (ask_duties.Return s)) ds r p t is stands kind = agenda_less (left p) p t (left_less _ ds p is)
   answered_lowers k (duties.Ask (ask_duties.AbortSend s)) ds r p t is stands kind = agenda_less (left p) p t (left_less _ ds p is)
   answered_lowers k (duties.Ask (ask_duties.AbortReceive s)) ds r p t is stands kind = agenda_less (left p) p t (left_less _ ds p is)
+  answered_lowers k (duties.Ask (ask_duties.Announce s id)) ds r p t is stands kind = agenda_less (left p) p t (left_less _ ds p is)
+  answered_lowers k (duties.Ask (ask_duties.Withdraw s id)) ds r p t is stands kind = agenda_less (left p) p t (left_less _ ds p is)
   answered_lowers k (duties.Send (send_duties.Resend s)) ds r p t is stands kind =
       let e = end_at s p in let f : PathEnd = having_sent (resend_occasion e) p.clock (resend_of s p) e in
       sent_less k s (resend_of s p) f (left p) p t (same_rests p.clock e f (sent_same (resend_occasion e) p.clock e.tcp)) (left_less _ ds p is)

@@ -77,6 +77,7 @@ module _ {C : Type 0} where
   passed_calm (duties.Ask (ask_duties.Window s)) p t = unchanged p t
   passed_calm (duties.Send (send_duties.Update s)) p t = unchanged p t
   passed_calm (duties.Send (send_duties.FastClose s)) p t = unchanged p t
+  passed_calm (duties.Send (send_duties.Notice s)) p t = unchanged p t
   passed_calm (duties.Send (send_duties.Syn s)) p t = unchanged p t
   passed_calm (duties.Step (step_duties.Data s)) p t = unchanged p t
   passed_calm (duties.Send (send_duties.DataFin s)) p t = unchanged p t
@@ -106,6 +107,8 @@ module _ {C : Type 0} where
   passed_calm (duties.Ask (ask_duties.Return s)) p t = unchanged p t
   passed_calm (duties.Ask (ask_duties.AbortSend s)) p t = unchanged p t
   passed_calm (duties.Ask (ask_duties.AbortReceive s)) p t = unchanged p t
+  passed_calm (duties.Ask (ask_duties.Announce s id)) p t = unchanged p t
+  passed_calm (duties.Ask (ask_duties.Withdraw s id)) p t = unchanged p t
   passed_calm (duties.Send (send_duties.Resend s)) p t = unchanged p t
   passed_calm (duties.Ask (ask_duties.BreakAck s reason)) p t = unchanged p t
   passed_calm (duties.Send (send_duties.BreakReset s reason)) p t = unchanged p t

@@ -33,11 +33,12 @@ use Rattle.subflow_send.specs.declared.record.RecordRef.{RecordRef}
 use Rattle.std.specs.Option.{option_map}
 use Rattle.subflow_tcp.specs.declared.segments.Outgoing.{Outgoing}
 use Rattle.path_agenda.specs.declared.notice.OwnNotice.{OwnNotice}
+use Rattle.path_agenda.specs.Words.{first_of}
 use Rattle.path_agenda.specs.declared.notice.OwnNotice.TheVariants as notes
 use Rattle.path_core.specs.Ends.{PathEnd}
 use Rattle.path_core.specs.Joins.{is_joined, peer_key_of, join_options, third_options}
 use Rattle.path_core.specs.declared.modes.Modes.{Modes}
-use Rattle.path_core.specs.OptionsOut.{spelled_by, checksum_told, capable_options, syn_options, key_options, opening_options, data_fin_mapping, ack_options, is_first_piece, first_piece_options, piece_options, owes_mapping, own_reset, plain_options, fin_options, record_options, reset_options, segment_of, piece_mapping, ack_said, carried_said, record_or_ack, syn_ack_said, notice_option, dss_and, HasAddress, HasAddresses}
+use Rattle.path_core.specs.OptionsOut.{spelled_by, checksum_told, capable_options, syn_options, key_options, opening_options, data_fin_mapping, ack_options, is_first_piece, first_piece_options, piece_options, owes_mapping, own_reset, plain_options, fin_options, record_options, reset_options, segment_of, piece_mapping, ack_said, noted_said, carried_said, record_or_ack, syn_ack_said, notice_option, dss_and, HasAddress}
 use Rattle.path_core.specs.declared.segment_kind.SegmentKind.{SegmentKind}
 use Rattle.path_core.specs.declared.segment_kind.SegmentKind.TheVariants as to_say
 use Rattle.subflow_tcp.specs.Emitting.{ack_at, record_segment, syn_ack_segment, fin_position, fin_segment, reset_segment}
@@ -321,6 +322,11 @@ module _ (c : Profile) (s : Side) (e : PathEnd) (path : c.spelling.path ≤ 15) 
   answer_can true = syn_ack_can
   answer_can false = ack_can e.tcp.send.nxt None
 
+  pub noted_can : (notice : Option OwnNotice) → IfSome notice HasAddress → CanBeSaid c.spelling s (noted_said c s notice e)
+  noted_can (Some notice) has =
+      dss_and_can (notice_option notice e.modes) (notice_form notice) (notice_length notice e.modes has c.spelling (spelled_by s))
+  noted_can None has = ack_can e.tcp.send.nxt None
+
   pub carried_can : (carrier : Option ℕ) → CanBeSaid c.spelling s (carried_said c s carrier e)
   carried_can (Some key) = dss_and_can (FastClose key) (record { form = tt }) (close_length key)
   carried_can None = ack_can e.tcp.send.nxt None
@@ -338,13 +344,12 @@ module _ (c : Profile) (s : Side) (e : PathEnd) (path : c.spelling.path ≤ 15) 
   resend_can true few = record_can (first_record e) few
   resend_can false few = resent_can e.modes.owes_third e.notices.fast_closed (is_data_fin_owed e)
 
-  said_can : (kind : SegmentKind) → HasAddresses kind → IfSome (first_unsent e) (λ r. length r.piece ≤ 65475)
+  said_can : (kind : SegmentKind) → IfSome (first_of e.notices.queue) HasAddress → IfSome (first_unsent e) (λ r. length r.piece ≤ 65475)
       → IfSome (first_record e) (λ r. length r.piece ≤ 65475) → CanBeSaid c.spelling s (said_by kind c s e)
   said_can (to_say.FailReset place) has unsent first =
       says_two (reset_segment e.tcp) (Fail place) (Reset false 6) refl (record { form = tt }) (record { form = tt })
       (two_room c.spelling (spelled_by s) (Fail place) (Reset false 6) (fail_length _) (reset_length false 6))
-  said_can (to_say.Notice notice) has unsent first =
-      dss_and_can (notice_option notice e.modes) (notice_form notice) (notice_length notice e.modes has c.spelling (spelled_by s))
+  said_can to_say.Notice has unsent first = noted_can (first_of e.notices.queue) has
   said_can to_say.FastClose has unsent first = carried_can e.notices.carrier
   said_can to_say.Ack has unsent first = ack_can e.tcp.send.nxt None
   said_can to_say.DataFin has unsent first = ack_can e.tcp.send.nxt e.sending.known_end
@@ -361,7 +366,7 @@ module _ (c : Profile) (s : Side) (e : PathEnd) (path : c.spelling.path ≤ 15) 
       says (own_reset e) (if e.modes.identity then [] else reset_options reason) [] (own_reset_short c s reason e.modes.identity) (omega arith)
 
   -- records that are lent fit in a segment
-  pub can_be_said : (kind : SegmentKind) (unsent first : Option RecordRef) → HasAddresses kind → option_map record_of unsent ≡ first_unsent e
+  pub can_be_said : (kind : SegmentKind) (unsent first : Option RecordRef) → IfSome (first_of e.notices.queue) HasAddress → option_map record_of unsent ≡ first_unsent e
       → IfSome unsent (λ r. length r.piece.now ≤ 65475) → option_map record_of first ≡ first_record e
       → IfSome first (λ r. length r.piece.now ≤ 65475) → CanBeSaid c.spelling s (said_by kind c s e)
   can_be_said kind unsent first has is_unsent few_unsent is_first few_first =

@@ -99,6 +99,8 @@ module _ {C : Type 0} where
   passed_link (duties.Ask (ask_duties.Return s)) p = refl
   passed_link (duties.Ask (ask_duties.AbortSend s)) p = refl
   passed_link (duties.Ask (ask_duties.AbortReceive s)) p = refl
+  passed_link (duties.Ask (ask_duties.Announce s id)) p = refl
+  passed_link (duties.Ask (ask_duties.Withdraw s id)) p = refl
   passed_link (duties.Ask (ask_duties.LeaveNoted s)) p = refl
   passed_link (duties.Ask (ask_duties.BreakAck s reason)) p = refl
   passed_link (duties.Ask (ask_duties.Leave s)) p = refl
@@ -208,6 +210,8 @@ module _ {C : Type 0} where
     told_so (duties.Ask (ask_duties.Return s)) p = refl
     told_so (duties.Ask (ask_duties.AbortSend s)) p = refl
     told_so (duties.Ask (ask_duties.AbortReceive s)) p = refl
+    told_so (duties.Ask (ask_duties.Announce s id)) p = refl
+    told_so (duties.Ask (ask_duties.Withdraw s id)) p = refl
     told_so (duties.Ask (ask_duties.LeaveNoted s)) p = refl
     told_so (duties.Ask (ask_duties.BreakAck s reason)) p = refl
     told_so (duties.Ask (ask_duties.Leave s)) p = refl
@@ -221,6 +225,7 @@ module _ {C : Type 0} where
     told_so (duties.Send (send_duties.Update s)) p = (refl, λ r. refl)
     told_so (duties.Send (send_duties.Syn s)) p = (refl, λ r. refl)
     told_so (duties.Send (send_duties.FastClose s)) p = (refl, λ r. refl)
+    told_so (duties.Send (send_duties.Notice s)) p = (refl, λ r. refl)
     told_so (duties.Send (send_duties.DataFin s)) p = (refl, λ r. refl)
     told_so (duties.Send (send_duties.Fin s)) p = (refl, λ r. refl)
     told_so (duties.Send (send_duties.SynAck s)) p = (refl, λ r. refl)

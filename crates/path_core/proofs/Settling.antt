@@ -19,6 +19,7 @@ module _ {C : Type 0} where
   stands_anyway (duties.Ask (ask_duties.Window s)) es p = refl
   stands_anyway (duties.Send (send_duties.Update s)) es p = refl
   stands_anyway (duties.Send (send_duties.FastClose s)) es p = refl
+  stands_anyway (duties.Send (send_duties.Notice s)) es p = refl
   stands_anyway (duties.Send (send_duties.Syn s)) es p = refl
   stands_anyway (duties.Step (step_duties.Data s)) es p = refl
   stands_anyway (duties.Send (send_duties.DataFin s)) es p = refl
@@ -55,6 +56,8 @@ module _ {C : Type 0} where
   stands_anyway (duties.Ask (ask_duties.Return s)) es p = refl
   stands_anyway (duties.Ask (ask_duties.AbortSend s)) es p = refl
   stands_anyway (duties.Ask (ask_duties.AbortReceive s)) es p = refl
+  stands_anyway (duties.Ask (ask_duties.Announce s id)) es p = refl
+  stands_anyway (duties.Ask (ask_duties.Withdraw s id)) es p = refl
   stands_anyway (duties.Send (send_duties.Resend s)) es p = refl
   stands_anyway (duties.Ask (ask_duties.BreakAck s reason)) es p = refl
   stands_anyway (duties.Send (send_duties.BreakReset s reason)) es p = refl
@@ -71,6 +74,7 @@ module _ {C : Type 0} where
   passes_anyway (duties.Ask (ask_duties.Window s)) es p = refl
   passes_anyway (duties.Send (send_duties.Update s)) es p = refl
   passes_anyway (duties.Send (send_duties.FastClose s)) es p = refl
+  passes_anyway (duties.Send (send_duties.Notice s)) es p = refl
   passes_anyway (duties.Send (send_duties.Syn s)) es p = refl
   passes_anyway (duties.Step (step_duties.Data s)) es p = refl
   passes_anyway (duties.Send (send_duties.DataFin s)) es p = refl
@@ -107,6 +111,8 @@ module _ {C : Type 0} where
   passes_anyway (duties.Ask (ask_duties.Return s)) es p = refl
   passes_anyway (duties.Ask (ask_duties.AbortSend s)) es p = refl
   passes_anyway (duties.Ask (ask_duties.AbortReceive s)) es p = refl
+  passes_anyway (duties.Ask (ask_duties.Announce s id)) es p = refl
+  passes_anyway (duties.Ask (ask_duties.Withdraw s id)) es p = refl
   passes_anyway (duties.Send (send_duties.Resend s)) es p = refl
   passes_anyway (duties.Ask (ask_duties.BreakAck s reason)) es p = refl
   passes_anyway (duties.Send (send_duties.BreakReset s reason)) es p = refl

@@ -35,7 +35,7 @@ use Rattle.path_core.specs.Codec.{HeardSegment}
 use Rattle.path_core.specs.OptionsOut.{spelled_by}
 use Rattle.actor_desk.specs.Words.{tail_of}
 use Rattle.subflow_tcp.specs.declared.segments.Occasion.TheVariants as to_send
-use Rattle.path_core.specs.Events.{never_joined, is_death, after_line, at_tick, copy_heard, heard_in, copy_taken, happens_if, died, step_for, next_event}
+use Rattle.path_core.specs.Events.{never_joined, after_line, at_tick, copy_heard, heard_in, copy_taken, happens_if, died, step_for, next_event}
 use Rattle.path_core.specs.declared.event.Event.{Event}
 use Rattle.path_core.specs.declared.event.Event.TheVariants as happenings
 use Rattle.control_book.specs.declared.call.ControlReply.TheVariants as control_replies
@@ -54,6 +54,9 @@ use Rattle.join_handshake.specs.declared.hearing.JoinSyn.{JoinSyn}
 use Rattle.path_core.specs.Joining.{is_never, keys_begun, opened_by, asked_at, join_heard_ask, join_taken, refusal_of}
 use Rattle.path_core.specs.Breaking.{reset_of, reset_on, break_ask, answered_break}
 use Rattle.path_core.specs.FastClosing.{fast_close_of, having_fast_closed}
+use Rattle.path_core.specs.Addressing.{note_of, having_noted}
+use Rattle.path_core.specs.declared.lines.LineAction.{LineAction}
+use Rattle.path_core.specs.declared.lines.LineAction.TheVariants as actions
 use Rattle.path_core.specs.Emission.{first_unsent, data_ask, unsent_segment, having_sent_unsent, data_fin_segment, having_sent_data_fin, fin_segment_of, having_sent_fin, Grant, grant_in, answered_grant, answered_data}
 use Rattle.path_core.specs.Opening.{syn_ack_of, peer_key_ask, answered_peer_key, opened_ask, answered_opened}
 use Rattle.loss_recovery.specs.declared.windows.Pending.{Pending}
@@ -90,6 +93,7 @@ same_stands (duties.Send (send_duties.ResetNoted s)) p = refl
 same_stands (duties.Ask (ask_duties.Window s)) p = refl
 same_stands (duties.Send (send_duties.Update s)) p = refl
 same_stands (duties.Send (send_duties.FastClose s)) p = refl
+same_stands (duties.Send (send_duties.Notice s)) p = refl
 same_stands (duties.Send (send_duties.Syn s)) p = refl
 same_stands (duties.Step (step_duties.Data s)) p = refl
 same_stands (duties.Send (send_duties.DataFin s)) p = refl
@@ -126,6 +130,8 @@ same_stands (duties.Send (send_duties.ResetAnswer s)) p = refl
 same_stands (duties.Ask (ask_duties.Return s)) p = refl
 same_stands (duties.Ask (ask_duties.AbortSend s)) p = refl
 same_stands (duties.Ask (ask_duties.AbortReceive s)) p = refl
+same_stands (duties.Ask (ask_duties.Announce s id)) p = refl
+same_stands (duties.Ask (ask_duties.Withdraw s id)) p = refl
 same_stands (duties.Send (send_duties.Resend s)) p = refl
 same_stands (duties.Ask (ask_duties.BreakAck s reason)) p = refl
 same_stands (duties.Send (send_duties.BreakReset s reason)) p = refl
@@ -195,6 +201,7 @@ same_asks (duties.Send (send_duties.ResetNoted s)) p = same_sends s (reset_of s 
 same_asks (duties.Ask (ask_duties.Window s)) p = refl
 same_asks (duties.Send (send_duties.Update s)) p = same_sends s (ack_segment s p) p
 same_asks (duties.Send (send_duties.FastClose s)) p = same_sends s (fast_close_of s p) p
+same_asks (duties.Send (send_duties.Notice s)) p = same_sends s (note_of s p) p
 same_asks (duties.Send (send_duties.Syn s)) p = same_sends s (unsent_segment s p) p
 same_asks (duties.Step (step_duties.Data s)) p = same_data s (first_unsent (end_at s p)) p
 same_asks (duties.Send (send_duties.DataFin s)) p = same_sends s (data_fin_segment s p) p
@@ -231,6 +238,8 @@ same_asks (duties.Send (send_duties.ResetAnswer s)) p = same_sends s (dead_answe
 same_asks (duties.Ask (ask_duties.Return s)) p = refl
 same_asks (duties.Ask (ask_duties.AbortSend s)) p = refl
 same_asks (duties.Ask (ask_duties.AbortReceive s)) p = refl
+same_asks (duties.Ask (ask_duties.Announce s id)) p = refl
+same_asks (duties.Ask (ask_duties.Withdraw s id)) p = refl
 same_asks (duties.Send (send_duties.Resend s)) p = same_sends s (resend_of s p) p
 same_asks (duties.Ask (ask_duties.BreakAck s reason)) p = refl
 same_asks (duties.Send (send_duties.BreakReset s reason)) p = same_sends s (reset_of s (Some reason) p) p
@@ -247,6 +256,7 @@ same_passed (duties.Send (send_duties.ResetNoted s)) p = refl
 same_passed (duties.Ask (ask_duties.Window s)) p = refl
 same_passed (duties.Send (send_duties.Update s)) p = refl
 same_passed (duties.Send (send_duties.FastClose s)) p = refl
+same_passed (duties.Send (send_duties.Notice s)) p = refl
 same_passed (duties.Send (send_duties.Syn s)) p = refl
 same_passed (duties.Step (step_duties.Data s)) p = refl
 same_passed (duties.Send (send_duties.DataFin s)) p = refl
@@ -283,6 +293,8 @@ same_passed (duties.Send (send_duties.ResetAnswer s)) p = refl
 same_passed (duties.Ask (ask_duties.Return s)) p = refl
 same_passed (duties.Ask (ask_duties.AbortSend s)) p = refl
 same_passed (duties.Ask (ask_duties.AbortReceive s)) p = refl
+same_passed (duties.Ask (ask_duties.Announce s id)) p = refl
+same_passed (duties.Ask (ask_duties.Withdraw s id)) p = refl
 same_passed (duties.Send (send_duties.Resend s)) p = refl
 same_passed (duties.Ask (ask_duties.BreakAck s reason)) p = refl
 same_passed (duties.Send (send_duties.BreakReset s reason)) p = refl
@@ -493,9 +505,11 @@ module _ (show : Carried → List ℕ) where
       = rw (same_position due link.under_way) (same_without (position (is_due due) link.under_way) link.under_way) in
       ap (λ flights. record (with_copies_shown show link) { under_way = flights }) gone
 
-same_line : (death : Bool) (p : PathState Carried) → after_line death (shown_path p) ≡ shown_path (after_line death p)
-same_line true p = refl
-same_line false p = refl
+same_line : (action : LineAction) (p : PathState Carried) → after_line action (shown_path p) ≡ shown_path (after_line action p)
+same_line actions.Die p = refl
+same_line (actions.Prio s backup) p = refl
+same_line (actions.Announce s id) p = refl
+same_line (actions.Withdraw s id) p = refl
 
 same_copy_heard : (s : Side) (heard : Option HeardSegment) (p : PathState Carried) → copy_heard s heard (shown_path p) ≡ shown_path (copy_heard s heard p)
 same_copy_heard s None p = refl
@@ -546,7 +560,7 @@ same_happening : (o : Option Event) (r : Reply) (p : PathState Carried)
 same_happening None r p fresh = refl
 same_happening (Some (happenings.Joins tick)) r p fresh =
     same_begun (is_never r) r (leaves A) (emission A) (record (at_tick tick p) { joined_at = None })
-same_happening (Some (happenings.Takes line)) r p fresh = same_line (is_death line.line) (record (at_tick line.tick p) { lines = tail_of p.lines })
+same_happening (Some (happenings.Takes line)) r p fresh = same_line line.action (record (at_tick line.tick p) { lines = tail_of p.lines })
 same_happening (Some (happenings.Arrives due)) r p fresh = same_copy due p (λ flight is. fresh due flight refl is)
 same_happening (Some (happenings.Fires s tick)) r p fresh = refl
 
@@ -561,6 +575,7 @@ same_answered (duties.Send (send_duties.ResetNoted s)) r p nothing fresh = same_
 same_answered (duties.Ask (ask_duties.Window s)) r p nothing fresh = refl
 same_answered (duties.Send (send_duties.Update s)) r p nothing fresh = same_sent s (ack_segment s p) (having_sent to_send.Ack p.clock (ack_segment s p) (end_at s p)) (left p) p nothing
 same_answered (duties.Send (send_duties.FastClose s)) r p nothing fresh = same_sent s (fast_close_of s p) (having_fast_closed s p) (left p) p nothing
+same_answered (duties.Send (send_duties.Notice s)) r p nothing fresh = same_sent s (note_of s p) (having_noted s p) p.agenda p nothing
 same_answered (duties.Send (send_duties.Syn s)) r p nothing fresh = same_sent s (unsent_segment s p) (having_sent_unsent s p) (left p) p nothing
 same_answered (duties.Step (step_duties.Data s)) r p nothing fresh = same_data_answered s (first_unsent (end_at s p)) r p nothing
 same_answered (duties.Send (send_duties.DataFin s)) r p nothing fresh = same_sent s (data_fin_segment s p) (having_sent_data_fin s p) (left p) p nothing
@@ -599,6 +614,8 @@ same_answered (duties.Send (send_duties.ResetAnswer s)) r p nothing fresh = same
 same_answered (duties.Ask (ask_duties.Return s)) r p nothing fresh = refl
 same_answered (duties.Ask (ask_duties.AbortSend s)) r p nothing fresh = refl
 same_answered (duties.Ask (ask_duties.AbortReceive s)) r p nothing fresh = refl
+same_answered (duties.Ask (ask_duties.Announce s id)) r p nothing fresh = refl
+same_answered (duties.Ask (ask_duties.Withdraw s id)) r p nothing fresh = refl
 same_answered (duties.Send (send_duties.Resend s)) r p nothing fresh = same_sent s (resend_of s p) (having_sent (resend_occasion (end_at s p)) p.clock (resend_of s p) (end_at s p)) (left p) p nothing
 same_answered (duties.Ask (ask_duties.BreakAck s reason)) r p nothing fresh = refl
 same_answered (duties.Send (send_duties.BreakReset s reason)) r p nothing fresh = same_reset s (Some reason) (leaves s) p nothing

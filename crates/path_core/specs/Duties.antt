@@ -25,6 +25,7 @@ use Rattle.path_core.specs.Events.{next_event, step_for, happens_if, answered_jo
 use Rattle.path_core.specs.Joining.{is_join_pending, join_begin_ask, asked_at, join_heard_ask, answered_join_heard, refusal_of, answered_refusal}
 use Rattle.path_agenda.specs.Items.{key_heard, keys_heard}
 use Rattle.path_core.specs.FastClosing.{leaves_silently, resets_noted, answered_leave_noted, is_fast_close_due, fast_close_of, answered_fast_close, abort_send_ask, abort_receive_ask}
+use Rattle.path_core.specs.Addressing.{is_note_due, note_of, answered_note, announce_ask, withdraw_ask}
 use Rattle.path_core.specs.Fallback.{fell_ask, answered_fell, identity_ask, answered_identity}
 use Rattle.path_core.specs.Opening.{syn_window_ask, syn_ack_of, answered_syn_ack, is_plain_syn, peer_key_stands, peer_key_ask, answered_peer_key, is_opened_by_keys, is_opened_plainly, opened_ask, answered_opened, live_ask}
 use Rattle.path_core.specs.Passing.{piece_of, piece_ask, is_placed, answered_piece, is_fin_set, data_fin_of, fin_ask, answered_fin_heard, after_pass_fin, plain_fin, answered_plain_fin, rate_ask, answered_rate, first_segment, answered_again, answer_of, answered_answer, dead_answer, answered_dead, resend_of, answered_resend}
@@ -60,6 +61,8 @@ stands (duties.Ask (ask_duties.Rate s)) p = is_some (end_at s p).tcp.congestion.
 stands (duties.Ask (ask_duties.Return s)) p = not (is_nil (end_at s p).sending.granted)
 stands (duties.Ask (ask_duties.AbortSend s)) p = true
 stands (duties.Ask (ask_duties.AbortReceive s)) p = true
+stands (duties.Ask (ask_duties.Announce s id)) p = true
+stands (duties.Ask (ask_duties.Withdraw s id)) p = true
 stands (duties.Ask (ask_duties.LeaveNoted s)) p = leaves_silently (end_at s p)
 stands (duties.Ask (ask_duties.BreakAck s reason)) p = true
 stands (duties.Ask (ask_duties.Leave s)) p = true
@@ -73,6 +76,7 @@ stands (duties.Step (step_duties.Unmapped s)) p = breaks_by_unmapped (end_at s p
 stands (duties.Send (send_duties.Update s)) p = is_update_due p.profile (end_at s p)
 stands (duties.Send (send_duties.Syn s)) p = is_syn_due (end_at s p)
 stands (duties.Send (send_duties.FastClose s)) p = is_fast_close_due (end_at s p)
+stands (duties.Send (send_duties.Notice s)) p = is_note_due (end_at s p)
 stands (duties.Send (send_duties.DataFin s)) p = is_data_fin_due (end_at s p)
 stands (duties.Send (send_duties.Fin s)) p = is_fin_due (end_at s p)
 stands (duties.Send (send_duties.SynAck s)) p = true
@@ -112,6 +116,8 @@ ask_for k (duties.Ask (ask_duties.Rate s)) p = rate_ask s (end_at s p).tcp.conge
 ask_for k (duties.Ask (ask_duties.Return s)) p = return_ask s p
 ask_for k (duties.Ask (ask_duties.AbortSend s)) p = abort_send_ask s
 ask_for k (duties.Ask (ask_duties.AbortReceive s)) p = abort_receive_ask s
+ask_for k (duties.Ask (ask_duties.Announce s id)) p = announce_ask s id
+ask_for k (duties.Ask (ask_duties.Withdraw s id)) p = withdraw_ask s id
 ask_for k (duties.Ask (ask_duties.LeaveNoted s)) p = return_ask s p
 ask_for k (duties.Ask (ask_duties.BreakAck s reason)) p = ack_out_ask s
 ask_for k (duties.Ask (ask_duties.Leave s)) p = return_ask s p
@@ -125,6 +131,7 @@ ask_for k (duties.Step (step_duties.Unmapped s)) p = break_ask k s 6 p
 ask_for k (duties.Send (send_duties.Update s)) p = sends k s (ack_segment s p) p
 ask_for k (duties.Send (send_duties.Syn s)) p = sends k s (unsent_segment s p) p
 ask_for k (duties.Send (send_duties.FastClose s)) p = sends k s (fast_close_of s p) p
+ask_for k (duties.Send (send_duties.Notice s)) p = sends k s (note_of s p) p
 ask_for k (duties.Send (send_duties.DataFin s)) p = sends k s (data_fin_segment s p) p
 ask_for k (duties.Send (send_duties.Fin s)) p = sends k s (fin_segment_of s p) p
 ask_for k (duties.Send (send_duties.SynAck s)) p = sends k s (syn_ack_of s p) p
@@ -164,6 +171,8 @@ passed (duties.Ask (ask_duties.Rate s)) p = p
 passed (duties.Ask (ask_duties.Return s)) p = p
 passed (duties.Ask (ask_duties.AbortSend s)) p = p
 passed (duties.Ask (ask_duties.AbortReceive s)) p = p
+passed (duties.Ask (ask_duties.Announce s id)) p = p
+passed (duties.Ask (ask_duties.Withdraw s id)) p = p
 passed (duties.Ask (ask_duties.LeaveNoted s)) p = p
 passed (duties.Ask (ask_duties.BreakAck s reason)) p = p
 passed (duties.Ask (ask_duties.Leave s)) p = p
@@ -191,6 +200,7 @@ abbrev pub sent_for : {C : Type 0} → Codec C → SendDuty → PathState C → 
 sent_for k (send_duties.Update s) p = acknowledges k s p
 sent_for k (send_duties.Syn s) p = answered_syn k s p
 sent_for k (send_duties.FastClose s) p = answered_fast_close k s p
+sent_for k (send_duties.Notice s) p = answered_note k s p
 sent_for k (send_duties.DataFin s) p = answered_data_fin_sent k s p
 sent_for k (send_duties.Fin s) p = answered_fin k s p
 sent_for k (send_duties.SynAck s) p = answered_syn_ack k s p
@@ -229,6 +239,8 @@ answered k (duties.Ask (ask_duties.Live s)) r p = done p
 answered k (duties.Ask (ask_duties.Return s)) r p = done p
 answered k (duties.Ask (ask_duties.AbortSend s)) r p = done p
 answered k (duties.Ask (ask_duties.AbortReceive s)) r p = done p
+answered k (duties.Ask (ask_duties.Announce s id)) r p = done p
+answered k (duties.Ask (ask_duties.Withdraw s id)) r p = done p
 answered k (duties.Ask (ask_duties.Dead s)) r p = done p
 answered k (duties.Step (step_duties.Look s)) r p = answered_look s r p
 answered k (duties.Step (step_duties.Data s)) r p = answered_data k s (first_unsent (end_at s p)) r p

@@ -3,8 +3,6 @@ use Rattle.std.specs.Prelude.{ℕ, max, ◌<◌, ◌&&◌, IsSome, Bool, true, f
 use Rattle.std.specs.Option.{option_and_then}
 use Rattle.outside_kit.specs.declared.side.Side.{Side}
 use Rattle.outside_kit.specs.declared.side.Side.TheVariants.{A, B}
-use Rattle.link_script.specs.declared.script.ScriptLine.{ScriptLine}
-use Rattle.link_script.specs.declared.script.ScriptLine.TheVariants.{Die}
 use Rattle.link_model.specs.declared.flight.Due.{Due}
 use Rattle.link_model.specs.declared.flight.Flight.{Flight}
 use Rattle.link_model.specs.Steps.{next_due, arriving, after_delivery, after_cut, peer}
@@ -22,7 +20,8 @@ use Rattle.path_core.specs.declared.event.Event.TheVariants as happenings
 use Rattle.path_agenda.specs.declared.duty.Duty.TheVariants as duties
 use Rattle.path_agenda.specs.declared.duty.AskDuty.TheVariants as ask_duties
 use Rattle.actor_desk.specs.declared.ask.Reply.{Reply}
-use Rattle.path_agenda.specs.Agenda.{rest_of_turn, emission, expired, expired_for_ever, leaves}
+use Rattle.path_agenda.specs.Agenda.{rest_of_turn, emission, expired, expired_for_ever, announces, withdraws, leaves}
+use Rattle.path_agenda.specs.declared.notice.OwnNotice.TheVariants as notes
 use Rattle.path_agenda.specs.Words.{replaced}
 use Rattle.path_core.specs.Arriving.{expected_by, items_of, options_heard, judged_in, after_judged, template_of}
 use Rattle.path_core.specs.Codec.{Codec, HeardSegment}
@@ -31,6 +30,8 @@ use Rattle.path_core.specs.Joining.{join_begin_ask, keys_begun, is_never, with_m
 use Rattle.path_core.specs.Joins.{is_joined}
 use Rattle.path_core.specs.State.{PathState, end_at, with_agenda, goes_on, left}
 use Rattle.path_core.specs.declared.lines.LineLeft.{LineLeft}
+use Rattle.path_core.specs.declared.lines.LineAction.{LineAction}
+use Rattle.path_core.specs.declared.lines.LineAction.TheVariants as actions
 use Rattle.actor_desk.specs.Words.{tail_of}
 
 abbrev pub tick_of : Event → ℕ
@@ -149,16 +150,21 @@ is_dead_or_listening _ = false
 abbrev pub is_dead_path : {C : Type 0} → PathState C → Bool
 is_dead_path p = is_dead p.a.tcp.state && is_dead_or_listening p.b.tcp.state
 
-abbrev pub is_death : ScriptLine → Bool
-is_death (Die path tick) = true
-is_death _ = false
+-- the priority is to be told to the peer, unless the end is dead (RFC 8684, section 3.3.8)
+abbrev pub with_priority : Bool → PathEnd → PathEnd
+with_priority backup e =
+    let queue = e.notices.queue in
+    record e { notices = record e.notices { queue = (if is_dead e.tcp.state then queue else queue ++ notes.Prio backup ∷ []) } }
 
--- the others lead to nothing yet
-abbrev pub after_line : {C : Type 0} → Bool → PathState C → PathState C
-after_line death p = if death then path_died p else with_agenda rest_of_turn p
+-- an address that is announced or taken back is told to the side, whether its end lives or not (RFC 8684, section 3.4)
+abbrev pub after_line : {C : Type 0} → LineAction → PathState C → PathState C
+after_line actions.Die p = path_died p
+after_line (actions.Prio s backup) p = goes_on s (with_priority backup (end_at s p)) (emission s) p
+after_line (actions.Announce s id) p = with_agenda (announces s id) p
+after_line (actions.Withdraw s id) p = with_agenda (withdraws s id) p
 
 abbrev pub line_taken : {C : Type 0} → LineLeft → PathState C → PathState C
-line_taken line p = after_line (is_death line.line) (record (at_tick line.tick p) { lines = tail_of p.lines })
+line_taken line p = after_line line.action (record (at_tick line.tick p) { lines = tail_of p.lines })
 
 -- what a copy says to the end
 abbrev pub told_at : {C : Type 0} → ℕ → Side → HeardSegment → PathState C → PathState C

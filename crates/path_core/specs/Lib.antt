@@ -20,6 +20,7 @@ pub mod Opening
 pub mod Joining
 pub mod Breaking
 pub mod FastClosing
+pub mod Addressing
 pub mod Treating
 pub mod Passing
 pub mod Duties

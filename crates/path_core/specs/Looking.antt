@@ -52,6 +52,7 @@ send_of (sends_of.Update s) = to_send s kinds.Ack
 send_of (sends_of.Acknowledge s) = to_send s kinds.Ack
 send_of (sends_of.Syn s) = to_send s kinds.Unsent
 send_of (sends_of.FastClose s) = to_send s kinds.FastClose
+send_of (sends_of.Notice s) = to_send s kinds.Notice
 send_of (sends_of.DataFin s) = to_send s kinds.DataFin
 send_of (sends_of.Fin s) = to_send s kinds.Fin
 send_of (sends_of.SynAck s) = to_send s kinds.SynAck

@@ -5,10 +5,15 @@ use Rattle.control_book.specs.declared.call.Notice.TheVariants as told
 use Rattle.path_agenda.specs.declared.notice.OwnNotice.{OwnNotice}
 use Rattle.path_agenda.specs.declared.notice.OwnNotice.TheVariants as notes
 use Rattle.path_core.specs.Ends.{Notices}
+use Rattle.actor_desk.specs.Words.{tail_of}
 
 -- behind all others
 abbrev pub queued : OwnNotice → Notices → Notices
 queued notice n = record n { queue = n.queue ++ notice ∷ [] }
+
+-- the first of it was noted
+abbrev pub without_first : Notices → Notices
+without_first n = record n { queue = tail_of n.queue }
 
 -- An announcement that the end can't send now is told again in the next round. The key is kept until MP_FASTCLOSE is sent.
 abbrev pub after_notice : Notice → Bool → Notices → Notices

@@ -26,8 +26,6 @@ use Rattle.subflow_tcp.specs.States.{is_opening}
 use Rattle.path_agenda.specs.declared.notice.OwnNotice.{OwnNotice}
 use Rattle.path_agenda.specs.declared.notice.OwnNotice.TheVariants as notes
 use Rattle.path_core.specs.declared.modes.Modes.{Modes}
-use Rattle.path_core.specs.declared.segment_kind.SegmentKind.{SegmentKind}
-use Rattle.path_core.specs.declared.segment_kind.SegmentKind.TheVariants as to_say
 use Rattle.path_core.specs.Ends.{PathEnd}
 use Rattle.path_core.specs.Joins.{is_joined, peer_key_of, join_options, third_options}
 use Rattle.path_core.specs.State.{Profile}
@@ -166,10 +164,6 @@ abbrev pub HasAddress : OwnNotice → Type 0
 HasAddress (notes.AddEcho id address port) = length (octets_of address) ≤ 16
 HasAddress _ = Unit {0}
 
-abbrev pub HasAddresses : SegmentKind → Type 0
-HasAddresses (to_say.Notice notice) = HasAddress notice
-HasAddresses _ = Unit {0}
-
 -- ---- segments
 
 -- a segment has the window that the book told last, and a SYN the maximum segment size
@@ -222,6 +216,11 @@ dss_and c option e = segment_of c (ack_at e.tcp.send.nxt e.tcp) (Dss (Some e.rec
 
 abbrev pub notice_said : Profile → OwnNotice → PathEnd → PlainSegment
 notice_said c notice e = dss_and c (notice_option notice e.modes) e
+
+-- a notice that may be there
+abbrev pub noted_said : Profile → Side → Option OwnNotice → PathEnd → PlainSegment
+noted_said c s (Some notice) e = notice_said c notice e
+noted_said c s None e = ack_said c s e.tcp.send.nxt None e
 
 -- with the peer's key (RFC 8684, section 3.5)
 abbrev pub fast_close_said : Profile → ℕ → PathEnd → PlainSegment

@@ -15,6 +15,8 @@ use Rattle.path_core.specs.Emission.{Grant, first_unsent, grant_in}
 use Rattle.path_core.specs.Events.{next_event}
 use Rattle.path_core.specs.Standing.{queues_in}
 use Rattle.path_core.specs.State.{PathState, end_at}
+use Rattle.path_core.specs.declared.lines.LineAction.{LineAction}
+use Rattle.path_core.specs.declared.lines.LineAction.TheVariants as actions
 
 -- what is to be acknowledged is a place, and how much more is taken a window
 abbrev pub IsAckBounded : Reply → Type 0
@@ -67,6 +69,8 @@ asks_bytes (duties.Ask (ask_duties.Return s)) = false
 asks_bytes (duties.Ask (ask_duties.LeaveNoted s)) = false
 asks_bytes (duties.Ask (ask_duties.AbortSend s)) = false
 asks_bytes (duties.Ask (ask_duties.AbortReceive s)) = false
+asks_bytes (duties.Ask (ask_duties.Announce s id)) = false
+asks_bytes (duties.Ask (ask_duties.Withdraw s id)) = false
 asks_bytes (duties.Ask (ask_duties.BreakAck s reason)) = false
 asks_bytes (duties.Ask (ask_duties.Leave s)) = false
 asks_bytes (duties.Ask (ask_duties.Dead s)) = false
@@ -84,20 +88,27 @@ abbrev pub AreRowsInRange : Reply → Type 0
 AreRowsInRange (replies.Control (control_replies.Rows rows)) = All IsInRange rows
 AreRowsInRange _ = Unit {0}
 
--- a copy arrives
-abbrev pub is_arrival : Option Event → Bool
-is_arrival None = false
-is_arrival (Some (happenings.Joins tick)) = false
-is_arrival (Some (happenings.Takes line)) = false
-is_arrival (Some (happenings.Arrives due)) = true
-is_arrival (Some (happenings.Fires s tick)) = false
+-- a line has something to be noted to the peer
+abbrev pub notes_by : LineAction → Bool
+notes_by actions.Die = false
+notes_by (actions.Prio s backup) = true
+notes_by (actions.Announce s id) = false
+notes_by (actions.Withdraw s id) = false
+
+-- a copy arrives, or a line has something to be noted
+abbrev pub event_needs_memory : Option Event → Bool
+event_needs_memory None = false
+event_needs_memory (Some (happenings.Joins tick)) = false
+event_needs_memory (Some (happenings.Takes line)) = notes_by line.action
+event_needs_memory (Some (happenings.Arrives due)) = true
+event_needs_memory (Some (happenings.Fires s tick)) = false
 
 -- the reply to a duty needs memory where a segment is sent or may be, bytes were granted, a copy arrives, or something is to be
 -- noted to the peer
 abbrev pub needs_memory : {C : Type 0} → Duty → Reply → PathState C → Bool
 needs_memory (duties.Step (step_duties.Data s)) r p = is_some (first_unsent (end_at s p)) || is_some (grant_in r)
 needs_memory (duties.Step (step_duties.Look s)) r p = queues_in r (end_at s p)
-needs_memory (duties.Step step_duties.Events) r p = is_arrival (next_event p)
+needs_memory (duties.Step step_duties.Events) r p = event_needs_memory (next_event p)
 needs_memory (duties.Step (step_duties.Heard s index)) r p = true
 needs_memory (duties.Step (step_duties.PlainAck s)) r p = true
 needs_memory (duties.Step (step_duties.Unmapped s)) r p = true

@@ -22,6 +22,7 @@ use Rattle.path_agenda.specs.declared.heard.Heard.TheVariants as says
 use Rattle.path_core.specs.Breaking.{answered_break, break_ask}
 use Rattle.path_core.specs.StreamEnds.{after_acked}
 use Rattle.path_core.specs.FastClosing.{fast_heard_ask, answered_fast_heard}
+use Rattle.path_core.specs.Addressing.{notice_ask, answered_notice}
 use Rattle.path_core.specs.Codec.{Codec}
 use Rattle.path_core.specs.declared.modes.Modes.{Modes}
 use Rattle.path_core.specs.Ends.{PathEnd, Sending}
@@ -57,7 +58,7 @@ heard_stands (says.InfiniteMapping place position) e = counts e && reads_mapping
 heard_stands (says.PeerKey key) e = false
 heard_stands (says.Keys own peer) e = not e.treated.keys_told
 heard_stands (says.Join form) e = false
-heard_stands (says.Notice notice) e = false
+heard_stands (says.Notice notice) e = true
 heard_stands says.Fail e = false
 heard_stands (says.FastClose key) e = true
 
@@ -70,6 +71,7 @@ heard_ask k s (says.Mapping fin) p = mapping_ask k s p
 heard_ask k s (says.DataFin place) p = fell_ask s events.MappingHeard p
 heard_ask k s (says.InfiniteMapping place position) p = fell_ask s events.InfiniteHeard p
 heard_ask k s (says.Keys own peer) p = keys_ask s (Some (record { own = own; peer = peer }))
+heard_ask k s (says.Notice notice) p = notice_ask s notice p
 heard_ask k s (says.FastClose key) p = fast_heard_ask s key
 heard_ask k s _ p = asks.Local steps.End
 
@@ -117,6 +119,7 @@ answered_heard k s (says.DataFin place) r p =
 answered_heard k s (says.InfiniteMapping place position) r p = answered_fell s events.InfiniteHeard r p
 answered_heard k s (says.Keys own peer) r p =
     goes_on s (after_keys r (Some (record { own = own; peer = peer })) (end_at s p)) (left p) p
+answered_heard k s (says.Notice notice) r p = answered_notice s notice r p
 answered_heard k s (says.FastClose key) r p = answered_fast_heard s r p
 answered_heard k s _ r p = with_agenda (left p) p
 

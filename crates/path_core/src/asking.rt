@@ -8,6 +8,7 @@ ghost use Rattle.path_core.specs.Octets.{octets};
 ghost use Rattle.path_core.specs.Duties.{stands, ask_for, passed, answered};
 ghost use Rattle.path_core.specs.Replies.{IsAckBounded, AreRowsInRange, asks_bytes};
 
+use crate::addressing::{announce_ask, withdraw_ask};
 use crate::fast_closing::{abort_receive_ask, abort_send_ask};
 use crate::joining::join_begin_ask;
 use crate::machine::Machine;
@@ -46,6 +47,8 @@ impl Machine {
             | AskDuty::GoIdentity(_)
             | AskDuty::AbortSend(_)
             | AskDuty::AbortReceive(_)
+            | AskDuty::Announce { .. }
+            | AskDuty::Withdraw { .. }
             | AskDuty::BreakAck { .. }
             | AskDuty::Leave(_)
             | AskDuty::Dead(_) => true,
@@ -87,6 +90,8 @@ impl Machine {
             AskDuty::Return(side) => Ok(self.return_ask(side)),
             AskDuty::AbortSend(side) => Ok(abort_send_ask(side)),
             AskDuty::AbortReceive(side) => Ok(abort_receive_ask(side)),
+            AskDuty::Announce { side, id } => Ok(announce_ask(side, id)),
+            AskDuty::Withdraw { side, id } => Ok(withdraw_ask(side, id)),
             AskDuty::LeaveNoted(side) => Ok(self.return_ask(side)),
             AskDuty::BreakAck { side, .. } => Ok(ack_out_ask(side)),
             AskDuty::Leave(side) => Ok(self.return_ask(side)),
@@ -120,6 +125,8 @@ impl Machine {
             | AskDuty::Return(_)
             | AskDuty::AbortSend(_)
             | AskDuty::AbortReceive(_)
+            | AskDuty::Announce { .. }
+            | AskDuty::Withdraw { .. }
             | AskDuty::LeaveNoted(_)
             | AskDuty::BreakAck { .. }
             | AskDuty::Leave(_)
@@ -155,6 +162,8 @@ impl Machine {
             AskDuty::Return(_) => self.done(),
             AskDuty::AbortSend(_) => self.done(),
             AskDuty::AbortReceive(_) => self.done(),
+            AskDuty::Announce { .. } => self.done(),
+            AskDuty::Withdraw { .. } => self.done(),
             AskDuty::LeaveNoted(side) => self.leave_silently(side),
             AskDuty::BreakAck { side, reason } => self.ack_out_breaking(side, reply, reason),
             AskDuty::Leave(side) => self.turns_to(Duty::Ask(AskDuty::Dead(side))),

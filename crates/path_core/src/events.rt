@@ -2,6 +2,7 @@
 
 ghost use Rattle.std.specs.Prelude.{◌≡◌, ◌&&◌, ◌∷◌, ◌++◌, ◌<◌, ◌^◌, ◌-◌, [], false, max, if◌then◌else◌, IfSome, IsSome, IsOk, OnOk, OnErr};
 ghost use Rattle.actor_desk.specs.Kinds.{CanBeAsked};
+ghost use Rattle.actor_desk.specs.Words.{tail_of};
 ghost use Rattle.link_model.specs.Steps.{next_due};
 ghost use Rattle.outside_kit.specs.declared.side.Side.TheVariants.{A, B};
 ghost use Rattle.subflow_tcp.specs.Expiring.{is_sixth};
@@ -10,20 +11,19 @@ ghost use Rattle.path_agenda.specs.declared.duty.Duty.TheVariants as duties;
 ghost use Rattle.path_agenda.specs.declared.duty.AskDuty.TheVariants as ask_duties;
 ghost use Rattle.path_core.specs.declared.event.Event.TheVariants as event;
 ghost use Rattle.path_agenda.specs.Agenda.{rest_of_turn};
-ghost use Rattle.path_core.specs.Replies.{is_arrival};
-ghost use Rattle.path_core.specs.Events.{is_dead_or_listening, is_dead_path, tick_of, next_join, next_line, next_copy, next_fire, earlier, earliest, before, next_event, step_of, step_for, is_death, died_unless_dead, path_died, line_taken, after_firing, template_fired, timer_fired, at_tick, copy_taken, joins_at_tick, happens_if, CanHappen};
+ghost use Rattle.path_core.specs.Replies.{notes_by, event_needs_memory};
+ghost use Rattle.path_core.specs.Events.{is_dead_or_listening, is_dead_path, tick_of, next_join, next_line, next_copy, next_fire, earlier, earliest, before, next_event, step_of, step_for, died_unless_dead, path_died, with_priority, line_taken, after_firing, template_fired, timer_fired, at_tick, copy_taken, joins_at_tick, happens_if, CanHappen};
 ghost use Rattle.path_core.specs.Octets.{octets};
 ghost use Rattle.path_core.specs.State.{end_at, path_of};
 
 use crate::end::PathEnd;
 use crate::event::Event;
 use crate::joining::join_begin_ask;
-use crate::lines::LineLeft;
+use crate::lines::{LineAction, LineLeft};
 use crate::machine::Machine;
 use actor_desk::{Ask, LocalStep, Reply};
-use link_script::ScriptLine;
 use outside_kit::Side;
-use path_agenda::{Agenda, AskDuty, Duty, StepDuty};
+use path_agenda::{Agenda, AskDuty, Duty, OwnNotice, StepDuty};
 use std::alloc::AllocError;
 use subflow_tcp::{Fired, State};
 
@@ -75,13 +75,6 @@ fn earlier(first: Option<Event>, second: Option<Event>) -> Option<Event>
     }
 }
 
-/// The path dies.
-fn is_death(line: &ScriptLine) -> bool
-    ensures { result ≡ is_death line.now }
-{
-    matches!(line, ScriptLine::Die { .. })
-}
-
 /// Each end that wasn't dead leaves.
 fn all_leave(a_is_dead: bool, b_is_dead: bool) -> Agenda
     ensures { result ≡ (if a_is_dead then [] else duties.Ask (ask_duties.Leave A) ∷ []) ++ ((if b_is_dead then [] else duties.Ask (ask_duties.Leave B) ∷ []) ++ rest_of_turn) }
@@ -120,6 +113,17 @@ impl PathEnd {
         if !self.is_dead() {
             self.die();
         }
+    }
+
+    /// The priority is to be told to the peer, unless the end is dead. At an error all is as it was.
+    fn note_priority(&mut self, backup: bool) -> Result<(), AllocError>
+        ensures ok { OnOk result (self.new ≡ with_priority backup self.old) }
+        ensures err { OnErr result (self.new ≡ self.old) }
+    {
+        if self.is_dead() {
+            return Ok(());
+        }
+        self.notices.push(OwnNotice::Prio { backup })
     }
 
     /// Its timer ran out. Answers whether it was the sixth time in a row, which ends the end.
@@ -221,18 +225,46 @@ impl Machine {
         self.sets_about(agenda);
     }
 
-    /// The first line is taken. All but the path's death lead to nothing yet.
-    fn take_line(&mut self, line: LineLeft)
-        requires { CanHappen (event.Takes line) self.old }
-        ensures { self.new ≡ line_taken line self.old }
+    /// The tick is that of the first line, which is taken.
+    fn reach_line(&mut self, tick: u64)
+        requires { tick < self.old.until }
+        ensures { self.new ≡ record (at_tick tick self.old) { lines = tail_of self.old.lines } }
     {
-        self.clock.reach(line.tick);
+        self.clock.reach(tick);
         self.lines.pop_front();
-        if is_death(&line.line) {
-            self.die();
-        } else {
-            self.sets_about(Agenda::rest_of_turn());
+    }
+
+    /// The first line is taken. At an error all is as it was.
+    ///
+    /// # Errors
+    ///
+    /// Only where there is no memory, and the line changes the priority of the path.
+    fn take_line(&mut self, line: LineLeft) -> Result<(), AllocError>
+        requires { CanHappen (event.Takes line) self.old }
+        ensures ok { OnOk result (self.new ≡ line_taken line self.old) }
+        ensures err { OnErr result (self.new ≡ self.old) }
+        ensures plain { notes_by line.action ≡ false → IsOk result }
+    {
+        match line.action {
+            LineAction::Die => {
+                self.reach_line(line.tick);
+                self.die();
+            }
+            LineAction::Prio { side, backup } => {
+                self.end_mut(side).note_priority(backup)?;
+                self.reach_line(line.tick);
+                self.sets_about(Agenda::emission(side));
+            }
+            LineAction::Announce { side, id } => {
+                self.reach_line(line.tick);
+                self.sets_about(Agenda::announces(side, id));
+            }
+            LineAction::Withdraw { side, id } => {
+                self.reach_line(line.tick);
+                self.sets_about(Agenda::withdraws(side, id));
+            }
         }
+        Ok(())
     }
 
     /// A asked at this tick whether the path may join.
@@ -262,17 +294,14 @@ impl Machine {
     pub(crate) fn answer_event(&mut self, reply: &Reply) -> Result<(), AllocError>
         ensures ok { OnOk result (self.new ≡ happens_if octets (next_event self.old) reply.now self.old) }
         ensures err { OnErr result (self.new ≡ self.old) }
-        ensures plain { is_arrival (next_event self.old) ≡ false → IsOk result }
+        ensures plain { event_needs_memory (next_event self.old) ≡ false → IsOk result }
     {
         match self.next_event() {
             Some(Event::Joins(tick)) => {
                 self.join(tick, reply);
                 Ok(())
             }
-            Some(Event::Takes(line)) => {
-                self.take_line(line);
-                Ok(())
-            }
+            Some(Event::Takes(line)) => self.take_line(line),
             Some(Event::Arrives(due)) => self.take_copy(due),
             Some(Event::Fires(side, tick)) => {
                 self.fire(side, tick);

@@ -8,6 +8,7 @@
 #![tactic(auto)]
 
 mod acting;
+mod addressing;
 mod answering;
 mod arriving;
 mod asking;

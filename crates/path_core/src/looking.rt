@@ -66,6 +66,7 @@ fn send_of(duty: SendDuty) -> Option<ToSend>
         SendDuty::Acknowledge(side) => to_send(side, SegmentKind::Ack),
         SendDuty::Syn(side) => to_send(side, SegmentKind::Unsent),
         SendDuty::FastClose(side) => to_send(side, SegmentKind::FastClose),
+        SendDuty::Notice(side) => to_send(side, SegmentKind::Notice),
         SendDuty::DataFin(side) => to_send(side, SegmentKind::DataFin),
         SendDuty::Fin(side) => to_send(side, SegmentKind::Fin),
         SendDuty::SynAck(side) => to_send(side, SegmentKind::SynAck),

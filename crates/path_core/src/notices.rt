@@ -36,7 +36,8 @@ impl Model for Notices {
 
 impl Notices {
     ghost use Rattle.path_core.specs.Ends.{no_notices};
-    ghost use Rattle.path_core.specs.Noticing.{queued, after_notice, queues, is_carried};
+    ghost use Rattle.path_core.specs.Noticing.{queued, without_first, after_notice, queues, is_carried};
+    ghost use Rattle.path_agenda.specs.Words.{first_of};
 
     /// Nothing is to be told or done. Takes no memory.
     pub fn new(alloc: Global) -> Self
@@ -95,8 +96,23 @@ impl Notices {
         self.fast_closed = true;
     }
 
+    /// What is to be noted first.
+    pub fn first(&self) -> Option<OwnNotice>
+        ensures { result ≡ first_of self.now.queue }
+    {
+        let notice = self.queue.front()?;
+        Some(*notice)
+    }
+
+    /// The first of it was noted.
+    pub fn drop_first(&mut self)
+        ensures { self.new ≡ without_first self.old }
+    {
+        self.queue.pop_front();
+    }
+
     /// This is to be noted behind all others. At an error all is as it was.
-    fn push(&mut self, notice: OwnNotice) -> Result<(), AllocError>
+    pub fn push(&mut self, notice: OwnNotice) -> Result<(), AllocError>
         ensures ok { OnOk result (self.new ≡ queued notice self.old) }
         ensures err { OnErr result (self.new ≡ self.old) }
     {

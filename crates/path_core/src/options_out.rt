@@ -6,7 +6,8 @@ ghost use Rattle.outside_kit.specs.declared.side.Side.TheVariants.{A};
 ghost use Rattle.path_segments.specs.declared.segment.PathOption.TheVariants.{Capable};
 ghost use Rattle.subflow_send.specs.Records.{record_of};
 ghost use Rattle.path_core.specs.declared.segment_kind.SegmentKind.TheVariants.{DeadAnswer, Refusal};
-ghost use Rattle.path_core.specs.OptionsOut.{owes_mapping, bare_mapping, checksum_in, mapping_of, place_numbered, checksum_told, plain_options, capable_options, syn_options, key_options, opening_options, data_fin_mapping, ack_options, piece_mapping, first_piece_options, piece_options, fin_options, record_options, reset_options, announcement, notice_option, dss_and, carried_said, HasAddress, HasAddresses, segment_of, ack_said, fail_reset_said, record_said, record_or_ack, syn_ack_said, fin_said, own_reset, reset_said};
+ghost use Rattle.path_agenda.specs.Words.{first_of};
+ghost use Rattle.path_core.specs.OptionsOut.{owes_mapping, bare_mapping, checksum_in, mapping_of, place_numbered, checksum_told, plain_options, capable_options, syn_options, key_options, opening_options, data_fin_mapping, ack_options, piece_mapping, first_piece_options, piece_options, fin_options, record_options, reset_options, announcement, notice_option, dss_and, noted_said, carried_said, HasAddress, segment_of, ack_said, fail_reset_said, record_said, record_or_ack, syn_ack_said, fin_said, own_reset, reset_said};
 ghost use Rattle.path_core.specs.Passing.{answer_said, ack_resent, resend_said};
 ghost use Rattle.path_core.specs.Said.{options_by, said_options, plain_said, said_by, CanBeSaid};
 
@@ -169,15 +170,12 @@ fn has_address(notice: OwnNotice)
     }
 }
 
-impl SegmentKind {
-    /// An address that it carries has 16 octets at most.
-    fn has_addresses(self)
-        ensures { HasAddresses self }
-    {
-        match self {
-            SegmentKind::Notice { notice } => has_address(notice),
-            _ => {}
-        }
+/// So has one that may be there.
+fn may_have_address(notice: Option<OwnNotice>)
+    ensures { IfSome notice HasAddress }
+{
+    if let Some(notice) = notice {
+        has_address(notice);
     }
 }
 
@@ -448,6 +446,16 @@ impl PathEnd {
         self.segment_of(profile, outgoing, SaidOptions::Two(dss, option), &[])
     }
 
+    /// The acknowledgement with the first of what is to be noted; without one an acknowledgement.
+    fn noted_said(&self, profile: &Profile, side: Side) -> Said<'_>
+        ensures { plain_said result ≡ noted_said profile.now side (first_of self.now.notices.queue) self.now }
+    {
+        match self.notices.first() {
+            Some(notice) => self.dss_and(profile, self.modes.notice_option(notice)),
+            None => self.ack_said(profile, side, self.tcp.nxt(), None),
+        }
+    }
+
     /// The acknowledgement with MP_FASTCLOSE, as the end carries it; without a key an acknowledgement.
     fn carried_said(&self, profile: &Profile, side: Side) -> Said<'_>
         ensures { plain_said result ≡ carried_said profile.now side self.now.notices.carrier self.now }
@@ -540,9 +548,7 @@ impl PathEnd {
             SegmentKind::Resend => self.resend_said(profile, side),
             SegmentKind::Reset { reason } => self.reset_said(profile, reason),
             SegmentKind::FailReset { place } => self.fail_reset_said(profile, place),
-            SegmentKind::Notice { notice } => {
-                self.dss_and(profile, self.modes.notice_option(notice))
-            }
+            SegmentKind::Notice => self.noted_said(profile, side),
             SegmentKind::FastClose => self.carried_said(profile, side),
         }
     }
@@ -555,7 +561,7 @@ impl PathEnd {
     {
         let _path = profile.spelling();
         let _window = self.receiving.window();
-        kind.has_addresses();
+        may_have_address(self.notices.first());
         let (_unsent, _first) = (self.tcp.first_unsent(), self.tcp.first_record());
         self.said_by(profile, side, kind)
     }

@@ -1,7 +1,5 @@
 //! Which segments an end sends.
 
-use path_agenda::OwnNotice;
-
 /// Which segment an end sends.
 #[derive(Clone, Copy, Debug, PartialEq, Eq)]
 pub(crate) enum SegmentKind {
@@ -29,8 +27,9 @@ pub(crate) enum SegmentKind {
     Reset { reason: Option<u8> },
     /// The reset of the end, as the check of the mapping at this place of the peer's stream failed (sections 3.6 and 3.7).
     FailReset { place: u64 },
-    /// The acknowledgement that carries a notice (sections 3.3.8 and 3.4).
-    Notice { notice: OwnNotice },
+    /// The acknowledgement that carries the first of what is to be noted to the peer; without one an acknowledgement (sections
+    /// 3.3.8 and 3.4).
+    Notice,
     /// The acknowledgement that carries MP_FASTCLOSE with the peer's key, as the end has it from its side; without one an
     /// acknowledgement (section 3.5).
     FastClose,

@@ -63,7 +63,7 @@ impl Modes {
 
 impl PathEnd {
     /// The end can note something to the peer: both SYNs are acknowledged, and it may send a DSS.
-    fn may_note(&self) -> bool
+    pub fn may_note(&self) -> bool
         ensures { result ≡ may_note self.now }
     {
         is_connected(self.tcp.state()) && self.modes.clear && !self.modes.identity

@@ -72,9 +72,9 @@ impl PathEnd {
             Heard::Dss
             | Heard::PeerKey { .. }
             | Heard::Join { .. }
-            | Heard::Notice { .. }
             | Heard::Fail => false,
             Heard::DataAck { .. } => true,
+            Heard::Notice { .. } => true,
             Heard::FastClose { .. } => true,
             Heard::Mapping { .. } => self.counts() && (self.is_clash() || starting),
             Heard::DataFin { .. } => self.counts() && starting,
@@ -256,8 +256,8 @@ impl Machine {
             Heard::Dss
             | Heard::PeerKey { .. }
             | Heard::Join { .. }
-            | Heard::Notice { .. }
             | Heard::Fail => Ask::Local(LocalStep::End),
+            Heard::Notice { notice } => self.notice_ask(side, notice),
             Heard::FastClose { key } => fast_heard_ask(side, key),
         }
     }
@@ -346,15 +346,12 @@ impl Machine {
                 self.answer_keys(side, KeyPair { own, peer }, reply);
                 Ok(())
             }
+            Heard::Notice { notice } => self.answer_notice(side, notice, reply),
             Heard::FastClose { .. } => {
                 self.answer_fast_heard(side, reply);
                 Ok(())
             }
-            Heard::Dss
-            | Heard::PeerKey { .. }
-            | Heard::Join { .. }
-            | Heard::Notice { .. }
-            | Heard::Fail => {
+            Heard::Dss | Heard::PeerKey { .. } | Heard::Join { .. } | Heard::Fail => {
                 self.done();
                 Ok(())
             }

@@ -25,10 +25,11 @@ is_setting word =
 abbrev pub is_event : List ℕ → Bool
 is_event word =
     bytes_eq word (codes "drop") || bytes_eq word (codes "dup") || bytes_eq word (codes "late") || bytes_eq word (codes "strip")
-    || bytes_eq word (codes "strip-all") || bytes_eq word (codes "die") || bytes_eq word (codes "fastclose")
+    || bytes_eq word (codes "strip-all") || bytes_eq word (codes "die") || bytes_eq word (codes "prio") || bytes_eq word (codes "add")
+    || bytes_eq word (codes "remove") || bytes_eq word (codes "fastclose")
 
 -- A line of a script isn't run yet, unless it is empty, a comment, the first line, `end`, or one of `seed`, `checksum`, `short`,
--- `buffer`, `path`, `drop`, `dup`, `late`, `strip`, `strip-all`, `die` and `fastclose`.
+-- `buffer`, `path`, `drop`, `dup`, `late`, `strip`, `strip-all`, `die`, `prio`, `add`, `remove` and `fastclose`.
 abbrev pub is_held_back : List ℕ → Bool
 is_held_back line =
     let word = (parted_at 32 line).0 in

@@ -38,7 +38,7 @@ fn held_back_place(text: &[u8]) -> Option<usize>
 }
 
 /// Whether a line of a script isn't run yet: it is no empty line and no comment, not the first line, not `end`, and no `seed`,
-/// `checksum`, `short`, `buffer`, `path`, `drop`, `dup`, `late`, `strip`, `strip-all`, `die` or `fastclose`.
+/// `checksum`, `short`, `buffer`, `path`, `drop`, `dup`, `late`, `strip`, `strip-all`, `die`, `prio`, `add`, `remove` or `fastclose`.
 fn is_held_back(line: &[u8]) -> bool
     ensures { result ≡ is_held_back line.now }
 {
@@ -78,6 +78,9 @@ fn is_event(word: &[u8]) -> bool
         || word == b"strip".as_slice()
         || word == b"strip-all".as_slice()
         || word == b"die".as_slice()
+        || word == b"prio".as_slice()
+        || word == b"add".as_slice()
+        || word == b"remove".as_slice()
         || word == b"fastclose".as_slice()
 }
 

@@ -44,6 +44,10 @@ use Rattle.path_core.specs.State.{PathState, Profile, end_at, goes_on, left, wit
 use Rattle.path_core.specs.Values.{Carried, values}
 use Rattle.path_core.specs.Words.{is_side_a}
 use Rattle.path_core.specs.FastClosing.{answered_fast_close, fast_close_of, having_fast_closed, with_fast_closed}
+use Rattle.path_core.specs.OptionsOut.{noted_said}
+use Rattle.path_core.specs.Addressing.{note_of, with_noted, having_noted, answered_note}
+use Rattle.path_agenda.specs.declared.notice.OwnNotice.{OwnNotice}
+use Rattle.path_agenda.specs.Words.{first_of}
 use Rattle.world_laws.proofs.Doing.{has_last, with_fin_sent, sends_the_fin, fin_goes, wants_ack_out}
 use Rattle.world_laws.proofs.Growing.{receiver_stays}
 use Rattle.world_laws.proofs.Ending.{Did, did_nothing, told_end, finished_shows, unfinished_if}
@@ -51,7 +55,7 @@ use Rattle.world_laws.proofs.Records.{every_find, every_at, sent_end}
 use Rattle.world_laws.proofs.Roads.{stays}
 use Rattle.world_laws.proofs.Rules.{refused_shows, died_shows, joined_shows}
 use Rattle.world_laws.proofs.Lanes.{Others, MayAnswer}
-use Rattle.world_laws.proofs.Saying.{ack_says, syn_ack_says, fin_says, reset_says, outgoing_says, record_or_ack_says, carried_says}
+use Rattle.world_laws.proofs.Saying.{ack_says, syn_ack_says, fin_says, reset_says, outgoing_says, record_or_ack_says, carried_says, noted_says}
 use Rattle.world_laws.proofs.Showing.{HasMapping, HasFin, RecordShows, EndShows, SegmentShows, PathShows, HasNone}
 use Rattle.world_laws.proofs.Sides.{SideDid, Answered, IsQuiet, side_kept, side_sent, quiet, quiet_side, told_side}
 use Rattle.world_laws.proofs.Strolling.{Strolled, side_shows}
@@ -174,6 +178,17 @@ module _ (six : SixBooks) (others : Others) (p : PathState Carried) (ab ba : Lan
       where
         closed : (f : PathEnd) → EndShows p.profile s f out back → EndShows p.profile s (with_fast_closed f) out back
         closed f x = record { sender = x.sender; receiver = x.receiver; acks = x.acks; told = x.told; treated = x.treated; held = x.held }
+
+    noted_shows : IsCalm → (o : Option OwnNotice) → SegmentShows back.acks out (noted_said p.profile s o e)
+    noted_shows calm = noted_says p.profile s e back.acks out shows.acks.windows (shows.acks.sub calm)
+
+    pub note_step : IsCalm → Steps (sends values s (note_of s p) p) (answered_note values s p)
+    note_step calm =
+        sent_step s (note_of s p) (having_noted s p) _ (noted_shows calm (first_of e.notices.queue))
+        (noted (having_sent to_send.Ack p.clock (note_of s p) e) (sent_end p.profile s out back to_send.Ack p.clock (note_of s p) e shows))
+      where
+        noted : (f : PathEnd) → EndShows p.profile s f out back → EndShows p.profile s (with_noted f) out back
+        noted f x = record { sender = x.sender; receiver = x.receiver; acks = x.acks; told = x.told; treated = x.treated; held = x.held }
 
     pub syn_ack_step : (ds : List Duty) → Steps (sends values s (syn_ack_of s p) p) (sent_on values s (syn_ack_of s p) (having_sent to_send.SynAck p.clock (syn_ack_of s p) e) ds p)
     syn_ack_step ds = occasion_step s (syn_ack_of s p) to_send.SynAck ds (syn_ack_says p.profile s e back.acks out shows.acks.windows)

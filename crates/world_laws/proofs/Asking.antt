@@ -127,6 +127,7 @@ module _ {C : Type 0} (k : Codec C) (p : PathState C) where
   asks_leave (duties.Ask (ask_duties.Window s)) = tt
   asks_leave (duties.Send (send_duties.Update s)) = tt
   asks_leave (duties.Send (send_duties.FastClose s)) = tt
+  asks_leave (duties.Send (send_duties.Notice s)) = tt
   asks_leave (duties.Send (send_duties.Syn s)) = tt
   asks_leave (duties.Step (step_duties.Data s)) = data_leaves s (first_unsent (end_at s p))
   asks_leave (duties.Send (send_duties.DataFin s)) = tt
@@ -163,6 +164,8 @@ module _ {C : Type 0} (k : Codec C) (p : PathState C) where
   asks_leave (duties.Ask (ask_duties.Return s)) = tt
   asks_leave (duties.Ask (ask_duties.AbortSend s)) = tt
   asks_leave (duties.Ask (ask_duties.AbortReceive s)) = tt
+  asks_leave (duties.Ask (ask_duties.Announce s id)) = tt
+  asks_leave (duties.Ask (ask_duties.Withdraw s id)) = tt
   asks_leave (duties.Send (send_duties.Resend s)) = tt
   asks_leave (duties.Ask (ask_duties.BreakAck s reason)) = tt
   asks_leave (duties.Send (send_duties.BreakReset s reason)) = tt

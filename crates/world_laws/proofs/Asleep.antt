@@ -40,7 +40,9 @@ use Rattle.path_core.specs.Codec.{Codec}
 use Rattle.path_core.specs.Duties.{stands, ask_for, passed, answered}
 use Rattle.path_core.specs.Emission.{first_unsent, data_stands, data_ask, after_timer}
 use Rattle.path_core.specs.Ends.{PathEnd}
-use Rattle.path_core.specs.Events.{tick_of, next_join, next_line, next_copy, next_fire, earlier, before, next_event, step_for, is_death, died, died_unless_dead, leaves_unless_dead, join_begun, after_line, at_tick, happens, happens_if, never_joined}
+use Rattle.path_core.specs.Events.{tick_of, next_join, next_line, next_copy, next_fire, earlier, before, next_event, step_for, died, died_unless_dead, leaves_unless_dead, join_begun, after_line, at_tick, happens, happens_if, never_joined, with_priority}
+use Rattle.path_core.specs.declared.lines.LineAction.{LineAction}
+use Rattle.path_core.specs.declared.lines.LineAction.TheVariants as actions
 use Rattle.path_core.specs.Joining.{keys_begun, is_never, opened_by}
 use Rattle.path_core.specs.Standing.{after_look, after_ack_out, is_connected}
 use Rattle.path_core.specs.Starts.{PathStart, first_state, waiting_path, first_turn}
@@ -112,6 +114,7 @@ is_idle (duties.Step (step_duties.Look s)) = true
 is_idle (duties.Ask (ask_duties.Window s)) = true
 is_idle (duties.Send (send_duties.Update s)) = true
 is_idle (duties.Send (send_duties.FastClose s)) = true
+is_idle (duties.Send (send_duties.Notice s)) = true
 is_idle (duties.Send (send_duties.Syn s)) = true
 is_idle (duties.Step (step_duties.Data s)) = true
 is_idle (duties.Send (send_duties.DataFin s)) = true
@@ -121,6 +124,8 @@ is_idle (duties.Step step_duties.Events) = true
 is_idle (duties.Ask (ask_duties.Leave s)) = true
 is_idle (duties.Ask (ask_duties.LeaveNoted s)) = true
 is_idle (duties.Send (send_duties.ResetNoted s)) = true
+is_idle (duties.Ask (ask_duties.Announce s id)) = true
+is_idle (duties.Ask (ask_duties.Withdraw s id)) = true
 is_idle (duties.Ask (ask_duties.Dead s)) = true
 is_idle duties.End = true
 is_idle _ = false
@@ -227,14 +232,17 @@ module _ {C : Type 0} where
 
   -- ---- what happens on it: its join, which isn't begun, and lines of its script
 
-  line_asleep : (death : Bool) (p : PathState C) → IsAsleep p → IsAsleep (after_line death p)
-  line_asleep true p h = record {
+  line_asleep : (action : LineAction) (p : PathState C) → IsAsleep p → IsAsleep (after_line action p)
+  line_asleep actions.Die p h = record {
     a = died_shut p.a h.a;
     b = died_shut p.b h.b;
     none = refl;
     idle = left_over A (is_dead p.a.tcp.state) (leaves_unless_dead B p.b ++ rest_of_turn) (left_over B (is_dead p.b.tcp.state) rest_of_turn refl);
   }
-  line_asleep false p h = record { a = h.a; b = h.b; none = h.none; idle = refl }
+  line_asleep (actions.Prio s backup) p h =
+      let shut = shut_at s p h in goes_asleep s (with_priority backup (end_at s p)) (emission s) p (record { closed = shut.closed; timer = shut.timer }) refl h
+  line_asleep (actions.Announce s id) p h = record { a = h.a; b = h.b; none = h.none; idle = refl }
+  line_asleep (actions.Withdraw s id) p h = record { a = h.a; b = h.b; none = h.none; idle = refl }
 
   -- the control book began no join
   join_asleep : (r : Reply) (dead living : List Duty) (p : PathState C) → keys_begun r ≡ None → AreIdle dead → AreIdle living → IsAsleep p → IsAsleep (join_begun r dead living p)
@@ -248,7 +256,7 @@ module _ {C : Type 0} where
   own_asleep k r (happenings.Joins tick) p none own h =
       join_asleep r (leaves A) (emission A) (record (at_tick tick p) { joined_at = None }) none refl refl (record { a = h.a; b = h.b; none = h.none; idle = h.idle })
   own_asleep k r (happenings.Takes line) p none own h =
-      line_asleep (is_death line.line) (record (at_tick line.tick p) { lines = tail_of p.lines }) (record { a = h.a; b = h.b; none = h.none; idle = h.idle })
+      line_asleep line.action (record (at_tick line.tick p) { lines = tail_of p.lines }) (record { a = h.a; b = h.b; none = h.none; idle = h.idle })
   own_asleep k r (happenings.Arrives due) p none own h = absurd (false≢true own)
   own_asleep k r (happenings.Fires s tick) p none own h = absurd (false≢true own)
 
@@ -282,6 +290,7 @@ module _ {C : Type 0} where
   answered_asleep k (duties.Ask (ask_duties.Window s)) r p none h idle is = let shut = shut_at s p h in goes_asleep s (after_ack_out r (end_at s p)) (left p) p (record { closed = shut.closed; timer = shut.timer }) (left_idle p h) h
   answered_asleep k (duties.Send (send_duties.Update s)) r p none h idle is = absurd (no _ _ (never_connected (end_at s p) (shut_at s p h)) is)
   answered_asleep k (duties.Send (send_duties.FastClose s)) r p none h idle is = absurd (no _ _ (never_connected (end_at s p) (shut_at s p h)) is)
+  answered_asleep k (duties.Send (send_duties.Notice s)) r p none h idle is = absurd (no _ _ (never_connected (end_at s p) (shut_at s p h)) is)
   answered_asleep k (duties.Send (send_duties.Syn s)) r p none h idle is = absurd (no _ _ (never_opens (end_at s p) (shut_at s p h)) is)
   answered_asleep k (duties.Step (step_duties.Data s)) r p none h idle is = absurd (no_data p.profile s (end_at s p) (first_unsent (end_at s p)) (shut_at s p h) is)
   answered_asleep k (duties.Send (send_duties.DataFin s)) r p none h idle is = absurd (no _ _ (never_finishes (end_at s p) (shut_at s p h)) is)
@@ -293,6 +302,8 @@ module _ {C : Type 0} where
       goes_asleep s (died (end_at s p)) (replaced (duties.Ask (ask_duties.Dead s)) p.agenda) p (record { closed = refl; timer = refl })
       (replaced_idle (duties.Ask (ask_duties.Dead s)) p.agenda refl h.idle) h
   answered_asleep k (duties.Send (send_duties.ResetNoted s)) r p none h idle is = absurd (no _ _ (ap not (shut_at s p h).closed) is)
+  answered_asleep k (duties.Ask (ask_duties.Announce s id)) r p none h idle is = agenda_asleep (left p) p (left_idle p h) h
+  answered_asleep k (duties.Ask (ask_duties.Withdraw s id)) r p none h idle is = agenda_asleep (left p) p (left_idle p h) h
   answered_asleep k (duties.Ask (ask_duties.Dead s)) r p none h idle is = agenda_asleep (left p) p (left_idle p h) h
   answered_asleep k duties.End r p none h idle is = agenda_asleep [] p refl h
   answered_asleep k _ r p none h idle is = absurd (false≢true idle)
@@ -355,6 +366,7 @@ module _ {C : Type 0} where
   unsure_duty k six (duties.Ask (ask_duties.Window s)) p unsure idle h = refl
   unsure_duty k six (duties.Send (send_duties.Update s)) p unsure idle h = refl
   unsure_duty k six (duties.Send (send_duties.FastClose s)) p unsure idle h = refl
+  unsure_duty k six (duties.Send (send_duties.Notice s)) p unsure idle h = refl
   unsure_duty k six (duties.Send (send_duties.Syn s)) p unsure idle h = refl
   unsure_duty k six (duties.Step (step_duties.Data s)) p unsure idle h = unsure_data k six s (first_unsent (end_at s p)) p
   unsure_duty k six (duties.Send (send_duties.DataFin s)) p unsure idle h = refl
@@ -364,6 +376,8 @@ module _ {C : Type 0} where
   unsure_duty k six (duties.Ask (ask_duties.Leave s)) p unsure idle h = refl
   unsure_duty k six (duties.Ask (ask_duties.LeaveNoted s)) p unsure idle h = refl
   unsure_duty k six (duties.Send (send_duties.ResetNoted s)) p unsure idle h = refl
+  unsure_duty k six (duties.Ask (ask_duties.Announce s id)) p unsure idle h = refl
+  unsure_duty k six (duties.Ask (ask_duties.Withdraw s id)) p unsure idle h = refl
   unsure_duty k six (duties.Ask (ask_duties.Dead s)) p unsure idle h = refl
   unsure_duty k six duties.End p unsure idle h = refl
   unsure_duty k six _ p unsure idle h = absurd (false≢true idle)

@@ -30,7 +30,7 @@ use Rattle.actor_desk.specs.declared.ask.Ask.TheVariants as asks
 use Rattle.actor_desk.specs.declared.ask.Reply.{Reply}
 use Rattle.actor_desk.specs.declared.ask.Reply.TheVariants as replies
 use Rattle.actor_desk.specs.Words.{tail_of}
-use Rattle.path_agenda.specs.Agenda.{breaks, emission, leaves, resets, rest_of_turn, start_of_turn, stops}
+use Rattle.path_agenda.specs.Agenda.{breaks, emission, leaves, resets, rest_of_turn, start_of_turn, stops, announces, withdraws}
 use Rattle.path_agenda.specs.Items.{key_heard, keys_heard}
 use Rattle.path_agenda.specs.Words.{replaced}
 use Rattle.path_agenda.specs.declared.duty.Duty.{Duty}
@@ -53,7 +53,9 @@ use Rattle.path_core.specs.Codec.{Codec, HeardSegment}
 use Rattle.path_core.specs.Duties.{stands, passed, answered, ask_for}
 use Rattle.path_core.specs.Emission.{Grant, after_timer, fin_segment_of, grant_in, answered_grant, answered_data, first_unsent, having_sent_fin}
 use Rattle.path_core.specs.Ends.{PathEnd}
-use Rattle.path_core.specs.Events.{next_event, step_for, heard_in, at_tick, died, is_death, after_line, copy_heard, happens_if, join_begun, timer_fired, template_fired, never_joined}
+use Rattle.path_core.specs.Events.{next_event, step_for, heard_in, at_tick, died, after_line, copy_heard, happens_if, join_begun, timer_fired, template_fired, never_joined, with_priority}
+use Rattle.path_core.specs.declared.lines.LineAction.{LineAction}
+use Rattle.path_core.specs.declared.lines.LineAction.TheVariants as actions
 use Rattle.path_core.specs.Fallback.{is_fall, fell_ask, fell_in, after_fell, fell_duties, answered_fell, in_identity}
 use Rattle.path_core.specs.Joining.{asked_at, is_never, join_heard_ask, join_taken, keys_begun, opened_by, refusal_of, with_mode_refused}
 use Rattle.path_core.specs.Joins.{is_joined, join_answer}
@@ -66,6 +68,7 @@ use Rattle.path_core.specs.State.{PathState, end_at, goes_on, left, with_agenda,
 use Rattle.path_core.specs.Steps.{settled, answers, asks_of, asks_first, takes, begins_turn}
 use Rattle.path_core.specs.Treating.{heard_ask, item_ask, plain_ack_ask, after_keep, answered_heard, answered_item, answered_plain_ack, breaks_by_ack, counts, is_acked, is_clash, is_dropped, item_of, item_passed, with_acked, with_data_fin, with_plain_ack}
 use Rattle.path_core.specs.FastClosing.{is_stopped_by}
+use Rattle.path_core.specs.Addressing.{after_peer_notice}
 use Rattle.world_laws.proofs.Verdicts.{fell_cases}
 use Rattle.world_laws.proofs.KeysRight.{Known}
 use Rattle.world_laws.proofs.KeysHeld.{look_leaves, fell_leaves}
@@ -298,9 +301,11 @@ module _ {C : Type 0} (k : Codec C) (W : Type 0) where
   died_goes A p = (λ up. absurd (false≢true up), refl)
   died_goes B p = tt
 
-  line_awake : (death : Bool) (p : PathState C) → Awake p → Awake (after_line death p)
-  line_awake false p h = agenda rest_of_turn p (new_less p.agenda rest_of_turn refl refl) h
-  line_awake true p h = record {
+  line_awake : (action : LineAction) (p : PathState C) → Awake p → Awake (after_line action p)
+  line_awake (actions.Prio s backup) p h = same s (with_priority backup (end_at s p)) (emission s) p refl refl refl (new_less p.agenda _ refl refl) h
+  line_awake (actions.Announce s id) p h = agenda (announces s id) p (new_less p.agenda _ refl refl) h
+  line_awake (actions.Withdraw s id) p h = agenda (withdraws s id) p (new_less p.agenda _ refl refl) h
+  line_awake actions.Die p h = record {
     woken = λ joins. up joins (is_dead p.a.tcp.state);
     known = λ joins is. absurd (both_ways _ (silent (Voice.Says A) (is_dead p.a.tcp.state) (is_dead p.b.tcp.state)) is);
     calm = λ joins is. both_ways _ (silent (Voice.Falls A) (is_dead p.a.tcp.state) (is_dead p.b.tcp.state)) is;
@@ -428,7 +433,7 @@ module _ {C : Type 0} (k : Codec C) (W : Type 0) where
       begun_awake r (leaves A) (emission A) (record (at_tick tick p) { joined_at = None }) so (new_less p.agenda _ refl refl) (new_less p.agenda _ refl refl)
       (record { woken = h.woken; known = h.known; calm = h.calm; plain = h.plain })
   event_awake (Some (happenings.Takes line)) r p next so h =
-      line_awake (is_death line.line) (record (at_tick line.tick p) { lines = tail_of p.lines }) (record { woken = h.woken; known = h.known; calm = h.calm; plain = h.plain })
+      line_awake line.action (record (at_tick line.tick p) { lines = tail_of p.lines }) (record { woken = h.woken; known = h.known; calm = h.calm; plain = h.plain })
   event_awake (Some (happenings.Arrives due)) r p next so h =
       copy_awake due.to (heard_in k due.to (arriving due p.link) p) (record (at_tick due.tick p) { link = after_delivery due p.link })
       (record { woken = h.woken; known = h.known; calm = h.calm; plain = h.plain })
@@ -508,7 +513,8 @@ module _ {C : Type 0} (k : Codec C) (W : Type 0) where
   heard_answered_awake s says.Dss r p said so h = agenda (left p) p (tail_less p.agenda) h
   heard_answered_awake s (says.PeerKey key) r p said so h = agenda (left p) p (tail_less p.agenda) h
   heard_answered_awake s (says.Join form) r p said so h = agenda (left p) p (tail_less p.agenda) h
-  heard_answered_awake s (says.Notice notice) r p said so h = agenda (left p) p (tail_less p.agenda) h
+  heard_answered_awake s (says.Notice notice) r p said so h =
+      same s (after_peer_notice notice r (end_at s p)) (left p) p refl refl refl (tail_less p.agenda) h
   heard_answered_awake s says.Fail r p said so h = agenda (left p) p (tail_less p.agenda) h
   heard_answered_awake s (says.FastClose key) r p said so h = by (is_stopped_by r)
     where
@@ -577,6 +583,7 @@ module _ {C : Type 0} (k : Codec C) (W : Type 0) where
   answered_awake (duties.Ask (ask_duties.Window s)) r p said falls so h = same s (after_ack_out r (end_at s p)) (left p) p refl refl refl (tail_less p.agenda) h
   answered_awake (duties.Send (send_duties.Update s)) r p said falls so h = sent s _ _ (left p) p (same_goes s _ p refl refl refl) (tail_less p.agenda) h
   answered_awake (duties.Send (send_duties.FastClose s)) r p said falls so h = sent s _ _ (left p) p (same_goes s _ p refl refl refl) (tail_less p.agenda) h
+  answered_awake (duties.Send (send_duties.Notice s)) r p said falls so h = sent s _ _ p.agenda p (same_goes s _ p refl refl refl) (same_less p.agenda) h
   answered_awake (duties.Send (send_duties.Syn s)) r p said falls so h = same_sent s _ _ (left p) p (sending_up to_send.Unsent p.clock (end_at s p).tcp) refl (tail_less p.agenda) h
   answered_awake (duties.Step (step_duties.Data s)) r p said falls so h = data_awake s (first_unsent (end_at s p)) r p h
   answered_awake (duties.Send (send_duties.DataFin s)) r p said falls so h = sent s _ _ (left p) p (same_goes s _ p refl refl refl) (tail_less p.agenda) h

@@ -40,7 +40,9 @@ use Rattle.path_core.specs.declared.modes.Modes.{Modes}
 use Rattle.path_core.specs.Duties.{stands, passed, answered}
 use Rattle.path_core.specs.Emission.{Grant, grant_in, answered_grant, answered_data, first_unsent}
 use Rattle.path_core.specs.Ends.{PathEnd}
-use Rattle.path_core.specs.Events.{next_event, after_line, is_death, at_tick, died, join_begun, copy_heard, heard_in, happens_if, told_at, never_joined}
+use Rattle.path_core.specs.Events.{next_event, after_line, at_tick, died, join_begun, copy_heard, heard_in, happens_if, told_at, never_joined}
+use Rattle.path_core.specs.declared.lines.LineAction.{LineAction}
+use Rattle.path_core.specs.declared.lines.LineAction.TheVariants as actions
 use Rattle.path_core.specs.Joining.{keys_begun, is_never, opened_by, join_taken, asked_at}
 use Rattle.path_core.specs.Joins.{is_joined, join_answer}
 use Rattle.path_core.specs.Opening.{keys_in, answered_peer_key, answered_opened}
@@ -176,12 +178,14 @@ module _ {C : Type 0} where
       either_clear (is_never r) (goes_on A (never_joined r (end_at A p)) dead p) (goes_on A (opened_by (keys_begun r) (end_at A p)) living p) p
       (record { a = (λ h. h, λ h. h); b = (λ h. h, λ h. h) }) (record { a = begun_end (keys_begun r) p.a; b = (λ h. h, λ h. h) })
 
-  line_clear : (death : Bool) (p : PathState C) → Clears p (after_line death p)
-  line_clear true p = record {
+  line_clear : (action : LineAction) (p : PathState C) → Clears p (after_line action p)
+  line_clear actions.Die p = record {
     a = either_end (is_dead p.a.tcp.state) p.a p.a (died p.a) (λ h. h, λ h. h) (λ h. h, λ h. h);
     b = either_end (is_dead p.b.tcp.state) p.b p.b (died p.b) (λ h. h, λ h. h) (λ h. h, λ h. h);
   }
-  line_clear false p = record { a = (λ h. h, λ h. h); b = (λ h. h, λ h. h) }
+  line_clear (actions.Prio s backup) p = side_clear s _ p _ (λ h. h, λ h. h) refl refl
+  line_clear (actions.Announce s id) p = record { a = (λ h. h, λ h. h); b = (λ h. h, λ h. h) }
+  line_clear (actions.Withdraw s id) p = record { a = (λ h. h, λ h. h); b = (λ h. h, λ h. h) }
 
   told_clear_at : (now : ℕ) (s : Side) (x : HeardSegment) (p : PathState C) → Clears p (told_at now s x p)
   told_clear_at now s x p =
@@ -203,7 +207,7 @@ module _ {C : Type 0} where
       then_clear p q _ (record { a = (λ h. h, λ h. h); b = (λ h. h, λ h. h) }) (begun_clear r (leaves A) (emission A) q)
   happens_clear k (Some (happenings.Takes line)) r p =
       let q : PathState C = record (at_tick line.tick p) { lines = tail_of p.lines } in
-      then_clear p q _ (record { a = (λ h. h, λ h. h); b = (λ h. h, λ h. h) }) (line_clear (is_death line.line) q)
+      then_clear p q _ (record { a = (λ h. h, λ h. h); b = (λ h. h, λ h. h) }) (line_clear line.action q)
   happens_clear k (Some (happenings.Arrives due)) r p =
       let q : PathState C = record (at_tick due.tick p) { link = after_delivery due p.link } in
       then_clear p q _ (record { a = (λ h. h, λ h. h); b = (λ h. h, λ h. h) }) (copy_clear due.to (heard_in k due.to (arriving due p.link) p) q)
@@ -242,6 +246,7 @@ module _ {C : Type 0} where
   heard_item_clear k s (says.InfiniteMapping place position) r p = fell_path s events.InfiniteHeard r _ _ p (λ h. h, λ h. h) refl refl
   heard_item_clear k s (says.Keys own peer) r p =
       side_clear s _ p _ (keyed_clear r (Some (record { own = own; peer = peer })) (end_at s p).modes) refl refl
+  heard_item_clear k s (says.Notice notice) r p = side_clear s _ p _ (λ h. h, λ h. h) refl refl
   heard_item_clear k s _ r p = record { a = (λ h. h, λ h. h); b = (λ h. h, λ h. h) }
 
   item_clear : (k : Codec C) (s : Side) (item : Option Heard) (r : Reply) (p : PathState C) → Clears p (answered_item k s item r p)
@@ -264,6 +269,7 @@ module _ {C : Type 0} where
   answered_clear k (duties.Ask (ask_duties.Window s)) r p = side_clear s _ p _ (λ h. h, λ h. h) refl refl
   answered_clear k (duties.Send (send_duties.Update s)) r p = side_clear s _ p _ (λ h. h, λ h. h) refl refl
   answered_clear k (duties.Send (send_duties.FastClose s)) r p = side_clear s _ p _ (λ h. h, λ h. h) refl refl
+  answered_clear k (duties.Send (send_duties.Notice s)) r p = side_clear s _ p _ (λ h. h, λ h. h) refl refl
   answered_clear k (duties.Send (send_duties.Syn s)) r p = side_clear s _ p _ (λ h. h, λ h. h) refl refl
   answered_clear k (duties.Step (step_duties.Data s)) r p = data_clear k s (first_unsent (end_at s p)) r p
   answered_clear k (duties.Send (send_duties.DataFin s)) r p = side_clear s _ p _ (λ h. h, λ h. h) refl refl

@@ -111,6 +111,7 @@ module _ (p : PathState Carried) where
   asking_finishes (duties.Ask (ask_duties.Window s)) is asks = nothing_asked (duties.Ask (ask_duties.Window s)) tt asks
   asking_finishes (duties.Send (send_duties.Update s)) is asks = nothing_asked (duties.Send (send_duties.Update s)) tt asks
   asking_finishes (duties.Send (send_duties.FastClose s)) is asks = nothing_asked (duties.Send (send_duties.FastClose s)) tt asks
+  asking_finishes (duties.Send (send_duties.Notice s)) is asks = nothing_asked (duties.Send (send_duties.Notice s)) tt asks
   asking_finishes (duties.Send (send_duties.Syn s)) is asks = nothing_asked (duties.Send (send_duties.Syn s)) tt asks
   asking_finishes (duties.Send (send_duties.DataFin s)) is asks = nothing_asked (duties.Send (send_duties.DataFin s)) tt asks
   asking_finishes (duties.Send (send_duties.Fin s)) is asks = nothing_asked (duties.Send (send_duties.Fin s)) tt asks
@@ -146,6 +147,8 @@ module _ (p : PathState Carried) where
   asking_finishes (duties.Ask (ask_duties.Return s)) is asks = nothing_asked (duties.Ask (ask_duties.Return s)) tt asks
   asking_finishes (duties.Ask (ask_duties.AbortSend s)) is asks = nothing_asked (duties.Ask (ask_duties.AbortSend s)) tt asks
   asking_finishes (duties.Ask (ask_duties.AbortReceive s)) is asks = nothing_asked (duties.Ask (ask_duties.AbortReceive s)) tt asks
+  asking_finishes (duties.Ask (ask_duties.Announce s id)) is asks = nothing_asked (duties.Ask (ask_duties.Announce s id)) tt asks
+  asking_finishes (duties.Ask (ask_duties.Withdraw s id)) is asks = nothing_asked (duties.Ask (ask_duties.Withdraw s id)) tt asks
   asking_finishes (duties.Send (send_duties.Resend s)) is asks = nothing_asked (duties.Send (send_duties.Resend s)) tt asks
   asking_finishes (duties.Ask (ask_duties.BreakAck s reason)) is asks = nothing_asked (duties.Ask (ask_duties.BreakAck s reason)) tt asks
   asking_finishes (duties.Send (send_duties.BreakReset s reason)) is asks = nothing_asked (duties.Send (send_duties.BreakReset s reason)) tt asks

@@ -35,7 +35,9 @@ use Rattle.path_core.specs.Duties.{stands, passed, answered}
 use Rattle.path_core.specs.Emission.{first_unsent, Grant, grant_in, answered_grant, answered_data}
 use Rattle.path_core.specs.declared.judged.Judged.{Judged}
 use Rattle.path_core.specs.declared.judged.Judged.TheVariants as judged
-use Rattle.path_core.specs.Events.{next_event, heard_in, at_tick, is_death, join_begun, after_line, copy_heard, template_fired, happens_if, never_joined}
+use Rattle.path_core.specs.Events.{next_event, heard_in, at_tick, join_begun, after_line, copy_heard, template_fired, happens_if, never_joined}
+use Rattle.path_core.specs.declared.lines.LineAction.{LineAction}
+use Rattle.path_core.specs.declared.lines.LineAction.TheVariants as actions
 use Rattle.path_core.specs.Joining.{is_never, keys_begun, opened_by, asked_at, join_taken}
 use Rattle.path_core.specs.Joins.{is_joined}
 use Rattle.join_handshake.specs.declared.hearing.JoinSyn.{JoinSyn}
@@ -128,6 +130,7 @@ module _ {C : Type 0} where
   next_shaped (duties.Ask (ask_duties.Window s)) ds p h no_more = onward ds _ h
   next_shaped (duties.Send (send_duties.Update s)) ds p h no_more = onward ds _ h
   next_shaped (duties.Send (send_duties.FastClose s)) ds p h no_more = onward ds _ h
+  next_shaped (duties.Send (send_duties.Notice s)) ds p h no_more = onward ds _ h
   next_shaped (duties.Send (send_duties.Syn s)) ds p h no_more = onward ds _ h
   next_shaped (duties.Step (step_duties.Data s)) ds p h no_more = onward ds _ h
   next_shaped (duties.Send (send_duties.DataFin s)) ds p h no_more = onward ds _ h
@@ -163,6 +166,8 @@ module _ {C : Type 0} where
   next_shaped (duties.Ask (ask_duties.Return s)) ds p h no_more = onward ds _ h
   next_shaped (duties.Ask (ask_duties.AbortSend s)) ds p h no_more = onward ds _ h
   next_shaped (duties.Ask (ask_duties.AbortReceive s)) ds p h no_more = onward ds _ h
+  next_shaped (duties.Ask (ask_duties.Announce s id)) ds p h no_more = onward ds _ h
+  next_shaped (duties.Ask (ask_duties.Withdraw s id)) ds p h no_more = onward ds _ h
   next_shaped (duties.Send (send_duties.Resend s)) ds p h no_more = onward ds _ h
   next_shaped (duties.Ask (ask_duties.BreakAck s reason)) ds p h no_more = onward ds _ h
   next_shaped (duties.Send (send_duties.BreakReset s reason)) ds p h no_more = onward ds _ h
@@ -206,9 +211,11 @@ module _ {C : Type 0} where
   copy_ahead s (Some segment) p =
       let h = options_heard (end_at s p) segment in let joined = is_joined p.profile in judged_ahead joined s (length (items_of joined s h)) (judged_in joined s h (end_at s p))
 
-  line_ahead : (death : Bool) (p : PathState C) → Ahead (after_line death p).agenda
-  line_ahead true p = died_ahead (is_dead p.a.tcp.state) (is_dead p.b.tcp.state)
-  line_ahead false p = refl
+  line_ahead : (action : LineAction) (p : PathState C) → Ahead (after_line action p).agenda
+  line_ahead actions.Die p = died_ahead (is_dead p.a.tcp.state) (is_dead p.b.tcp.state)
+  line_ahead (actions.Prio s backup) p = refl
+  line_ahead (actions.Announce s id) p = refl
+  line_ahead (actions.Withdraw s id) p = refl
 
   -- a join is begun or not, with these to be done
   begun_ahead : (r : Reply) (dead living : List Duty) (p : PathState C) → Ahead dead → Ahead living → Ahead (join_begun r dead living p).agenda
@@ -221,7 +228,7 @@ module _ {C : Type 0} where
   event_ahead : (k : Codec C) (o : Option Event) (r : Reply) (p : PathState C) → Ahead (happens_if k o r p).agenda
   event_ahead k None r p = refl
   event_ahead k (Some (happening.Joins tick)) r p = begun_ahead r (leaves A) (emission A) (record (at_tick tick p) { joined_at = None }) refl refl
-  event_ahead k (Some (happening.Takes line)) r p = line_ahead (is_death line.line) (record (at_tick line.tick p) { lines = tail_of p.lines })
+  event_ahead k (Some (happening.Takes line)) r p = line_ahead line.action (record (at_tick line.tick p) { lines = tail_of p.lines })
   event_ahead k (Some (happening.Arrives due)) r p = copy_ahead due.to (heard_in k due.to (arriving due p.link) p) (record (at_tick due.tick p) { link = after_delivery due p.link })
   event_ahead k (Some (happening.Fires s tick)) r p = fired_ahead (is_sixth (end_at s (at_tick tick p)).tcp) s
 
@@ -328,6 +335,7 @@ module _ {C : Type 0} where
   answered_shaped k (duties.Ask (ask_duties.Window s)) ds r p h = from_left ds _ h
   answered_shaped k (duties.Send (send_duties.Update s)) ds r p h = from_left ds _ h
   answered_shaped k (duties.Send (send_duties.FastClose s)) ds r p h = from_left ds _ h
+  answered_shaped k (duties.Send (send_duties.Notice s)) ds r p h = from_left ds _ h
   answered_shaped k (duties.Send (send_duties.Syn s)) ds r p h = from_left ds _ h
   answered_shaped k (duties.Step (step_duties.Data s)) ds r p h = with_ahead ds h (λ a. inl (data_ahead k s r (with_agenda (duties.Step (step_duties.Data s) ∷ ds) p) a a a (first_unsent (end_at s p))))
   answered_shaped k (duties.Send (send_duties.DataFin s)) ds r p h = from_left ds _ h
@@ -363,6 +371,8 @@ module _ {C : Type 0} where
   answered_shaped k (duties.Ask (ask_duties.Return s)) ds r p h = from_left ds _ h
   answered_shaped k (duties.Ask (ask_duties.AbortSend s)) ds r p h = from_left ds _ h
   answered_shaped k (duties.Ask (ask_duties.AbortReceive s)) ds r p h = from_left ds _ h
+  answered_shaped k (duties.Ask (ask_duties.Announce s id)) ds r p h = from_left ds _ h
+  answered_shaped k (duties.Ask (ask_duties.Withdraw s id)) ds r p h = from_left ds _ h
   answered_shaped k (duties.Send (send_duties.Resend s)) ds r p h = from_left ds _ h
   answered_shaped k (duties.Ask (ask_duties.BreakAck s reason)) ds r p h = inl refl
   answered_shaped k (duties.Send (send_duties.BreakReset s reason)) ds r p h = inl refl

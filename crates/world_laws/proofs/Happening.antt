@@ -23,12 +23,14 @@ use Rattle.path_core.specs.declared.event.Event.{Event}
 use Rattle.path_core.specs.declared.event.Event.TheVariants as happenings
 use Rattle.path_core.specs.declared.lines.LineLeft.{LineLeft}
 use Rattle.path_agenda.specs.declared.duty.Duty.{Duty}
-use Rattle.path_agenda.specs.Agenda.{rest_of_turn, emission, leaves}
+use Rattle.path_agenda.specs.Agenda.{rest_of_turn, emission, leaves, announces, withdraws}
 use Rattle.path_core.specs.Arriving.{items_of, judged_in, after_judged, template_of}
 use Rattle.path_core.specs.Ends.{PathEnd}
 use Rattle.path_core.specs.Joining.{is_never, keys_begun, opened_by}
 use Rattle.path_core.specs.Joins.{is_joined}
-use Rattle.path_core.specs.Events.{step_for, is_death, at_tick, died, join_begun, path_died, after_line, line_taken, heard_in, copy_heard, copy_taken, after_firing, template_fired, timer_fired, happens, happens_if, told_at, never_joined}
+use Rattle.path_core.specs.Events.{step_for, at_tick, died, join_begun, path_died, after_line, line_taken, heard_in, copy_heard, copy_taken, after_firing, template_fired, timer_fired, happens, happens_if, told_at, never_joined, with_priority}
+use Rattle.path_core.specs.declared.lines.LineAction.{LineAction}
+use Rattle.path_core.specs.declared.lines.LineAction.TheVariants as actions
 use Rattle.path_core.specs.State.{PathState, end_at, path_of, goes_on, with_agenda}
 use Rattle.path_core.specs.Values.{Carried, as_arrived, values}
 use Rattle.world_laws.proofs.Arrived.{arrived_end}
@@ -100,8 +102,29 @@ module _ (six : SixBooks) (others : Others) (p : PathState Carried) (ab ba : Lan
     };
   }
 
-  rest_shows : (q : PathState Carried) → PathShows p.profile q ab ba → Strolled p.profile (with_agenda rest_of_turn q) ab ba
-  rest_shows q x = record {
+  -- a notice is no matter of the lanes
+  noted : (s : Side) (backup : Bool) (out back : Lane) (e : PathEnd) → EndShows p.profile s e out back → EndShows p.profile s (with_priority backup e) out back
+  noted s backup out back e x = record { sender = x.sender; receiver = x.receiver; acks = x.acks; told = x.told; treated = x.treated; held = x.held }
+
+  noted_shows : (s : Side) (backup : Bool) (q : PathState Carried) → PathShows p.profile q ab ba
+      → Strolled p.profile (goes_on s (with_priority backup (end_at s q)) (emission s) q) ab ba
+  noted_shows A backup q x = record {
+    ab_after = ab;
+    ba_after = ba;
+    ab_moves = stays ab;
+    ba_moves = stays ba;
+    shows = record { profile = x.profile; unchanged = x.unchanged; a = noted A backup ab ba q.a x.a; b = x.b; copies = x.copies };
+  }
+  noted_shows B backup q x = record {
+    ab_after = ab;
+    ba_after = ba;
+    ab_moves = stays ab;
+    ba_moves = stays ba;
+    shows = record { profile = x.profile; unchanged = x.unchanged; a = x.a; b = noted B backup ba ab q.b x.b; copies = x.copies };
+  }
+
+  rest_shows : (ds : List Duty) (q : PathState Carried) → PathShows p.profile q ab ba → Strolled p.profile (with_agenda ds q) ab ba
+  rest_shows ds q x = record {
     ab_after = ab;
     ba_after = ba;
     ab_moves = stays ab;
@@ -109,9 +132,11 @@ module _ (six : SixBooks) (others : Others) (p : PathState Carried) (ab ba : Lan
     shows = record { profile = x.profile; unchanged = x.unchanged; a = x.a; b = x.b; copies = x.copies };
   }
 
-  line_shows : (death : Bool) (q : PathState Carried) → AreCalm q → PathShows p.profile q ab ba → Strolled p.profile (after_line death q) ab ba
-  line_shows true q calm x = died_shows q calm x
-  line_shows false q calm x = rest_shows q x
+  line_shows : (action : LineAction) (q : PathState Carried) → AreCalm q → PathShows p.profile q ab ba → Strolled p.profile (after_line action q) ab ba
+  line_shows actions.Die q calm x = died_shows q calm x
+  line_shows (actions.Prio s backup) q calm x = noted_shows s backup q x
+  line_shows (actions.Announce s id) q calm x = rest_shows (announces s id) q x
+  line_shows (actions.Withdraw s id) q calm x = rest_shows (withdraws s id) q x
 
   -- at another tick the ends are the same
   same_calm : (q : PathState Carried) → q.a ≡ p.a → q.b ≡ p.b → AreCalm q
@@ -208,7 +233,7 @@ module _ (six : SixBooks) (others : Others) (p : PathState Carried) (ab ba : Lan
       join_step (step_for (path_of p) (Some (happenings.Joins tick))) r (leaves A) (emission A) (record (at_tick tick p) { joined_at = None }) tt
       (same_calm (record (at_tick tick p) { joined_at = None }) refl refl) (record { profile = h.profile; unchanged = h.unchanged; a = h.a; b = h.b; copies = h.copies })
   event_step (happenings.Takes line) r =
-      quiet p.profile six others (step_for (path_of p) (Some (happenings.Takes line))) (line_taken line p) ab ba tt (line_shows (is_death line.line) (record (at_tick line.tick p) { lines = tail_of p.lines }) (same_calm (record (at_tick line.tick p) { lines = tail_of p.lines }) refl refl) (ticked line.tick (tail_of p.lines)))
+      quiet p.profile six others (step_for (path_of p) (Some (happenings.Takes line))) (line_taken line p) ab ba tt (line_shows line.action (record (at_tick line.tick p) { lines = tail_of p.lines }) (same_calm (record (at_tick line.tick p) { lines = tail_of p.lines }) refl refl) (ticked line.tick (tail_of p.lines)))
   event_step (happenings.Arrives due) r = copy_step due (step_for (path_of p) (Some (happenings.Arrives due))) tt
   event_step (happenings.Fires s tick) r = fire_step s tick (step_for (path_of p) (Some (happenings.Fires s tick))) tt
 

@@ -10,6 +10,10 @@ use Rattle.outside_kit.specs.declared.side.Side.TheVariants.{A, B}
 use Rattle.subflow_send.specs.Records.{Record}
 use Rattle.loss_recovery.specs.declared.windows.Pending.{Pending}
 use Rattle.join_handshake.specs.declared.hearing.JoinSyn.{JoinSyn}
+use Rattle.key_material.specs.declared.address.Address.{Address}
+use Rattle.address_manager.specs.declared.manager.Heard.{Heard as AddressHeard}
+use Rattle.address_manager.specs.declared.manager.Heard.TheVariants as address_said
+use Rattle.address_manager.specs.Steps.{heard_reply}
 use Rattle.control_book.specs.declared.call.ControlCall.{ControlCall}
 use Rattle.control_book.specs.declared.call.ControlCall.TheVariants as control_calls
 use Rattle.control_book.specs.declared.call.ControlReply.TheVariants as control_replies
@@ -191,6 +195,7 @@ module _ (p : PathState Carried) where
   fell_signs (duties.Ask (ask_duties.Window s)) none = refl
   fell_signs (duties.Send (send_duties.Update s)) none = refl
   fell_signs (duties.Send (send_duties.FastClose s)) none = refl
+  fell_signs (duties.Send (send_duties.Notice s)) none = refl
   fell_signs (duties.Send (send_duties.Syn s)) none = refl
   fell_signs (duties.Step (step_duties.Data s)) none = no_data s (first_unsent (end_at s p))
   fell_signs (duties.Send (send_duties.DataFin s)) none = refl
@@ -230,6 +235,8 @@ module _ (p : PathState Carried) where
   fell_signs (duties.Ask (ask_duties.Return s)) none = refl
   fell_signs (duties.Ask (ask_duties.AbortSend s)) none = refl
   fell_signs (duties.Ask (ask_duties.AbortReceive s)) none = refl
+  fell_signs (duties.Ask (ask_duties.Announce s id)) none = refl
+  fell_signs (duties.Ask (ask_duties.Withdraw s id)) none = refl
   fell_signs (duties.Send (send_duties.Resend s)) none = refl
   fell_signs (duties.Ask (ask_duties.BreakAck s reason)) none = refl
   fell_signs (duties.Send (send_duties.BreakReset s reason)) none = refl
@@ -471,12 +478,12 @@ module _ (key_a key_b : ℕ) where
   call_keeps six c (control_calls.Live path backup) is sign fine = same_keeps c _ refl refl
   call_keeps six c (control_calls.Dead path) is sign fine = same_keeps c _ refl refl
   call_keeps six c (control_calls.Rate path window rtt) is sign fine = same_keeps c _ refl refl
-  call_keeps six c (control_calls.Backup path on) is sign fine = absurd is
-  call_keeps six c (control_calls.Announce id) is sign fine = absurd is
-  call_keeps six c (control_calls.Withdraw id) is sign fine = absurd is
-  call_keeps six c (control_calls.Heard id address port hmac) is sign fine = absurd is
-  call_keeps six c (control_calls.Echoed id) is sign fine = absurd is
-  call_keeps six c (control_calls.Removed id) is sign fine = absurd is
+  call_keeps six c (control_calls.Backup path on) is sign fine = same_keeps c _ refl refl
+  call_keeps six c (control_calls.Announce id) is sign fine = same_keeps c _ refl refl
+  call_keeps six c (control_calls.Withdraw id) is sign fine = if_keeps (controlling.is_known id c) c _ c (λ known. same_keeps c _ refl refl) (same_keeps c c refl refl)
+  call_keeps six c (control_calls.Heard id address port hmac) is sign fine = same_keeps c _ refl refl
+  call_keeps six c (control_calls.Echoed id) is sign fine = if_keeps (controlling.is_known id c) c _ c (λ known. same_keeps c _ refl refl) (same_keeps c c refl refl)
+  call_keeps six c (control_calls.Removed id) is sign fine = if_keeps (controlling.is_known id c) c _ c (λ known. same_keeps c _ refl refl) (same_keeps c c refl refl)
   call_keeps six c control_calls.FastClose is sign fine = stop_keeps c _ refl refl refl
   call_keeps six c (control_calls.FastHeard key) is sign fine =
       if_keeps (key == c.keys.own) c (controlling.after_event 0 false events.Stop c) c (λ own. stop_keeps c _ refl refl refl) (same_keeps c c refl refl)
@@ -540,6 +547,14 @@ module _ (key_a key_b : ℕ) where
       by true = tt
       by false = tt
 
+  address_told : (T : Type 0) (id : ℕ) (address : Address) (port hmac : ℕ) (c : Control) → ModeGains T (replies.Control (control.address_reply id address port hmac c))
+  address_told T id address port hmac c = by (heard_reply control.is_same id address (control.is_right id address port hmac c) c.addresses)
+    where
+      by : (said : AddressHeard) → ModeGains T (replies.Control (control.told_heard said))
+      by address_said.Echo = tt
+      by address_said.Known = tt
+      by address_said.BadHmac = tt
+
   gains : (six : SixBooks) (x : Ask) → KeysAsk key_a key_b true six x → Keeps six.control_a (after_ask x six).control_a → Fine six.control_a → Gains (Knew (after_ask x six).control_a) x (reply_of six x)
   gains six (asks.Control A call) is keeps fine = by call is keeps
     where
@@ -562,12 +577,12 @@ module _ (key_a key_b : ℕ) where
       by (control_calls.Live path backup) is keeps = (tt, tt)
       by (control_calls.Dead path) is keeps = (tt, tt)
       by (control_calls.Rate path window rtt) is keeps = (tt, tt)
-      by (control_calls.Backup path on) is keeps = absurd is
-      by (control_calls.Announce id) is keeps = absurd is
-      by (control_calls.Withdraw id) is keeps = absurd is
-      by (control_calls.Heard id address port hmac) is keeps = absurd is
-      by (control_calls.Echoed id) is keeps = absurd is
-      by (control_calls.Removed id) is keeps = absurd is
+      by (control_calls.Backup path on) is keeps = (tt, tt)
+      by (control_calls.Announce id) is keeps = (tt, tt)
+      by (control_calls.Withdraw id) is keeps = (tt, tt)
+      by (control_calls.Heard id address port hmac) is keeps = (address_told (Knew (controlling.after c (control_calls.Heard id address port hmac))) id address port hmac c, tt)
+      by (control_calls.Echoed id) is keeps = (tt, tt)
+      by (control_calls.Removed id) is keeps = (tt, tt)
       by control_calls.FastClose is keeps = (tt, tt)
       by (control_calls.FastHeard key) is keeps = (stop_told (Knew (controlling.after c (control_calls.FastHeard key))) key c, tt)
   gains six (asks.Control B call) is keeps fine = tt

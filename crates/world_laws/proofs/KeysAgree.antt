@@ -34,12 +34,15 @@ use Rattle.stream_apps.specs.declared.duty.AppDuty.{AppDuty}
 use Rattle.stream_apps.specs.declared.duty.AppDuty.TheVariants as app_duties
 use Rattle.stream_apps.specs.Apps.{AppState}
 use Rattle.stream_apps.specs.AppSteps.{app_ask, app_asks_first}
+use Rattle.path_agenda.specs.declared.notice.PeerNotice.{PeerNotice}
+use Rattle.path_agenda.specs.declared.notice.PeerNotice.TheVariants as peer_notes
 use Rattle.path_agenda.specs.declared.duty.Duty.{Duty}
 use Rattle.path_agenda.specs.declared.duty.Duty.TheVariants as duties
 use Rattle.path_agenda.specs.declared.duty.AskDuty.TheVariants as ask_duties
 use Rattle.path_agenda.specs.declared.duty.SendDuty.TheVariants as send_duties
 use Rattle.path_agenda.specs.declared.duty.SilentDuty.TheVariants as silent_duties
 use Rattle.path_agenda.specs.declared.duty.StepDuty.TheVariants as step_duties
+use Rattle.path_core.specs.Addressing.{notice_ask}
 use Rattle.path_core.specs.declared.event.Event.{Event}
 use Rattle.path_core.specs.declared.event.Event.TheVariants as happening
 use Rattle.path_agenda.specs.declared.heard.Heard.{Heard}
@@ -120,6 +123,12 @@ module _ (k : Secrets) (right : Bool) (w : Side → Type 0) (did : Deed → Side
       by true = break_is s 1
       by false = tt
 
+  note_is : (s : Side) (notice : PeerNotice) → AskIs k right w did (notice_ask s notice p)
+  note_is s (peer_notes.AddAddr id address port hmac) = tt
+  note_is s (peer_notes.AddEcho id) = tt
+  note_is s (peer_notes.Removed id) = tt
+  note_is s (peer_notes.Prio backup) = tt
+
   item_is : (s : Side) (o : Option Heard) → IfSome o (ItemIs k right w did (is_joined p.profile) s) → AskIs k right w did (item_ask values s o p)
   item_is s None own = tt
   item_is s (Some says.Dss) own = tt
@@ -130,7 +139,7 @@ module _ (k : Secrets) (right : Bool) (w : Side → Type 0) (did : Deed → Side
   item_is s (Some (says.PeerKey key)) own = tt
   item_is s (Some (says.Keys mine other)) own = own.1
   item_is s (Some (says.Join form)) own = tt
-  item_is s (Some (says.Notice notice)) own = tt
+  item_is s (Some (says.Notice notice)) own = note_is s notice
   item_is s (Some says.Fail) own = tt
   item_is s (Some (says.FastClose key)) own = tt
 
@@ -163,6 +172,7 @@ module _ (k : Secrets) (right : Bool) (w : Side → Type 0) (did : Deed → Side
   asks_are (duties.Ask (ask_duties.Window s)) said = tt
   asks_are (duties.Send (send_duties.Update s)) said = tt
   asks_are (duties.Send (send_duties.FastClose s)) said = tt
+  asks_are (duties.Send (send_duties.Notice s)) said = tt
   asks_are (duties.Send (send_duties.Syn s)) said = tt
   asks_are (duties.Step (step_duties.Data s)) said = data_is s (first_unsent (end_at s p))
   asks_are (duties.Send (send_duties.DataFin s)) said = tt
@@ -202,6 +212,8 @@ module _ (k : Secrets) (right : Bool) (w : Side → Type 0) (did : Deed → Side
   asks_are (duties.Ask (ask_duties.Return s)) said = tt
   asks_are (duties.Ask (ask_duties.AbortSend s)) said = tt
   asks_are (duties.Ask (ask_duties.AbortReceive s)) said = λ by_peer. said (Voice.Aborts s) (itself s)
+  asks_are (duties.Ask (ask_duties.Announce s id)) said = tt
+  asks_are (duties.Ask (ask_duties.Withdraw s id)) said = tt
   asks_are (duties.Send (send_duties.Resend s)) said = tt
   asks_are (duties.Ask (ask_duties.BreakAck s reason)) said = tt
   asks_are (duties.Send (send_duties.BreakReset s reason)) said = tt
@@ -473,12 +485,12 @@ module _ (key_a key_b : ℕ) (right : Bool) where
         by s (control_calls.Live path backup) h = h
         by s (control_calls.Dead path) h = h
         by s (control_calls.Rate path window rtt) h = h
-        by s (control_calls.Backup path on) h = absurd h
-        by s (control_calls.Announce id) h = absurd h
-        by s (control_calls.Withdraw id) h = absurd h
-        by s (control_calls.Heard id address port hmac) h = absurd h
-        by s (control_calls.Echoed id) h = absurd h
-        by s (control_calls.Removed id) h = absurd h
+        by s (control_calls.Backup path on) h = h
+        by s (control_calls.Announce id) h = h
+        by s (control_calls.Withdraw id) h = h
+        by s (control_calls.Heard id address port hmac) h = h
+        by s (control_calls.Echoed id) h = h
+        by s (control_calls.Removed id) h = h
         by s control_calls.FastClose h = h
         by s (control_calls.FastHeard key) h = tt
     ask_alone (asks.Send s call) h = tt

@@ -13,6 +13,10 @@ use Rattle.control_book.specs.Control.{Control, peer_or_zero}
 use Rattle.control_book.specs.Registry.{sole as sole_path, stands as stands_path, with_phase}
 use Rattle.control_book.specs.declared.registry.Phase.TheVariants.{Opening}
 use Rattle.key_material.specs.KeyDigest.{token_of}
+use Rattle.key_material.specs.declared.address.Address.{Address}
+use Rattle.address_manager.specs.declared.manager.Heard.{Heard as AddressHeard}
+use Rattle.address_manager.specs.declared.manager.Heard.TheVariants as address_said
+use Rattle.address_manager.specs.Steps.{heard_reply}
 use Rattle.fallback_state.specs.declared.fall.Event.{Event as FallEvent}
 use Rattle.fallback_state.specs.declared.fall.Fall.{Fall}
 use Rattle.fallback_state.specs.declared.fall.Mode.{Mode}
@@ -116,12 +120,12 @@ call_is k right w did s c (control_calls.JoinHeard path token) is h =
 call_is k right w did s c (control_calls.Live path backup) is h = same_book _ _ c _ refl refl h
 call_is k right w did s c (control_calls.Dead path) is h = same_book _ _ c _ refl refl h
 call_is k right w did s c (control_calls.Rate path window rtt) is h = same_book _ _ c _ refl refl h
-call_is k right w did s c (control_calls.Backup path on) is h = absurd is
-call_is k right w did s c (control_calls.Announce id) is h = absurd is
-call_is k right w did s c (control_calls.Withdraw id) is h = absurd is
-call_is k right w did s c (control_calls.Heard id address port hmac) is h = absurd is
-call_is k right w did s c (control_calls.Echoed id) is h = absurd is
-call_is k right w did s c (control_calls.Removed id) is h = absurd is
+call_is k right w did s c (control_calls.Backup path on) is h = same_book _ _ c _ refl refl h
+call_is k right w did s c (control_calls.Announce id) is h = same_book _ _ c _ refl refl h
+call_is k right w did s c (control_calls.Withdraw id) is h = if_book _ _ (controlling.is_known id c) _ c (same_book _ _ c _ refl refl h) h
+call_is k right w did s c (control_calls.Heard id address port hmac) is h = same_book _ _ c _ refl refl h
+call_is k right w did s c (control_calls.Echoed id) is h = if_book _ _ (controlling.is_known id c) _ c (same_book _ _ c _ refl refl h) h
+call_is k right w did s c (control_calls.Removed id) is h = if_book _ _ (controlling.is_known id c) _ c (same_book _ _ c _ refl refl h) h
 call_is k right w did s c control_calls.FastClose is h = same_book _ _ c _ refl refl h
 call_is k right w did s c (control_calls.FastHeard key) is h =
     let d : Control = controlling.after_event 0 false events.Stop c in
@@ -216,6 +220,17 @@ fast_untold test stopped other key c = by (key == c.keys.own)
     by true = stopped
     by false = other c.keys.own
 
+-- an address that is heard is echoed, or kept already, or has a wrong HMAC
+address_untold : (test : Reply → Bool) → test (replies.Control control_replies.Echo) ≡ false → test (replies.Control control_replies.Known) ≡ false
+    → test (replies.Control control_replies.BadHmac) ≡ false → (id : ℕ) (address : Address) (port hmac : ℕ) (c : Control)
+    → test (replies.Control (control.address_reply id address port hmac c)) ≡ false
+address_untold test echo known bad id address port hmac c = by (heard_reply control.is_same id address (control.is_right id address port hmac c) c.addresses)
+  where
+    by : (said : AddressHeard) → test (replies.Control (control.told_heard said)) ≡ false
+    by address_said.Echo = echo
+    by address_said.Known = known
+    by address_said.BadHmac = bad
+
 module _ (k : Secrets) (right : Bool) (w : Side → Type 0) (did : Deed → Side → Type 0) (s : Side) (c : Control) (h : BookIs (drawn_key k right s) (drawn_key k right (peer s)) c) where
   pub key_untold : (call : ControlCall) → AskIs k right w did (asks.Control s call) → tells_other_key (replies.Control (control.reply_to c call)) ≡ false
   key_untold (control_calls.Look path) is = refl
@@ -227,12 +242,12 @@ module _ (k : Secrets) (right : Bool) (w : Side → Type 0) (did : Deed → Side
   key_untold (control_calls.Live path backup) is = refl
   key_untold (control_calls.Dead path) is = refl
   key_untold (control_calls.Rate path window rtt) is = refl
-  key_untold (control_calls.Backup path on) is = absurd is
-  key_untold (control_calls.Announce id) is = absurd is
-  key_untold (control_calls.Withdraw id) is = absurd is
-  key_untold (control_calls.Heard id address port hmac) is = absurd is
-  key_untold (control_calls.Echoed id) is = absurd is
-  key_untold (control_calls.Removed id) is = absurd is
+  key_untold (control_calls.Backup path on) is = refl
+  key_untold (control_calls.Announce id) is = refl
+  key_untold (control_calls.Withdraw id) is = refl
+  key_untold (control_calls.Heard id address port hmac) is = address_untold tells_other_key refl refl refl id address port hmac c
+  key_untold (control_calls.Echoed id) is = refl
+  key_untold (control_calls.Removed id) is = refl
   key_untold control_calls.FastClose is = refl
   key_untold (control_calls.FastHeard key) is = fast_untold tells_other_key refl (λ own. refl) key c
 
@@ -248,11 +263,11 @@ module _ (k : Secrets) (right : Bool) (w : Side → Type 0) (did : Deed → Side
   join_untold sure (control_calls.Live path backup) is = refl
   join_untold sure (control_calls.Dead path) is = refl
   join_untold sure (control_calls.Rate path window rtt) is = refl
-  join_untold sure (control_calls.Backup path on) is = absurd is
-  join_untold sure (control_calls.Announce id) is = absurd is
-  join_untold sure (control_calls.Withdraw id) is = absurd is
-  join_untold sure (control_calls.Heard id address port hmac) is = absurd is
-  join_untold sure (control_calls.Echoed id) is = absurd is
-  join_untold sure (control_calls.Removed id) is = absurd is
+  join_untold sure (control_calls.Backup path on) is = refl
+  join_untold sure (control_calls.Announce id) is = refl
+  join_untold sure (control_calls.Withdraw id) is = refl
+  join_untold sure (control_calls.Heard id address port hmac) is = address_untold tells_wrong_join refl refl refl id address port hmac c
+  join_untold sure (control_calls.Echoed id) is = refl
+  join_untold sure (control_calls.Removed id) is = refl
   join_untold sure control_calls.FastClose is = refl
   join_untold sure (control_calls.FastHeard key) is = fast_untold tells_wrong_join refl (λ own. refl) key c

@@ -51,7 +51,9 @@ use Rattle.path_core.specs.Duties.{stands, passed, answered, ask_for}
 use Rattle.path_core.specs.Emission.{Grant, grant_in, answered_grant, answered_data, first_unsent, fin_segment_of, data_stands, fits, after_timer, having_sent_fin}
 use Rattle.path_core.specs.Ends.{PathEnd, Notices as OwnNotices}
 use Rattle.path_core.specs.Noticing.{after_notice}
-use Rattle.path_core.specs.Events.{next_event, step_for, at_tick, died, path_died, is_death, after_line, happens_if, join_begun, timer_fired, template_fired, never_joined}
+use Rattle.path_core.specs.Events.{next_event, step_for, at_tick, died, path_died, after_line, happens_if, join_begun, timer_fired, template_fired, never_joined, with_priority}
+use Rattle.path_core.specs.declared.lines.LineAction.{LineAction}
+use Rattle.path_core.specs.declared.lines.LineAction.TheVariants as actions
 use Rattle.path_agenda.specs.Items.{key_heard, keys_heard}
 use Rattle.path_agenda.specs.Words.{replaced}
 use Rattle.path_core.specs.Joining.{asked_at, is_never, join_heard_ask, join_taken, joined_by, keys_begun, opened_by, refusal_of, with_mode_refused}
@@ -70,6 +72,8 @@ use Rattle.path_core.specs.Fallback.{is_fall, fell_ask, in_identity, after_fell,
 use Rattle.path_core.specs.Treating.{is_acked, is_dropped, with_acked, counts, is_clash, with_data_fin, with_plain_ack, breaks_by_ack, answered_plain_ack, answered_heard, answered_item, item_of, item_passed, heard_ask, item_ask, plain_ack_ask}
 use Rattle.path_core.specs.Values.{Carried, values}
 use Rattle.path_core.specs.FastClosing.{is_stopped_by, fast_close_of, is_fast_close_due}
+use Rattle.path_core.specs.Addressing.{is_note_due, note_of, after_peer_notice}
+use Rattle.path_agenda.specs.Words.{first_of}
 use Rattle.world_laws.proofs.Finding.{find_every, one_side}
 use Rattle.fallback_state.specs.declared.fall.Event.{Event as FallEvent}
 use Rattle.fallback_state.specs.declared.fall.Event.TheVariants as fall
@@ -78,7 +82,7 @@ use Rattle.subflow_tcp.specs.declared.handshake.State.{State as EndPhase}
 use Rattle.subflow_tcp.specs.declared.handshake.State.TheVariants as phase
 use Rattle.world_laws.proofs.Verdicts.{fell_cases}
 use Rattle.world_laws.proofs.KeysHeld.{VoiceIs, with_voice, fewer_known, stays_same, replaced_known, look_leaves, verdict_leaves, fell_leaves, opening_open, not_closed, finish_open, IsSign, FlightIs, OnJoined, AreKnown, PathIs, end_is, Fewer, none_left, Stays, goes_by, goes_is, with_is, agenda_is, kept_end, same_goes, sent_is, same_sent, died_is, refused_is, unless_dead_is, key_found, PairIs, pair_found, AskedIs, asked_is, rekeyed, rekeyed_knows, keys_are, keys_stay, BeginIs, opened_end, opened_stays, joined_end, joined_knows, joined_waits}
-use Rattle.world_laws.proofs.KeysRight.{Deed, Secrets, told_in, known_in, OfB, drawn_key, SegmentIs, ItemIs, EndIs, Needs, Knows, same_knows, same_modes, reset_options_are, reset_is as reset_said_is, fin_options_are, ack_is, syn_ack_is, record_or_ack_is, carried_is, dss_known, is_past, of_b}
+use Rattle.world_laws.proofs.KeysRight.{Deed, Secrets, told_in, known_in, OfB, drawn_key, SegmentIs, ItemIs, EndIs, Needs, Knows, same_knows, same_modes, reset_options_are, reset_is as reset_said_is, fin_options_are, ack_is, syn_ack_is, record_or_ack_is, carried_is, noted_is, dss_known, is_past, of_b}
 use Rattle.world_laws.proofs.KeysWoken.{is_up, NoWaking, open_is_up, timer_up, sending_up, finishing_up, passing_up, is_said_by, speaks, tail_speaks, replaced_speaks, same_or_calm, itself, next_happens, first_speaks, Voice, tells_same, falls_same}
 use Rattle.world_laws.proofs.KeysCopied.{copy_is, delivered_is, own_knows, voices}
 
@@ -330,7 +334,12 @@ module _ (k : Secrets) (right : Bool) (w : Side → Type 0) (did : Deed → Side
   CallIs s (control_calls.Rate path window rtt) = Unit {0}
   CallIs s control_calls.FastClose = did Deed.Closed s
   CallIs s (control_calls.FastHeard key) = Unit {0}
-  CallIs s _ = ⊥
+  CallIs s (control_calls.Backup path on) = Unit {0}
+  CallIs s (control_calls.Announce id) = Unit {0}
+  CallIs s (control_calls.Withdraw id) = Unit {0}
+  CallIs s (control_calls.Heard id address port hmac) = Unit {0}
+  CallIs s (control_calls.Echoed id) = Unit {0}
+  CallIs s (control_calls.Removed id) = Unit {0}
 
   -- it tells a reassembly book of the peer's fast close where the side was stopped by it
   abbrev pub ReceiveIs : Side → ReassemblyCall → Type 0
@@ -387,9 +396,12 @@ module _ (k : Secrets) (right : Bool) (w : Side → Type 0) (did : Deed → Side
       still true waiting = waiting
       still false waiting = absurd (false≢true waiting)
 
-  line_is : (death : Bool) (p : PathState Carried) → PathIs k right w did p → PathIs k right w did (after_line death p)
-  line_is true p h = died_path p h
-  line_is false p h = agenda_is k right w did _ p (λ t spoken. absurd (false≢true spoken)) h
+  line_is : (action : LineAction) (p : PathState Carried) → PathIs k right w did p → PathIs k right w did (after_line action p)
+  line_is actions.Die p h = died_path p h
+  line_is (actions.Prio s backup) p h =
+      same_goes k right w did s (with_priority backup (end_at s p)) (emission s) p refl refl (record { up = λ x. x; waits = λ x. x; past = λ x. x }) (λ t spoken. absurd (false≢true spoken)) h
+  line_is (actions.Announce s id) p h = agenda_is k right w did _ p (λ t spoken. absurd (false≢true spoken)) h
+  line_is (actions.Withdraw s id) p h = agenda_is k right w did _ p (λ t spoken. absurd (false≢true spoken)) h
 
   -- A begins a join, where the path joins
   begun_is : (r : Reply) (dead living : List Duty) (p : PathState Carried) → is_joined p.profile ≡ true → IfSome (keys_begun r) (BeginIs k right w did A)
@@ -438,7 +450,7 @@ module _ (k : Secrets) (right : Bool) (w : Side → Type 0) (did : Deed → Side
       (λ t spoken. absurd (false≢true spoken)) (λ t spoken. absurd (false≢true spoken))
       (record { a = h.a; b = h.b; copies = h.copies; known = h.known; waits = h.waits })
   event_is (Some (happenings.Takes line)) r p next is h =
-      line_is (is_death line.line) (record (at_tick line.tick p) { lines = tail_of p.lines }) (record { a = h.a; b = h.b; copies = h.copies; known = h.known; waits = h.waits })
+      line_is line.action (record (at_tick line.tick p) { lines = tail_of p.lines }) (record { a = h.a; b = h.b; copies = h.copies; known = h.known; waits = h.waits })
   event_is (Some (happenings.Arrives due)) r p next is h =
       copy_is k right w did due.to (arriving due p.link) p (record (at_tick due.tick p) { link = after_delivery due p.link }) said (delivered_is k right w did due p h)
     where
@@ -548,9 +560,10 @@ module _ (k : Secrets) (right : Bool) (w : Side → Type 0) (did : Deed → Side
   heard_answered s says.Dss r p own said is h = agenda_is k right w did _ p (none_left k right w did p) h
   heard_answered s (says.PeerKey key) r p own said is h = agenda_is k right w did _ p (none_left k right w did p) h
   heard_answered s (says.Join form) r p own said is h = agenda_is k right w did _ p (none_left k right w did p) h
-  heard_answered s (says.Notice notice) r p own said is h = agenda_is k right w did _ p (none_left k right w did p) h
+  heard_answered s (says.Notice notice) r p own said is h =
+      same_goes k right w did s (after_peer_notice notice r (end_at s p)) (left p) p refl refl (record { up = λ x. x; waits = λ x. x; past = λ x. x }) (none_left k right w did p) h
   heard_answered s says.Fail r p own said is h = agenda_is k right w did _ p (none_left k right w did p) h
-  heard_answered s (says.FastClose key) r p own said is h = by (is_stopped_by r) is
+  heard_answered s (says.FastClose key) r p own said is h = by (is_stopped_by r)
     where
       known : (t : Side) → did Deed.Stopped t → did Deed.Closed (peer t) → (x : Voice) → speaks x (stops t) ≡ true → VoiceIs k right w did p x
       known A stopped closed (Voice.Aborts A) spoken = (stopped, closed)
@@ -611,6 +624,14 @@ module _ (k : Secrets) (right : Bool) (w : Side → Type 0) (did : Deed → Side
       let own = end_is k right w did s p h in
       carried_is k right w did p.profile s e own
       (λ joins. of_b s (w B) (own.past joins (connected_past e.tcp.state (and_parts (is_connected e.tcp.state) _ due).0))) e.notices.carrier own.carries
+
+  note_is : (s : Side) (p : PathState Carried) → is_note_due (end_at s p) ≡ true → PathIs k right w did p → SegmentIs k right w did p.profile s (note_of s p)
+  note_is s p due h =
+      let e = end_at s p in
+      let own = end_is k right w did s p h in
+      noted_is k right w did p.profile s e own
+      (λ joins. of_b s (w B) (own.past joins (connected_past e.tcp.state (and_parts (is_connected e.tcp.state) _ (and_parts (may_note e) _ due).0).0)))
+      (first_of e.notices.queue)
 
   fin_segment_is : (s : Side) (p : PathState Carried) → Said s p → PathIs k right w did p → SegmentIs k right w did p.profile s (fin_segment_of s p)
   fin_segment_is s p said h = fin_options_are k right w did p.profile s (end_at s p) (end_is k right w did s p h) said (fin_position (end_at s p).tcp.send)
@@ -724,6 +745,8 @@ module _ (k : Secrets) (right : Bool) (w : Side → Type 0) (did : Deed → Side
       same_sent k right w did s _ _ _ p (ack_said_is s (end_at s p).tcp.send.nxt None p h) refl refl (record { up = λ x. x; waits = λ x. x; past = λ x. x }) (none_left k right w did p) h
   answered_is (duties.Send (send_duties.FastClose s)) r p stands said is h =
       same_sent k right w did s _ _ _ p (fast_close_is s p stands h) refl refl (record { up = λ x. x; waits = λ x. x; past = λ x. x }) (none_left k right w did p) h
+  answered_is (duties.Send (send_duties.Notice s)) r p stands said is h =
+      same_sent k right w did s _ _ p.agenda p (note_is s p stands h) refl refl (record { up = λ x. x; waits = λ x. x; past = λ x. x }) (λ t is. is) h
   answered_is (duties.Send (send_duties.Syn s)) r p stands said is h =
       let e = end_at s p in
       let opens = opening_open e.tcp.state (and_parts (is_opening e.tcp.state) (is_some (first_unsent e)) stands).0 in

@@ -31,7 +31,7 @@ use Rattle.actor_desk.specs.declared.ask.Ask.TheVariants as asks
 use Rattle.actor_desk.specs.declared.ask.Reply.{Reply}
 use Rattle.actor_desk.specs.declared.ask.Reply.TheVariants as replies
 use Rattle.actor_desk.specs.Words.{tail_of}
-use Rattle.path_agenda.specs.Agenda.{emission, leaves, rest_of_turn}
+use Rattle.path_agenda.specs.Agenda.{emission, leaves, rest_of_turn, announces, withdraws}
 use Rattle.path_agenda.specs.Items.{key_heard}
 use Rattle.path_agenda.specs.declared.duty.Duty.{Duty}
 use Rattle.path_agenda.specs.declared.duty.Duty.TheVariants as duties
@@ -51,7 +51,9 @@ use Rattle.path_core.specs.Codec.{HeardSegment}
 use Rattle.path_core.specs.Duties.{stands, passed}
 use Rattle.path_core.specs.Emission.{after_timer}
 use Rattle.path_core.specs.Ends.{PathEnd}
-use Rattle.path_core.specs.Events.{heard_at, heard_in, at_tick, died, is_death, after_line, copy_heard, happens_if, join_begun, timer_fired, template_fired, never_joined, step_for}
+use Rattle.path_core.specs.Events.{heard_at, heard_in, at_tick, died, after_line, copy_heard, happens_if, join_begun, timer_fired, template_fired, never_joined, step_for, with_priority}
+use Rattle.path_core.specs.declared.lines.LineAction.{LineAction}
+use Rattle.path_core.specs.declared.lines.LineAction.TheVariants as actions
 use Rattle.path_core.specs.Joining.{is_never, keys_begun, opened_by, mode_refused}
 use Rattle.path_core.specs.Joins.{is_joined}
 use Rattle.path_core.specs.Passing.{after_pass_fin}
@@ -310,9 +312,12 @@ module _ (T : Type 0) where
   unless_dead_mode p h true is = h.mode is
   unless_dead_mode p h false is = h.mode is
 
-  line_met : (death : Bool) (p : PathState Carried) → CalmMet p → CalmMet (after_line death p)
-  line_met false p h = agenda_met rest_of_turn p (new_duties p.agenda rest_of_turn refl refl) h
-  line_met true p h = record {
+  line_met : (action : LineAction) (p : PathState Carried) → CalmMet p → CalmMet (after_line action p)
+  line_met (actions.Prio s backup) p h =
+      goes_met s (with_priority backup (end_at s p)) (emission s) p (same_goes s (with_priority backup (end_at s p)) p refl refl) (new_duties p.agenda (emission s) refl refl) h
+  line_met (actions.Announce s id) p h = agenda_met (announces s id) p (new_duties p.agenda (announces s id) refl refl) h
+  line_met (actions.Withdraw s id) p h = agenda_met (withdraws s id) p (new_duties p.agenda (withdraws s id) refl refl) h
+  line_met actions.Die p h = record {
     first = h.first;
     calm = calm (is_dead p.a.tcp.state) (is_dead p.b.tcp.state);
     met = unless_dead_met p h (is_dead p.a.tcp.state);
@@ -446,7 +451,7 @@ module _ (T : Type 0) where
       inl (begun_met r (leaves A) (emission A) (record (at_tick tick p) { joined_at = None }) gains.0 (new_duties p.agenda _ refl refl) (new_duties p.agenda _ refl refl)
       (record { first = h.first; calm = h.calm; met = h.met; signed = h.signed; mode = h.mode }))
   event_met (Some (happenings.Takes line)) r p gains h =
-      inl (line_met (is_death line.line) (record (at_tick line.tick p) { lines = tail_of p.lines }) (record { first = h.first; calm = h.calm; met = h.met; signed = h.signed; mode = h.mode }))
+      inl (line_met line.action (record (at_tick line.tick p) { lines = tail_of p.lines }) (record { first = h.first; calm = h.calm; met = h.met; signed = h.signed; mode = h.mode }))
   event_met (Some (happenings.Arrives due)) r p gains h =
       copy_met due.to (heard_in values due.to (arriving due p.link) p) (record (at_tick due.tick p) { link = after_delivery due p.link })
       (record { first = h.first; calm = h.calm; met = h.met; signed = h.signed; mode = h.mode })

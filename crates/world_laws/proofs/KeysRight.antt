@@ -35,6 +35,9 @@ use Rattle.path_core.specs.Ends.{PathEnd}
 use Rattle.path_core.specs.Joins.{is_joined, peer_key_of, join_options, third_options}
 use Rattle.path_core.specs.OptionsOut.{capable_options, syn_options, key_options, opening_options, ack_options, data_fin_mapping, is_first_piece, first_piece_options, piece_options, piece_mapping, owes_mapping, plain_options, fin_options, record_options, reset_options, reset_said, ack_said, carried_said, syn_ack_said, record_or_ack}
 use Rattle.path_core.specs.State.{Profile}
+use Rattle.path_core.specs.OptionsOut.{noted_said}
+use Rattle.path_agenda.specs.declared.notice.OwnNotice.{OwnNotice}
+use Rattle.path_agenda.specs.declared.notice.OwnNotice.TheVariants as own_notes
 use Rattle.dss_mapping.specs.Mappings.{octets_in}
 
 every_one : {X : Type 0} {P : X → Type 0} (x : X) → P x → Every P (x ∷ [])
@@ -299,6 +302,13 @@ module _ (k : Secrets) (right : Bool) (w : Side → Type 0) (did : Deed → Side
     pub carried_is : (is_joined c ≡ true → OfB s (w B)) → (o : Option ℕ) → IfSome o (λ key. did Deed.Closed s) → SegmentIs c s (carried_said c s o e)
     carried_is knows (Some key) closed = every_two _ _ knows closed
     carried_is knows None closed = ack_options_are None
+
+    pub noted_is : (is_joined c ≡ true → OfB s (w B)) → (o : Option OwnNotice) → SegmentIs c s (noted_said c s o e)
+    noted_is knows (Some (own_notes.AddAddr id)) = every_two _ _ knows tt
+    noted_is knows (Some (own_notes.AddEcho id address port)) = every_two _ _ knows tt
+    noted_is knows (Some (own_notes.Removes id)) = every_two _ _ knows tt
+    noted_is knows (Some (own_notes.Prio backup)) = every_two _ _ knows tt
+    noted_is knows None = ack_options_are None
 
     -- where it knows what it has to, its SYN is right, and so is its DSS
     module _ (knows : is_joined c ≡ true → Knows s e.modes) where

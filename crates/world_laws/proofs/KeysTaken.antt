@@ -52,6 +52,7 @@ use Rattle.path_core.specs.Treating.{heard_ask, item_ask, plain_ack_ask, breaks_
 use Rattle.path_core.specs.Values.{Carried, values}
 use Rattle.subflow_tcp.specs.Taking.{after_syn, unkept}
 use Rattle.path_core.specs.Joining.{is_listening, syn_alone}
+use Rattle.path_core.specs.Addressing.{after_peer_notice}
 use Rattle.path_core.specs.FastClosing.{is_stopped_by}
 use Rattle.subflow_tcp.specs.declared.handshake.State.{State as EndPhase}
 use Rattle.subflow_tcp.specs.declared.handshake.State.TheVariants as phase
@@ -170,7 +171,7 @@ module _ (T : Type 0) where
   heard_answered_met s says.Dss r p gains sign h = agenda_met T (left p) p (tail_fewer p.agenda) h
   heard_answered_met s (says.PeerKey key) r p gains sign h = agenda_met T (left p) p (tail_fewer p.agenda) h
   heard_answered_met s (says.Join form) r p gains sign h = agenda_met T (left p) p (tail_fewer p.agenda) h
-  heard_answered_met s (says.Notice notice) r p gains sign h = agenda_met T (left p) p (tail_fewer p.agenda) h
+  heard_answered_met s (says.Notice notice) r p gains sign h = same_met s (after_peer_notice notice r (end_at s p)) (left p) p refl refl (tail_fewer p.agenda) h
   heard_answered_met s says.Fail r p gains sign h = agenda_met T (left p) p (tail_fewer p.agenda) h
   heard_answered_met s (says.FastClose key) r p gains sign h = by (is_stopped_by r)
     where
@@ -270,6 +271,7 @@ module _ (T : Type 0) where
   answered_met (duties.Ask (ask_duties.Window s)) r p none sign gains h = inl (same_met s (after_ack_out r (end_at s p)) (left p) p refl refl (tail_fewer p.agenda) h)
   answered_met (duties.Send (send_duties.Update s)) r p none sign gains h = inl (same_sent_met s _ _ (left p) p refl refl (tail_fewer p.agenda) h)
   answered_met (duties.Send (send_duties.FastClose s)) r p none sign gains h = inl (same_sent_met s _ _ (left p) p refl refl (tail_fewer p.agenda) h)
+  answered_met (duties.Send (send_duties.Notice s)) r p none sign gains h = inl (same_sent_met s _ _ p.agenda p refl refl (same_duties p.agenda) h)
   answered_met (duties.Send (send_duties.Syn s)) r p none sign gains h = inl (same_sent_met s _ _ (left p) p refl refl (tail_fewer p.agenda) h)
   answered_met (duties.Step (step_duties.Data s)) r p none sign gains h = inl (data_met s (first_unsent (end_at s p)) r p h)
   answered_met (duties.Send (send_duties.DataFin s)) r p none sign gains h = inl (same_sent_met s _ _ (left p) p refl refl (tail_fewer p.agenda) h)

@@ -44,7 +44,9 @@ use Rattle.path_core.specs.declared.judged.Judged.TheVariants as judged
 use Rattle.path_core.specs.Duties.{stands, passed, answered}
 use Rattle.path_core.specs.Emission.{Grant, grant_in, answered_grant, answered_data, first_unsent}
 use Rattle.path_core.specs.Ends.{PathEnd}
-use Rattle.path_core.specs.Events.{next_event, after_line, is_death, at_tick, died, died_unless_dead, join_begun, copy_heard, heard_in, template_fired, happens_if}
+use Rattle.path_core.specs.Events.{next_event, after_line, at_tick, died, died_unless_dead, join_begun, copy_heard, heard_in, template_fired, happens_if}
+use Rattle.path_core.specs.declared.lines.LineAction.{LineAction}
+use Rattle.path_core.specs.declared.lines.LineAction.TheVariants as actions
 use Rattle.path_core.specs.Joining.{keys_begun, is_never, opened_by, join_taken, asked_at}
 use Rattle.path_core.specs.Joins.{is_joined}
 use Rattle.path_core.specs.Passing.{answered_piece, is_placed, is_fin_set, answered_fin_heard, piece_of, answered_plain_fin}
@@ -400,6 +402,7 @@ module _ {C : Type 0} where
   passed_leads (duties.Ask (ask_duties.Window s)) ds p h none = goes_led (duties.Ask (ask_duties.Window s)) ds p p ds (λ is. is, λ is. is) (record { recalls = recalls_all _ _ refl; follows = λ n f. f }) h
   passed_leads (duties.Send (send_duties.Update s)) ds p h none = goes_led (duties.Send (send_duties.Update s)) ds p p ds (λ is. is, λ is. is) (record { recalls = recalls_all _ _ refl; follows = λ n f. f }) h
   passed_leads (duties.Send (send_duties.FastClose s)) ds p h none = goes_led (duties.Send (send_duties.FastClose s)) ds p p ds (λ is. is, λ is. is) (record { recalls = recalls_all _ _ refl; follows = λ n f. f }) h
+  passed_leads (duties.Send (send_duties.Notice s)) ds p h none = goes_led (duties.Send (send_duties.Notice s)) ds p p ds (λ is. is, λ is. is) (record { recalls = recalls_all _ _ refl; follows = λ n f. f }) h
   passed_leads (duties.Send (send_duties.Syn s)) ds p h none = goes_led (duties.Send (send_duties.Syn s)) ds p p ds (λ is. is, λ is. is) (record { recalls = recalls_all _ _ refl; follows = λ n f. f }) h
   passed_leads (duties.Step (step_duties.Data s)) ds p h none = goes_led (duties.Step (step_duties.Data s)) ds p p ds (λ is. is, λ is. is) (record { recalls = recalls_all _ _ refl; follows = λ n f. f }) h
   passed_leads (duties.Send (send_duties.DataFin s)) ds p h none = goes_led (duties.Send (send_duties.DataFin s)) ds p p ds (λ is. is, λ is. is) (record { recalls = recalls_all _ _ refl; follows = λ n f. f }) h
@@ -430,6 +433,8 @@ module _ {C : Type 0} where
   passed_leads (duties.Ask (ask_duties.Return s)) ds p h none = goes_led (duties.Ask (ask_duties.Return s)) ds p p ds (λ is. is, λ is. is) (record { recalls = recalls_all _ _ refl; follows = λ n f. f }) h
   passed_leads (duties.Ask (ask_duties.AbortSend s)) ds p h none = goes_led (duties.Ask (ask_duties.AbortSend s)) ds p p ds (λ is. is, λ is. is) (record { recalls = recalls_all _ _ refl; follows = λ n f. f }) h
   passed_leads (duties.Ask (ask_duties.AbortReceive s)) ds p h none = goes_led (duties.Ask (ask_duties.AbortReceive s)) ds p p ds (λ is. is, λ is. is) (record { recalls = recalls_all _ _ refl; follows = λ n f. f }) h
+  passed_leads (duties.Ask (ask_duties.Announce s id)) ds p h none = goes_led (duties.Ask (ask_duties.Announce s id)) ds p p ds (λ is. is, λ is. is) (record { recalls = recalls_all _ _ refl; follows = λ n f. f }) h
+  passed_leads (duties.Ask (ask_duties.Withdraw s id)) ds p h none = goes_led (duties.Ask (ask_duties.Withdraw s id)) ds p p ds (λ is. is, λ is. is) (record { recalls = recalls_all _ _ refl; follows = λ n f. f }) h
   passed_leads (duties.Send (send_duties.Resend s)) ds p h none = goes_led (duties.Send (send_duties.Resend s)) ds p p ds (λ is. is, λ is. is) (record { recalls = recalls_all _ _ refl; follows = λ n f. f }) h
   passed_leads (duties.Ask (ask_duties.BreakAck s reason)) ds p h none = goes_led (duties.Ask (ask_duties.BreakAck s reason)) ds p p ds (λ is. is, λ is. is) (record { recalls = recalls_all _ _ refl; follows = λ n f. f }) h
   passed_leads (duties.Send (send_duties.BreakReset s reason)) ds p h none = goes_led (duties.Send (send_duties.BreakReset s reason)) ds p p ds (λ is. is, λ is. is) (record { recalls = recalls_all _ _ refl; follows = λ n f. f }) h
@@ -471,12 +476,15 @@ module _ {C : Type 0} where
   anew_leads p q x = record { led = x.led; clear = inr (record { n = 0; none = inr tt; follows = x.follows }) }
 
   module _ (p : PathState C) (led : Led false p.a.treated.items) where
-    line_anew : (death : Bool) → Anew p (after_line death p)
-    line_anew true = record {
+    line_anew : (action : LineAction) → Anew p (after_line action p)
+    line_anew actions.Die = record {
       led = recalled_led p.a (died_unless_dead p.a) (either_recalls (is_dead p.a.tcp.state) p.a p.a (died p.a) (recalls_all p.a p.a refl) (forgets p.a (died p.a) refl)) led;
       follows = died_follows (is_dead p.a.tcp.state) (is_dead p.b.tcp.state);
     }
-    line_anew false = record { led = led; follows = tt }
+    line_anew (actions.Prio A backup) = record { led = led; follows = tt }
+    line_anew (actions.Prio B backup) = record { led = led; follows = tt }
+    line_anew (actions.Announce s id) = record { led = led; follows = tt }
+    line_anew (actions.Withdraw s id) = record { led = led; follows = tt }
 
     copy_anew : (s : Side) (heard : Option HeardSegment) → Anew p (copy_heard s heard p)
     copy_anew s None = record { led = led; follows = tt }
@@ -497,7 +505,7 @@ module _ {C : Type 0} where
   happens_anew k (Some (happenings.Joins tick)) r p led =
       let q : PathState C = record (at_tick tick p) { joined_at = None } in anew_leads q (join_begun r (leaves A) (emission A) q) (begun_anew q led r)
   happens_anew k (Some (happenings.Takes line)) r p led =
-      let q : PathState C = record (at_tick line.tick p) { lines = tail_of p.lines } in anew_leads q (after_line (is_death line.line) q) (line_anew q led (is_death line.line))
+      let q : PathState C = record (at_tick line.tick p) { lines = tail_of p.lines } in anew_leads q (after_line line.action q) (line_anew q led line.action)
   happens_anew k (Some (happenings.Arrives due)) r p led =
       let q : PathState C = record (at_tick due.tick p) { link = after_delivery due p.link } in
       let heard = heard_in k due.to (arriving due p.link) p in
@@ -611,6 +619,7 @@ module _ {C : Type 0} where
   answered_goes k (duties.Ask (ask_duties.Window s)) other ds r p = record { recalls = side_recalls s _ (with_agenda (duties.Ask (ask_duties.Window s) ∷ ds) p) _ (recalls_all _ _ refl) refl; follows = λ n f. f }
   answered_goes k (duties.Send (send_duties.Update s)) other ds r p = record { recalls = side_recalls s _ (with_agenda (duties.Send (send_duties.Update s) ∷ ds) p) _ (recalls_all _ _ refl) refl; follows = λ n f. f }
   answered_goes k (duties.Send (send_duties.FastClose s)) other ds r p = record { recalls = side_recalls s _ (with_agenda (duties.Send (send_duties.FastClose s) ∷ ds) p) _ (recalls_all _ _ refl) refl; follows = λ n f. f }
+  answered_goes k (duties.Send (send_duties.Notice s)) other ds r p = record { recalls = side_recalls s _ (with_agenda (duties.Send (send_duties.Notice s) ∷ ds) p) _ (recalls_all _ _ refl) refl; follows = λ n f. f }
   answered_goes k (duties.Send (send_duties.Syn s)) other ds r p = record { recalls = side_recalls s _ (with_agenda (duties.Send (send_duties.Syn s) ∷ ds) p) _ (recalls_all _ _ refl) refl; follows = λ n f. f }
   answered_goes k (duties.Send (send_duties.DataFin s)) other ds r p = record { recalls = side_recalls s _ (with_agenda (duties.Send (send_duties.DataFin s) ∷ ds) p) _ (recalls_all _ _ refl) refl; follows = λ n f. f }
   answered_goes k (duties.Send (send_duties.Fin s)) other ds r p = record { recalls = side_recalls s _ (with_agenda (duties.Send (send_duties.Fin s) ∷ ds) p) _ (recalls_all _ _ refl) refl; follows = λ n f. f }
@@ -634,6 +643,8 @@ module _ {C : Type 0} where
   answered_goes k (duties.Ask (ask_duties.Return s)) other ds r p = record { recalls = recalls_all _ _ refl; follows = λ n f. f }
   answered_goes k (duties.Ask (ask_duties.AbortSend s)) other ds r p = record { recalls = recalls_all _ _ refl; follows = λ n f. f }
   answered_goes k (duties.Ask (ask_duties.AbortReceive s)) other ds r p = record { recalls = recalls_all _ _ refl; follows = λ n f. f }
+  answered_goes k (duties.Ask (ask_duties.Announce s id)) other ds r p = record { recalls = recalls_all _ _ refl; follows = λ n f. f }
+  answered_goes k (duties.Ask (ask_duties.Withdraw s id)) other ds r p = record { recalls = recalls_all _ _ refl; follows = λ n f. f }
   answered_goes k (duties.Ask (ask_duties.Leave s)) other ds r p = record { recalls = recalls_all _ _ refl; follows = λ n f. f }
   answered_goes k (duties.Ask (ask_duties.LeaveNoted s)) other ds r p = record { recalls = side_recalls s _ (with_agenda (duties.Ask (ask_duties.LeaveNoted s) ∷ ds) p) _ (forgets _ _ refl) refl; follows = λ n f. f }
   answered_goes k (duties.Ask (ask_duties.Dead s)) other ds r p = record { recalls = recalls_all _ _ refl; follows = λ n f. f }
@@ -738,6 +749,7 @@ module _ {C : Type 0} where
   answered_leads k (duties.Ask (ask_duties.Window s)) ds r p is h = other_leads k (duties.Ask (ask_duties.Window s)) tt ds r p h
   answered_leads k (duties.Send (send_duties.Update s)) ds r p is h = other_leads k (duties.Send (send_duties.Update s)) tt ds r p h
   answered_leads k (duties.Send (send_duties.FastClose s)) ds r p is h = other_leads k (duties.Send (send_duties.FastClose s)) tt ds r p h
+  answered_leads k (duties.Send (send_duties.Notice s)) ds r p is h = other_leads k (duties.Send (send_duties.Notice s)) tt ds r p h
   answered_leads k (duties.Send (send_duties.Syn s)) ds r p is h = other_leads k (duties.Send (send_duties.Syn s)) tt ds r p h
   answered_leads k (duties.Step (step_duties.Data s)) ds r p is h = other_leads k (duties.Step (step_duties.Data s)) tt ds r p h
   answered_leads k (duties.Send (send_duties.DataFin s)) ds r p is h = other_leads k (duties.Send (send_duties.DataFin s)) tt ds r p h
@@ -773,6 +785,8 @@ module _ {C : Type 0} where
   answered_leads k (duties.Ask (ask_duties.Return s)) ds r p is h = other_leads k (duties.Ask (ask_duties.Return s)) tt ds r p h
   answered_leads k (duties.Ask (ask_duties.AbortSend s)) ds r p is h = other_leads k (duties.Ask (ask_duties.AbortSend s)) tt ds r p h
   answered_leads k (duties.Ask (ask_duties.AbortReceive s)) ds r p is h = other_leads k (duties.Ask (ask_duties.AbortReceive s)) tt ds r p h
+  answered_leads k (duties.Ask (ask_duties.Announce s id)) ds r p is h = other_leads k (duties.Ask (ask_duties.Announce s id)) tt ds r p h
+  answered_leads k (duties.Ask (ask_duties.Withdraw s id)) ds r p is h = other_leads k (duties.Ask (ask_duties.Withdraw s id)) tt ds r p h
   answered_leads k (duties.Send (send_duties.Resend s)) ds r p is h = other_leads k (duties.Send (send_duties.Resend s)) tt ds r p h
   answered_leads k (duties.Ask (ask_duties.BreakAck s reason)) ds r p is h = other_leads k (duties.Ask (ask_duties.BreakAck s reason)) tt ds r p h
   answered_leads k (duties.Send (send_duties.BreakReset s reason)) ds r p is h = other_leads k (duties.Send (send_duties.BreakReset s reason)) tt ds r p h

@@ -38,6 +38,9 @@ pub mod RoundLifting
 pub mod RoundSteps
 pub mod RoundReads
 pub mod RoundGrantAsks
+pub mod StandbyAsks
+pub mod StandbyKept
+pub mod Standbys
 pub mod RoundGrants
 pub mod RoundAsking
 pub mod WeavingOrder
@@ -86,6 +89,7 @@ pub mod Beginning
 pub mod Telling
 pub mod TellingRules
 pub mod TellingArrivals
+pub mod IdsFit
 pub mod TellingSteps
 pub mod TellingAsks
 pub mod TellingEvents

@@ -127,6 +127,7 @@ module _ {C : Type 0} (k : Codec C) (p : PathState C) where
   path_asks (duties.Ask (ask_duties.Window s)) = tt
   path_asks (duties.Send (send_duties.Update s)) = tt
   path_asks (duties.Send (send_duties.FastClose s)) = tt
+  path_asks (duties.Send (send_duties.Notice s)) = tt
   path_asks (duties.Send (send_duties.Syn s)) = tt
   path_asks (duties.Step (step_duties.Data s)) = data_is s (first_unsent (end_at s p))
   path_asks (duties.Send (send_duties.DataFin s)) = tt
@@ -163,6 +164,8 @@ module _ {C : Type 0} (k : Codec C) (p : PathState C) where
   path_asks (duties.Ask (ask_duties.Return s)) = tt
   path_asks (duties.Ask (ask_duties.AbortSend s)) = tt
   path_asks (duties.Ask (ask_duties.AbortReceive s)) = tt
+  path_asks (duties.Ask (ask_duties.Announce s id)) = tt
+  path_asks (duties.Ask (ask_duties.Withdraw s id)) = tt
   path_asks (duties.Send (send_duties.Resend s)) = tt
   path_asks (duties.Ask (ask_duties.BreakAck s reason)) = tt
   path_asks (duties.Send (send_duties.BreakReset s reason)) = tt
@@ -257,6 +260,7 @@ module _ {C : Type 0} (k : Codec C) (p : PathState C) where
   quiet_asks (duties.Ask (ask_duties.Window s)) q = tt
   quiet_asks (duties.Send (send_duties.Update s)) q = tt
   quiet_asks (duties.Send (send_duties.FastClose s)) q = tt
+  quiet_asks (duties.Send (send_duties.Notice s)) q = tt
   quiet_asks (duties.Send (send_duties.Syn s)) q = tt
   quiet_asks (duties.Step (step_duties.Data s)) q = absurd q
   quiet_asks (duties.Send (send_duties.DataFin s)) q = tt
@@ -293,6 +297,8 @@ module _ {C : Type 0} (k : Codec C) (p : PathState C) where
   quiet_asks (duties.Ask (ask_duties.Return s)) q = refl
   quiet_asks (duties.Ask (ask_duties.AbortSend s)) q = tt
   quiet_asks (duties.Ask (ask_duties.AbortReceive s)) q = tt
+  quiet_asks (duties.Ask (ask_duties.Announce s id)) q = tt
+  quiet_asks (duties.Ask (ask_duties.Withdraw s id)) q = tt
   quiet_asks (duties.Send (send_duties.Resend s)) q = tt
   quiet_asks (duties.Ask (ask_duties.BreakAck s reason)) q = tt
   quiet_asks (duties.Send (send_duties.BreakReset s reason)) q = tt
@@ -368,6 +374,7 @@ module _ {C : Type 0} (k : Codec C) (p : PathState C) where
   own_calls (duties.Ask (ask_duties.Window s)) = quiet_call (ask_for k (duties.Ask (ask_duties.Window s)) p) (quiet_asks (duties.Ask (ask_duties.Window s)) tt) (asks_leave k p (duties.Ask (ask_duties.Window s)))
   own_calls (duties.Send (send_duties.Update s)) = quiet_call (ask_for k (duties.Send (send_duties.Update s)) p) (quiet_asks (duties.Send (send_duties.Update s)) tt) (asks_leave k p (duties.Send (send_duties.Update s)))
   own_calls (duties.Send (send_duties.FastClose s)) = quiet_call (ask_for k (duties.Send (send_duties.FastClose s)) p) (quiet_asks (duties.Send (send_duties.FastClose s)) tt) (asks_leave k p (duties.Send (send_duties.FastClose s)))
+  own_calls (duties.Send (send_duties.Notice s)) = quiet_call (ask_for k (duties.Send (send_duties.Notice s)) p) (quiet_asks (duties.Send (send_duties.Notice s)) tt) (asks_leave k p (duties.Send (send_duties.Notice s)))
   own_calls (duties.Send (send_duties.Syn s)) = quiet_call (ask_for k (duties.Send (send_duties.Syn s)) p) (quiet_asks (duties.Send (send_duties.Syn s)) tt) (asks_leave k p (duties.Send (send_duties.Syn s)))
   own_calls (duties.Send (send_duties.DataFin s)) = quiet_call (ask_for k (duties.Send (send_duties.DataFin s)) p) (quiet_asks (duties.Send (send_duties.DataFin s)) tt) (asks_leave k p (duties.Send (send_duties.DataFin s)))
   own_calls (duties.Send (send_duties.Fin s)) = quiet_call (ask_for k (duties.Send (send_duties.Fin s)) p) (quiet_asks (duties.Send (send_duties.Fin s)) tt) (asks_leave k p (duties.Send (send_duties.Fin s)))
@@ -398,6 +405,8 @@ module _ {C : Type 0} (k : Codec C) (p : PathState C) where
   own_calls (duties.Ask (ask_duties.Return s)) = quiet_call (ask_for k (duties.Ask (ask_duties.Return s)) p) (quiet_asks (duties.Ask (ask_duties.Return s)) tt) (asks_leave k p (duties.Ask (ask_duties.Return s)))
   own_calls (duties.Ask (ask_duties.AbortSend s)) = quiet_call (ask_for k (duties.Ask (ask_duties.AbortSend s)) p) (quiet_asks (duties.Ask (ask_duties.AbortSend s)) tt) (asks_leave k p (duties.Ask (ask_duties.AbortSend s)))
   own_calls (duties.Ask (ask_duties.AbortReceive s)) = quiet_call (ask_for k (duties.Ask (ask_duties.AbortReceive s)) p) (quiet_asks (duties.Ask (ask_duties.AbortReceive s)) tt) (asks_leave k p (duties.Ask (ask_duties.AbortReceive s)))
+  own_calls (duties.Ask (ask_duties.Announce s id)) = quiet_call (ask_for k (duties.Ask (ask_duties.Announce s id)) p) (quiet_asks (duties.Ask (ask_duties.Announce s id)) tt) (asks_leave k p (duties.Ask (ask_duties.Announce s id)))
+  own_calls (duties.Ask (ask_duties.Withdraw s id)) = quiet_call (ask_for k (duties.Ask (ask_duties.Withdraw s id)) p) (quiet_asks (duties.Ask (ask_duties.Withdraw s id)) tt) (asks_leave k p (duties.Ask (ask_duties.Withdraw s id)))
   own_calls (duties.Send (send_duties.Resend s)) = quiet_call (ask_for k (duties.Send (send_duties.Resend s)) p) (quiet_asks (duties.Send (send_duties.Resend s)) tt) (asks_leave k p (duties.Send (send_duties.Resend s)))
   own_calls (duties.Ask (ask_duties.BreakAck s reason)) = quiet_call (ask_for k (duties.Ask (ask_duties.BreakAck s reason)) p) (quiet_asks (duties.Ask (ask_duties.BreakAck s reason)) tt) (asks_leave k p (duties.Ask (ask_duties.BreakAck s reason)))
   own_calls (duties.Send (send_duties.BreakReset s reason)) = quiet_call (ask_for k (duties.Send (send_duties.BreakReset s reason)) p) (quiet_asks (duties.Send (send_duties.BreakReset s reason)) tt) (asks_leave k p (duties.Send (send_duties.BreakReset s reason)))

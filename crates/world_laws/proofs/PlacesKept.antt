@@ -49,7 +49,9 @@ use Rattle.path_core.specs.Breaking.{reset_of, reset_on, answered_break}
 use Rattle.path_core.specs.Duties.{stands, passed, answered}
 use Rattle.path_core.specs.Emission.{Grant, grant_in, answered_grant, answered_data, first_unsent}
 use Rattle.path_core.specs.Ends.{PathEnd, Receiving}
-use Rattle.path_core.specs.Events.{next_event, heard_in, at_tick, died, died_unless_dead, is_death, after_line, copy_heard, happens_if, join_begun, told_at, never_joined}
+use Rattle.path_core.specs.Events.{next_event, heard_in, at_tick, died, died_unless_dead, after_line, copy_heard, happens_if, join_begun, told_at, never_joined}
+use Rattle.path_core.specs.declared.lines.LineAction.{LineAction}
+use Rattle.path_core.specs.declared.lines.LineAction.TheVariants as actions
 use Rattle.path_core.specs.Joining.{asked_at, is_never, join_taken, keys_begun, opened_by}
 use Rattle.path_core.specs.Passing.{is_placed, piece_of, answered_piece, is_fin_set, answered_fin_heard, answered_plain_fin}
 use Rattle.path_core.specs.Deliver.{Piece, with_learned, with_skipped, is_wrong, forgotten_by, mapping_here}
@@ -225,9 +227,11 @@ module _ (R : Side → ℕ → ℕ → Type 0) where
       by true = h
       by false = h
 
-  line_knows : (death : Bool) (p : PathState Carried) → PathKnows p → PathKnows (after_line death p)
-  line_knows true p h = record { a = unless_dead A p.a h.a; b = unless_dead B p.b h.b }
-  line_knows false p h = agenda _ p h
+  line_knows : (action : LineAction) (p : PathState Carried) → PathKnows p → PathKnows (after_line action p)
+  line_knows actions.Die p h = record { a = unless_dead A p.a h.a; b = unless_dead B p.b h.b }
+  line_knows (actions.Prio s backup) p h = same_goes s _ _ p refl h
+  line_knows (actions.Announce s id) p h = agenda _ p h
+  line_knows (actions.Withdraw s id) p h = agenda _ p h
 
   copy_knows : (s : Side) (o : Option (Flight Carried)) (q p : PathState Carried)
       → ((f : Flight Carried) → o ≡ Some f → AllTell (R s) (held_of p.profile s (meant f.carried.segment))) → PathKnows p → PathKnows (copy_heard s (heard_in values s o q) p)
@@ -256,7 +260,7 @@ module _ (R : Side → ℕ → ℕ → Type 0) where
   event_knows None r p tell h = agenda _ p h
   event_knows (Some (happenings.Joins tick)) r p tell h = begun_knows r (leaves A) (emission A) (record (at_tick tick p) { joined_at = None }) (record { a = h.a; b = h.b })
   event_knows (Some (happenings.Takes line)) r p tell h =
-      line_knows (is_death line.line) (record (at_tick line.tick p) { lines = tail_of p.lines }) (record { a = h.a; b = h.b })
+      line_knows line.action (record (at_tick line.tick p) { lines = tail_of p.lines }) (record { a = h.a; b = h.b })
   event_knows (Some (happenings.Arrives due)) r p tell h =
       copy_knows due.to (arriving due p.link) p (record (at_tick due.tick p) { link = after_delivery due p.link }) arrives (record { a = h.a; b = h.b })
     where
@@ -304,7 +308,7 @@ module _ (R : Side → ℕ → ℕ → Type 0) where
   heard_knows s says.Dss r p h = agenda _ p h
   heard_knows s (says.PeerKey key) r p h = agenda _ p h
   heard_knows s (says.Join form) r p h = agenda _ p h
-  heard_knows s (says.Notice notice) r p h = agenda _ p h
+  heard_knows s (says.Notice notice) r p h = same_goes s _ _ p refl h
   heard_knows s says.Fail r p h = agenda _ p h
   heard_knows s (says.FastClose key) r p h = agenda _ p h
 
@@ -359,6 +363,7 @@ module _ (R : Side → ℕ → ℕ → Type 0) where
   answered_knows (duties.Ask (ask_duties.Window s)) r p tell h = ack_out_knows s r _ p h
   answered_knows (duties.Send (send_duties.Update s)) r p tell h = same_sent s _ _ _ p refl h
   answered_knows (duties.Send (send_duties.FastClose s)) r p tell h = same_sent s _ _ _ p refl h
+  answered_knows (duties.Send (send_duties.Notice s)) r p tell h = same_sent s _ _ _ p refl h
   answered_knows (duties.Send (send_duties.Syn s)) r p tell h = same_sent s _ _ _ p refl h
   answered_knows (duties.Step (step_duties.Data s)) r p tell h = data_knows s (first_unsent (end_at s p)) r p h
   answered_knows (duties.Send (send_duties.DataFin s)) r p tell h = same_sent s _ _ _ p refl h

@@ -50,6 +50,9 @@ use Rattle.path_core.specs.Values.{Carried, values}
 use Rattle.path_core.specs.Words.{item_at}
 use Rattle.path_core.specs.Fallback.{identity_ask, answered_identity, answered_fell}
 use Rattle.path_core.specs.FastClosing.{is_stopped_by, fast_heard_ask}
+use Rattle.path_core.specs.Addressing.{notice_ask, after_peer_notice}
+use Rattle.path_agenda.specs.declared.notice.PeerNotice.{PeerNotice}
+use Rattle.path_agenda.specs.declared.notice.PeerNotice.TheVariants as notes
 use Rattle.world_laws.proofs.Falls.{is_plain}
 use Rattle.world_laws.proofs.Answering.{IsReady, Steps, shows_at, agenda_step, agenda_side, end_step, did_step, did_then, break_step, rate_quiet}
 use Rattle.world_laws.proofs.Doing.{granted_lane, refused_lane, wants_grant, hears_ack, wants_fin, hears_none, hears_sub, wants_plain_fin}
@@ -60,7 +63,7 @@ use Rattle.world_laws.proofs.Records.{every_first, every_rest}
 use Rattle.world_laws.proofs.Rules.{asked_shows, keys_show, peer_end_shows, rate_shows, fell_shows, noted_shows, plain_ack_shows, key_shows, fin_told_shows}
 use Rattle.world_laws.proofs.Showing.{HasAck, HasNumber, ItemShows, EndShows, PathShows}
 use Rattle.world_laws.proofs.Strolling.{agrees, back_holds}
-use Rattle.world_laws.proofs.Sides.{SideDid, side_kept, grant_side, ack_reply_at, ack_side, place_reply_at, place_side, fin_reply_at, fin_side}
+use Rattle.world_laws.proofs.Sides.{SideDid, side_kept, grant_side, ack_reply_at, ack_side, place_reply_at, place_side, fin_reply_at, fin_side, IsQuiet}
 use Rattle.world_laws.proofs.Waking.{look_moves, looked_out, looked_back, path_looks}
 use Rattle.world_laws.proofs.Roads.{Strolls, stays}
 
@@ -195,7 +198,17 @@ module _ (six : SixBooks) (others : Others) (p : PathState Carried) (ab ba : Lan
     heard_step says.Dss above has = agenda_step six others p ab ba h ready (asks.Local steps.End) (left p) tt
     heard_step (says.PeerKey key) above has = agenda_step six others p ab ba h ready (asks.Local steps.End) (left p) tt
     heard_step (says.Join form) above has = agenda_step six others p ab ba h ready (asks.Local steps.End) (left p) tt
-    heard_step (says.Notice notice) above has = agenda_step six others p ab ba h ready (asks.Local steps.End) (left p) tt
+    heard_step (says.Notice notice) above has =
+        end_step six others p ab ba h ready s (notice_ask s notice p) (after_peer_notice notice (reply_of six (notice_ask s notice p)) e) (left p) (quiet notice) noted
+      where
+        quiet : (notice : PeerNotice) → IsQuiet six (notice_ask s notice p)
+        quiet (notes.AddAddr id address port hmac) = tt
+        quiet (notes.AddEcho id) = tt
+        quiet (notes.Removed id) = tt
+        quiet (notes.Prio backup) = tt
+
+        noted : EndShows p.profile s (after_peer_notice notice (reply_of six (notice_ask s notice p)) e) out back
+        noted = record { sender = shows.sender; receiver = shows.receiver; acks = shows.acks; told = shows.told; treated = shows.treated; held = shows.held }
     heard_step says.Fail above has = agenda_step six others p ab ba h ready (asks.Local steps.End) (left p) tt
     heard_step (says.FastClose key) above has = stopped_step (is_stopped_by (reply_of six (fast_heard_ask s key)))
       where

@@ -30,7 +30,7 @@ use Rattle.stream_lanes.specs.Words.{Every}
 use Rattle.stream_lanes.proofs.Lists.{Every-nil}
 use Rattle.actor_desk.specs.declared.ask.Reply.{Reply}
 use Rattle.actor_desk.specs.Words.{tail_of}
-use Rattle.path_agenda.specs.Agenda.{breaks, emission, leaves, resets, rest_of_turn, start_of_turn, stops}
+use Rattle.path_agenda.specs.Agenda.{breaks, emission, leaves, resets, rest_of_turn, start_of_turn, stops, announces, withdraws}
 use Rattle.path_agenda.specs.Items.{key_heard, keys_heard}
 use Rattle.path_agenda.specs.Words.{replaced}
 use Rattle.path_agenda.specs.declared.duty.Duty.{Duty}
@@ -53,7 +53,9 @@ use Rattle.path_core.specs.StreamEnds.{is_data_fin_owed}
 use Rattle.path_core.specs.Duties.{stands, passed, answered}
 use Rattle.path_core.specs.Emission.{Grant, after_timer, fin_segment_of, grant_in, answered_grant, answered_data, first_unsent, having_sent_fin}
 use Rattle.path_core.specs.Ends.{PathEnd}
-use Rattle.path_core.specs.Events.{next_event, heard_at, heard_in, at_tick, died, died_unless_dead, is_death, after_line, copy_heard, happens_if, join_begun, timer_fired, template_fired, never_joined}
+use Rattle.path_core.specs.Events.{next_event, heard_at, heard_in, at_tick, died, died_unless_dead, after_line, copy_heard, happens_if, join_begun, timer_fired, template_fired, never_joined, with_priority}
+use Rattle.path_core.specs.declared.lines.LineAction.{LineAction}
+use Rattle.path_core.specs.declared.lines.LineAction.TheVariants as actions
 use Rattle.path_core.specs.Fallback.{after_fell, fell_duties, answered_fell}
 use Rattle.path_core.specs.Joining.{asked_at, is_listening, is_never, join_taken, joined_by, keys_begun, opened_by, refusal_of, syn_alone, with_mode_refused}
 use Rattle.path_core.specs.Joins.{is_joined}
@@ -67,6 +69,10 @@ use Rattle.path_core.specs.State.{PathState, end_at, goes_on, left, with_agenda,
 use Rattle.path_core.specs.Steps.{settled, answers, takes, begins_turn}
 use Rattle.path_core.specs.Treating.{after_keep, answered_heard, answered_item, answered_plain_ack, breaks_by_ack, counts, is_clash, is_dropped, item_of, item_passed, with_acked, with_data_fin, with_plain_ack}
 use Rattle.path_core.specs.Values.{Carried, as_arrived, carried_by, stripped, altered, values}
+use Rattle.path_core.specs.OptionsOut.{noted_said}
+use Rattle.path_core.specs.Addressing.{after_peer_notice}
+use Rattle.path_agenda.specs.declared.notice.OwnNotice.{OwnNotice}
+use Rattle.path_agenda.specs.Words.{first_of}
 use Rattle.world_laws.proofs.KeysHeld.{in_removed}
 use Rattle.world_laws.proofs.KeysWoken.{WakesNone, joined_wakes_none}
 use Rattle.world_laws.proofs.KeysMet.{is_apart, finish_apart, passed_apart, apart_stays, arrived_state, TellsKey, no_syn, record_or_ack_tells, syn_ack_tells, IsNoSyn, reset_answers, outgoing_tells}
@@ -184,6 +190,10 @@ carried_tells : (s : Side) (o : Option ℕ) (p : PathState Carried) → TellsKey
 carried_tells s (Some key) p = no_syn (is_joined p.profile) s (carried_said p.profile s (Some key) (end_at s p)) refl
 carried_tells s None p = ack_tells s (end_at s p).tcp.send.nxt None p
 
+noted_tells : (s : Side) (o : Option OwnNotice) (p : PathState Carried) → TellsKey (is_joined p.profile) (peer s) (noted_said p.profile s o (end_at s p))
+noted_tells s (Some notice) p = no_syn (is_joined p.profile) s (noted_said p.profile s (Some notice) (end_at s p)) refl
+noted_tells s None p = ack_tells s (end_at s p).tcp.send.nxt None p
+
 -- ---- in silence
 
 item_goes : (s : Side) (o : Option Heard) (p : PathState Carried) → HasRoles p → Goes s p (item_passed s o (end_at s p))
@@ -259,9 +269,11 @@ unless_dead_goes s p h = by (is_dead (end_at s p).tcp.state)
     by true = same_goes s (end_at s p) p refl refl h
     by false = died_goes s p
 
-line_roles : (death : Bool) (p : PathState Carried) → HasRoles p → HasRoles (after_line death p)
-line_roles false p h = agenda_roles rest_of_turn p h
-line_roles true p h =
+line_roles : (action : LineAction) (p : PathState Carried) → HasRoles p → HasRoles (after_line action p)
+line_roles (actions.Prio s backup) p h = same_roles s (with_priority backup (end_at s p)) (emission s) p refl refl h
+line_roles (actions.Announce s id) p h = agenda_roles (announces s id) p h
+line_roles (actions.Withdraw s id) p h = agenda_roles (withdraws s id) p h
+line_roles actions.Die p h =
     let a = unless_dead_goes A p h in
     let b = unless_dead_goes B p h in
     record {
@@ -330,7 +342,7 @@ event_roles (Some (happenings.Joins tick)) r p h =
     begun_roles r (leaves A) (emission A) (record (at_tick tick p) { joined_at = None })
     (record { copies = h.copies; role_a = h.role_a; role_b = h.role_b; answer_a = h.answer_a; answer_b = h.answer_b })
 event_roles (Some (happenings.Takes line)) r p h =
-    line_roles (is_death line.line) (record (at_tick line.tick p) { lines = tail_of p.lines })
+    line_roles line.action (record (at_tick line.tick p) { lines = tail_of p.lines })
     (record { copies = h.copies; role_a = h.role_a; role_b = h.role_b; answer_a = h.answer_a; answer_b = h.answer_b })
 event_roles (Some (happenings.Arrives due)) r p h =
     copy_roles due.to (heard_in values due.to (arriving due p.link) p) (record (at_tick due.tick p) { link = after_delivery due p.link })
@@ -381,7 +393,7 @@ heard_answered_roles s (says.Keys mine other) r p h = keys_roles s r (Some (reco
 heard_answered_roles s says.Dss r p h = agenda_roles (left p) p h
 heard_answered_roles s (says.PeerKey key) r p h = agenda_roles (left p) p h
 heard_answered_roles s (says.Join form) r p h = agenda_roles (left p) p h
-heard_answered_roles s (says.Notice notice) r p h = agenda_roles (left p) p h
+heard_answered_roles s (says.Notice notice) r p h = same_roles s (after_peer_notice notice r (end_at s p)) (left p) p refl refl h
 heard_answered_roles s says.Fail r p h = agenda_roles (left p) p h
 heard_answered_roles s (says.FastClose key) r p h = agenda_roles (if is_stopped_by r then stops s else left p) p h
 
@@ -482,6 +494,7 @@ answered_roles (duties.Step (step_duties.Look s)) r p h = same_roles s _ (left p
 answered_roles (duties.Ask (ask_duties.Window s)) r p h = same_roles s (after_ack_out r (end_at s p)) (left p) p refl refl h
 answered_roles (duties.Send (send_duties.Update s)) r p h = same_sent s _ _ (left p) p (ack_tells s (end_at s p).tcp.send.nxt None p) refl refl h
 answered_roles (duties.Send (send_duties.FastClose s)) r p h = same_sent s _ _ (left p) p (carried_tells s (end_at s p).notices.carrier p) refl refl h
+answered_roles (duties.Send (send_duties.Notice s)) r p h = same_sent s _ _ p.agenda p (noted_tells s (first_of (end_at s p).notices.queue) p) refl refl h
 answered_roles (duties.Send (send_duties.Syn s)) r p h = same_sent s _ _ (left p) p (record_or_ack_tells p.profile s (end_at s p) (first_unsent (end_at s p))) refl refl h
 answered_roles (duties.Step (step_duties.Data s)) r p h = data_roles s (first_unsent (end_at s p)) r p h
 answered_roles (duties.Send (send_duties.DataFin s)) r p h = same_sent s _ _ (left p) p (ack_tells s (end_at s p).tcp.send.nxt (end_at s p).sending.known_end p) refl refl h

@@ -136,6 +136,7 @@ module _ {C : Type 0} where
     duty_done (duties.Ask (ask_duties.Window s)) ds r asks is refusal f each = other_duty (duties.Ask (ask_duties.Window s)) ds r asks tt f each
     duty_done (duties.Send (send_duties.Update s)) ds r asks is refusal f each = other_duty (duties.Send (send_duties.Update s)) ds r asks tt f each
     duty_done (duties.Send (send_duties.FastClose s)) ds r asks is refusal f each = other_duty (duties.Send (send_duties.FastClose s)) ds r asks tt f each
+    duty_done (duties.Send (send_duties.Notice s)) ds r asks is refusal f each = other_duty (duties.Send (send_duties.Notice s)) ds r asks tt f each
     duty_done (duties.Send (send_duties.Syn s)) ds r asks is refusal f each = other_duty (duties.Send (send_duties.Syn s)) ds r asks tt f each
     duty_done (duties.Send (send_duties.DataFin s)) ds r asks is refusal f each = other_duty (duties.Send (send_duties.DataFin s)) ds r asks tt f each
     duty_done (duties.Send (send_duties.Fin s)) ds r asks is refusal f each = other_duty (duties.Send (send_duties.Fin s)) ds r asks tt f each
@@ -171,6 +172,8 @@ module _ {C : Type 0} where
     duty_done (duties.Ask (ask_duties.Return s)) ds r asks is refusal f each = other_duty (duties.Ask (ask_duties.Return s)) ds r asks tt f each
     duty_done (duties.Ask (ask_duties.AbortSend s)) ds r asks is refusal f each = other_duty (duties.Ask (ask_duties.AbortSend s)) ds r asks tt f each
     duty_done (duties.Ask (ask_duties.AbortReceive s)) ds r asks is refusal f each = other_duty (duties.Ask (ask_duties.AbortReceive s)) ds r asks tt f each
+    duty_done (duties.Ask (ask_duties.Announce s id)) ds r asks is refusal f each = other_duty (duties.Ask (ask_duties.Announce s id)) ds r asks tt f each
+    duty_done (duties.Ask (ask_duties.Withdraw s id)) ds r asks is refusal f each = other_duty (duties.Ask (ask_duties.Withdraw s id)) ds r asks tt f each
     duty_done (duties.Send (send_duties.Resend s)) ds r asks is refusal f each = other_duty (duties.Send (send_duties.Resend s)) ds r asks tt f each
     duty_done (duties.Ask (ask_duties.BreakAck s reason)) ds r asks is refusal f each = other_duty (duties.Ask (ask_duties.BreakAck s reason)) ds r asks tt f each
     duty_done (duties.Send (send_duties.BreakReset s reason)) ds r asks is refusal f each = other_duty (duties.Send (send_duties.BreakReset s reason)) ds r asks tt f each

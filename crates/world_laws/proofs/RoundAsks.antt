@@ -123,6 +123,7 @@ module _ {C : Type 0} (k : Codec C) (p : PathState C) (some : 1 ≤ payload_size
   asks_some (duties.Ask (ask_duties.Window s)) = tt
   asks_some (duties.Send (send_duties.Update s)) = tt
   asks_some (duties.Send (send_duties.FastClose s)) = tt
+  asks_some (duties.Send (send_duties.Notice s)) = tt
   asks_some (duties.Send (send_duties.Syn s)) = tt
   asks_some (duties.Step (step_duties.Data s)) = data_some s (first_unsent (end_at s p))
   asks_some (duties.Send (send_duties.DataFin s)) = tt
@@ -159,6 +160,8 @@ module _ {C : Type 0} (k : Codec C) (p : PathState C) (some : 1 ≤ payload_size
   asks_some (duties.Ask (ask_duties.Return s)) = tt
   asks_some (duties.Ask (ask_duties.AbortSend s)) = tt
   asks_some (duties.Ask (ask_duties.AbortReceive s)) = tt
+  asks_some (duties.Ask (ask_duties.Announce s id)) = tt
+  asks_some (duties.Ask (ask_duties.Withdraw s id)) = tt
   asks_some (duties.Send (send_duties.Resend s)) = tt
   asks_some (duties.Ask (ask_duties.BreakAck s reason)) = tt
   asks_some (duties.Send (send_duties.BreakReset s reason)) = tt

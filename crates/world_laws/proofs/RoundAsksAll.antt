@@ -450,6 +450,7 @@ module _ {C : Type 0} (k : Codec C) (p : PathState C) (written_a written_b : ℕ
   duty_asks (duties.Ask (ask_duties.Window s)) ds is f each = quiet_duty (duties.Ask (ask_duties.Window s)) ds tt tt is f each
   duty_asks (duties.Send (send_duties.Update s)) ds is f each = quiet_duty (duties.Send (send_duties.Update s)) ds tt tt is f each
   duty_asks (duties.Send (send_duties.FastClose s)) ds is f each = quiet_duty (duties.Send (send_duties.FastClose s)) ds tt tt is f each
+  duty_asks (duties.Send (send_duties.Notice s)) ds is f each = quiet_duty (duties.Send (send_duties.Notice s)) ds tt tt is f each
   duty_asks (duties.Send (send_duties.Syn s)) ds is f each = quiet_duty (duties.Send (send_duties.Syn s)) ds tt tt is f each
   duty_asks (duties.Send (send_duties.DataFin s)) ds is f each = quiet_duty (duties.Send (send_duties.DataFin s)) ds tt tt is f each
   duty_asks (duties.Send (send_duties.Fin s)) ds is f each = quiet_duty (duties.Send (send_duties.Fin s)) ds tt tt is f each
@@ -484,6 +485,8 @@ module _ {C : Type 0} (k : Codec C) (p : PathState C) (written_a written_b : ℕ
   duty_asks (duties.Ask (ask_duties.Return s)) ds is f each = quiet_duty (duties.Ask (ask_duties.Return s)) ds tt tt is f each
   duty_asks (duties.Ask (ask_duties.AbortSend s)) ds is f each = quiet_duty (duties.Ask (ask_duties.AbortSend s)) ds tt tt is f each
   duty_asks (duties.Ask (ask_duties.AbortReceive s)) ds is f each = quiet_duty (duties.Ask (ask_duties.AbortReceive s)) ds tt tt is f each
+  duty_asks (duties.Ask (ask_duties.Announce s id)) ds is f each = quiet_duty (duties.Ask (ask_duties.Announce s id)) ds tt tt is f each
+  duty_asks (duties.Ask (ask_duties.Withdraw s id)) ds is f each = quiet_duty (duties.Ask (ask_duties.Withdraw s id)) ds tt tt is f each
   duty_asks (duties.Send (send_duties.Resend s)) ds is f each = quiet_duty (duties.Send (send_duties.Resend s)) ds tt tt is f each
   duty_asks (duties.Ask (ask_duties.BreakAck s reason)) ds is f each = quiet_duty (duties.Ask (ask_duties.BreakAck s reason)) ds tt tt is f each
   duty_asks (duties.Send (send_duties.BreakReset s reason)) ds is f each = quiet_duty (duties.Send (send_duties.BreakReset s reason)) ds tt tt is f each

@@ -21,7 +21,9 @@ use Rattle.path_core.specs.Breaking.{answered_break}
 use Rattle.path_core.specs.Codec.{Codec, HeardSegment}
 use Rattle.path_core.specs.Duties.{stands, passed, answered}
 use Rattle.path_core.specs.Emission.{Grant, grant_in, answered_grant, answered_data, first_unsent}
-use Rattle.path_core.specs.Events.{next_event, join_begun, after_line, is_death, at_tick, copy_heard, heard_in, happens_if}
+use Rattle.path_core.specs.Events.{next_event, join_begun, after_line, at_tick, copy_heard, heard_in, happens_if}
+use Rattle.path_core.specs.declared.lines.LineAction.{LineAction}
+use Rattle.path_core.specs.declared.lines.LineAction.TheVariants as actions
 use Rattle.path_core.specs.declared.event.Event.{Event}
 use Rattle.path_core.specs.declared.event.Event.TheVariants as happenings
 use Rattle.path_core.specs.Joining.{is_never, keys_begun, asked_at, join_taken}
@@ -74,9 +76,11 @@ module _ {C : Type 0} where
   data_keeps k s (Some record_of) r p = (refl, refl, one_more_path s _)
   data_keeps k s None r p = grant_keeps s (grant_in r) r p
 
-  line_keeps : (death : Bool) (p : PathState C) → Keeps p (after_line death p)
-  line_keeps true p = (refl, refl, refl)
-  line_keeps false p = (refl, refl, refl)
+  line_keeps : (action : LineAction) (p : PathState C) → Keeps p (after_line action p)
+  line_keeps actions.Die p = (refl, refl, refl)
+  line_keeps (actions.Prio s backup) p = (refl, refl, refl)
+  line_keeps (actions.Announce s id) p = (refl, refl, refl)
+  line_keeps (actions.Withdraw s id) p = (refl, refl, refl)
 
   copy_keeps : (s : Side) (heard : Option HeardSegment) (p : PathState C) → Keeps p (copy_heard s heard p)
   copy_keeps s None p = (refl, refl, refl)
@@ -88,7 +92,7 @@ module _ {C : Type 0} where
   happens_keeps : (k : Codec C) (event : Option Event) (r : Reply) (p : PathState C) → Keeps p (happens_if k event r p)
   happens_keeps k None r p = (refl, refl, refl)
   happens_keeps k (Some (happenings.Joins tick)) r p = begun_keeps r (leaves A) (emission A) (record (at_tick tick p) { joined_at = None })
-  happens_keeps k (Some (happenings.Takes line)) r p = line_keeps (is_death line.line) (record (at_tick line.tick p) { lines = tail_of p.lines })
+  happens_keeps k (Some (happenings.Takes line)) r p = line_keeps line.action (record (at_tick line.tick p) { lines = tail_of p.lines })
   happens_keeps k (Some (happenings.Arrives due)) r p =
       copy_keeps due.to (heard_in k due.to (arriving due p.link) p) (record (at_tick due.tick p) { link = after_delivery due p.link })
   happens_keeps k (Some (happenings.Fires s tick)) r p = (refl, refl, refl)
@@ -131,6 +135,7 @@ module _ {C : Type 0} where
   answered_keeps k (duties.Ask (ask_duties.Window s)) r p = (refl, refl, refl)
   answered_keeps k (duties.Send (send_duties.Update s)) r p = (refl, refl, one_more_path s _)
   answered_keeps k (duties.Send (send_duties.FastClose s)) r p = (refl, refl, one_more_path s _)
+  answered_keeps k (duties.Send (send_duties.Notice s)) r p = (refl, refl, one_more_path s _)
   answered_keeps k (duties.Send (send_duties.Syn s)) r p = (refl, refl, one_more_path s _)
   answered_keeps k (duties.Step (step_duties.Data s)) r p = data_keeps k s (first_unsent (end_at s p)) r p
   answered_keeps k (duties.Send (send_duties.DataFin s)) r p = (refl, refl, one_more_path s _)

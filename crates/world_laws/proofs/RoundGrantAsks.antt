@@ -140,6 +140,7 @@ module _ {C : Type 0} (k : Codec C) (p : PathState C) where
   asks_none (duties.Ask (ask_duties.Window s)) other = tt
   asks_none (duties.Send (send_duties.Update s)) other = tt
   asks_none (duties.Send (send_duties.FastClose s)) other = tt
+  asks_none (duties.Send (send_duties.Notice s)) other = tt
   asks_none (duties.Send (send_duties.Syn s)) other = tt
   asks_none (duties.Step (step_duties.Data s)) other = absurd other
   asks_none (duties.Send (send_duties.DataFin s)) other = tt
@@ -176,6 +177,8 @@ module _ {C : Type 0} (k : Codec C) (p : PathState C) where
   asks_none (duties.Ask (ask_duties.Return s)) other = tt
   asks_none (duties.Ask (ask_duties.AbortSend s)) other = tt
   asks_none (duties.Ask (ask_duties.AbortReceive s)) other = tt
+  asks_none (duties.Ask (ask_duties.Announce s id)) other = tt
+  asks_none (duties.Ask (ask_duties.Withdraw s id)) other = tt
   asks_none (duties.Send (send_duties.Resend s)) other = tt
   asks_none (duties.Ask (ask_duties.BreakAck s reason)) other = tt
   asks_none (duties.Send (send_duties.BreakReset s reason)) other = tt

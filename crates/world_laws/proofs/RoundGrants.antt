@@ -29,7 +29,7 @@ use Rattle.path_core.specs.declared.event.Event.TheVariants as happenings
 use Rattle.path_agenda.specs.declared.heard.Heard.{Heard}
 use Rattle.path_agenda.specs.declared.heard.Heard.TheVariants as says
 use Rattle.path_agenda.specs.declared.keys.KeyPair.{KeyPair}
-use Rattle.path_agenda.specs.Agenda.{rest_of_turn, emission, syn_came, syn_ack_came, join_came, refuses, join_answered, heard_and, payload_came, copy_came, syn_again, answers, answers_dead, expired, expired_for_ever, leaves, breaks, resets, stops}
+use Rattle.path_agenda.specs.Agenda.{rest_of_turn, emission, syn_came, syn_ack_came, join_came, refuses, join_answered, heard_and, payload_came, copy_came, syn_again, answers, answers_dead, expired, expired_for_ever, leaves, breaks, resets, stops, announces, withdraws}
 use Rattle.path_agenda.specs.Items.{key_heard, keys_heard}
 use Rattle.path_core.specs.Arriving.{items_of, reset_for, copy_judged, held_of, judged_in, taken_as, template_by, template_judged, options_heard}
 use Rattle.path_core.specs.Breaking.{reset_of, reset_on, answered_break}
@@ -42,7 +42,9 @@ use Rattle.path_core.specs.declared.judged.Judged.{Judged}
 use Rattle.path_core.specs.declared.judged.Judged.TheVariants as judged
 use Rattle.path_core.specs.Joining.{is_never, keys_begun, opened_by, asked_at, join_taken}
 use Rattle.path_core.specs.Joins.{is_joined}
-use Rattle.path_core.specs.Events.{next_event, heard_in, at_tick, join_begun, died, died_unless_dead, path_died, is_death, after_line, copy_heard, template_fired, happens_if, never_joined}
+use Rattle.path_core.specs.Events.{next_event, heard_in, at_tick, join_begun, died, died_unless_dead, path_died, after_line, copy_heard, template_fired, happens_if, never_joined, with_priority}
+use Rattle.path_core.specs.declared.lines.LineAction.{LineAction}
+use Rattle.path_core.specs.declared.lines.LineAction.TheVariants as actions
 use Rattle.path_core.specs.Passing.{piece_of, is_placed, answered_piece, is_fin_set, answered_fin_heard, answered_plain_fin}
 use Rattle.path_core.specs.Deliver.{Piece, with_learned}
 use Rattle.path_core.specs.Handover.{sent_on}
@@ -52,6 +54,7 @@ use Rattle.path_core.specs.Steps.{settled}
 use Rattle.path_core.specs.Treating.{is_clash, told_next, answered_item, item_of, after_fell, fell_duties, answered_fell, with_plain_ack, breaks_by_ack}
 use Rattle.path_core.specs.Opening.{answered_peer_key, answered_opened}
 use Rattle.path_core.specs.FastClosing.{is_stopped_by}
+use Rattle.path_core.specs.Addressing.{after_peer_notice}
 use Rattle.world_laws.proofs.RoundGrantAsks.{MayNotAsk}
 use Rattle.world_laws.proofs.Verdicts.{fell_cases}
 
@@ -78,6 +81,7 @@ needs (duties.Ask ask_duties.JoinAgain) ds = is_owed A ds
 needs (duties.Step (step_duties.Look s)) ds = is_owed s ds
 needs (duties.Send (send_duties.Update s)) ds = is_owed s ds
 needs (duties.Send (send_duties.FastClose s)) ds = is_owed s ds
+needs (duties.Send (send_duties.Notice s)) ds = is_owed s ds
 needs (duties.Send (send_duties.Syn s)) ds = is_owed s ds
 needs (duties.Ask (ask_duties.SynHeard s)) ds = is_owed s ds
 needs (duties.Ask (ask_duties.SynAnswered s)) ds = is_owed s ds
@@ -350,9 +354,30 @@ module _ {C : Type 0} where
   -- ---- events, where nothing is ahead
 
   module _ (p : PathState C) (refused : Side → Bool) (paid : (s : Side) → IsPaid p.profile s (end_at s p) (refused s)) where
-    line_done : (death : Bool) → Granting (after_line death p) refused
-    line_done false = agenda_on p refused rest_of_turn refl (λ s. inr (paid s))
-    line_done true = record { followed = by (states.is_dead p.a.tcp.state) (states.is_dead p.b.tcp.state); each = at }
+    line_done : (action : LineAction) → Granting (after_line action p) refused
+    line_done (actions.Prio A backup) = on p refused A (with_priority backup p.a) (emission A) refl (inl refl) (inr (paid B))
+    line_done (actions.Prio B backup) = on p refused B (with_priority backup p.b) (emission B) refl (inl refl) (inr (paid A))
+    line_done (actions.Announce A id) = agenda_on p refused (announces A id) refl at
+      where
+        at : (s : Side) → Pays p (announces A id) refused s
+        at A = inl refl
+        at B = inr (paid B)
+    line_done (actions.Announce B id) = agenda_on p refused (announces B id) refl at
+      where
+        at : (s : Side) → Pays p (announces B id) refused s
+        at A = inr (paid A)
+        at B = inl refl
+    line_done (actions.Withdraw A id) = agenda_on p refused (withdraws A id) refl at
+      where
+        at : (s : Side) → Pays p (withdraws A id) refused s
+        at A = inl refl
+        at B = inr (paid B)
+    line_done (actions.Withdraw B id) = agenda_on p refused (withdraws B id) refl at
+      where
+        at : (s : Side) → Pays p (withdraws B id) refused s
+        at A = inr (paid A)
+        at B = inl refl
+    line_done actions.Die = record { followed = by (states.is_dead p.a.tcp.state) (states.is_dead p.b.tcp.state); each = at }
       where
         by : (a b : Bool) → is_followed ((if a then [] else duties.Ask (ask_duties.Leave A) ∷ []) ++ ((if b then [] else duties.Ask (ask_duties.Leave B) ∷ []) ++ rest_of_turn)) ≡ true
         by true true = refl
@@ -439,7 +464,7 @@ module _ {C : Type 0} where
       at A = paid A
       at B = paid B
   event_done k (Some (happenings.Takes line)) r p refused paid =
-      line_done (record (at_tick line.tick p) { lines = tail_of p.lines }) refused at (is_death line.line)
+      line_done (record (at_tick line.tick p) { lines = tail_of p.lines }) refused at line.action
     where
       at : (s : Side) → IsPaid p.profile s (end_at s (record (at_tick line.tick p) { lines = tail_of p.lines })) (refused s)
       at A = paid A
@@ -490,6 +515,7 @@ module _ {C : Type 0} where
   passed_pays (duties.Ask (ask_duties.Window s)) ds p refused none f each = each
   passed_pays (duties.Send (send_duties.Update s)) ds p refused none f each = each
   passed_pays (duties.Send (send_duties.FastClose s)) ds p refused none f each = each
+  passed_pays (duties.Send (send_duties.Notice s)) ds p refused none f each = each
   passed_pays (duties.Send (send_duties.Syn s)) ds p refused none f each = each
   passed_pays (duties.Send (send_duties.DataFin s)) ds p refused none f each = each
   passed_pays (duties.Send (send_duties.Fin s)) ds p refused none f each = each
@@ -522,6 +548,8 @@ module _ {C : Type 0} where
   passed_pays (duties.Ask (ask_duties.Return s)) ds p refused none f each = each
   passed_pays (duties.Ask (ask_duties.AbortSend s)) ds p refused none f each = each
   passed_pays (duties.Ask (ask_duties.AbortReceive s)) ds p refused none f each = each
+  passed_pays (duties.Ask (ask_duties.Announce s id)) ds p refused none f each = each
+  passed_pays (duties.Ask (ask_duties.Withdraw s id)) ds p refused none f each = each
   passed_pays (duties.Send (send_duties.Resend s)) ds p refused none f each = each
   passed_pays (duties.Ask (ask_duties.Leave s)) ds p refused none f each = each
   passed_pays (duties.Ask (ask_duties.LeaveNoted s)) ds p refused none f each = each
@@ -636,7 +664,7 @@ module _ {C : Type 0} where
         by (Some (says.InfiniteMapping place position)) = fell_done s _ (duties.Step (step_duties.Heard s index)) ds rest need.0 paid
         by (Some (says.PeerKey key)) = done_on ds xs rest (λ t. each t)
         by (Some (says.Join form)) = done_on ds xs rest (λ t. each t)
-        by (Some (says.Notice notice)) = done_on ds xs rest (λ t. each t)
+        by (Some (says.Notice notice)) = touched s (after_peer_notice notice r (end_at s p)) ds rest need.0 xs (inr paid)
         by (Some says.Fail) = done_on ds xs rest (λ t. each t)
         by (Some (says.FastClose key)) = stopped (is_stopped_by r)
         by (Some (says.Keys own other)) = touched s _ ds rest need.0 xs (inr paid)
@@ -757,6 +785,8 @@ module _ {C : Type 0} where
         on (at (duties.Ask (ask_duties.Window s) ∷ ds)) refused s _ ds (rest_followed (duties.Ask (ask_duties.Window s)) ds f) (⊎_elim (λ owed. inl owed) (λ h. inr (record { paid = h.paid })) (each s)) (each (peer s))
     answered_done (duties.Send (send_duties.Update s)) ds other f each = touched_sent s _ _ ds (rest_followed (duties.Send (send_duties.Update s)) ds f) (first_need (duties.Send (send_duties.Update s)) ds f) (duties.Send (send_duties.Update s) ∷ ds) (each (peer s))
     answered_done (duties.Send (send_duties.FastClose s)) ds other f each = touched_sent s _ _ ds (rest_followed (duties.Send (send_duties.FastClose s)) ds f) (first_need (duties.Send (send_duties.FastClose s)) ds f) (duties.Send (send_duties.FastClose s) ∷ ds) (each (peer s))
+    answered_done (duties.Send (send_duties.Notice s)) ds other f each =
+        touched_sent s _ _ (duties.Send (send_duties.Notice s) ∷ ds) f (first_need (duties.Send (send_duties.Notice s)) ds f) (duties.Send (send_duties.Notice s) ∷ ds) (each (peer s))
     answered_done (duties.Send (send_duties.Syn s)) ds other f each = touched_sent s _ _ ds (rest_followed (duties.Send (send_duties.Syn s)) ds f) (first_need (duties.Send (send_duties.Syn s)) ds f) (duties.Send (send_duties.Syn s) ∷ ds) (each (peer s))
     answered_done (duties.Send (send_duties.DataFin s)) ds other f each =
         sent (at (duties.Send (send_duties.DataFin s) ∷ ds)) refused k s _ _ ds (rest_followed (duties.Send (send_duties.DataFin s)) ds f) (⊎_elim (λ owed. inl owed) (λ h. inr (record { paid = h.paid })) (each s)) (each (peer s))
@@ -811,6 +841,8 @@ module _ {C : Type 0} where
     answered_done (duties.Ask (ask_duties.Return s)) ds other f each = done_on ds (duties.Ask (ask_duties.Return s) ∷ ds) (rest_followed (duties.Ask (ask_duties.Return s)) ds f) (λ t. each t)
     answered_done (duties.Ask (ask_duties.AbortSend s)) ds other f each = done_on ds (duties.Ask (ask_duties.AbortSend s) ∷ ds) (rest_followed (duties.Ask (ask_duties.AbortSend s)) ds f) (λ t. each t)
     answered_done (duties.Ask (ask_duties.AbortReceive s)) ds other f each = done_on ds (duties.Ask (ask_duties.AbortReceive s) ∷ ds) (rest_followed (duties.Ask (ask_duties.AbortReceive s)) ds f) (λ t. each t)
+    answered_done (duties.Ask (ask_duties.Announce s id)) ds other f each = done_on ds (duties.Ask (ask_duties.Announce s id) ∷ ds) (rest_followed (duties.Ask (ask_duties.Announce s id)) ds f) (λ t. each t)
+    answered_done (duties.Ask (ask_duties.Withdraw s id)) ds other f each = done_on ds (duties.Ask (ask_duties.Withdraw s id) ∷ ds) (rest_followed (duties.Ask (ask_duties.Withdraw s id)) ds f) (λ t. each t)
     answered_done (duties.Send (send_duties.Resend s)) ds other f each = touched_sent s _ _ ds (rest_followed (duties.Send (send_duties.Resend s)) ds f) (first_need (duties.Send (send_duties.Resend s)) ds f) (duties.Send (send_duties.Resend s) ∷ ds) (each (peer s))
     answered_done (duties.Ask (ask_duties.BreakAck s reason)) ds other f each =
         resets_done (at (duties.Ask (ask_duties.BreakAck s reason) ∷ ds)) refused s reason r

@@ -28,6 +28,9 @@ use Rattle.path_core.specs.Joins.{is_joined, join_options, third_options}
 use Rattle.path_core.specs.OptionsOut.{place_numbered, owes_mapping, plain_options, fin_options, capable_options, syn_options, key_options, opening_options, data_fin_mapping, ack_options, is_first_piece, first_piece_options, piece_options, piece_mapping, record_options, reset_options, segment_of, ack_said, carried_said, record_said, syn_ack_said, fin_said, reset_said, record_or_ack}
 use Rattle.path_core.specs.State.{Profile}
 use Rattle.path_core.specs.Words.{is_side_a}
+use Rattle.path_core.specs.OptionsOut.{noted_said, notice_option}
+use Rattle.path_agenda.specs.declared.notice.OwnNotice.{OwnNotice}
+use Rattle.path_agenda.specs.declared.notice.OwnNotice.TheVariants as notes
 use Rattle.world_laws.proofs.Showing.{HasSub, HasNone, HasMapping, HasNumber, HasFin, KindShows, RecordShows, WindowShows, OptionShows, SegmentShows}
 
 window_at : (next window : ℕ) (acks : List AckCopy) → WindowShows next window acks → (syn : Bool) → HasNone acks (window_told syn window)
@@ -164,6 +167,24 @@ module _ (c : Profile) (s : Side) (e : PathEnd) (acks : List AckCopy) (p : Lane)
       fin = λ is. absurd (false≢true is);
       plain = λ syn. refl;
     }
+
+    -- a DSS and a notice behind it
+    pub noted_says : (o : Option OwnNotice) → SegmentShows acks p (noted_said c s o e)
+    noted_says None = ack_says e.tcp.send.nxt None tt
+    noted_says (Some notice) = record {
+      window = w.alone;
+      sub = λ syn rst. now;
+      options = every_two _ _ (w.ack, tt) (shows notice);
+      payload = inl refl;
+      fin = λ is. absurd (false≢true is);
+      plain = λ syn. refl;
+    }
+      where
+        shows : (notice : OwnNotice) → OptionShows acks p (notice_option notice e.modes)
+        shows (notes.AddAddr id) = tt
+        shows (notes.AddEcho id address port) = tt
+        shows (notes.Removes id) = tt
+        shows (notes.Prio backup) = tt
 
     pub fin_says : HasFin p.fins (fin_position e.tcp.send) → SegmentShows acks p (fin_said c e)
     fin_says h = record {

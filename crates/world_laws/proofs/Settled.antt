@@ -18,6 +18,7 @@ module _ {C : Type 0} where
   same_stands (duties.Ask (ask_duties.Window s)) ds p is = is
   same_stands (duties.Send (send_duties.Update s)) ds p is = is
   same_stands (duties.Send (send_duties.FastClose s)) ds p is = is
+  same_stands (duties.Send (send_duties.Notice s)) ds p is = is
   same_stands (duties.Send (send_duties.Syn s)) ds p is = is
   same_stands (duties.Step (step_duties.Data s)) ds p is = is
   same_stands (duties.Send (send_duties.DataFin s)) ds p is = is
@@ -54,6 +55,8 @@ module _ {C : Type 0} where
   same_stands (duties.Ask (ask_duties.Return s)) ds p is = is
   same_stands (duties.Ask (ask_duties.AbortSend s)) ds p is = is
   same_stands (duties.Ask (ask_duties.AbortReceive s)) ds p is = is
+  same_stands (duties.Ask (ask_duties.Announce s id)) ds p is = is
+  same_stands (duties.Ask (ask_duties.Withdraw s id)) ds p is = is
   same_stands (duties.Send (send_duties.Resend s)) ds p is = is
   same_stands (duties.Ask (ask_duties.BreakAck s reason)) ds p is = is
   same_stands (duties.Send (send_duties.BreakReset s reason)) ds p is = is

@@ -38,7 +38,9 @@ use Rattle.path_core.specs.Codec.{Codec, HeardSegment}
 use Rattle.path_core.specs.Duties.{stands, passed, answered}
 use Rattle.path_core.specs.Emission.{Grant, grant_in, answered_grant, answered_data, first_unsent, after_timer}
 use Rattle.path_core.specs.Ends.{PathEnd}
-use Rattle.path_core.specs.Events.{next_event, after_line, is_death, at_tick, died, join_begun, copy_heard, heard_in, happens_if, told_at, died_unless_dead, template_fired, after_firing, never_joined}
+use Rattle.path_core.specs.Events.{next_event, after_line, at_tick, died, join_begun, copy_heard, heard_in, happens_if, told_at, died_unless_dead, template_fired, after_firing, never_joined, with_priority}
+use Rattle.path_core.specs.declared.lines.LineAction.{LineAction}
+use Rattle.path_core.specs.declared.lines.LineAction.TheVariants as actions
 use Rattle.path_core.specs.Joining.{keys_begun, is_never, opened_by, join_taken, asked_at}
 use Rattle.path_core.specs.Joins.{is_joined}
 use Rattle.path_core.specs.Opening.{answered_peer_key, answered_opened}
@@ -271,9 +273,11 @@ module _ {C : Type 0} where
       either_goes (is_never r) (goes_on A (never_joined r (end_at A p)) dead p) (goes_on A (opened_by (keys_begun r) (end_at A p)) living p) p
       (record { calms = record { a = λ h. absurd (false≢true h); b = λ h. h }; shape = x }) (record { calms = record { a = begun_end (keys_begun r) p.a; b = λ h. h }; shape = y })
 
-  line_goes : (death : Bool) (p : PathState C) → Goes p (after_line death p)
-  line_goes true p = record { calms = record { a = dead_calms p.a; b = dead_calms p.b }; shape = died_sheltered (is_dead p.a.tcp.state) (is_dead p.b.tcp.state) }
-  line_goes false p = rests p _ refl refl refl
+  line_goes : (action : LineAction) (p : PathState C) → Goes p (after_line action p)
+  line_goes actions.Die p = record { calms = record { a = dead_calms p.a; b = dead_calms p.b }; shape = died_sheltered (is_dead p.a.tcp.state) (is_dead p.b.tcp.state) }
+  line_goes (actions.Prio s backup) p = side_goes s (with_priority backup (end_at s p)) p _ (λ h. h) refl refl refl
+  line_goes (actions.Announce s id) p = rests p _ refl refl refl
+  line_goes (actions.Withdraw s id) p = rests p _ refl refl refl
 
   told_goes : (now : ℕ) (s : Side) (x : HeardSegment) (p : PathState C) → Goes p (told_at now s x p)
   told_goes now s x p =
@@ -296,7 +300,7 @@ module _ {C : Type 0} where
   happens_goes k (Some (happenings.Joins tick)) r p =
       let q : PathState C = record (at_tick tick p) { joined_at = None } in from_there p q _ refl refl (begun_goes r (leaves A) (emission A) q refl refl)
   happens_goes k (Some (happenings.Takes line)) r p =
-      let q : PathState C = record (at_tick line.tick p) { lines = tail_of p.lines } in from_there p q _ refl refl (line_goes (is_death line.line) q)
+      let q : PathState C = record (at_tick line.tick p) { lines = tail_of p.lines } in from_there p q _ refl refl (line_goes line.action q)
   happens_goes k (Some (happenings.Arrives due)) r p =
       let q : PathState C = record (at_tick due.tick p) { link = after_delivery due p.link } in
       from_there p q _ refl refl (copy_goes due.to (heard_in k due.to (arriving due p.link) p) q)
@@ -382,6 +386,7 @@ module _ {C : Type 0} where
     answered_goes (duties.Ask (ask_duties.Window s)) other p = side_goes s _ (first (duties.Ask (ask_duties.Window s)) p) _ (λ h. absurd (false≢true h)) refl refl shape
     answered_goes (duties.Send (send_duties.Update s)) other p = side_goes s _ (first (duties.Send (send_duties.Update s)) p) _ (λ h. h) refl refl shape
     answered_goes (duties.Send (send_duties.FastClose s)) other p = side_goes s _ (first (duties.Send (send_duties.FastClose s)) p) _ (λ h. h) refl refl shape
+    answered_goes (duties.Send (send_duties.Notice s)) other p = side_goes s _ (first (duties.Send (send_duties.Notice s)) p) _ (λ h. h) refl refl shape
     answered_goes (duties.Send (send_duties.Syn s)) other p = side_goes s _ (first (duties.Send (send_duties.Syn s)) p) _ (λ h. h) refl refl shape
     answered_goes (duties.Send (send_duties.DataFin s)) other p = side_goes s _ (first (duties.Send (send_duties.DataFin s)) p) _ (λ h. h) refl refl shape
     answered_goes (duties.Send (send_duties.Fin s)) other p = side_goes s _ (first (duties.Send (send_duties.Fin s)) p) _ (λ h. h) refl refl shape
@@ -403,6 +408,8 @@ module _ {C : Type 0} where
     answered_goes (duties.Ask (ask_duties.Return s)) other p = rests (first (duties.Ask (ask_duties.Return s)) p) _ refl refl shape
     answered_goes (duties.Ask (ask_duties.AbortSend s)) other p = rests (first (duties.Ask (ask_duties.AbortSend s)) p) _ refl refl shape
     answered_goes (duties.Ask (ask_duties.AbortReceive s)) other p = rests (first (duties.Ask (ask_duties.AbortReceive s)) p) _ refl refl shape
+    answered_goes (duties.Ask (ask_duties.Announce s id)) other p = rests (first (duties.Ask (ask_duties.Announce s id)) p) _ refl refl shape
+    answered_goes (duties.Ask (ask_duties.Withdraw s id)) other p = rests (first (duties.Ask (ask_duties.Withdraw s id)) p) _ refl refl shape
     answered_goes (duties.Ask (ask_duties.Leave s)) other p = rests (first (duties.Ask (ask_duties.Leave s)) p) _ refl refl shape
     answered_goes (duties.Ask (ask_duties.LeaveNoted s)) other p = side_goes s (died (end_at s p)) (first (duties.Ask (ask_duties.LeaveNoted s)) p) _ (λ h. absurd (false≢true h)) refl refl shape
     answered_goes (duties.Ask (ask_duties.Dead s)) other p = rests (first (duties.Ask (ask_duties.Dead s)) p) _ refl refl shape
@@ -522,6 +529,7 @@ module _ {C : Type 0} where
     answered_shielded (duties.Ask (ask_duties.Window s)) h = other_shielded (duties.Ask (ask_duties.Window s)) tt refl refl h
     answered_shielded (duties.Send (send_duties.Update s)) h = other_shielded (duties.Send (send_duties.Update s)) tt refl refl h
     answered_shielded (duties.Send (send_duties.FastClose s)) h = other_shielded (duties.Send (send_duties.FastClose s)) tt refl refl h
+    answered_shielded (duties.Send (send_duties.Notice s)) h = other_shielded (duties.Send (send_duties.Notice s)) tt refl refl h
     answered_shielded (duties.Send (send_duties.Syn s)) h = other_shielded (duties.Send (send_duties.Syn s)) tt refl refl h
     answered_shielded (duties.Step (step_duties.Data s)) h = other_shielded (duties.Step (step_duties.Data s)) tt refl refl h
     answered_shielded (duties.Send (send_duties.DataFin s)) h = other_shielded (duties.Send (send_duties.DataFin s)) tt refl refl h
@@ -550,6 +558,8 @@ module _ {C : Type 0} where
     answered_shielded (duties.Ask (ask_duties.Return s)) h = other_shielded (duties.Ask (ask_duties.Return s)) tt refl refl h
     answered_shielded (duties.Ask (ask_duties.AbortSend s)) h = other_shielded (duties.Ask (ask_duties.AbortSend s)) tt refl refl h
     answered_shielded (duties.Ask (ask_duties.AbortReceive s)) h = other_shielded (duties.Ask (ask_duties.AbortReceive s)) tt refl refl h
+    answered_shielded (duties.Ask (ask_duties.Announce s id)) h = other_shielded (duties.Ask (ask_duties.Announce s id)) tt refl refl h
+    answered_shielded (duties.Ask (ask_duties.Withdraw s id)) h = other_shielded (duties.Ask (ask_duties.Withdraw s id)) tt refl refl h
     answered_shielded (duties.Send (send_duties.Resend s)) h = other_shielded (duties.Send (send_duties.Resend s)) tt refl refl h
     answered_shielded (duties.Send (send_duties.Reset s)) h = other_shielded (duties.Send (send_duties.Reset s)) tt refl refl h
     answered_shielded (duties.Send (send_duties.ResetNoted s)) h = other_shielded (duties.Send (send_duties.ResetNoted s)) tt refl refl h

@@ -124,6 +124,7 @@ module _ (six : SixBooks) (others : Others) (p : PathState Carried) (ab ba : Lan
   duty_step (duties.Ask (ask_duties.Window s)) is calm may = answering.told_step six others p ab ba h ready s (left p)
   duty_step (duties.Send (send_duties.Update s)) is calm may = answering.acknowledges_step six others p ab ba h ready s (calm s refl) (left p)
   duty_step (duties.Send (send_duties.FastClose s)) is calm may = answering.fast_close_step six others p ab ba h ready s (calm s refl)
+  duty_step (duties.Send (send_duties.Notice s)) is calm may = answering.note_step six others p ab ba h ready s (calm s refl)
   duty_step (duties.Send (send_duties.Syn s)) is calm may = answering.unsent_step six others p ab ba h ready s (calm s refl) (left p)
   duty_step (duties.Step (step_duties.Data s)) is calm may = data_by s (calm s refl) (first_unsent (end_at s p)) refl is
   duty_step (duties.Send (send_duties.DataFin s)) is calm may = answering.data_fin_step six others p ab ba h ready s (calm s refl)
@@ -160,6 +161,8 @@ module _ (six : SixBooks) (others : Others) (p : PathState Carried) (ab ba : Lan
   duty_step (duties.Ask (ask_duties.Return s)) is calm may = returns s (left p)
   duty_step (duties.Ask (ask_duties.AbortSend s)) is calm may = abort_send_side p.profile six others s p (with_agenda (left p) p) ab ba h (done_side s)
   duty_step (duties.Ask (ask_duties.AbortReceive s)) is calm may = abort_receive_side p.profile six others s p (with_agenda (left p) p) ab ba h (done_side s)
+  duty_step (duties.Ask (ask_duties.Announce s id)) is calm may = answering.agenda_step six others p ab ba h ready _ (left p) tt
+  duty_step (duties.Ask (ask_duties.Withdraw s id)) is calm may = answering.agenda_step six others p ab ba h ready _ (left p) tt
   duty_step (duties.Send (send_duties.Resend s)) is calm may = answering.resend_step six others p ab ba h ready s (calm s refl)
   duty_step (duties.Ask (ask_duties.BreakAck s reason)) is calm may = answering.told_step six others p ab ba h ready s (resets s reason)
   duty_step (duties.Send (send_duties.BreakReset s reason)) is calm may = answering.reset_step six others p ab ba h ready s (calm s refl) (Some reason) (leaves s)

@@ -36,6 +36,8 @@ use Rattle.stream_apps.specs.declared.duty.AppDuty.TheVariants as app_duties
 use Rattle.stream_apps.specs.Apps.{AppState}
 use Rattle.stream_apps.specs.AppSteps.{app_ask}
 use Rattle.join_handshake.specs.declared.hearing.JoinSyn.{JoinSyn}
+use Rattle.path_agenda.specs.declared.notice.PeerNotice.{PeerNotice}
+use Rattle.path_agenda.specs.declared.notice.PeerNotice.TheVariants as peer_notes
 use Rattle.path_agenda.specs.Agenda.{start_of_turn}
 use Rattle.path_agenda.specs.Items.{key_heard, keys_heard}
 use Rattle.path_agenda.specs.declared.duty.Duty.{Duty}
@@ -47,6 +49,7 @@ use Rattle.path_agenda.specs.declared.duty.StepDuty.TheVariants as step_duties
 use Rattle.path_agenda.specs.declared.heard.Heard.{Heard}
 use Rattle.path_agenda.specs.declared.heard.Heard.TheVariants as says
 use Rattle.path_agenda.specs.declared.keys.KeyPair.{KeyPair}
+use Rattle.path_core.specs.Addressing.{notice_ask}
 use Rattle.path_core.specs.declared.event.Event.{Event}
 use Rattle.path_core.specs.declared.event.Event.TheVariants as happening
 use Rattle.path_core.specs.Breaking.{break_ask, reset_of}
@@ -288,6 +291,12 @@ module _ (p : PathState Carried) where
       by true = break_mild B 1
       by false = tt
 
+  note_mild : (s : Side) (notice : PeerNotice) → IsMild (notice_ask s notice p)
+  note_mild s (peer_notes.AddAddr id address port hmac) = tt
+  note_mild s (peer_notes.AddEcho id) = tt
+  note_mild s (peer_notes.Removed id) = tt
+  note_mild s (peer_notes.Prio backup) = tt
+
   item_b : (o : Option Heard) → IsMild (item_ask values B o p)
   item_b None = tt
   item_b (Some says.Dss) = tt
@@ -298,7 +307,7 @@ module _ (p : PathState Carried) where
   item_b (Some (says.PeerKey key)) = tt
   item_b (Some (says.Keys own other)) = tt
   item_b (Some (says.Join form)) = tt
-  item_b (Some (says.Notice notice)) = tt
+  item_b (Some (says.Notice notice)) = note_mild B notice
   item_b (Some says.Fail) = tt
   item_b (Some (says.FastClose key)) = tt
 
@@ -319,7 +328,7 @@ module _ (p : PathState Carried) where
   item_a index ds above (Some (says.PeerKey key)) is h unclear = tt
   item_a index ds above (Some (says.Keys own other)) is h unclear = tt
   item_a index ds above (Some (says.Join form)) is h unclear = tt
-  item_a index ds above (Some (says.Notice notice)) is h unclear = tt
+  item_a index ds above (Some (says.Notice notice)) is h unclear = note_mild A notice
   item_a index ds above (Some says.Fail) is h unclear = tt
   item_a index ds above (Some (says.FastClose key)) is h unclear = tt
 
@@ -336,6 +345,7 @@ module _ (p : PathState Carried) where
   first_mild (duties.Ask (ask_duties.Window s)) ds h unclear = tt
   first_mild (duties.Send (send_duties.Update s)) ds h unclear = tt
   first_mild (duties.Send (send_duties.FastClose s)) ds h unclear = tt
+  first_mild (duties.Send (send_duties.Notice s)) ds h unclear = tt
   first_mild (duties.Send (send_duties.Syn s)) ds h unclear = tt
   first_mild (duties.Step (step_duties.Data s)) ds h unclear = data_mild s (first_unsent (end_at s p))
   first_mild (duties.Send (send_duties.DataFin s)) ds h unclear = tt
@@ -374,6 +384,8 @@ module _ (p : PathState Carried) where
   first_mild (duties.Ask (ask_duties.Return s)) ds h unclear = tt
   first_mild (duties.Ask (ask_duties.AbortSend s)) ds h unclear = tt
   first_mild (duties.Ask (ask_duties.AbortReceive s)) ds h unclear = tt
+  first_mild (duties.Ask (ask_duties.Announce s id)) ds h unclear = tt
+  first_mild (duties.Ask (ask_duties.Withdraw s id)) ds h unclear = tt
   first_mild (duties.Send (send_duties.Resend s)) ds h unclear = tt
   first_mild (duties.Ask (ask_duties.BreakAck s reason)) ds h unclear = tt
   first_mild (duties.Send (send_duties.BreakReset s reason)) ds h unclear = tt
@@ -391,6 +403,7 @@ module _ (p : PathState Carried) where
   idle_mild (duties.Ask (ask_duties.Window s)) idle = tt
   idle_mild (duties.Send (send_duties.Update s)) idle = tt
   idle_mild (duties.Send (send_duties.FastClose s)) idle = tt
+  idle_mild (duties.Send (send_duties.Notice s)) idle = tt
   idle_mild (duties.Send (send_duties.Syn s)) idle = tt
   idle_mild (duties.Step (step_duties.Data s)) idle = data_mild s (first_unsent (end_at s p))
   idle_mild (duties.Send (send_duties.DataFin s)) idle = tt
@@ -400,6 +413,8 @@ module _ (p : PathState Carried) where
   idle_mild (duties.Ask (ask_duties.Leave s)) idle = tt
   idle_mild (duties.Ask (ask_duties.LeaveNoted s)) idle = tt
   idle_mild (duties.Send (send_duties.ResetNoted s)) idle = tt
+  idle_mild (duties.Ask (ask_duties.Announce s id)) idle = tt
+  idle_mild (duties.Ask (ask_duties.Withdraw s id)) idle = tt
   idle_mild (duties.Ask (ask_duties.Dead s)) idle = tt
   idle_mild duties.End idle = tt
   idle_mild _ idle = absurd (false≢true idle)

@@ -46,12 +46,23 @@ use Rattle.path_agenda.specs.declared.heard.Heard.{Heard}
 use Rattle.path_agenda.specs.declared.heard.Heard.TheVariants as says
 use Rattle.path_core.specs.Arriving.{copy_of, expected_by}
 use Rattle.path_core.specs.declared.modes.Modes.{Modes}
-use Rattle.path_core.specs.Ends.{PathEnd, Sending, Receiving, Treated}
+use Rattle.path_core.specs.Ends.{PathEnd, Sending, Receiving, Treated, Notices}
 use Rattle.path_core.specs.Joins.{is_joined, peer_key_of, join_options, third_options}
 use Rattle.path_core.specs.Passing.{outgoing_or}
 use Rattle.path_core.specs.OptionsOut.{spelled_by, bare_mapping, checksum_in, place_numbered, checksum_told, is_syn_unsent, owes_mapping, own_reset, plain_options, capable_options, syn_options, key_options, opening_options, data_fin_mapping, ack_options, piece_mapping, is_first_piece, first_piece_options, piece_options, fin_options, record_options, reset_options, segment_of, ack_said, carried_said, record_said, syn_ack_said, fin_said, reset_said, record_or_ack}
 use Rattle.path_core.specs.Shown.{IsFarReset}
 use Rattle.path_core.specs.State.{Profile}
+use Rattle.key_material.specs.declared.address.Address.{Address}
+use Rattle.key_material.specs.declared.address.Address.TheVariants.{V4, V6}
+use Rattle.key_material.proofs.Bounds.{add_addr64_of_below}
+use Rattle.mptcp_options.specs.Address.{AddressFits}
+use Rattle.control_book.specs.Steps.{path_address}
+use Rattle.path_agenda.specs.declared.notice.OwnNotice.{OwnNotice}
+use Rattle.path_agenda.specs.declared.notice.OwnNotice.TheVariants as notes
+use Rattle.path_agenda.specs.declared.notice.PeerNotice.{PeerNotice}
+use Rattle.path_agenda.specs.declared.notice.PeerNotice.TheVariants as peer_notes
+use Rattle.path_core.specs.OptionsOut.{noted_said, notice_option, HasAddress}
+use Rattle.path_core.proofs.Sayable.{noted_can}
 use Rattle.path_core.proofs.Sayable.{carried_can}
 
 abbrev pub IsShort : ℕ → Type 0
@@ -201,8 +212,27 @@ IsKey key = key < 2 ^ 64
 abbrev pub IsNonce : ℕ → Type 0
 IsNonce nonce = nonce < 2 ^ 32
 
+-- an address by its id, perhaps with a port
+abbrev pub AddressTells : ℕ → Address → Option ℕ → Type 0
+AddressTells id address port = (id < 256) × AddressFits address × IsBelow (2 ^ 16) port
+
+-- what an end has to note
+abbrev pub NoteTells : OwnNotice → Type 0
+NoteTells (notes.AddAddr id) = id < 256
+NoteTells (notes.AddEcho id address port) = AddressTells id address port
+NoteTells (notes.Removes id) = id < 256
+NoteTells (notes.Prio backup) = Unit {0}
+
+-- what a copy noted
+abbrev pub PeerTells : PeerNotice → Type 0
+PeerTells (peer_notes.AddAddr id address port hmac) = AddressTells id address port
+PeerTells (peer_notes.AddEcho id) = Unit {0}
+PeerTells (peer_notes.Removed id) = Unit {0}
+PeerTells (peer_notes.Prio backup) = Unit {0}
+
 -- a thing that a copy said
 abbrev pub ItemTells : Heard → Type 0
+ItemTells (says.Notice notice) = PeerTells notice
 ItemTells (says.DataAck next window) = IsShort next
 ItemTells (says.DataFin place) = IsShort place
 ItemTells (says.PeerKey key) = IsKey key
@@ -248,6 +278,11 @@ pub record TreatedTells (t : Treated) : Type 0 where
   pub answer : IfSome t.answer AnswerTells
   pub acknowledged : IsShort t.acknowledged
 
+-- the key of a fast close that it carries, and what it has to note
+pub record NoticesTell (n : Notices) : Type 0 where
+  pub carrier : IfSome n.carrier IsKey
+  pub queue : Every NoteTells n.queue
+
 pub record EndTells (c : Profile) (s : Side) (e : PathEnd) : Type 0 where
   pub sender : SenderTells c s e.tcp.send
   pub edge : IsShort e.tcp.recv.edge
@@ -255,8 +290,7 @@ pub record EndTells (c : Profile) (s : Side) (e : PathEnd) : Type 0 where
   pub window : WindowTells e.receiving
   pub modes : ModesTell e.modes
   pub treated : TreatedTells e.treated
-  -- the key of a fast close that it carries
-  pub carrier : IfSome e.notices.carrier IsKey
+  pub notices : NoticesTell e.notices
 
 pub expected_shortly : (c : Profile) (s : Side) (e : PathEnd) → EndTells c s e → IsShortly (expected_by e)
 expected_shortly c s e h =
@@ -585,6 +619,39 @@ module _ (c : Profile) (s : Side) (path : c.spelling.path ≤ 15) (mss : c.mss <
     options =
         All-cons (OptionTells c s) (Dss (Some e.receiving.next) None) (FastClose key ∷ []) (end_tells None tt).tells
         (All-cons (OptionTells c s) (FastClose key) [] (record { fits = is; short = tt }) (All-nil (OptionTells c s)));
+  }
+
+  note_tells : (notice : OwnNotice) → NoteTells notice → OptionTells c s (notice_option notice e.modes)
+  note_tells (notes.AddAddr id) is = record {
+    fits = (is, (All-cons (λ (n : ℕ). n < 256) 10 _ (omega arith) (All-cons (λ (n : ℕ). n < 256) 0 _ (omega arith)
+        (All-cons (λ (n : ℕ). n < 256) id _ is (All-cons (λ (n : ℕ). n < 256) 2 [] (omega arith) (All-nil (λ (n : ℕ). n < 256))))), refl), tt,
+        add_addr64_of_below e.modes.own_key (peer_key_of e.modes) id (path_address id) 0);
+    short = tt;
+  }
+  note_tells (notes.AddEcho id address port) is = record { fits = (is.0, is.1, is.2, tt); short = tt }
+  note_tells (notes.Removes id) is = record { fits = All-cons (λ (n : ℕ). n < 256) id [] is (All-nil (λ (n : ℕ). n < 256)); short = tt }
+  note_tells (notes.Prio backup) is = record { fits = tt; short = tt }
+
+  has_address : (notice : OwnNotice) → NoteTells notice → HasAddress notice
+  has_address (notes.AddAddr id) is = tt
+  has_address (notes.AddEcho id (V4 octets) port) is = let four = is.1.1 in omega (arith, four)
+  has_address (notes.AddEcho id (V6 octets) port) is = let sixteen = is.1.1 in omega (arith, sixteen)
+  has_address (notes.Removes id) is = tt
+  has_address (notes.Prio backup) is = tt
+
+  -- a DSS and a notice behind it
+  pub noted_tells : (o : Option OwnNotice) → IfSome o NoteTells → SegmentTells c s (noted_said c s o e)
+  noted_tells None told = ack_said_tells e.tcp.send.nxt None h.sender.next tt
+  noted_tells (Some notice) told = record {
+    sayable = noted_can c s e path h.window.window (Some notice) (has_address notice told);
+    position = inr h.sender.next;
+    acknowledged = h.edge;
+    reaches = λ none. none_is _ none;
+    syn = refl;
+    mss = tt;
+    options =
+        All-cons (OptionTells c s) (Dss (Some e.receiving.next) None) (notice_option notice e.modes ∷ []) (end_tells None tt).tells
+        (All-cons (OptionTells c s) (notice_option notice e.modes) [] (note_tells notice told) (All-nil (OptionTells c s)));
   }
 
   pub syn_ack_tells : SegmentTells c s (syn_ack_said c s e)

@@ -37,7 +37,7 @@ use Rattle.actor_desk.specs.Words.{is_nil}
 use Rattle.path_agenda.specs.declared.heard.Heard.{Heard}
 use Rattle.path_agenda.specs.declared.heard.Heard.TheVariants as says
 use Rattle.path_agenda.specs.declared.keys.KeyPair.{KeyPair}
-use Rattle.path_core.specs.Arriving.{copy_of, ack_items, is_mapping, mapping_items, map_items, key_items, join_items, items_in, items_of, HeardOption, hint_of, reset_by, owing_if, owes_by, asked_in, is_taken, with_payload, with_answer, answered_in, cleared_in, judged_in, taken_as, after_judged, position_numbered}
+use Rattle.path_core.specs.Arriving.{copy_of, ack_items, is_mapping, mapping_items, map_items, key_items, join_items, items_in, items_of, HeardOption, hint_of, reset_by, owing_if, owes_by, asked_in, is_taken, with_payload, with_answer, answered_in, cleared_in, judged_in, taken_as, after_judged, position_numbered, item_removed}
 use Rattle.path_core.specs.declared.modes.Modes.{Modes}
 use Rattle.path_core.specs.Joining.{with_keys, syn_alone, is_listening, joined_by}
 use Rattle.path_core.specs.Joins.{is_joined, join_answer}
@@ -45,7 +45,6 @@ use Rattle.path_core.specs.Ends.{PathEnd}
 use Rattle.path_core.specs.State.{Profile}
 use Rattle.world_laws.proofs.Records.{every_cons}
 use Rattle.path_agenda.specs.declared.notice.PeerNotice.TheVariants as notes
-use Rattle.world_laws.proofs.Noting.{noted, removed_noted, address_noted}
 use Rattle.world_laws.proofs.Telling.{IsShort, MappingIsShort, OptionTells, SegmentTells, IsNonce, ItemTells, AnswerTells, SenderTells, ModesTell, EndTells}
 use Rattle.world_laws.proofs.TellingRules.{acknowledged_tells, AreKeys, answer_nonce}
 use Rattle.dss_mapping.specs.Mappings.{octets_in}
@@ -94,6 +93,10 @@ joins_tell B (joins.Syn backup id token nonce) h = one (says.Join (joins.Syn bac
 joins_tell B (joins.Third hmac) h = one (says.Join (joins.Third hmac)) h
 joins_tell B (joins.Answer backup id hmac nonce) h = Every-nil ItemTells
 
+removed_tell : (ids : List ℕ) → Tell (map item_removed ids)
+removed_tell [] = Every-nil ItemTells
+removed_tell (id ∷ ids) = every_cons (item_removed id) _ tt (removed_tell ids)
+
 module _ (c : Profile) (from : Side) (joined : Bool) (s : Side) (window : ℕ) where
   option_tells : (o : PlainOption) → OptionTells c from o → Tell (items_in joined s window (meant_option o))
   option_tells (Capable flag_a flag_c keys) h = by joined
@@ -103,9 +106,11 @@ module _ (c : Profile) (from : Side) (joined : Bool) (s : Side) (window : ℕ) w
       by false = keys_tell s keys h.fits
   option_tells (Dss next mapping) h = every_cons says.Dss _ tt (Every-append (acks_tell next window h.short.0) (map_tells mapping h.short.1))
   option_tells (Join form) h = joins_tell s form h.fits
-  option_tells (AddAddr echo id address port hmac) h = address_noted (λ notice. tt) echo id address port hmac
-  option_tells (Remove ids) h = removed_noted (λ notice. tt) ids
-  option_tells (Prio backup) h = noted (λ notice. tt) (notes.Prio backup)
+  option_tells (AddAddr true id address port hmac) h = one (says.Notice (notes.AddEcho id)) tt
+  option_tells (AddAddr false id address port (Some hmac)) h = one (says.Notice (notes.AddAddr id address port hmac)) (h.fits.0, h.fits.1, h.fits.2)
+  option_tells (AddAddr false id address port None) h = Every-nil ItemTells
+  option_tells (Remove ids) h = removed_tell ids
+  option_tells (Prio backup) h = one (says.Notice (notes.Prio backup)) tt
   option_tells (Fail place) h = one says.Fail tt
   option_tells (FastClose key) h = one (says.FastClose key) tt
   option_tells (Reset transient reason) h = Every-nil ItemTells
@@ -262,8 +267,8 @@ joined_tells c s keys asked e pair nonce h = by (is_listening e.tcp.state)
     })
     by true =
         let flows = arrived_flows c s means.Opens (taking.unkept None) 0 (syn_alone e.treated.window) e.tcp refl (record { sender = h.sender; edge = h.edge }) in
-        record { sender = flows.sender; edge = flows.edge; stream = h.stream; window = h.window; modes = modes; treated = h.treated; carrier = h.carrier }
-    by false = record { sender = h.sender; edge = h.edge; stream = h.stream; window = h.window; modes = modes; treated = h.treated; carrier = h.carrier }
+        record { sender = flows.sender; edge = flows.edge; stream = h.stream; window = h.window; modes = modes; treated = h.treated; notices = h.notices }
+    by false = record { sender = h.sender; edge = h.edge; stream = h.stream; window = h.window; modes = modes; treated = h.treated; notices = h.notices }
 
 -- ---- the end
 
@@ -288,7 +293,7 @@ arrived_tells c s now sg e tells h =
         answer = by sg.acknowledged tells.acknowledged tells.reaches;
         acknowledged = position_told (is_taken m) sg.acknowledged tells.acknowledged;
       };
-      carrier = h.carrier;
+      notices = h.notices;
     }
   where
     position_told : (taken : Bool) (o : Option ℕ) → IfSome o IsShort

@@ -1,5 +1,5 @@
 -- The keys that control books have, and those that they answer, have 64 bits: each key that a path tells one was heard or drawn.
-use Rattle.std.proofs.Common.{ℕ, ◌==◌, ◌&&◌, ◌||◌, not, Bool, true, false, if◌then◌else◌, Option, Some, None, arith}
+use Rattle.std.proofs.Common.{ℕ, ◌==◌, ◌&&◌, ◌||◌, not, Bool, true, false, if◌then◌else◌, Option, Some, None, List, arith}
 use Rattle.std.specs.Option.{IfSome}
 use Rattle.outside_kit.specs.declared.side.Side.{Side}
 use Rattle.outside_kit.specs.declared.side.Side.TheVariants.{A, B}
@@ -12,7 +12,7 @@ use Rattle.control_book.specs.declared.call.ControlCall.TheVariants as calls
 use Rattle.control_book.specs.declared.call.ControlReply.TheVariants as answers
 use Rattle.control_book.specs.declared.call.Notice.{Notice}
 use Rattle.control_book.specs.declared.call.Notice.TheVariants as notices
-use Rattle.control_book.specs.Control.{Control, peer_or_zero}
+use Rattle.control_book.specs.Control.{Control, peer_or_zero, withdrawals_on}
 use Rattle.control_book.specs.Registry.{stands as stands_path, sole, standby}
 use Rattle.control_book.specs.Replies as control
 use Rattle.control_book.specs.Steps as controlling
@@ -49,10 +49,13 @@ use Rattle.path_core.specs.State.{PathState, Profile, end_at, path_of}
 use Rattle.path_core.specs.Treating.{is_clash, fell_ask, mapping_ask, breaks_by_ack, plain_ack_ask, item_ask, item_of}
 use Rattle.path_core.specs.Values.{Carried, values}
 use Rattle.path_core.specs.Standing.{look_ask}
+use Rattle.path_agenda.specs.declared.notice.PeerNotice.TheVariants as peer_notes
 use Rattle.world_laws.proofs.Replying.{every_item}
 use Rattle.world_laws.proofs.Telling.{IsKey, ItemTells, known_item}
 use Rattle.world_laws.proofs.TellingRules.{AreKeys, heard_key, heard_keys, NoticeTells}
-use Rattle.world_laws.proofs.TellingSteps.{KeysAreShort, PathTells, tells_at}
+use Rattle.world_laws.proofs.TellingSteps.{KeysAreShort, ControlIsShort, PathTells, tells_at}
+use Rattle.world_laws.proofs.IdsFit.{AreIds, lowest_fits, on_fits, call_fits}
+use Rattle.address_manager.specs.IdSet.{lowest}
 
 -- ---- what a control book answers
 
@@ -82,37 +85,43 @@ module _ (c : Control) (h : KeysAreShort c.keys) where
       by false false true = both_short
       by false false false = tt
 
--- the key of a fast close is the peer's
-notice_key : (c : Control) (h : KeysAreShort c.keys) (path : ℕ) → NoticeTells (replies.Control (look_reply path c))
-notice_key c h path = by (resets c path) (carries c path) (announcement c path) _
+-- the key of a fast close is the peer's, and ids are those of the book's sets
+announced_fits : (b : Bool) (ids : List Bool) → AreIds ids → IfSome (if b then lowest ids else None) (λ id. id < 256)
+announced_fits true ids are = lowest_fits ids are
+announced_fits false ids are = tt
+
+notice_key : (c : Control) (h : ControlIsShort c) (path : ℕ) → NoticeTells (replies.Control (look_reply path c))
+notice_key c h path =
+    by (resets c path) (carries c path) (announcement c path) (lowest (withdrawals_on c.notices.withdrawals path))
+    (announced_fits _ c.addresses.due h.ids.due) (lowest_fits (withdrawals_on c.notices.withdrawals path) (on_fits c.notices.withdrawals path h.ids.withdrawals))
   where
-    by : (resets carries : Bool) (announced withdrawn : Option ℕ)
+    by : (resets carries : Bool) (announced withdrawn : Option ℕ) → IfSome announced (λ id. id < 256) → IfSome withdrawn (λ id. id < 256)
         → NoticeTells (replies.Control (answers.Standing c.fall.mode (standby c.paths c.addresses.backups path) (sole c.paths path)
         (if resets then notices.Reset else (if carries then notices.Carrier (peer_or_zero c.keys.peer) else address_notice announced withdrawn))))
-    by true carries announced withdrawn = tt
-    by false true announced withdrawn = peer_short c.keys.peer h.peer
-    by false false (Some id) withdrawn = tt
-    by false false None (Some id) = tt
-    by false false None None = tt
+    by true carries announced withdrawn a w = tt
+    by false true announced withdrawn a w = peer_short c.keys.peer h.keys.peer
+    by false false (Some id) withdrawn a w = a
+    by false false None (Some id) a w = w
+    by false false None None a w = tt
 
-module _ (six : SixBooks) (h : (s : Side) → KeysAreShort (control_of s six).keys) where
+module _ (six : SixBooks) (h : (s : Side) → ControlIsShort (control_of s six)) where
   pub look_key : (s : Side) (p : PathState Carried) → NoticeTells (reply_of six (look_ask s p))
   look_key A p = notice_key six.control_a (h A) (path_of p)
   look_key B p = notice_key six.control_b (h B) (path_of p)
 
   pub step_keys : (path : ℕ) (o : Option Event) → IfSome (keys_begun (reply_of six (step_for path o))) AreKeys
   step_keys path None = tt
-  step_keys path (Some (happening.Joins tick)) = begin_keys six.control_a (h A)
+  step_keys path (Some (happening.Joins tick)) = begin_keys six.control_a (h A).keys
   step_keys path (Some (happening.Takes line)) = tt
   step_keys path (Some (happening.Arrives due)) = tt
   step_keys path (Some (happening.Fires s tick)) = tt
 
   pub again_keys : (p : PathState Carried) → IfSome (keys_begun (reply_of six (join_begin_ask (path_of p)))) AreKeys
-  again_keys p = begin_keys six.control_a (h A)
+  again_keys p = begin_keys six.control_a (h A).keys
 
   pub joined_keys : (s : Side) (o : Option JoinSyn) (p : PathState Carried) → IfSome (keys_begun (reply_of six (join_heard_ask s o p))) AreKeys
   joined_keys s None p = tt
-  joined_keys s (Some asked) p = heard_reply_keys (control_of s six) (h s) asked.token
+  joined_keys s (Some asked) p = heard_reply_keys (control_of s six) (h s).keys asked.token
 
 -- ---- what a control book keeps
 
@@ -156,18 +165,21 @@ call_short c (calls.Removed id) told h = either_short _ _ _ h h
 call_short c calls.FastClose told h = h
 call_short c (calls.FastHeard key) told h = either_short _ _ _ h h
 
+control_short : (c : Control) (call : ControlCall) → CallTells call → ControlIsShort c → ControlIsShort (controlling.after c call)
+control_short c call told h = record { keys = call_short c call told h.keys; ids = call_fits c call h.ids }
+
 -- both books
 pub record BooksKeepShort (six : SixBooks) : Type 0 where
-  pub a : KeysAreShort six.control_a.keys
-  pub b : KeysAreShort six.control_b.keys
+  pub a : ControlIsShort six.control_a
+  pub b : ControlIsShort six.control_b
 
-pub kept_at : (six : SixBooks) → BooksKeepShort six → (s : Side) → KeysAreShort (control_of s six).keys
+pub kept_at : (six : SixBooks) → BooksKeepShort six → (s : Side) → ControlIsShort (control_of s six)
 kept_at six h A = h.a
 kept_at six h B = h.b
 
 pub ask_short : (six : SixBooks) (x : Ask) → AskTells x → BooksKeepShort six → BooksKeepShort (after_ask x six)
-ask_short six (asks.Control A call) told h = record { a = call_short six.control_a call told h.a; b = h.b }
-ask_short six (asks.Control B call) told h = record { a = h.a; b = call_short six.control_b call told h.b }
+ask_short six (asks.Control A call) told h = record { a = control_short six.control_a call told h.a; b = h.b }
+ask_short six (asks.Control B call) told h = record { a = h.a; b = control_short six.control_b call told h.b }
 ask_short six (asks.Send s call) told h = record { a = h.a; b = h.b }
 ask_short six (asks.Reassembly s call) told h = record { a = h.a; b = h.b }
 ask_short six (asks.Local step) told h = h
@@ -229,7 +241,10 @@ module _ (c : Profile) (p : PathState Carried) (h : PathTells c p) where
   item_tells s (Some (says.PeerKey key)) said = tt
   item_tells s (Some (says.Keys own other)) said = said.1
   item_tells s (Some (says.Join form)) said = tt
-  item_tells s (Some (says.Notice notice)) said = tt
+  item_tells s (Some (says.Notice (peer_notes.AddAddr id address port hmac))) said = tt
+  item_tells s (Some (says.Notice (peer_notes.AddEcho id))) said = tt
+  item_tells s (Some (says.Notice (peer_notes.Removed id))) said = tt
+  item_tells s (Some (says.Notice (peer_notes.Prio backup))) said = tt
   item_tells s (Some says.Fail) said = tt
   item_tells s (Some (says.FastClose key)) said = tt
 
@@ -254,6 +269,7 @@ module _ (c : Profile) (p : PathState Carried) (h : PathTells c p) where
   asks_tell (duties.Ask (ask_duties.Window s)) = tt
   asks_tell (duties.Send (send_duties.Update s)) = tt
   asks_tell (duties.Send (send_duties.FastClose s)) = tt
+  asks_tell (duties.Send (send_duties.Notice s)) = tt
   asks_tell (duties.Send (send_duties.Syn s)) = tt
   asks_tell (duties.Step (step_duties.Data s)) = data_tells s (first_unsent (end_at s p))
   asks_tell (duties.Send (send_duties.DataFin s)) = tt
@@ -290,6 +306,8 @@ module _ (c : Profile) (p : PathState Carried) (h : PathTells c p) where
   asks_tell (duties.Ask (ask_duties.Return s)) = tt
   asks_tell (duties.Ask (ask_duties.AbortSend s)) = tt
   asks_tell (duties.Ask (ask_duties.AbortReceive s)) = tt
+  asks_tell (duties.Ask (ask_duties.Announce s id)) = tt
+  asks_tell (duties.Ask (ask_duties.Withdraw s id)) = tt
   asks_tell (duties.Send (send_duties.Resend s)) = tt
   asks_tell (duties.Ask (ask_duties.BreakAck s reason)) = tt
   asks_tell (duties.Send (send_duties.BreakReset s reason)) = tt

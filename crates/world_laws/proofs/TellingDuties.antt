@@ -46,6 +46,7 @@ use Rattle.actor_desk.specs.declared.ask.Reply.{Reply}
 use Rattle.actor_desk.specs.declared.ask.Reply.TheVariants as replies
 use Rattle.actor_desk.specs.Desk.{SixBooks, send_of, reassembly_of, control_of, reply_of, after_ask}
 use Rattle.actor_desk.specs.Words.{pick}
+use Rattle.stream_lanes.specs.Words.{Every}
 use Rattle.path_agenda.specs.declared.duty.Duty.{Duty}
 use Rattle.path_agenda.specs.declared.duty.Duty.TheVariants as duties
 use Rattle.path_agenda.specs.declared.duty.AskDuty.TheVariants as ask_duties
@@ -78,18 +79,21 @@ use Rattle.path_core.specs.Handover.{with_told}
 use Rattle.path_core.specs.Treating.{is_clash, breaks_by_ack, plain_ack_ask, answered_plain_ack, with_plain_ack, plain_next, subflow_ack_ask, answered_subflow_ack, told_next, is_acked, mapping_ask, answered_mapping, heard_ask, answered_heard, with_acked, with_data_fin, item_ask, answered_item, item_of}
 use Rattle.path_core.specs.Values.{Carried, values}
 use Rattle.path_core.specs.FastClosing.{is_stopped_by, answered_fast_close, fast_close_of, fast_heard_ask, having_fast_closed}
+use Rattle.path_core.specs.Addressing.{notice_ask, note_of, having_noted, answered_note, after_peer_notice}
+use Rattle.path_agenda.specs.declared.notice.OwnNotice.{OwnNotice}
+use Rattle.path_agenda.specs.Words.{first_of}
 use Rattle.world_laws.proofs.Answering.{IsReady}
 use Rattle.world_laws.proofs.Ending.{unfinished_if}
 use Rattle.world_laws.proofs.Lanes.{flags_of, Others, duo_at}
 use Rattle.world_laws.proofs.Placing.{IsNextReady, next_ready}
-use Rattle.world_laws.proofs.Records.{every_find, every_at}
+use Rattle.world_laws.proofs.Records.{every_find, every_at, every_first}
 use Rattle.world_laws.proofs.Replying.{every_item, granted_step}
 use Rattle.world_laws.proofs.Roads.{Strolls, stays}
 use Rattle.world_laws.proofs.Showing.{EndShows, PathShows}
 use Rattle.world_laws.proofs.Sides.{Answered}
 use Rattle.world_laws.proofs.Strolling.{side_shows, strolls_held, back_holds}
 use Rattle.world_laws.proofs.Turning.{answered_holds}
-use Rattle.world_laws.proofs.Telling.{IsShort, IsKey, IsNonce, ItemTells, known_item, SegmentTells, EndTells, ack_said_tells, record_said_tells, syn_ack_tells, fin_said_tells, reset_tells, dead_answer_tells, refusal_tells, carried_tells}
+use Rattle.world_laws.proofs.Telling.{IsShort, IsKey, IsNonce, ItemTells, known_item, SegmentTells, EndTells, ack_said_tells, record_said_tells, syn_ack_tells, fin_said_tells, reset_tells, dead_answer_tells, refusal_tells, carried_tells, noted_tells, NoteTells}
 use Rattle.world_laws.proofs.TellingArrivals.{joined_tells}
 use Rattle.world_laws.proofs.TellingAsks.{again_keys, step_keys, joined_keys, look_key}
 use Rattle.world_laws.proofs.TellingEvents.{join_tells, events_tell}
@@ -307,8 +311,19 @@ module _ (six : SixBooks) (others : Others) (p : PathState Carried) (ab ba : Lan
     -- MP_FASTCLOSE, as it is carried
     fast_closed : Tells (answered_fast_close values s p)
     fast_closed =
-        tells_sent p.profile p t h.unchanged s (fast_close_of s p) (having_fast_closed s p) (left p) (carried_tells p.profile s path wide e tells e.notices.carrier tells.carrier)
+        tells_sent p.profile p t h.unchanged s (fast_close_of s p) (having_fast_closed s p) (left p) (carried_tells p.profile s path wide e tells e.notices.carrier tells.notices.carrier)
         (rules.fast_closed_tells p.profile s (having_sent to_send.Ack p.clock (fast_close_of s p) e) (rules.sent_end_tells p.profile s e tells to_send.Ack p.clock (fast_close_of s p))) left_fair
+
+    -- a notice, of what is to be noted
+    noted : Tells (answered_note values s p)
+    noted =
+        tells_sent p.profile p t h.unchanged s (note_of s p) (having_noted s p) p.agenda
+        (noted_tells p.profile s path wide e tells (first_of e.notices.queue) (first_note e.notices.queue tells.notices.queue))
+        (rules.noted_out_tells p.profile s (having_sent to_send.Ack p.clock (note_of s p) e) (rules.sent_end_tells p.profile s e tells to_send.Ack p.clock (note_of s p))) t.agenda
+      where
+        first_note : (queue : List OwnNotice) → Every NoteTells queue → IfSome (first_of queue) NoteTells
+        first_note [] each = tt
+        first_note (notice ∷ queue) each = every_first notice queue each
 
     answer_told : SegmentTells p.profile s (answer_of s p)
     answer_told = by e.tcp.due.syn_ack
@@ -326,7 +341,7 @@ module _ (six : SixBooks) (others : Others) (p : PathState Carried) (ab ba : Lan
             else (if owes then ack_said p.profile s e.tcp.send.nxt e.sending.known_end e else ack_said p.profile s (e.tcp.send.una - 1) None e))))
         by true third closed owes = first_told
         by false true closed owes = ack_tells e.tcp.send.nxt None tells.sender.next tt
-        by false false true owes = carried_tells p.profile s path wide e tells e.notices.carrier tells.carrier
+        by false false true owes = carried_tells p.profile s path wide e tells e.notices.carrier tells.notices.carrier
         by false false false true = ack_tells e.tcp.send.nxt e.sending.known_end tells.sender.next tells.stream.known_end
         by false false false false = ack_tells (e.tcp.send.una - 1) None (let una = tells.sender.unacknowledged in let next = tells.sender.next in omega (arith, una, next)) tt
 
@@ -414,7 +429,9 @@ module _ (six : SixBooks) (others : Others) (p : PathState Carried) (ab ba : Lan
     heard_told says.Dss x = done_tells
     heard_told (says.PeerKey key) x = done_tells
     heard_told (says.Join form) x = done_tells
-    heard_told (says.Notice notice) x = done_tells
+    heard_told (says.Notice notice) x =
+        on (after_peer_notice notice (reply_of six (notice_ask s notice p)) e) (left p)
+        (rules.peer_notice_tells p.profile s e tells notice (reply_of six (notice_ask s notice p)) x) left_fair
     heard_told says.Fail x = done_tells
     heard_told (says.FastClose key) x = stopped_told (is_stopped_by (reply_of six (fast_heard_ask s key)))
       where
@@ -434,7 +451,7 @@ module _ (six : SixBooks) (others : Others) (p : PathState Carried) (ab ba : Lan
         on (joined_by keys asked e) (replaced (duties.Send (send_duties.SynAck s)) p.agenda) (joined_tells p.profile s keys asked e pair nonce tells) (replaced_fair (duties.Send (send_duties.SynAck s)) p.agenda refl t.agenda)
 
     join_told : Tells (answered_join_heard s (reply_of six (join_heard_ask s (asked_at s p) p)) p)
-    join_told = join_by (keys_begun (reply_of six (join_heard_ask s (asked_at s p) p))) (asked_at s p) (joined_keys six short.keys s (asked_at s p) p) (asked_nonce e.treated.items tells.treated.items)
+    join_told = join_by (keys_begun (reply_of six (join_heard_ask s (asked_at s p) p))) (asked_at s p) (joined_keys six short.control s (asked_at s p) p) (asked_nonce e.treated.items tells.treated.items)
 
     item_by : (o : Option Heard) → IfSome o ItemTells → Tells (answered_item values s o (reply_of six (item_ask values s o p)) p)
     item_by None x = done_tells
@@ -587,18 +604,19 @@ module _ (six : SixBooks) (others : Others) (p : PathState Carried) (ab ba : Lan
 
   pub duty_tells : (d : Duty) → stands d p ≡ true → is_fair d ≡ true → Tells (answered values d (reply_of six (ask_for values d p)) p)
   duty_tells (duties.Ask ask_duties.JoinAgain) is fair =
-      join_tells p t (reply_of six (ask_for values (duties.Ask ask_duties.JoinAgain) p)) (replaced (duties.Ask (ask_duties.Leave A)) p.agenda) (left p) p (again_keys six short.keys p)
+      join_tells p t (reply_of six (ask_for values (duties.Ask ask_duties.JoinAgain) p)) (replaced (duties.Ask (ask_duties.Leave A)) p.agenda) (left p) p (again_keys six short.control p)
       (replaced_fair (duties.Ask (ask_duties.Leave A)) p.agenda refl t.agenda) left_fair t
-  duty_tells (duties.Step (step_duties.Look s)) is fair = let r : Reply = reply_of six (look_ask s p) in on s (after_look r (end_at s p)) (left p) (rules.look_tells p.profile s (end_at s p) (tells s) r (look_key six short.keys s p)) left_fair
+  duty_tells (duties.Step (step_duties.Look s)) is fair = let r : Reply = reply_of six (look_ask s p) in on s (after_look r (end_at s p)) (left p) (rules.look_tells p.profile s (end_at s p) (tells s) r (look_key six short.control s p)) left_fair
   duty_tells (duties.Ask (ask_duties.Window s)) is fair = ack_out_told s (left p) left_fair
   duty_tells (duties.Send (send_duties.Update s)) is fair = acknowledged s (left p) left_fair
   duty_tells (duties.Send (send_duties.FastClose s)) is fair = fast_closed s
+  duty_tells (duties.Send (send_duties.Notice s)) is fair = noted s
   duty_tells (duties.Send (send_duties.Syn s)) is fair = unsent_told s (left p) left_fair
   duty_tells (duties.Step (step_duties.Data s)) is fair = data_by s (first_unsent (end_at s p)) refl is
   duty_tells (duties.Send (send_duties.DataFin s)) is fair = data_fin_told s
   duty_tells (duties.Send (send_duties.Fin s)) is fair = fin_due s is
   duty_tells (duties.Silent (silent_duties.Timer s)) is fair = done_tells
-  duty_tells (duties.Step step_duties.Events) is fair = events_tell p t (next_event p) (reply_of six (step_for (path_of p) (next_event p))) (step_keys six short.keys (path_of p) (next_event p))
+  duty_tells (duties.Step step_duties.Events) is fair = events_tell p t (next_event p) (reply_of six (step_for (path_of p) (next_event p))) (step_keys six short.control (path_of p) (next_event p))
   duty_tells (duties.Ask (ask_duties.SynHeard s)) is fair = done_tells
   duty_tells (duties.Ask (ask_duties.SynAnswered s)) is fair = done_tells
   duty_tells (duties.Ask (ask_duties.PlainHandshake s)) is fair = fell_told s events.PlainHandshake
@@ -631,6 +649,8 @@ module _ (six : SixBooks) (others : Others) (p : PathState Carried) (ab ba : Lan
   duty_tells (duties.Ask (ask_duties.Return s)) is fair = done_tells
   duty_tells (duties.Ask (ask_duties.AbortSend s)) is fair = done_tells
   duty_tells (duties.Ask (ask_duties.AbortReceive s)) is fair = done_tells
+  duty_tells (duties.Ask (ask_duties.Announce s id)) is fair = done_tells
+  duty_tells (duties.Ask (ask_duties.Withdraw s id)) is fair = done_tells
   duty_tells (duties.Send (send_duties.Resend s)) is fair = on_occasion s (resend_of s p) (resend_occasion (end_at s p)) (left p) (resend_told s) left_fair
   duty_tells (duties.Ask (ask_duties.BreakAck s reason)) is fair = ack_out_told s (resets s reason) (and_from (nat_lt reason 256) true fair refl)
   duty_tells (duties.Send (send_duties.BreakReset s reason)) is fair = reset_told s (Some reason) (leaves s) (ltb-true reason 256 fair) refl

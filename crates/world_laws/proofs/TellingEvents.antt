@@ -20,7 +20,7 @@ use Rattle.actor_desk.specs.Words.{tail_of}
 use Rattle.path_agenda.specs.declared.duty.Duty.{Duty}
 use Rattle.path_agenda.specs.declared.duty.Duty.TheVariants as duties
 use Rattle.path_agenda.specs.declared.duty.AskDuty.TheVariants as ask_duties
-use Rattle.path_agenda.specs.Agenda.{rest_of_turn, emission, leaves, heard_and, payload_came}
+use Rattle.path_agenda.specs.Agenda.{rest_of_turn, emission, leaves, heard_and, payload_came, announces, withdraws}
 use Rattle.path_core.specs.declared.event.Event.{Event}
 use Rattle.path_core.specs.declared.event.Event.TheVariants as happenings
 use Rattle.path_core.specs.Arriving.{items_of, judged_in, after_judged, template_by, template_judged, template_of}
@@ -29,14 +29,16 @@ use Rattle.path_core.specs.declared.judged.Judged.TheVariants as judged
 use Rattle.path_core.specs.Joining.{is_never, keys_begun, opened_by}
 use Rattle.path_core.specs.Joins.{is_joined}
 use Rattle.path_core.specs.Ends.{PathEnd}
-use Rattle.path_core.specs.Events.{is_death, at_tick, died, join_begun, after_line, told_at, heard_in, copy_heard, copy_taken, after_firing, template_fired, timer_fired, happens, happens_if, never_joined}
+use Rattle.path_core.specs.Events.{at_tick, died, join_begun, after_line, told_at, heard_in, copy_heard, copy_taken, after_firing, template_fired, timer_fired, happens, happens_if, never_joined, with_priority}
+use Rattle.path_core.specs.declared.lines.LineAction.{LineAction}
+use Rattle.path_core.specs.declared.lines.LineAction.TheVariants as actions
 use Rattle.path_core.specs.State.{PathState, Profile, end_at, goes_on}
 use Rattle.path_core.specs.Values.{Carried, as_arrived, values}
 use Rattle.world_laws.proofs.Happening.{without_kept, found_due, side_is}
 use Rattle.world_laws.proofs.Records.{every_find}
 use Rattle.world_laws.proofs.Telling.{SegmentTells, bare_tells}
 use Rattle.world_laws.proofs.TellingArrivals.{arrived_tells}
-use Rattle.world_laws.proofs.TellingRules.{AreKeys, opened_tells, died_tells, join_refused_tells, died_unless_tells, fired_tells}
+use Rattle.world_laws.proofs.TellingRules.{AreKeys, opened_tells, died_tells, join_refused_tells, died_unless_tells, fired_tells, priority_tells}
 use Rattle.world_laws.proofs.TellingSteps.{CopyTells, AreFair, PathTells, tells_at, tells_on, tells_agenda}
 
 -- ---- templates
@@ -96,14 +98,18 @@ module _ (p : PathState Carried) (h : PathTells p.profile p) where
 
   -- ---- lines
 
-  line_tells : (death : Bool) (q : PathState Carried) → Tells q → Tells (after_line death q)
-  line_tells true q x = record {
+  line_tells : (action : LineAction) (q : PathState Carried) → Tells q → Tells (after_line action q)
+  line_tells actions.Die q x = record {
     a = died_unless_tells p.profile A q.a x.a;
     b = died_unless_tells p.profile B q.b x.b;
     copies = Every-nil _;
     agenda = died_fair (is_dead q.a.tcp.state) (is_dead q.b.tcp.state);
   }
-  line_tells false q x = tells_agenda p.profile q x rest_of_turn refl
+  line_tells (actions.Prio s backup) q x =
+      tells_on p.profile q x s (with_priority backup (end_at s q)) (emission s)
+      (priority_tells p.profile s (end_at s q) (tells_at p.profile q x s) backup) refl
+  line_tells (actions.Announce s id) q x = tells_agenda p.profile q x (announces s id) refl
+  line_tells (actions.Withdraw s id) q x = tells_agenda p.profile q x (withdraws s id) refl
 
   -- ---- copies
 
@@ -168,7 +174,7 @@ module _ (p : PathState Carried) (h : PathTells p.profile p) where
   event_tells : (event : Event) (r : Reply) → IfSome (keys_begun r) AreKeys → Tells (happens values event r p)
   event_tells (happenings.Joins tick) r keys =
       join_tells r (leaves A) (emission A) (record (at_tick tick p) { joined_at = None }) keys refl refl (record { a = h.a; b = h.b; copies = h.copies; agenda = h.agenda })
-  event_tells (happenings.Takes line) r keys = line_tells (is_death line.line) (record (at_tick line.tick p) { lines = tail_of p.lines }) (record { a = h.a; b = h.b; copies = h.copies; agenda = h.agenda })
+  event_tells (happenings.Takes line) r keys = line_tells line.action (record (at_tick line.tick p) { lines = tail_of p.lines }) (record { a = h.a; b = h.b; copies = h.copies; agenda = h.agenda })
   event_tells (happenings.Arrives due) r keys = copy_tells due
   event_tells (happenings.Fires s tick) r keys = fire_tells s (at_tick tick p) (record { a = h.a; b = h.b; copies = h.copies; agenda = h.agenda })
 

@@ -1,5 +1,5 @@
 -- What each rule of an end leaves of the numbers that it tells.
-use Rattle.std.proofs.Common.{◌≡◌, refl, sym, subst, ℕ, ◌+◌, ◌^◌, ◌≤◌, ◌==◌, ◌&&◌, nat_lt, nat_le, Bool, true, false, if◌then◌else◌, Option, Some, None, Ok, Err, List, [], ◌∷◌, length, arith}
+use Rattle.std.proofs.Common.{◌≡◌, refl, sym, subst, ℕ, ◌+◌, ◌^◌, ◌<◌, ◌≤◌, ◌==◌, ◌&&◌, nat_lt, nat_le, Bool, true, false, if◌then◌else◌, Option, Some, None, Ok, Err, List, [], ◌∷◌, ◌++◌, length, arith}
 use Rattle.std.proofs.lemmas.Bool.{and_parts, leb-true}
 use Rattle.std.specs.Option.{IfSome, option_or}
 use Rattle.std.specs.Result.{result_ok}
@@ -51,8 +51,8 @@ use Rattle.path_agenda.specs.declared.keys.KeyPair.{KeyPair}
 use Rattle.path_core.specs.declared.modes.Modes.{Modes}
 use Rattle.path_core.specs.StreamEnds.{with_data_fin_sent}
 use Rattle.path_core.specs.Emission.{granted, refused, after_timer}
-use Rattle.path_core.specs.Ends.{PathEnd, Treated, nothing_treated}
-use Rattle.path_core.specs.Events.{died, died_unless_dead, after_firing}
+use Rattle.path_core.specs.Ends.{PathEnd, Treated, Notices, nothing_treated}
+use Rattle.path_core.specs.Events.{died, died_unless_dead, after_firing, with_priority}
 use Rattle.path_agenda.specs.Items.{key_in, key_heard, pair_in, keys_heard, is_of_step, join_in, join_heard}
 use Rattle.path_core.specs.Joining.{with_keys, opened_by, with_mode_refused}
 use Rattle.path_core.specs.Joins.{peer_key_of, join_value, join_asked, join_answer}
@@ -66,12 +66,19 @@ use Rattle.path_core.specs.Standing.{modes_told, after_look, after_ack_out, may_
 use Rattle.path_core.specs.State.{Profile}
 use Rattle.path_core.specs.Treating.{with_acked, with_plain_acked, with_plain_ack, with_data_fin, after_dss, is_dropped, after_keep}
 use Rattle.path_core.specs.Words.{told_last}
-use Rattle.path_core.specs.Noticing.{after_notice}
+use Rattle.path_core.specs.Noticing.{without_first, after_notice}
+use Rattle.path_core.specs.Addressing.{with_noted, is_kept, with_echo, after_peer_notice}
+use Rattle.path_agenda.specs.declared.notice.OwnNotice.{OwnNotice}
+use Rattle.path_agenda.specs.declared.notice.OwnNotice.TheVariants as notes
+use Rattle.path_agenda.specs.declared.notice.PeerNotice.{PeerNotice}
+use Rattle.path_agenda.specs.declared.notice.PeerNotice.TheVariants as peer_notes
+use Rattle.key_material.specs.declared.address.Address.{Address}
+use Rattle.actor_desk.specs.Words.{tail_of}
 use Rattle.path_core.specs.FastClosing.{with_fast_closed}
 use Rattle.path_segments.specs.Spelled.{PlainSegment}
 use Rattle.world_laws.proofs.Doing.{place_is}
 use Rattle.world_laws.proofs.Records.{unsent_sent_kept, first_sent_kept, fin_sent_kept, expired_kept, uncovered_kept, every_first, every_rest}
-use Rattle.world_laws.proofs.Telling.{IsShort, RecordKindTells, RecordTells, IsKey, IsNonce, ItemTells, SenderTells, ModesTell, TreatedTells, EndTells, sum_small}
+use Rattle.world_laws.proofs.Telling.{IsShort, RecordKindTells, RecordTells, IsKey, IsNonce, ItemTells, AddressTells, NoteTells, PeerTells, SenderTells, ModesTell, TreatedTells, NoticesTell, EndTells, sum_small}
 
 -- ---- records
 
@@ -210,51 +217,90 @@ AreKeys keys = IsKey keys.own × IsKey keys.peer
 
 -- ---- an end
 
--- the key that the side tells to an end that carries the fast close
+-- the key that the side tells to an end that carries the fast close, and the id that it tells to announce or to take back
 abbrev pub NoticeTells : Reply → Type 0
 NoticeTells (replies.Control (control_replies.Standing mode standby sole (told_notice.Carrier key))) = IsKey key
+NoticeTells (replies.Control (control_replies.Standing mode standby sole (told_notice.Announce id))) = id < 256
+NoticeTells (replies.Control (control_replies.Standing mode standby sole (told_notice.Withdraw id))) = id < 256
 NoticeTells _ = Unit {0}
 
 module _ (c : Profile) (s : Side) (e : PathEnd) (h : EndTells c s e) where
   with_modes : (m : Modes) → ModesTell m → EndTells c s (record e { modes = m })
-  with_modes m modes = record { sender = h.sender; edge = h.edge; stream = h.stream; window = h.window; modes = modes; treated = h.treated; carrier = h.carrier }
+  with_modes m modes = record { sender = h.sender; edge = h.edge; stream = h.stream; window = h.window; modes = modes; treated = h.treated; notices = h.notices }
 
   -- a join is refused, which tells the mode
   pub join_refused_tells : (r : Reply) → EndTells c s (with_mode_refused r e)
   join_refused_tells r = with_modes (with_mode_refused r e).modes (record { own_key = h.modes.own_key; peer_key = h.modes.peer_key; own_nonce = h.modes.own_nonce; peer_nonce = h.modes.peer_nonce })
 
-  carrier_noted : (notice : Notice) (may : Bool) → (mode : Mode) (standby sole : Bool) → NoticeTells (replies.Control (control_replies.Standing mode standby sole notice))
-      → IfSome (after_notice notice may e.notices).carrier IsKey
-  carrier_noted told_notice.Nothing may mode standby sole key = h.carrier
-  carrier_noted (told_notice.Announce id) true mode standby sole key = h.carrier
-  carrier_noted (told_notice.Announce id) false mode standby sole key = h.carrier
-  carrier_noted (told_notice.Withdraw id) may mode standby sole key = h.carrier
-  carrier_noted told_notice.Reset may mode standby sole key = h.carrier
-  carrier_noted (told_notice.Carrier other) may mode standby sole key = by e.notices.fast_closed
+  notice_noted : (notice : Notice) (may : Bool) → (mode : Mode) (standby sole : Bool) → NoticeTells (replies.Control (control_replies.Standing mode standby sole notice))
+      → NoticesTell (after_notice notice may e.notices)
+  notice_noted told_notice.Nothing may mode standby sole told = h.notices
+  notice_noted (told_notice.Announce id) true mode standby sole told =
+      record { carrier = h.notices.carrier; queue = Every-push (notes.AddAddr id) h.notices.queue told }
+  notice_noted (told_notice.Announce id) false mode standby sole told = h.notices
+  notice_noted (told_notice.Withdraw id) may mode standby sole told =
+      record { carrier = h.notices.carrier; queue = Every-push (notes.Removes id) h.notices.queue told }
+  notice_noted told_notice.Reset may mode standby sole told = record { carrier = h.notices.carrier; queue = h.notices.queue }
+  notice_noted (told_notice.Carrier other) may mode standby sole told = record { carrier = by e.notices.fast_closed; queue = h.notices.queue }
     where
       by : (closed : Bool) → IfSome (if closed then e.notices.carrier else Some other) IsKey
-      by true = h.carrier
-      by false = key
+      by true = h.notices.carrier
+      by false = told
 
-  carrier_told : (r : Reply) → NoticeTells r → IfSome (notices_told r e).carrier IsKey
-  carrier_told (replies.Control (control_replies.Standing mode standby sole notice)) key = by (states.is_dead e.tcp.state)
+  notices_noted : (r : Reply) → NoticeTells r → NoticesTell (notices_told r e)
+  notices_noted (replies.Control (control_replies.Standing mode standby sole notice)) told = by (states.is_dead e.tcp.state)
     where
-      by : (dead : Bool) → IfSome (if dead then e.notices else after_notice notice (may_note e) e.notices).carrier IsKey
-      by true = h.carrier
-      by false = carrier_noted notice (may_note e) mode standby sole key
-  carrier_told (replies.Control control_replies.Noted) key = h.carrier
-  carrier_told (replies.Control _) key = h.carrier
-  carrier_told (replies.Send reply) key = h.carrier
-  carrier_told (replies.Reassembly reply) key = h.carrier
-  carrier_told replies.Done key = h.carrier
+      by : (dead : Bool) → NoticesTell (if dead then e.notices else after_notice notice (may_note e) e.notices)
+      by true = h.notices
+      by false = notice_noted notice (may_note e) mode standby sole told
+  notices_noted (replies.Control control_replies.Noted) told = h.notices
+  notices_noted (replies.Control _) told = h.notices
+  notices_noted (replies.Send reply) told = h.notices
+  notices_noted (replies.Reassembly reply) told = h.notices
+  notices_noted replies.Done told = h.notices
+
+  with_notices : (n : Notices) → NoticesTell n → EndTells c s (record e { notices = n })
+  with_notices n told = record { sender = h.sender; edge = h.edge; stream = h.stream; window = h.window; modes = h.modes; treated = h.treated; notices = told }
+
+  -- a notice goes out, is echoed, or waits
+  pub noted_out_tells : EndTells c s (with_noted e)
+  noted_out_tells = with_notices (without_first e.notices) (record { carrier = h.notices.carrier; queue = rest e.notices.queue h.notices.queue })
+    where
+      rest : (queue : List OwnNotice) → Every NoteTells queue → Every NoteTells (tail_of queue)
+      rest [] each = each
+      rest (notice ∷ queue) each = every_rest notice queue each
+
+  with_queue : (queue : List OwnNotice) → Every NoteTells queue → EndTells c s (record e { notices = record e.notices { queue = queue } })
+  with_queue queue told = with_notices (record e.notices { queue = queue }) (record { carrier = h.notices.carrier; queue = told })
+
+  pub peer_notice_tells : (notice : PeerNotice) (r : Reply) → PeerTells notice → EndTells c s (after_peer_notice notice r e)
+  peer_notice_tells notice r said = with_queue (with_echo notice r e.notices.queue) (by notice said)
+    where
+      kept : (b : Bool) (id : ℕ) (address : Address) (port : Option ℕ) → AddressTells id address port
+          → Every NoteTells (if b then e.notices.queue ++ notes.AddEcho id address port ∷ [] else e.notices.queue)
+      kept true id address port said = Every-push (notes.AddEcho id address port) h.notices.queue said
+      kept false id address port said = h.notices.queue
+
+      by : (notice : PeerNotice) → PeerTells notice → Every NoteTells (with_echo notice r e.notices.queue)
+      by (peer_notes.AddAddr id address port hmac) said = kept (is_kept r) id address port said
+      by (peer_notes.AddEcho id) said = h.notices.queue
+      by (peer_notes.Removed id) said = h.notices.queue
+      by (peer_notes.Prio backup) said = h.notices.queue
+
+  pub priority_tells : (backup : Bool) → EndTells c s (with_priority backup e)
+  priority_tells backup = with_queue (with_priority backup e).notices.queue (by (states.is_dead e.tcp.state))
+    where
+      by : (dead : Bool) → Every NoteTells (if dead then e.notices.queue else e.notices.queue ++ notes.Prio backup ∷ [])
+      by true = h.notices.queue
+      by false = Every-push (notes.Prio backup) h.notices.queue tt
 
   pub look_tells : (r : Reply) → NoticeTells r → EndTells c s (after_look r e)
   look_tells r key =
       let told = with_modes (modes_told r e.modes) (told_modes r e.modes h.modes) in
-      record { sender = told.sender; edge = told.edge; stream = told.stream; window = told.window; modes = told.modes; treated = told.treated; carrier = carrier_told r key }
+      record { sender = told.sender; edge = told.edge; stream = told.stream; window = told.window; modes = told.modes; treated = told.treated; notices = notices_noted r key }
 
   pub fast_closed_tells : EndTells c s (with_fast_closed e)
-  fast_closed_tells = record { sender = h.sender; edge = h.edge; stream = h.stream; window = h.window; modes = h.modes; treated = h.treated; carrier = h.carrier }
+  fast_closed_tells = record { sender = h.sender; edge = h.edge; stream = h.stream; window = h.window; modes = h.modes; treated = h.treated; notices = record { carrier = h.notices.carrier; queue = h.notices.queue } }
 
   pub fell_tells : (event : Event) (r : Reply) → EndTells c s (after_fell event r e)
   fell_tells event r = with_modes (fell_in event r e.modes) (fell_modes event r e.modes h.modes)
@@ -274,7 +320,7 @@ module _ (c : Profile) (s : Side) (e : PathEnd) (h : EndTells c s e) where
   opened_tells (Some pair) keys = by (states.is_waiting e.tcp.state)
     where
       by : (b : Bool) → EndTells c s (record e { tcp = (if b then after_begin e.tcp else e.tcp); modes = with_keys pair e.modes })
-      by true = record { sender = h.sender; edge = h.edge; stream = h.stream; window = h.window; modes = keys_modes pair e.modes keys h.modes; treated = h.treated; carrier = h.carrier }
+      by true = record { sender = h.sender; edge = h.edge; stream = h.stream; window = h.window; modes = keys_modes pair e.modes keys h.modes; treated = h.treated; notices = h.notices }
       by false = with_modes (with_keys pair e.modes) (keys_modes pair e.modes keys h.modes)
 
   pub dss_tells : EndTells c s (after_dss s e)
@@ -285,7 +331,7 @@ module _ (c : Profile) (s : Side) (e : PathEnd) (h : EndTells c s e) where
     window = h.window;
     modes = record { own_key = h.modes.own_key; peer_key = h.modes.peer_key; own_nonce = h.modes.own_nonce; peer_nonce = h.modes.peer_nonce };
     treated = h.treated;
-    carrier = h.carrier;
+    notices = h.notices;
   }
 
   pub keys_tell : (r : Reply) (o : Option KeyPair) → IfSome o (λ k. IsKey k.peer) → EndTells c s (after_keys r o e)
@@ -296,7 +342,7 @@ module _ (c : Profile) (s : Side) (e : PathEnd) (h : EndTells c s e) where
     window = h.window;
     modes = keyed_modes r o e.modes key h.modes;
     treated = record { items = h.treated.items; answer = h.treated.answer; acknowledged = h.treated.acknowledged };
-    carrier = h.carrier;
+    notices = h.notices;
   }
 
   -- ---- what is to be acknowledged
@@ -309,7 +355,7 @@ module _ (c : Profile) (s : Side) (e : PathEnd) (h : EndTells c s e) where
     window = record { next = short; window = most };
     modes = h.modes;
     treated = record { items = h.treated.items; answer = h.treated.answer; acknowledged = h.treated.acknowledged };
-    carrier = h.carrier;
+    notices = h.notices;
   }
 
   -- ---- what was heard
@@ -322,7 +368,7 @@ module _ (c : Profile) (s : Side) (e : PathEnd) (h : EndTells c s e) where
     window = h.window;
     modes = record { own_key = h.modes.own_key; peer_key = h.modes.peer_key; own_nonce = h.modes.own_nonce; peer_nonce = h.modes.peer_nonce };
     treated = record { items = h.treated.items; answer = h.treated.answer; acknowledged = h.treated.acknowledged };
-    carrier = h.carrier;
+    notices = h.notices;
   }
   stream_acked next _ short = record {
     sender = h.sender;
@@ -331,7 +377,7 @@ module _ (c : Profile) (s : Side) (e : PathEnd) (h : EndTells c s e) where
     window = h.window;
     modes = record { own_key = h.modes.own_key; peer_key = h.modes.peer_key; own_nonce = h.modes.own_nonce; peer_nonce = h.modes.peer_nonce };
     treated = record { items = h.treated.items; answer = h.treated.answer; acknowledged = h.treated.acknowledged };
-    carrier = h.carrier;
+    notices = h.notices;
   }
 
   -- after a fallback an acknowledgement of the subflow says as much
@@ -343,39 +389,39 @@ module _ (c : Profile) (s : Side) (e : PathEnd) (h : EndTells c s e) where
     window = h.window;
     modes = h.modes;
     treated = h.treated;
-    carrier = h.carrier;
+    notices = h.notices;
   }
   plain_acked _ = h
 
   pub fin_tells : (place : ℕ) → EndTells c s (with_data_fin place e)
-  fin_tells place = record { sender = h.sender; edge = h.edge; stream = h.stream; window = h.window; modes = h.modes; treated = record { items = h.treated.items; answer = h.treated.answer; acknowledged = h.treated.acknowledged }; carrier = h.carrier }
+  fin_tells place = record { sender = h.sender; edge = h.edge; stream = h.stream; window = h.window; modes = h.modes; treated = record { items = h.treated.items; answer = h.treated.answer; acknowledged = h.treated.acknowledged }; notices = h.notices }
 
   pub learned_tells : EndTells c s (with_learned e)
-  learned_tells = record { sender = h.sender; edge = h.edge; stream = h.stream; window = record { next = h.window.next; window = h.window.window }; modes = h.modes; treated = h.treated; carrier = h.carrier }
+  learned_tells = record { sender = h.sender; edge = h.edge; stream = h.stream; window = record { next = h.window.next; window = h.window.window }; modes = h.modes; treated = h.treated; notices = h.notices }
 
   pub skipped_tells : EndTells c s (with_skipped e)
-  skipped_tells = record { sender = h.sender; edge = h.edge; stream = h.stream; window = record { next = h.window.next; window = h.window.window }; modes = h.modes; treated = h.treated; carrier = h.carrier }
+  skipped_tells = record { sender = h.sender; edge = h.edge; stream = h.stream; window = record { next = h.window.next; window = h.window.window }; modes = h.modes; treated = h.treated; notices = h.notices }
 
   pub asked_tells : EndTells c s (having_asked e)
-  asked_tells = record { sender = h.sender; edge = h.edge; stream = h.stream; window = h.window; modes = h.modes; treated = record { items = h.treated.items; answer = h.treated.answer; acknowledged = h.treated.acknowledged }; carrier = h.carrier }
+  asked_tells = record { sender = h.sender; edge = h.edge; stream = h.stream; window = h.window; modes = h.modes; treated = record { items = h.treated.items; answer = h.treated.answer; acknowledged = h.treated.acknowledged }; notices = h.notices }
 
   pub peer_end_tells : EndTells c s (with_peer_data_fin e)
-  peer_end_tells = record { sender = h.sender; edge = h.edge; stream = record { heard = h.stream.heard; known_end = h.stream.known_end }; window = h.window; modes = h.modes; treated = h.treated; carrier = h.carrier }
+  peer_end_tells = record { sender = h.sender; edge = h.edge; stream = record { heard = h.stream.heard; known_end = h.stream.known_end }; window = h.window; modes = h.modes; treated = h.treated; notices = h.notices }
 
   pub fin_told_tells : EndTells c s (with_fin_told e)
-  fin_told_tells = record { sender = h.sender; edge = h.edge; stream = h.stream; window = record { next = h.window.next; window = h.window.window }; modes = h.modes; treated = h.treated; carrier = h.carrier }
+  fin_told_tells = record { sender = h.sender; edge = h.edge; stream = h.stream; window = record { next = h.window.next; window = h.window.window }; modes = h.modes; treated = h.treated; notices = h.notices }
 
   pub unmapped_tells : EndTells c s (after_pieces e)
-  unmapped_tells = record { sender = h.sender; edge = h.edge; stream = h.stream; window = record { next = h.window.next; window = h.window.window }; modes = h.modes; treated = record { items = h.treated.items; answer = h.treated.answer; acknowledged = h.treated.acknowledged }; carrier = h.carrier }
+  unmapped_tells = record { sender = h.sender; edge = h.edge; stream = h.stream; window = record { next = h.window.next; window = h.window.window }; modes = h.modes; treated = record { items = h.treated.items; answer = h.treated.answer; acknowledged = h.treated.acknowledged }; notices = h.notices }
 
   pub piece_tells : (piece : Piece) → IsShort (e.tcp.recv.edge + length piece.octets) → EndTells c s (after_piece piece e)
-  piece_tells piece short = record { sender = h.sender; edge = short; stream = h.stream; window = record { next = h.window.next; window = h.window.window }; modes = h.modes; treated = h.treated; carrier = h.carrier }
+  piece_tells piece short = record { sender = h.sender; edge = short; stream = h.stream; window = record { next = h.window.next; window = h.window.window }; modes = h.modes; treated = h.treated; notices = h.notices }
 
   pub rate_tells : (path mss : ℕ) (r : Reply) → EndTells c s (after_rate path mss r e)
-  rate_tells path mss r = record { sender = h.sender; edge = h.edge; stream = h.stream; window = h.window; modes = h.modes; treated = h.treated; carrier = h.carrier }
+  rate_tells path mss r = record { sender = h.sender; edge = h.edge; stream = h.stream; window = h.window; modes = h.modes; treated = h.treated; notices = h.notices }
 
   pub timer_tells : (now : ℕ) → EndTells c s (after_timer now e)
-  timer_tells now = record { sender = h.sender; edge = h.edge; stream = record { heard = h.stream.heard; known_end = h.stream.known_end }; window = h.window; modes = h.modes; treated = h.treated; carrier = h.carrier }
+  timer_tells now = record { sender = h.sender; edge = h.edge; stream = record { heard = h.stream.heard; known_end = h.stream.known_end }; window = h.window; modes = h.modes; treated = h.treated; notices = h.notices }
 
   -- ---- grants
 
@@ -403,7 +449,7 @@ module _ (c : Profile) (s : Side) (e : PathEnd) (h : EndTells c s e) where
         window = h.window;
         modes = h.modes;
         treated = h.treated;
-        carrier = h.carrier;
+        notices = h.notices;
       }
 
   pub refused_tells : (why : Why) (known : Option ℕ) → IfSome known IsShort → EndTells c s (refused (replies.Send (send_replies.NoGrant why known)) e)
@@ -414,7 +460,7 @@ module _ (c : Profile) (s : Side) (e : PathEnd) (h : EndTells c s e) where
     window = h.window;
     modes = h.modes;
     treated = h.treated;
-    carrier = h.carrier;
+    notices = h.notices;
   }
     where
       by : (known : Option ℕ) → IfSome known IsShort → IfSome (told_last known e.sending.known_end) IsShort
@@ -431,7 +477,7 @@ module _ (c : Profile) (s : Side) (e : PathEnd) (h : EndTells c s e) where
     window = record { next = h.window.next; window = h.window.window };
     modes = record { own_key = h.modes.own_key; peer_key = h.modes.peer_key; own_nonce = h.modes.own_nonce; peer_nonce = h.modes.peer_nonce };
     treated = h.treated;
-    carrier = h.carrier;
+    notices = h.notices;
   }
 
   pub sent_end_tells : (occasion : Occasion) (now : ℕ) (sg : PlainSegment) → EndTells c s (having_sent occasion now sg e)
@@ -449,10 +495,10 @@ module _ (c : Profile) (s : Side) (e : PathEnd) (h : EndTells c s e) where
 
   -- the record of the FIN, which is sent at once
   pub fin_record_tells : (now : ℕ) → EndTells c s (record e { tcp = after_sending to_send.Fin now e.tcp })
-  fin_record_tells now = record { sender = fin_sent_tells c s e.tcp.send h.sender now; edge = h.edge; stream = h.stream; window = h.window; modes = h.modes; treated = h.treated; carrier = h.carrier }
+  fin_record_tells now = record { sender = fin_sent_tells c s e.tcp.send h.sender now; edge = h.edge; stream = h.stream; window = h.window; modes = h.modes; treated = h.treated; notices = h.notices }
 
   pub end_sent_tells : EndTells c s (record e { sending = with_data_fin_sent e.sending })
-  end_sent_tells = record { sender = h.sender; edge = h.edge; stream = record { heard = h.stream.heard; known_end = h.stream.known_end }; window = h.window; modes = h.modes; treated = h.treated; carrier = h.carrier }
+  end_sent_tells = record { sender = h.sender; edge = h.edge; stream = record { heard = h.stream.heard; known_end = h.stream.known_end }; window = h.window; modes = h.modes; treated = h.treated; notices = h.notices }
 
   pub finished_tells : IsShort (e.tcp.send.nxt + 1) → EndTells c s (record e { tcp = after_finishing e.tcp })
   finished_tells short =
@@ -468,18 +514,18 @@ module _ (c : Profile) (s : Side) (e : PathEnd) (h : EndTells c s e) where
         window = h.window;
         modes = h.modes;
         treated = h.treated;
-        carrier = h.carrier;
+        notices = h.notices;
       }
 
   -- ---- death and the timer
 
   dead_tells : (reset : Bool) (t : Treated) → TreatedTells t → EndTells c s (record e { tcp = taking.after_death reset e.tcp; treated = t })
-  dead_tells reset t treated = record { sender = acknowledged_tells c s e.tcp.send h.sender e.tcp.send.nxt; edge = h.edge; stream = h.stream; window = h.window; modes = h.modes; treated = treated; carrier = h.carrier }
+  dead_tells reset t treated = record { sender = acknowledged_tells c s e.tcp.send h.sender e.tcp.send.nxt; edge = h.edge; stream = h.stream; window = h.window; modes = h.modes; treated = treated; notices = h.notices }
 
   pub died_tells : EndTells c s (died e)
   died_tells =
       let told = dead_tells false nothing_treated (record { items = Every-nil _; answer = tt; acknowledged = omega arith }) in
-      record { sender = told.sender; edge = told.edge; stream = told.stream; window = told.window; modes = told.modes; treated = told.treated; carrier = tt }
+      record { sender = told.sender; edge = told.edge; stream = told.stream; window = told.window; modes = told.modes; treated = told.treated; notices = record { carrier = tt; queue = Every-nil _ } }
 
   pub died_unless_tells : EndTells c s (died_unless_dead e)
   died_unless_tells = by (states.is_dead e.tcp.state)
@@ -493,7 +539,7 @@ module _ (c : Profile) (s : Side) (e : PathEnd) (h : EndTells c s e) where
     where
       by : (b : Bool) → EndTells c s (record e { tcp = if b then taking.after_death true e.tcp else expiring.after_expiry now e.tcp })
       by true = dead_tells true e.treated h.treated
-      by false = record { sender = expired_tells c s e.tcp.send h.sender; edge = h.edge; stream = h.stream; window = h.window; modes = h.modes; treated = h.treated; carrier = h.carrier }
+      by false = record { sender = expired_tells c s e.tcp.send h.sender; edge = h.edge; stream = h.stream; window = h.window; modes = h.modes; treated = h.treated; notices = h.notices }
 
   -- ---- what is kept
 
@@ -505,7 +551,7 @@ module _ (c : Profile) (s : Side) (e : PathEnd) (h : EndTells c s e) where
     window = h.window;
     modes = h.modes;
     treated = h.treated;
-    carrier = h.carrier;
+    notices = h.notices;
   }
 
   pub check_tells : (checksums : Bool) (o : Option KeptMapping) → EndTells c s (forgotten_by checksums o e)
@@ -541,7 +587,7 @@ module _ (c : Profile) (s : Side) (e : PathEnd) (h : EndTells c s e) where
             window = h.window;
             modes = h.modes;
             treated = record { items = h.treated.items; answer = h.treated.answer; acknowledged = h.treated.acknowledged };
-            carrier = h.carrier;
+            notices = h.notices;
           }
 
   pub pass_fin_tells : (is_fin_next e.tcp ≡ true → IsShort (e.tcp.recv.edge + 1)) → EndTells c s (after_pass_fin e)
@@ -549,4 +595,4 @@ module _ (c : Profile) (s : Side) (e : PathEnd) (h : EndTells c s e) where
     where
       by : (b : Bool) → is_fin_next e.tcp ≡ b → EndTells c s (record e { tcp = if b then after_passing_fin e.tcp else e.tcp })
       by false is = h
-      by true is = record { sender = h.sender; edge = short is; stream = h.stream; window = h.window; modes = h.modes; treated = h.treated; carrier = h.carrier }
+      by true is = record { sender = h.sender; edge = short is; stream = h.stream; window = h.window; modes = h.modes; treated = h.treated; notices = h.notices }

@@ -97,6 +97,7 @@ module _ (six : SixBooks) (others : Others) (c : Profile) (short : BooksAreShort
   passed_tells p ab ba h holds t (duties.Ask (ask_duties.Window s)) = t
   passed_tells p ab ba h holds t (duties.Send (send_duties.Update s)) = t
   passed_tells p ab ba h holds t (duties.Send (send_duties.FastClose s)) = t
+  passed_tells p ab ba h holds t (duties.Send (send_duties.Notice s)) = t
   passed_tells p ab ba h holds t (duties.Send (send_duties.Syn s)) = t
   passed_tells p ab ba h holds t (duties.Step (step_duties.Data s)) = t
   passed_tells p ab ba h holds t (duties.Send (send_duties.DataFin s)) = t
@@ -126,6 +127,8 @@ module _ (six : SixBooks) (others : Others) (c : Profile) (short : BooksAreShort
   passed_tells p ab ba h holds t (duties.Ask (ask_duties.Return s)) = t
   passed_tells p ab ba h holds t (duties.Ask (ask_duties.AbortSend s)) = t
   passed_tells p ab ba h holds t (duties.Ask (ask_duties.AbortReceive s)) = t
+  passed_tells p ab ba h holds t (duties.Ask (ask_duties.Announce s id)) = t
+  passed_tells p ab ba h holds t (duties.Ask (ask_duties.Withdraw s id)) = t
   passed_tells p ab ba h holds t (duties.Send (send_duties.Resend s)) = t
   passed_tells p ab ba h holds t (duties.Ask (ask_duties.BreakAck s reason)) = t
   passed_tells p ab ba h holds t (duties.Send (send_duties.BreakReset s reason)) = t

@@ -29,6 +29,8 @@ use Rattle.path_core.specs.Shown.{AltersNothing}
 use Rattle.path_core.specs.State.{PathState, Profile, end_at, goes_on, with_agenda}
 use Rattle.path_core.specs.Values.{Carried, carried_by, stripped, altered, values}
 use Rattle.path_agenda.specs.Words.{replaced}
+use Rattle.control_book.specs.Control.{Control}
+use Rattle.world_laws.proofs.IdsFit.{IdsFit}
 use Rattle.world_laws.proofs.Lanes.{flags_of, Others, duo_at}
 use Rattle.world_laws.proofs.Roads.{put_there}
 use Rattle.world_laws.proofs.Saying.{flights_kept}
@@ -72,11 +74,16 @@ pub record KeysAreShort (keys : Keys) : Type 0 where
   pub own : IsKey keys.own
   pub peer : IfSome keys.peer IsKey
 
+-- a control book has such keys, and tells ids below 256
+pub record ControlIsShort (c : Control) : Type 0 where
+  pub keys : KeysAreShort c.keys
+  pub ids : IdsFit c
+
 -- what is written is short, a reader takes no more than 2^20 octets, and keys have 64 bits
 pub record BooksAreShort (six : SixBooks) : Type 0 where
   pub written : (s : Side) → length (send_of s six).written + 3 ≤ 2 ^ 31
   pub room : (s : Side) → (reassembly_of s six).capacity ≤ 2 ^ 20
-  pub keys : (s : Side) → KeysAreShort (control_of s six).keys
+  pub control : (s : Side) → ControlIsShort (control_of s six)
 
 -- the lane that a side sends on has no more octets than were written
 pub sent_short : (six : SixBooks) (others : Others) (ab ba : Lane) → Holds (duo_at six ab ba others) → (s : Side) → LaneIsShort (length (send_of s six).written) (pick s ab ba)

@@ -62,7 +62,8 @@ use Rattle.world_laws.proofs.Telling.{IsKey, IsNonce, EndTells, expected_from, e
 use Rattle.world_laws.proofs.TellingDuties.{after_holds, duty_tells}
 use Rattle.world_laws.proofs.TellingEvents.{due_tells}
 use Rattle.world_laws.proofs.TellingSettling.{settled_tells}
-use Rattle.world_laws.proofs.TellingSteps.{CopyTells, is_fair, AreFair, PathTells, KeysAreShort, BooksAreShort, tells_at}
+use Rattle.world_laws.proofs.TellingSteps.{CopyTells, is_fair, AreFair, PathTells, ControlIsShort, BooksAreShort, tells_at}
+use Rattle.world_laws.proofs.IdsFit.{opening_fits}
 use Rattle.world_laws.proofs.TellingAsks.{AskTells, BooksKeepShort, kept_at, ask_short, asks_tell}
 use Rattle.world_laws.proofs.CastLifting.{each_actor, path_actor}
 use Rattle.world_laws.proofs.Casts.{Walker, Cast, Fare, world_of, walking, seated, walked, map_there, after_a, after_b, after_path, path_asked, path_stepped, path_step_is, fare_after_path, walks_on, next_cast, next_is}
@@ -121,7 +122,7 @@ opening_tells c s state opens path own key nonce is drawn = record {
   window = record { next = omega arith; window = omega arith };
   modes = record { own_key = is; peer_key = tt; own_nonce = drawn; peer_nonce = omega arith };
   treated = record { items = Every-nil _; answer = tt; acknowledged = omega arith };
-  carrier = tt;
+  notices = record { carrier = tt; queue = Every-nil _ };
 }
 
 -- ---- freshness of a path
@@ -180,7 +181,7 @@ app_tells app_duties.End a = tt
 
 module _ (start : Start) (plain : IsPlain start) (fit : NumbersFit start) where
   books_short : (t : Cast Carried) → Fare start t → RoomsAre start.buffer (books_in t.books) → BooksKeepShort (books_in t.books) → BooksAreShort (books_in t.books)
-  books_short t fare rooms keys = record { written = written; room = room; keys = kept_at (books_in t.books) keys }
+  books_short t fare rooms keys = record { written = written; room = room; control = kept_at (books_in t.books) keys }
     where
       written : (s : Side) → length (send_of s (books_in t.books)).written + 3 ≤ 2 ^ 31
       written A = file_short start.file_a t.a.rest (books_in t.books).send_a fit.short_a fare.a.writes
@@ -383,7 +384,7 @@ module _ (start : Start) (plain : IsPlain start) (fit : NumbersFit start) where
   }
 
   opened_short : BooksAreShort (six start plain)
-  opened_short = record { written = written; room = room; keys = keys }
+  opened_short = record { written = written; room = room; control = control }
     where
       written : (s : Side) → length (send_of s (six start plain)).written + 3 ≤ 2 ^ 31
       written A = omega arith
@@ -393,9 +394,9 @@ module _ (start : Start) (plain : IsPlain start) (fit : NumbersFit start) where
       room A = fit.buffer
       room B = fit.buffer
 
-      keys : (s : Side) → KeysAreShort (control_of s (six start plain)).keys
-      keys A = record { own = fit.key_a; peer = tt }
-      keys B = record { own = fit.key_b; peer = tt }
+      control : (s : Side) → ControlIsShort (control_of s (six start plain))
+      control A = record { keys = record { own = fit.key_a; peer = tt }; ids = opening_fits A start.key_a }
+      control B = record { keys = record { own = fit.key_b; peer = tt }; ids = opening_fits B start.key_b }
 
   -- a path settles its first turn, alone on its lanes
   first_tells : (number : ℕ) (plan : PathPlan) → slice_get start.paths number ≡ Some plan → PathTells (path_begins start number plan).profile (first_turn (path_begins start number plan) start.lines)
@@ -408,7 +409,10 @@ module _ (start : Start) (plain : IsPlain start) (fit : NumbersFit start) where
     members = opened_actors (λ actor c. ActorTells start actor c.member) start tt tt
         (λ number plan there other at. subst (λ y. PathTells (path_begins start number y).profile (first_turn (path_begins start number plan) start.lines)) (same_Some plan other (sym there ∙ at)) (first_tells number plan there));
     rooms = record { a = refl; b = refl };
-    keys = record { a = record { own = fit.key_a; peer = tt }; b = record { own = fit.key_b; peer = tt } };
+    keys = record {
+      a = record { keys = record { own = fit.key_a; peer = tt }; ids = opening_fits A start.key_a };
+      b = record { keys = record { own = fit.key_b; peer = tt }; ids = opening_fits B start.key_b };
+    };
   }
 
 pub every_list_is_fresh : EveryListIsFresh

@@ -99,6 +99,7 @@ module _ {C : Type 0} (k : Codec C) where
   grants_clear p (duties.Ask (ask_duties.Window s)) is joins unclear plain = asks_nothing p (duties.Ask (ask_duties.Window s)) tt
   grants_clear p (duties.Send (send_duties.Update s)) is joins unclear plain = asks_nothing p (duties.Send (send_duties.Update s)) tt
   grants_clear p (duties.Send (send_duties.FastClose s)) is joins unclear plain = asks_nothing p (duties.Send (send_duties.FastClose s)) tt
+  grants_clear p (duties.Send (send_duties.Notice s)) is joins unclear plain = asks_nothing p (duties.Send (send_duties.Notice s)) tt
   grants_clear p (duties.Send (send_duties.Syn s)) is joins unclear plain = asks_nothing p (duties.Send (send_duties.Syn s)) tt
   grants_clear p (duties.Send (send_duties.DataFin s)) is joins unclear plain = asks_nothing p (duties.Send (send_duties.DataFin s)) tt
   grants_clear p (duties.Send (send_duties.Fin s)) is joins unclear plain = asks_nothing p (duties.Send (send_duties.Fin s)) tt
@@ -133,6 +134,8 @@ module _ {C : Type 0} (k : Codec C) where
   grants_clear p (duties.Ask (ask_duties.Return s)) is joins unclear plain = asks_nothing p (duties.Ask (ask_duties.Return s)) tt
   grants_clear p (duties.Ask (ask_duties.AbortSend s)) is joins unclear plain = asks_nothing p (duties.Ask (ask_duties.AbortSend s)) tt
   grants_clear p (duties.Ask (ask_duties.AbortReceive s)) is joins unclear plain = asks_nothing p (duties.Ask (ask_duties.AbortReceive s)) tt
+  grants_clear p (duties.Ask (ask_duties.Announce s id)) is joins unclear plain = asks_nothing p (duties.Ask (ask_duties.Announce s id)) tt
+  grants_clear p (duties.Ask (ask_duties.Withdraw s id)) is joins unclear plain = asks_nothing p (duties.Ask (ask_duties.Withdraw s id)) tt
   grants_clear p (duties.Send (send_duties.Resend s)) is joins unclear plain = asks_nothing p (duties.Send (send_duties.Resend s)) tt
   grants_clear p (duties.Ask (ask_duties.BreakAck s reason)) is joins unclear plain = asks_nothing p (duties.Ask (ask_duties.BreakAck s reason)) tt
   grants_clear p (duties.Send (send_duties.BreakReset s reason)) is joins unclear plain = asks_nothing p (duties.Send (send_duties.BreakReset s reason)) tt

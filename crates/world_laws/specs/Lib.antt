@@ -9,6 +9,7 @@ pub mod Fine
 pub mod Fresh
 pub mod Timely
 pub mod RoundEnd
+pub mod Standbys
 pub mod Weaving
 pub mod Promises
 pub mod Welcome

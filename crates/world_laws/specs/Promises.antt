@@ -56,11 +56,15 @@ abbrev pub tells_other_key : Reply → Bool
 tells_other_key (replies.Control (control_replies.KeysDiffer key)) = true
 tells_other_key _ = false
 
--- the answers to a token that isn't that of the own key, and to a wrong HMAC
+-- the answer to a token that isn't that of the own key
 abbrev pub tells_wrong_join : Reply → Bool
 tells_wrong_join (replies.Control (control_replies.UnknownToken token)) = true
-tells_wrong_join (replies.Control control_replies.BadHmac) = true
 tells_wrong_join _ = false
+
+-- the answer to an announcement whose HMAC isn't the peer's
+abbrev pub tells_bad_address : Reply → Bool
+tells_bad_address (replies.Control control_replies.BadHmac) = true
+tells_bad_address _ = false
 
 module _ {C : Type 0} where
   abbrev pub written_by : Side → WorldState C → Sending
@@ -108,9 +112,13 @@ module _ {C : Type 0} where
   abbrev pub KeysNeverDiffer : WorldState C → Type 0
   KeysNeverDiffer w = (actor : ℕ) → was_told tells_other_key (notes_at actor w.crew) ≡ false
 
-  -- no control book was told a token that isn't that of its key, or a wrong HMAC
+  -- no control book was told a token that isn't that of its key
   abbrev pub JoinsAreRight : WorldState C → Type 0
   JoinsAreRight w = (actor : ℕ) → was_told tells_wrong_join (notes_at actor w.crew) ≡ false
+
+  -- no control book was told of an address with a wrong HMAC
+  abbrev pub AddressesAreRight : WorldState C → Type 0
+  AddressesAreRight w = (actor : ℕ) → was_told tells_bad_address (notes_at actor w.crew) ≡ false
 
 -- ---- at every moment
 

@@ -11,6 +11,7 @@ ghost use Rattle.world_laws.specs.RoundDone.{LawfulRoundsAreDone, RoundsAreDone,
 ghost use Rattle.world_laws.specs.RoundEnd.{GrantsAreDone, ReadersAreDone};
 ghost use Rattle.world_laws.specs.RoundNumbers.{InEachRound, PathsAskForAll, ReadersCaughtUp};
 ghost use Rattle.world_laws.specs.ShortNumbers.{ShortNumbersGoShort};
+ghost use Rattle.world_laws.specs.Standbys.{BackupsGetNothing};
 ghost use Rattle.world_laws.specs.Stopping.{AbortIsLast};
 ghost use Rattle.world_laws.specs.Timely.{EachRoundHasAStep};
 ghost use Rattle.world_laws.specs.Welcome.{EachCopyIsWelcome};
@@ -154,8 +155,8 @@ pub fn keys_never_differ()
     ensures plain { IsPromisedOfOctets KeysNeverDiffer }
 {}
 
-/// A law: no control book is told a token that isn't that of its key, or a wrong HMAC: each join begins with both keys, as they were
-/// drawn, and shows the token of the peer's (RFC 8684, section 3.2). Premises as for `both_sides_keep_their_word`.
+/// A law: no control book is told a token that isn't that of its key: each join begins with both keys, as they were drawn, and
+/// shows the token of the peer's (RFC 8684, section 3.2). Premises as for `both_sides_keep_their_word`.
 ///
 /// Nor does an end of a path that joins refuse the copy that arrives next, unless its options were taken away: each SYN asks to join,
 /// and each HMAC is the one that its end demands. Over segments as values both hold whatever the script does.
@@ -228,6 +229,14 @@ pub fn plain_scripts_keep_all_promises()
 pub fn bytes_are_granted_once()
     ensures octets { Always octets (λ start w. GrantedOnce w) }
     ensures values { Always values (λ start w. GrantedOnce w) }
+{}
+
+/// A law: at every moment each step of a path that was granted bytes is one of a path that didn't stand by, as its side's control
+/// book told in the last Look on that path: it was no backup, or no other path of the side lived that was none (RFC 8684, section
+/// 3.3.8).
+pub fn backups_get_nothing()
+    ensures octets { Always octets (λ start w. BackupsGetNothing w) }
+    ensures values { Always values (λ start w. BackupsGetNothing w) }
 {}
 
 /// A law: at every moment no mapping that an end of a path heard, and has still to treat, gives a position another place than the

@@ -1,0 +1,147 @@
+//! Addresses and priority (RFC 8684, sections 3.3.8 and 3.4): what an end has to note to its peer goes out, what the peer notes is told
+//! to the side, and so is an address that is to be announced or taken back.
+
+ghost use Rattle.std.specs.Prelude.{◌≡◌, ◌<◌, OnOk, OnErr};
+ghost use Rattle.actor_desk.specs.Kinds.{CanBeAsked};
+ghost use Rattle.control_book.specs.Calls.{can_ask};
+ghost use Rattle.path_core.specs.Addressing.{is_note_due, with_noted, answered_note, notice_call, notice_ask, is_kept, with_echo, after_peer_notice, answered_notice, announce_ask, withdraw_ask};
+ghost use Rattle.path_core.specs.Octets.{octets};
+
+use crate::end::PathEnd;
+use crate::machine::Machine;
+use crate::notices::Notices;
+use crate::segment_kind::SegmentKind;
+use actor_desk::{Ask, Reply};
+use control_book::{ControlCall, ControlReply};
+use outside_kit::Side;
+use path_agenda::{OwnNotice, PeerNotice};
+use std::alloc::AllocError;
+use subflow_tcp::Occasion;
+
+/// The side keeps the address, now or since before.
+fn is_kept(reply: &Reply) -> bool
+    ensures { result ≡ is_kept reply.now }
+{
+    matches!(
+        reply,
+        Reply::Control(ControlReply::Echo) | Reply::Control(ControlReply::Known)
+    )
+}
+
+/// What the peer noted on the path of this number; an address without a port has port 0.
+fn notice_call(path: u8, notice: PeerNotice) -> ControlCall
+    requires { path < 16 }
+    ensures value { result ≡ notice_call path notice }
+    ensures able { can_ask result }
+{
+    match notice {
+        PeerNotice::AddAddr {
+            id,
+            address,
+            port,
+            hmac,
+        } => ControlCall::Heard {
+            id,
+            address,
+            port: port.unwrap_or(0),
+            hmac,
+        },
+        PeerNotice::AddEcho { id } => ControlCall::Echoed { id },
+        PeerNotice::Removed { id } => ControlCall::Removed { id },
+        PeerNotice::Prio { backup } => ControlCall::Backup { path, on: backup },
+    }
+}
+
+/// The side is told that it announces the address of this id.
+pub(crate) fn announce_ask(side: Side, id: u8) -> Ask
+    ensures value { result ≡ announce_ask side id }
+    ensures able { CanBeAsked result }
+{
+    Ask::Control(side, ControlCall::Announce { id })
+}
+
+/// The side is told that it takes the address of this id back.
+pub(crate) fn withdraw_ask(side: Side, id: u8) -> Ask
+    ensures value { result ≡ withdraw_ask side id }
+    ensures able { CanBeAsked result }
+{
+    Ask::Control(side, ControlCall::Withdraw { id })
+}
+
+impl Notices {
+    /// An announcement that the side keeps is to be echoed, with the id, the address and the port of the copy. At an error all is as it
+    /// was.
+    fn echo(&mut self, notice: PeerNotice, reply: &Reply) -> Result<(), AllocError>
+        ensures ok { OnOk result (self.new ≡ record self.old { queue = with_echo notice reply.now self.old.queue }) }
+        ensures err { OnErr result (self.new ≡ self.old) }
+    {
+        match notice {
+            PeerNotice::AddAddr {
+                id, address, port, ..
+            } if is_kept(reply) => self.push(OwnNotice::AddEcho { id, address, port }),
+            PeerNotice::AddAddr { .. }
+            | PeerNotice::AddEcho { .. }
+            | PeerNotice::Removed { .. }
+            | PeerNotice::Prio { .. } => Ok(()),
+        }
+    }
+}
+
+impl PathEnd {
+    /// There is something to be noted, and the end can note it now.
+    pub fn is_note_due(&self) -> bool
+        ensures { result ≡ is_note_due self.now }
+    {
+        self.may_note() && self.notices.first().is_some()
+    }
+
+    /// The first of what is to be noted was sent.
+    fn have_noted(&mut self)
+        ensures { self.new ≡ with_noted self.old }
+    {
+        self.notices.drop_first();
+    }
+
+    /// What the peer noted was told to the side. At an error all is as it was.
+    fn take_peer_notice(&mut self, notice: PeerNotice, reply: &Reply) -> Result<(), AllocError>
+        ensures ok { OnOk result (self.new ≡ after_peer_notice notice reply.now self.old) }
+        ensures err { OnErr result (self.new ≡ self.old) }
+    {
+        self.notices.echo(notice, reply)
+    }
+}
+
+impl Machine {
+    /// The first of what is to be noted is sent, and the duty stays, so that the next one is. At an error all is as it was.
+    pub(crate) fn send_note(&mut self, side: Side) -> Result<(), AllocError>
+        ensures ok { OnOk result (self.new ≡ answered_note octets side self.old) }
+        ensures err { OnErr result (self.new ≡ self.old) }
+    {
+        self.send(side, SegmentKind::Notice, Occasion::Ack)?;
+        self.end_mut(side).have_noted();
+        Ok(())
+    }
+
+    /// What the peer noted is told to the side.
+    pub(crate) fn notice_ask(&self, side: Side, notice: PeerNotice) -> Ask
+        ensures value { result ≡ notice_ask side notice self.now }
+        ensures able { CanBeAsked result }
+    {
+        Ask::Control(side, notice_call(self.number(), notice))
+    }
+
+    /// What the peer noted was told to the side. At an error all is as it was.
+    pub(crate) fn answer_notice(
+        &mut self,
+        side: Side,
+        notice: PeerNotice,
+        reply: &Reply,
+    ) -> Result<(), AllocError>
+        ensures ok { OnOk result (self.new ≡ answered_notice side notice reply.now self.old) }
+        ensures err { OnErr result (self.new ≡ self.old) }
+    {
+        self.end_mut(side).take_peer_notice(notice, reply)?;
+        self.done();
+        Ok(())
+    }
+}

@@ -1,0 +1,118 @@
+-- The sets of ids that a control book keeps have 256 members each: so each id that it tells is below 256.
+use Rattle.std.proofs.Common.{◌≡◌, refl, ◌∙◌, ℕ, zero, suc, ◌<◌, Bool, true, false, if◌then◌else◌, List, [], ◌∷◌, length, Option, Some, None, set, arith}
+use Rattle.std.specs.Prelude.{not, ◌&&◌, ◌==◌, fold, replicate, slice_set}
+use Rattle.std.specs.Option.{IfSome}
+use Rattle.std.proofs.lemmas.List.{length-set, length-replicate}
+use Rattle.std.proofs.lemmas.List.Quantifiers.{position-Some}
+use Rattle.outside_kit.specs.declared.side.Side.{Side}
+use Rattle.address_manager.specs.IdSet.{no_ids, lowest}
+use Rattle.address_manager.specs.Addresses.{Addresses}
+use Rattle.address_manager.specs.Steps.{after_heard as addresses_heard}
+use Rattle.key_material.specs.declared.address.Address.{Address}
+use Rattle.control_book.specs.declared.registry.PathState.{PathState}
+use Rattle.control_book.specs.declared.call.ControlCall.{ControlCall}
+use Rattle.control_book.specs.declared.call.ControlCall.TheVariants as call
+use Rattle.control_book.specs.declared.call.Notice.{Notice}
+use Rattle.control_book.specs.declared.call.Notice.TheVariants as notice
+use Rattle.control_book.specs.Registry.{every_path, lives}
+use Rattle.control_book.specs.Control.{Control, no_withdrawals, new_control, withdrawals_on, with_withdrawal}
+use Rattle.control_book.specs.Replies.{notice_on, is_right}
+use Rattle.control_book.specs.Steps.{after, after_notice, withdrawn_on}
+
+abbrev pub AreIds : List Bool → Type 0
+AreIds ids = length ids ≡ 256
+
+abbrev pub AreAllIds : List (List Bool) → Type 0
+AreAllIds [] = Unit {0}
+AreAllIds (ids ∷ sets) = AreIds ids × AreAllIds sets
+
+-- those whose announcement isn't ended, and those that are to be taken back, path by path
+pub record IdsFit (c : Control) : Type 0 where
+  pub due : AreIds c.addresses.due
+  pub withdrawals : AreAllIds c.notices.withdrawals
+
+pub lowest_fits : (ids : List Bool) → AreIds ids → IfSome (lowest ids) (λ id. id < 256)
+lowest_fits ids are = by (lowest ids) refl
+  where
+    by : (o : Option ℕ) → lowest ids ≡ o → IfSome o (λ id. id < 256)
+    by None is = tt
+    by (Some id) is = let first = position-Some (λ member. member) ids id true is in let within = first.0 in omega (arith, within, are)
+
+-- ---- sets of a path
+
+none_fit : AreIds no_ids
+unfolding no_ids
+none_fit = length-replicate 256 false
+
+pub on_fits : (sets : List (List Bool)) (path : ℕ) → AreAllIds sets → AreIds (withdrawals_on sets path)
+on_fits [] path h = none_fit
+on_fits (ids ∷ sets) zero h = h.0
+on_fits (ids ∷ sets) (suc path) h = on_fits sets path h.1
+
+put_fits : (sets : List (List Bool)) (path : ℕ) (ids : List Bool) → AreIds ids → AreAllIds sets → AreAllIds (slice_set sets path ids)
+put_fits [] path ids are h = h
+put_fits (first ∷ sets) zero ids are h = (are, h.1)
+put_fits (first ∷ sets) (suc path) ids are h = (h.0, put_fits sets path ids are h.1)
+
+withdrawal_fits : (id : ℕ) (due : Bool) (path : ℕ) (sets : List (List Bool)) → AreAllIds sets → AreAllIds (with_withdrawal id due path sets)
+withdrawal_fits id due path sets h = put_fits sets path _ (length-set (withdrawals_on sets path) id due ∙ on_fits sets path h) h
+
+either_fits : (b : Bool) (one other : List (List Bool)) → AreAllIds one → AreAllIds other → AreAllIds (if b then one else other)
+either_fits true one other x y = x
+either_fits false one other x y = y
+
+one_fits : (id : ℕ) (paths : List PathState) (sets : List (List Bool)) (path : ℕ) → AreAllIds sets → AreAllIds (withdrawn_on id paths sets path)
+unfolding withdrawn_on
+one_fits id paths sets path h = either_fits (lives paths path && not (path == id)) _ _ (withdrawal_fits id true path sets h) h
+
+each_fits : (id : ℕ) (paths : List PathState) (which : List ℕ) (sets : List (List Bool)) → AreAllIds sets → AreAllIds (fold (withdrawn_on id paths) sets which)
+each_fits id paths [] sets h = h
+each_fits id paths (path ∷ which) sets h = each_fits id paths which (withdrawn_on id paths sets path) (one_fits id paths sets path h)
+
+-- ---- each call
+
+either : (b : Bool) (c d : Control) → IdsFit c → IdsFit d → IdsFit (if b then c else d)
+either true c d x y = x
+either false c d x y = y
+
+notice_fits : (n : Notice) (path : ℕ) (c : Control) → IdsFit c → IdsFit (after_notice n path c)
+notice_fits (notice.Withdraw id) path c h = record { due = h.due; withdrawals = withdrawal_fits id false path c.notices.withdrawals h.withdrawals }
+notice_fits notice.Nothing path c h = h
+notice_fits (notice.Announce id) path c h = h
+notice_fits (notice.Carrier key) path c h = h
+notice_fits notice.Reset path c h = h
+
+-- what is kept is no matter of the sets
+heard_due : (right : Bool) (id : ℕ) (address : Address) (a : Addresses Address) → (addresses_heard id address right a).due ≡ a.due
+heard_due true id address a = refl
+heard_due false id address a = refl
+
+pub call_fits : (c : Control) (asked : ControlCall) → IdsFit c → IdsFit (after c asked)
+call_fits c (call.Look path) h = notice_fits (notice_on c path) path c h
+call_fits c (call.PeerKey key) h = record { due = h.due; withdrawals = h.withdrawals }
+call_fits c (call.Keys own peer) h = either (own == c.keys.own) _ _ (record { due = h.due; withdrawals = h.withdrawals }) h
+call_fits c (call.Fell path event) h = record { due = h.due; withdrawals = h.withdrawals }
+call_fits c (call.JoinBegin path) h = either _ _ _ (record { due = h.due; withdrawals = h.withdrawals }) h
+call_fits c (call.JoinHeard path token) h = either _ _ _ (record { due = h.due; withdrawals = h.withdrawals }) h
+call_fits c (call.Live path backup) h = record { due = h.due; withdrawals = h.withdrawals }
+call_fits c (call.Dead path) h = record { due = h.due; withdrawals = h.withdrawals }
+call_fits c (call.Backup path on) h = record { due = h.due; withdrawals = h.withdrawals }
+call_fits c (call.Rate path window rtt) h = record { due = h.due; withdrawals = h.withdrawals }
+call_fits c (call.Announce id) h = record { due = length-set c.addresses.due id true ∙ h.due; withdrawals = h.withdrawals }
+call_fits c (call.Withdraw id) h = either _ _ _ (record { due = h.due; withdrawals = each_fits id c.paths every_path c.notices.withdrawals h.withdrawals }) h
+call_fits c (call.Heard id address port hmac) h =
+    record { due = heard_due (is_right id address port hmac c) id address c.addresses ∙ h.due; withdrawals = h.withdrawals }
+call_fits c (call.Echoed id) h = either _ _ _ (record { due = length-set c.addresses.due id false ∙ h.due; withdrawals = h.withdrawals }) h
+call_fits c (call.Removed id) h = either _ _ _ (record { due = length-set c.addresses.due id false ∙ h.due; withdrawals = h.withdrawals }) h
+call_fits c call.FastClose h = record { due = h.due; withdrawals = h.withdrawals }
+call_fits c (call.FastHeard key) h = either _ _ _ (record { due = h.due; withdrawals = h.withdrawals }) h
+
+-- ---- as a connection opens
+
+all_none : (n : ℕ) → AreAllIds (replicate n no_ids)
+all_none zero = tt
+all_none (suc n) = (none_fit, all_none n)
+
+pub opening_fits : (side : Side) (key : ℕ) → IdsFit (new_control side key)
+unfolding no_withdrawals
+opening_fits side key = record { due = none_fit; withdrawals = all_none 16 }
