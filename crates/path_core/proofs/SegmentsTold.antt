@@ -1,6 +1,6 @@
 -- What a step hands to the link is what it tells, and no other step tells a segment.
 use Rattle.std.proofs.Common.{◌≡◌, refl, sym, ap, subst, ◌∙◌, ℕ, ◌+◌, ◌%◌, ◌^◌, ◌<◌, Bool, true, false, if◌then◌else◌, Result, Ok, Err, Option, Some, None, option_map, List, [], ◌∷◌, ◌++◌, length, length-append, drop, arith}
-use Rattle.std.specs.Prelude.{IfOk, IfSome, IsSome, replicate}
+use Rattle.std.specs.Prelude.{IfOk, IfSome, IsOk, IsSome, replicate}
 use Rattle.std.specs.Int.{w16}
 use Rattle.std.proofs.lemmas.List.{drop_at, drop-drop, length-replicate}
 use Rattle.std.proofs.lemmas.Nat.{from_be_bytes-to_be_bytes_2}
@@ -8,11 +8,15 @@ use Rattle.pipe_model.specs.Octets.{number_at}
 use Rattle.link_model.specs.declared.flight.Flight.{Flight}
 use Rattle.link_model.specs.Octets.{addresses_from}
 use Rattle.link_model.specs.Steps.{next_number, peer}
-use Rattle.segment_wire.specs.Reading.{header_len}
+use Rattle.segment_wire.specs.Reading.{header_len, segment_meaning}
+use Rattle.segment_wire.proofs.Again.{segment_meaning-written}
 use Rattle.segment_wire.specs.Segment.{Segment, fixed_header, octets_with, segment_text}
 use Rattle.path_segments.specs.declared.spelling.Spelling.{Spelling}
+use Rattle.path_segments.specs.Spelling.{peer_of, addresses_from as spelled_addresses}
+use Rattle.path_segments.proofs.SegmentsAgain.{four, written}
 use Rattle.path_segments.specs.Spelled.{PlainSegment, padding, padded, unpadded_options, spelled}
 use Rattle.outside_kit.specs.declared.side.Side.{Side}
+use Rattle.outside_kit.specs.declared.side.Side.TheVariants.{A, B}
 use Rattle.subflow_send.specs.Records.{Record}
 use Rattle.loss_recovery.specs.declared.windows.Pending.{Pending}
 use Rattle.join_handshake.specs.declared.hearing.JoinSyn.{JoinSyn}
@@ -52,6 +56,7 @@ use Rattle.path_core.specs.Opening.{peer_key_ask, opened_ask}
 use Rattle.path_core.specs.OptionsOut.{spelled_by}
 use Rattle.path_core.specs.Passing.{piece_of, piece_ask, data_fin_of, fin_ask, plain_fin, rate_ask}
 use Rattle.path_core.specs.Standing.{ack_out_ask, answered_ack_out}
+use Rattle.path_core.specs.Said.{CanBeSaid}
 use Rattle.path_core.specs.State.{PathState, end_at, goes_on, path_of, with_agenda}
 use Rattle.path_core.specs.Steps.{settled, settles_down, asks_first, answers}
 use Rattle.path_core.specs.Deliver.{with_learned}
@@ -331,3 +336,18 @@ pub arrived_is : (path : ℕ) (to : Side) (carried : List ℕ) (flight : Option 
     → some_arrived path to carried ≡ option_map (arrived_as path to) flight
 arrived_is path to carried (Some f) there is = rw is refl
 arrived_is path to carried None there is = cc
+
+-- ---- octets that are made are a segment
+
+same_addresses : (path : ℕ) (s : Side) → spelled_addresses path (spelled_by s) ≡ addresses_from path s
+same_addresses path A = refl
+same_addresses path B = refl
+
+pub made_whole : (spelling : Spelling) (path : ℕ) (s : Side) (segment : PlainSegment) → spelling.path ≡ path → CanBeSaid spelling s segment
+    → IsOk (segment_meaning (addresses_from path s) (made spelling s segment))
+made_whole spelling path s segment same can =
+    let addresses = spelled_addresses spelling.path (spelled_by s) in
+    let reads : segment_meaning addresses (made spelling s segment) ≡ Ok (spelled spelling (spelled_by s) segment) =
+    segment_meaning-written addresses (spelled spelling (spelled_by s) segment) (four spelling.path (spelled_by s)) (four spelling.path (peer_of (spelled_by s))) (written spelling (spelled_by s) segment can) in
+    subst (λ a. IsOk (segment_meaning a (made spelling s segment))) (same_addresses spelling.path s ∙ ap (λ n. addresses_from n s) same)
+    (subst (λ r. IsOk r) (sym reads) tt)

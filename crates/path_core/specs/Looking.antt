@@ -1,5 +1,5 @@
 -- What the next step of a path hands to its link, and what it takes from it.
-use Rattle.std.specs.Prelude.{◌≡◌, ℕ, if◌then◌else◌, Bool, true, false, IfSome, Option, Some, None, option_map, List, [], ◌∷◌, length, drop}
+use Rattle.std.specs.Prelude.{◌≡◌, ℕ, if◌then◌else◌, Bool, true, false, IfSome, IsOk, Option, Some, None, option_map, List, [], ◌∷◌, length, drop}
 use Rattle.std.specs.Int.{w16}
 use Rattle.outside_kit.specs.declared.side.Side.{Side}
 use Rattle.pipe_model.specs.Octets.{number_at}
@@ -9,7 +9,7 @@ use Rattle.link_model.specs.Fate.{segment_fate}
 use Rattle.link_model.specs.Octets.{addresses_from}
 use Rattle.link_model.specs.Steps.{peer, next_number, arriving}
 use Rattle.segment_wire.specs.declared.head.Addresses.{Addresses}
-use Rattle.segment_wire.specs.Reading.{header_len}
+use Rattle.segment_wire.specs.Reading.{header_len, segment_meaning}
 use Rattle.subflow_send.specs.Records.{Record}
 use Rattle.path_segments.specs.Spelled.{PlainSegment}
 use Rattle.actor_desk.specs.declared.ask.Ask.{Ask}
@@ -121,6 +121,10 @@ departing p = option_map (departing_as p) (first_sends p.agenda p)
 -- the step that tells a segment: its number, the octets of its payload, its checksum field
 abbrev pub step_told : Departing → Ask
 step_told d = asks.Local (steps.Sent d.from d.number (length (drop (header_len d.octets) d.octets)) (number_at w16 d.octets 16))
+
+-- its octets are a segment of its side on the path of this number
+abbrev pub IsSegmentOn : ℕ → Departing → Type 0
+IsSegmentOn path d = IsOk (segment_meaning (addresses_from path d.from) d.octets)
 
 -- that it tells it
 abbrev pub IsTold : Option Departing → PathState (List ℕ) → Type 0

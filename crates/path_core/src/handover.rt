@@ -1,15 +1,16 @@
 //! Handing a segment to the link: the step that tells it, and what it makes of the end and of the link.
 
-ghost use Rattle.std.specs.Prelude.{◌≡◌, ◌≤◌, ◌+◌, ◌^◌, true, is_none, IfOk, OnOk, OnErr};
+ghost use Rattle.std.specs.Prelude.{◌≡◌, ◌≤◌, ◌+◌, ◌^◌, true, is_none, IfOk, IsOk, OnOk, OnErr};
 ghost use Rattle.actor_desk.specs.Kinds.{CanBeAsked};
-ghost use Rattle.link_model.specs.Octets.{after_octets};
+ghost use Rattle.link_model.specs.Octets.{addresses_from, after_octets};
+ghost use Rattle.segment_wire.specs.Reading.{segment_meaning};
 ghost use Rattle.path_core.specs.Octets.{octets, made};
 ghost use Rattle.path_segments.specs.Laws.{window_told};
 ghost use Rattle.subflow_tcp.specs.Emitting.{after_sending};
 ghost use Rattle.path_core.specs.Said.{plain_said, said_by, sent_kind, CanBeSaid};
 ghost use Rattle.path_core.specs.declared.modes.Modes.{Modes};
 ghost use Rattle.path_core.specs.Handover.{edge_told, has_mapping, end_of, least, with_mapping_told, sends, handed};
-ghost use Rattle.path_core.specs.State.{end_at, left, with_agenda};
+ghost use Rattle.path_core.specs.State.{end_at, left, path_of, with_agenda};
 ghost use Rattle.path_core.specs.Steps.{passable, settles_down};
 
 use crate::end::PathEnd;
@@ -140,10 +141,13 @@ impl Machine {
         self.end(side).modes_after(&self.said(side, kind))
     }
 
-    /// The octets of the segment of this kind.
+    /// The octets of the segment of this kind, which mean that segment.
+    #[tactic(auto, using(crate::proofs::SegmentsTold::made_whole))]
     pub(crate) fn octets_of(&self, side: Side, kind: SegmentKind) -> Result<Vec<u8>, AllocError>
-        ensures { IfOk result (λ text. text.items ≡ made self.now.profile.spelling side (said_by kind self.now.profile side (end_at side self.now))) }
+        ensures value { IfOk result (λ text. text.items ≡ made self.now.profile.spelling side (said_by kind self.now.profile side (end_at side self.now))) }
+        ensures whole { IfOk result (λ text. IsOk (segment_meaning (addresses_from (path_of self.now) side) text.items)) }
     {
+        let _path = self.number();
         let said = self.said(side, kind);
         said.octets(self.alloc, self.profile.spelling(), side)
     }

@@ -5,8 +5,8 @@ ghost use Rattle.link_model.specs.Fate.{segment_fate};
 ghost use Rattle.link_model.specs.Steps.{arriving, next_number};
 ghost use Rattle.path_core.specs.Emission.{first_unsent};
 ghost use Rattle.path_core.specs.Events.{next_event};
-ghost use Rattle.path_core.specs.Looking.{ack_sends, broken_by, arrived, copy_arriving, departing, departing_as, duty_sends, first_sends, heard_sends, mapping_sends, next_arrival, send_of, shown_arriving, step_sends, unsent_sends};
-ghost use Rattle.path_core.specs.State.{end_at};
+ghost use Rattle.path_core.specs.Looking.{ack_sends, broken_by, arrived, copy_arriving, departing, departing_as, duty_sends, first_sends, heard_sends, mapping_sends, next_arrival, send_of, shown_arriving, step_sends, unsent_sends, IsSegmentOn};
+ghost use Rattle.path_core.specs.State.{end_at, path_of};
 ghost use Rattle.path_core.specs.Treating.{item_of};
 
 use crate::event::Event;
@@ -195,6 +195,7 @@ impl Machine {
     /// The segment as the link takes it.
     fn departing_as(&self, to_send: ToSend) -> Result<Departing, AllocError>
         ensures value { IfOk result (λ d. d ≡ departing_as self.now to_send) }
+        ensures whole { IfOk result (IsSegmentOn (path_of self.now)) }
     {
         let ToSend { from, kind } = to_send;
         let number = self.number_next(from);
@@ -209,6 +210,7 @@ impl Machine {
     /// The segment that the next step hands to the link, if it hands one. The path stays as it is.
     pub(crate) fn outgoing(&self) -> Result<Option<Departing>, AllocError>
         ensures value { IfOk result (λ d. d ≡ departing self.now) }
+        ensures whole { IfOk result (λ d. IfSome d (IsSegmentOn (path_of self.now))) }
     {
         match self.next_to_send() {
             Some(to_send) => Ok(Some(self.departing_as(to_send)?)),

@@ -6,7 +6,7 @@ ghost use Rattle.actor_desk.specs.Kinds.{CanBeAsked};
 ghost use Rattle.link_model.specs.Octets.{after_octets};
 ghost use Rattle.link_script.specs.Scripts.{HasRanges};
 ghost use Rattle.path_core.specs.Events.{is_dead_path};
-ghost use Rattle.path_core.specs.Looking.{departing, next_arrival, shown_arriving, IsTold};
+ghost use Rattle.path_core.specs.Looking.{departing, next_arrival, shown_arriving, IsSegmentOn, IsTold};
 ghost use Rattle.path_core.specs.Octets.{octets};
 ghost use Rattle.path_core.specs.Replies.{asks_bytes_first, needs_memory_first};
 ghost use Rattle.path_core.specs.Starts.{first_turn_of};
@@ -109,6 +109,7 @@ impl Path {
     pub fn outgoing(&self) -> Result<Option<Departing>, AllocError>
         ensures value { IfOk result (λ d. d ≡ departing self.now) }
         ensures told { IfOk result (λ d. IsTold d self.now) }
+        ensures whole { IfOk result (λ d. IfSome d (IsSegmentOn (path_of self.now))) }
     {
         self.machine.outgoing()
     }
