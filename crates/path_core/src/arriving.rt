@@ -6,12 +6,12 @@ ghost use Rattle.link_model.specs.Steps.{peer};
 ghost use Rattle.path_segments.specs.HeardLent.{IsExpected};
 ghost use Rattle.path_segments.specs.Heard.{heard_in};
 ghost use Rattle.path_segments.specs.HeardSegments.{heard_value, IsHeardShort};
-ghost use Rattle.subflow_tcp.specs.Judging.{IsBelow};
+ghost use Rattle.subflow_tcp.specs.Judging.{IsBelow, meaning_of};
 ghost use Rattle.subflow_tcp.specs.Taking.{after_arrival, arrival_of, unkept};
 ghost use Rattle.path_agenda.specs.Items.{IsFair};
 ghost use Rattle.subflow_tcp.specs.Segments as subflow;
 ghost use Rattle.path_core.specs.declared.event.Event.TheVariants as event;
-ghost use Rattle.path_core.specs.Arriving.{expected_by, position_in, acknowledged_in, copy_of, items_of, with_payload, with_held, owing_if, owes_by, is_plain_ack, asked_in, after_copy, is_ignored, is_taken, taken_as, judged_in, copy_judged, segment_heard, template_by, template_judged, template_of, IsTakenAs, SaysFew};
+ghost use Rattle.path_core.specs.Arriving.{expected_by, position_in, acknowledged_in, copy_of, items_of, with_payload, with_held, owing_if, owes_by, is_plain_ack, asked_in, after_copy, is_ignored, is_taken, taken_as, judged_in, judged_of, after_join, segment_heard, template_by, template_judged, template_of, IsTakenAs, SaysFew};
 ghost use Rattle.path_core.specs.Events.{told_at, heard_at, copy_taken, CanHappen};
 ghost use Rattle.actor_desk.specs.Words.{is_nil};
 ghost use Rattle.path_core.specs.Ends.{nothing_treated};
@@ -283,12 +283,12 @@ impl PathEnd {
         self.modes = asked_in(meaning, heard, self.modes);
     }
 
-    /// A copy that is this to the end, and says these mappings, is taken, and is answered so at a dead end. At an error all is
+    /// A copy that is this to the end, and says these things and these mappings, is taken, and is answered so at a dead end. At an error all is
     /// as it was.
     fn take_judged(
         &mut self,
         joined: bool,
-        side: Side,
+        items: Items,
         now: u64,
         heard: &HeardSegment<'_>,
         meaning: Meaning,
@@ -297,13 +297,13 @@ impl PathEnd {
     ) -> Result<(), AllocError>
         requires small { length heard.now.payload.now ≤ 65535 }
         requires within { All IsWithin told.items }
-        requires few { SaysFew (heard_value heard.now).options }
+        requires fair { All IsFair items.items }
         requires meaning { IsTakenAs meaning (copy_of (heard_value heard.now)) self.old.tcp }
         requires below { IsBelow meaning }
-        ensures ok { OnOk result (self.new ≡ copy_judged joined told.items answer side now (heard_value heard.now) meaning self.old) }
+        ensures ok { OnOk result (self.new ≡ after_copy items.items answer now (heard_value heard.now) meaning
+            (after_join joined items.items meaning (with_held told.items (heard_value heard.now) meaning self.old))) }
         ensures err { OnErr result (self.new ≡ self.old) }
     {
-        let items = items_of(joined, side, heard);
         let acknowledged = self.acknowledged_by(meaning, heard);
         self.hold(meaning, heard, told)?;
         self.join_by(joined, items.as_slice(), meaning);
@@ -311,16 +311,15 @@ impl PathEnd {
         Ok(())
     }
 
-    /// What a copy is to the end.
-    fn judge(&self, joined: bool, side: Side, heard: &HeardSegment<'_>) -> Judged
-        requires few { SaysFew (heard_value heard.now).options }
-        ensures value { result ≡ judged_in joined side (heard_value heard.now) self.now }
+    /// What a copy that says these things is to the end.
+    fn judge(&self, joined: bool, heard: &HeardSegment<'_>, items: &[Heard]) -> Judged
+        ensures value { result ≡ judged_of joined (heard_value heard.now).rst items.now
+            (meaning_of (copy_of (heard_value heard.now)) self.now.tcp) self.now }
         ensures taken { IsTakenAs (taken_as result) (copy_of (heard_value heard.now)) self.now.tcp }
         ensures below { IsBelow (taken_as result) }
     {
-        let items = items_of(joined, side, heard);
         let meaning = self.tcp.meaning(&arriving_of(heard));
-        self.judged_of(joined, heard.rst, items.as_slice(), meaning)
+        self.judged_of(joined, heard.rst, items, meaning)
     }
 
     /// A segment is heard, which says these mappings, and is answered so at a dead end. At an error all is as it was.
@@ -340,10 +339,11 @@ impl PathEnd {
         ensures ok { OnOk result (self.new ≡ segment_heard joined told.items answer side now (heard_value heard.now) self.old) }
         ensures err { OnErr result (self.new ≡ self.old) }
     {
-        let judged = self.judge(joined, side, heard);
-        let count = items_of(joined, side, heard).len();
+        let items = items_of(joined, side, heard);
+        let judged = self.judge(joined, heard, items.as_slice());
+        let count = items.len();
         let meaning = judged.taken_as();
-        self.take_judged(joined, side, now, heard, meaning, told, answer)?;
+        self.take_judged(joined, items, now, heard, meaning, told, answer)?;
         Ok(template_judged(joined, side, count, judged))
     }
 }
