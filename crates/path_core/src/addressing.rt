@@ -72,12 +72,16 @@ impl Notices {
     /// An announcement that the side keeps is to be echoed, with the id, the address and the port of the copy. At an error all is as it
     /// was.
     fn echo(&mut self, notice: PeerNotice, reply: &Reply) -> Result<(), AllocError>
-        ensures ok { OnOk result (self.new ≡ record self.old { queue = with_echo notice reply.now self.old.queue }) }
+        ensures ok { OnOk result (self.new ≡
+            record self.old { queue = with_echo notice reply.now self.old.queue }) }
         ensures err { OnErr result (self.new ≡ self.old) }
     {
         match notice {
             PeerNotice::AddAddr {
-                id, address, port, ..
+                id,
+                address,
+                port,
+                ..
             } if is_kept(reply) => self.push(OwnNotice::AddEcho { id, address, port }),
             PeerNotice::AddAddr { .. }
             | PeerNotice::AddEcho { .. }

@@ -47,7 +47,8 @@ fn heard_of<'a>(
     octets: &'a [u8],
 ) -> Option<HeardSegment<'a>>
     requires { IsExpected expected.now }
-    ensures value { option_map heard_value result ≡ heard_in spelling.now from expected.now octets.now }
+    ensures value { option_map heard_value result ≡
+        heard_in spelling.now from expected.now octets.now }
     ensures short { IfSome result (λ heard. IsHeardShort (heard_value heard)) }
     ensures few { IfSome result (λ heard. SaysFew (heard_value heard).options) }
 {
@@ -140,8 +141,10 @@ fn take_meant(
 ) -> Arrival
     requires taken { IsTakenAs meaning (subflow.copy_of arriving.now) tcp.old }
     requires some { is_ignored meaning ≡ false }
-    ensures arrival { result ≡ arrival_of meaning (unkept place) (subflow.copy_of arriving.now) tcp.old }
-    ensures after { tcp.new ≡ after_arrival meaning (unkept place) now (subflow.copy_of arriving.now) tcp.old }
+    ensures arrival { result ≡
+        arrival_of meaning (unkept place) (subflow.copy_of arriving.now) tcp.old }
+    ensures after { tcp.new ≡
+        after_arrival meaning (unkept place) now (subflow.copy_of arriving.now) tcp.old }
 {
     tcp.take_segment(meaning, arriving, place, now)
 }
@@ -155,8 +158,10 @@ fn take_as(
     now: u64,
 ) -> Arrival
     requires { IsTakenAs meaning (subflow.copy_of arriving.now) tcp.old }
-    ensures arrival { result ≡ arrival_of meaning (unkept place) (subflow.copy_of arriving.now) tcp.old }
-    ensures after { tcp.new ≡ after_arrival meaning (unkept place) now (subflow.copy_of arriving.now) tcp.old }
+    ensures arrival { result ≡
+        arrival_of meaning (unkept place) (subflow.copy_of arriving.now) tcp.old }
+    ensures after { tcp.new ≡
+        after_arrival meaning (unkept place) now (subflow.copy_of arriving.now) tcp.old }
 {
     match meaning {
         Meaning::Ignored => Arrival::Dropped,
@@ -234,7 +239,8 @@ impl PathEnd {
         requires below { IsBelow meaning }
         requires small { length heard.now.payload.now ≤ 65535 }
         requires within { All IsWithin told.items }
-        ensures ok { OnOk result (self.new ≡ with_held told.items (heard_value heard.now) meaning self.old) }
+        ensures ok { OnOk result (self.new ≡
+            with_held told.items (heard_value heard.now) meaning self.old) }
         ensures err { OnErr result (self.new ≡ self.old) }
     {
         self.receiving.mappings.make_ready(told.len())?;
@@ -246,7 +252,9 @@ impl PathEnd {
     /// The position that a copy of this meaning acknowledges, where it is taken: no later one than was sent. Else 0.
     fn acknowledged_by(&self, meaning: Meaning, heard: &HeardSegment<'_>) -> Pos
         requires { IsTakenAs meaning (copy_of (heard_value heard.now)) self.now.tcp }
-        ensures value { result ≡ (if is_taken meaning then unwrap_or (copy_of (heard_value heard.now)).acknowledged 0 else 0) }
+        ensures value { result ≡
+            (if is_taken meaning then unwrap_or (copy_of (heard_value heard.now)).acknowledged 0
+            else 0) }
         ensures bound { result ≤ 2 ^ 62 }
     {
         let _sent = self.tcp.nxt();
@@ -268,10 +276,13 @@ impl PathEnd {
         answer: Outgoing,
     )
         requires fair { All IsFair items.items }
-        requires acknowledged { acknowledged ≡ (if is_taken meaning then unwrap_or (copy_of (heard_value heard.now)).acknowledged 0 else 0) }
+        requires acknowledged { acknowledged ≡
+            (if is_taken meaning then unwrap_or (copy_of (heard_value heard.now)).acknowledged 0
+            else 0) }
         requires near { acknowledged ≤ 2 ^ 62 }
         requires meaning { IsTakenAs meaning (copy_of (heard_value heard.now)) self.old.tcp }
-        ensures { self.new ≡ after_copy items.items answer now (heard_value heard.now) meaning self.old }
+        ensures { self.new ≡
+            after_copy items.items answer now (heard_value heard.now) meaning self.old }
     {
         let opened = opens_by(meaning, self.tcp.state());
         let held_edge = edge_held(meaning, heard.payload, self.tcp.edge());
@@ -283,8 +294,8 @@ impl PathEnd {
         self.modes = asked_in(meaning, heard, self.modes);
     }
 
-    /// A copy that is this to the end, and says these things and these mappings, is taken, and is answered so at a dead end. At an error all is
-    /// as it was.
+    /// A copy that is this to the end, and says these things and these mappings, is taken, and is answered so at a dead end.
+    /// At an error all is as it was.
     fn take_judged(
         &mut self,
         joined: bool,
@@ -300,8 +311,10 @@ impl PathEnd {
         requires fair { All IsFair items.items }
         requires meaning { IsTakenAs meaning (copy_of (heard_value heard.now)) self.old.tcp }
         requires below { IsBelow meaning }
-        ensures ok { OnOk result (self.new ≡ after_copy items.items answer now (heard_value heard.now) meaning
-            (after_join joined items.items meaning (with_held told.items (heard_value heard.now) meaning self.old))) }
+        ensures ok { OnOk result (self.new ≡
+            after_copy items.items answer now (heard_value heard.now) meaning
+            (after_join joined items.items meaning
+            (with_held told.items (heard_value heard.now) meaning self.old))) }
         ensures err { OnErr result (self.new ≡ self.old) }
     {
         let acknowledged = self.acknowledged_by(meaning, heard);
@@ -335,8 +348,11 @@ impl PathEnd {
         requires small { length heard.now.payload.now ≤ 65535 }
         requires within { All IsWithin told.items }
         requires few { SaysFew (heard_value heard.now).options }
-        ensures agenda { IfOk result (λ agenda. agenda ≡ template_of joined side (items_of joined side (heard_value heard.now)) (judged_in joined side (heard_value heard.now) self.old)) }
-        ensures ok { OnOk result (self.new ≡ segment_heard joined told.items answer side now (heard_value heard.now) self.old) }
+        ensures agenda { IfOk result (λ agenda. agenda ≡
+            template_of joined side (items_of joined side (heard_value heard.now))
+            (judged_in joined side (heard_value heard.now) self.old)) }
+        ensures ok { OnOk result (self.new ≡
+            segment_heard joined told.items answer side now (heard_value heard.now) self.old) }
         ensures err { OnErr result (self.new ≡ self.old) }
     {
         let items = items_of(joined, side, heard);
@@ -381,7 +397,8 @@ impl Machine {
     ) -> Result<(), AllocError>
         requires short { IsHeardShort (heard_value heard.now) }
         requires few { SaysFew (heard_value heard.now).options }
-        ensures ok { OnOk result (self.new ≡ heard_at now side (Some (heard_value heard.now)) self.old) }
+        ensures ok { OnOk result (self.new ≡
+            heard_at now side (Some (heard_value heard.now)) self.old) }
         ensures err { OnErr result (self.new ≡ self.old) }
     {
         let heard = options_heard(self.end(side).modes.identity, heard);
@@ -390,7 +407,10 @@ impl Machine {
 
     /// Octets arrive at a side at this tick: those that are no segment are dropped. At an error all is as it was.
     fn take_octets(&mut self, side: Side, now: u64, octets: &[u8]) -> Result<(), AllocError>
-        ensures ok { OnOk result (self.new ≡ heard_at now side (read self.old.profile.spelling (peer side) (expected_by (end_at side self.old)) octets.now) self.old) }
+        ensures ok { OnOk result (self.new ≡
+            heard_at now side
+            (read self.old.profile.spelling (peer side) (expected_by (end_at side self.old))
+            octets.now) self.old) }
         ensures err { OnErr result (self.new ≡ self.old) }
     {
         let expected = self.end(side).expected();

@@ -76,7 +76,9 @@ impl Machine {
     /// The reset of an end that gives up is sent, and the end is dead: it leaves in the place of that duty, and what follows stays to
     /// be done. At an error all is as it was.
     pub(crate) fn give_up(&mut self, side: Side) -> Result<(), AllocError>
-        ensures ok { OnOk result (self.new ≡ reset_on octets side None (replaced (duties.Ask (ask_duties.Leave side)) self.old.agenda) self.old) }
+        ensures ok { OnOk result (self.new ≡
+            reset_on octets side None
+            (replaced (duties.Ask (ask_duties.Leave side)) self.old.agenda) self.old) }
         ensures err { OnErr result (self.new ≡ self.old) }
     {
         self.hand(side, SegmentKind::Reset { reason: None })?;

@@ -125,7 +125,8 @@ impl PathEnd {
     /// The bytes of a mapping that the edge can pass, without a look at the checksum.
     fn piece_in(&self, kept: KeptMapping) -> Option<InOrder>
         requires { kept.pos ≤ self.now.tcp.recv.edge }
-        ensures value { option_map (λ found. piece_from found self.now.tcp) result ≡ some_piece (piece_in kept self.now.tcp) }
+        ensures value { option_map (λ found. piece_from found self.now.tcp) result ≡
+            some_piece (piece_in kept self.now.tcp) }
         ensures places { IfSome result (λ found. found.place + found.count ≤ 2 ^ 62) }
     {
         let edge = self.tcp.edge();
@@ -141,7 +142,8 @@ impl PathEnd {
     /// The same; where checksums are used only those of a whole mapping that has the right one.
     fn checked_piece(&self, checksums: bool, kept: KeptMapping) -> Option<InOrder>
         requires { kept.pos ≤ self.now.tcp.recv.edge }
-        ensures value { option_map (λ found. piece_from found self.now.tcp) result ≡ checked_piece checksums kept self.now.tcp }
+        ensures value { option_map (λ found. piece_from found self.now.tcp) result ≡
+            checked_piece checksums kept self.now.tcp }
         ensures places { IfSome result (λ found. found.place + found.count ≤ 2 ^ 62) }
     {
         if checksums && !(self.is_whole(kept) && self.is_right(kept)) {
@@ -152,7 +154,8 @@ impl PathEnd {
 
     /// After a fallback: all that is in order, each byte at the place before its position.
     fn plain_piece(&self) -> Option<InOrder>
-        ensures value { option_map (λ found. piece_from found self.now.tcp) result ≡ some_piece (plain_piece self.now.tcp) }
+        ensures value { option_map (λ found. piece_from found self.now.tcp) result ≡
+            some_piece (plain_piece self.now.tcp) }
         ensures places { IfSome result (λ found. found.place + found.count ≤ 2 ^ 62) }
     {
         let count = self.in_order();
@@ -166,7 +169,8 @@ impl PathEnd {
 
     /// The next bytes to be placed.
     fn next_piece(&self, profile: &Profile) -> Option<InOrder>
-        ensures value { option_map (λ found. piece_from found self.now.tcp) result ≡ next_piece profile.now self.now }
+        ensures value { option_map (λ found. piece_from found self.now.tcp) result ≡
+            next_piece profile.now self.now }
         ensures places { IfSome result (λ found. found.place + found.count ≤ 2 ^ 62) }
     {
         if self.modes.identity {
@@ -219,7 +223,8 @@ impl PathEnd {
 impl Machine {
     /// The next bytes to be placed at a side.
     fn piece(&self, side: Side) -> Option<InOrder>
-        ensures value { option_map (λ found. piece_from found (end_at side self.now).tcp) result ≡ piece_of side self.now }
+        ensures value { option_map (λ found. piece_from found (end_at side self.now).tcp) result ≡
+            piece_of side self.now }
         ensures places { IfSome result (λ found. found.place + found.count ≤ 2 ^ 62) }
     {
         self.end(side).next_piece(&self.profile)
@@ -242,7 +247,8 @@ impl Machine {
 
     /// What was placed is behind the edge; what the book refuses breaks the path.
     pub(crate) fn answer_piece(&mut self, side: Side, reply: &Reply)
-        ensures { self.new ≡ answered_piece side (piece_of side self.old) (is_placed reply.now) self.old }
+        ensures { self.new ≡
+            answered_piece side (piece_of side self.old) (is_placed reply.now) self.old }
     {
         match self.piece(side) {
             Some(found) => self.answer_found(side, found, reply),
@@ -252,7 +258,9 @@ impl Machine {
 
     /// The same, of these bytes.
     fn answer_found(&mut self, side: Side, found: InOrder, reply: &Reply)
-        ensures { self.new ≡ answered_piece side (Some (piece_from found (end_at side self.old).tcp)) (is_placed reply.now) self.old }
+        ensures { self.new ≡
+            answered_piece side (Some (piece_from found (end_at side self.old).tcp))
+            (is_placed reply.now) self.old }
     {
         if is_placed(reply) {
             self.end_mut(side).place(found);
@@ -263,7 +271,8 @@ impl Machine {
 
     /// Octets with a wrong checksum are forgotten.
     pub(crate) fn check(&mut self, side: Side)
-        ensures { self.new ≡ with_end side (after_check self.old.profile (end_at side self.old)) self.old }
+        ensures { self.new ≡
+            with_end side (after_check self.old.profile (end_at side self.old)) self.old }
     {
         let checksums = self.profile.spelling().checksums;
         self.end_mut(side).check(checksums);

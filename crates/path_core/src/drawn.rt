@@ -1,7 +1,7 @@
 //! What is drawn for a path.
 
 /// The words that are drawn for a path from the script's seed, and the keys of both sides.
-#[derive(Clone, Copy, Debug, PartialEq, Eq)]
+#[derive(Clone, Copy)]
 pub struct Drawn {
     /// The initial sequence number of A's end.
     pub initial_a: u32,

@@ -135,7 +135,8 @@ impl PathEnd {
 impl Machine {
     /// The timer of a side is settled.
     pub(crate) fn settle_timer(&mut self, side: Side)
-        ensures { self.new ≡ with_end side (after_timer self.old.clock (end_at side self.old)) self.old }
+        ensures { self.new ≡
+            with_end side (after_timer self.old.clock (end_at side self.old)) self.old }
     {
         let now = self.clock.now();
         self.end_mut(side).settle_timer(now);
@@ -158,7 +159,8 @@ impl Machine {
 
     /// A record is sent, or bytes are asked for.
     pub(crate) fn data_ask(&self, side: Side) -> Ask
-        ensures value { result ≡ data_ask octets side (first_unsent (end_at side self.now)) self.now }
+        ensures value { result ≡
+            data_ask octets side (first_unsent (end_at side self.now)) self.now }
         ensures able { CanBeAsked result }
     {
         match self.end(side).tcp.first_unsent() {
@@ -180,7 +182,9 @@ impl Machine {
     fn take_grant(&mut self, side: Side, span: Span, piece: &[u8]) -> Result<(), AllocError>
         requires piece { IsSendable piece.now }
         requires may { may_ask self.old.profile side (end_at side self.old) ≡ true }
-        ensures ok { OnOk result (self.new ≡ goes_on side (granted self.old.profile side span piece.now (end_at side self.old)) self.old.agenda self.old) }
+        ensures ok { OnOk result (self.new ≡
+            goes_on side (granted self.old.profile side span piece.now (end_at side self.old))
+            self.old.agenda self.old) }
         ensures err { OnErr result (self.new ≡ self.old) }
     {
         let position = self.end(side).tcp.nxt();
@@ -190,7 +194,8 @@ impl Machine {
 
     /// A grant was refused, which ends the asking.
     fn refuse_grant(&mut self, side: Side, reply: &Reply)
-        ensures { self.new ≡ goes_on side (refused reply.now (end_at side self.old)) (left self.old) self.old }
+        ensures { self.new ≡
+            goes_on side (refused reply.now (end_at side self.old)) (left self.old) self.old }
     {
         self.end_mut(side).refuse_grant(reply);
         self.done();
@@ -200,7 +205,8 @@ impl Machine {
     fn take_grant_reply(&mut self, side: Side, reply: &Reply) -> Result<(), AllocError>
         requires grant { IsGrantSendable (grant_in reply.now) }
         requires may { may_ask self.old.profile side (end_at side self.old) ≡ true }
-        ensures ok { OnOk result (self.new ≡ answered_grant side (grant_in reply.now) reply.now self.old) }
+        ensures ok { OnOk result (self.new ≡
+            answered_grant side (grant_in reply.now) reply.now self.old) }
         ensures err { OnErr result (self.new ≡ self.old) }
         ensures plain { is_some (grant_in reply.now) ≡ false → IsOk result }
     {
@@ -221,9 +227,11 @@ impl Machine {
     pub(crate) fn answer_data(&mut self, side: Side, reply: &Reply) -> Result<(), AllocError>
         requires first { stands (duties.Step (step_duties.Data side)) self.old ≡ true }
         requires grant { IsGrantFit (duties.Step (step_duties.Data side)) reply.now self.old }
-        ensures ok { OnOk result (self.new ≡ answered_data octets side (first_unsent (end_at side self.old)) reply.now self.old) }
+        ensures ok { OnOk result (self.new ≡
+            answered_data octets side (first_unsent (end_at side self.old)) reply.now self.old) }
         ensures err { OnErr result (self.new ≡ self.old) }
-        ensures plain { (is_some (first_unsent (end_at side self.old)) || is_some (grant_in reply.now)) ≡ false → IsOk result }
+        ensures plain { (is_some (first_unsent (end_at side self.old)) || is_some
+            (grant_in reply.now)) ≡ false → IsOk result }
     {
         if self.end(side).tcp.first_unsent().is_some() {
             self.send(side, SegmentKind::Unsent, Occasion::Unsent)

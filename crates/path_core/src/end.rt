@@ -12,7 +12,7 @@ use std::marker::Model;
 use subflow_tcp::Subflow;
 
 /// One end of a path: its subflow, its own stream, the peer's, the mode, the copy that it treats, and what it has to note.
-#[derive(Debug, Drop)]
+#[derive(Drop)]
 pub(crate) struct PathEnd {
     pub tcp: Subflow,
     pub sending: Sending,

@@ -5,7 +5,7 @@ use link_model::Due;
 use outside_kit::Side;
 
 /// What happens on a path by itself, at a tick.
-#[derive(Clone, Copy, Debug, PartialEq, Eq)]
+#[derive(Clone, Copy)]
 pub enum Event {
     /// A joins the path to the connection, at this tick.
     Joins(u64),

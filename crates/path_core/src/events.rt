@@ -77,7 +77,9 @@ fn earlier(first: Option<Event>, second: Option<Event>) -> Option<Event>
 
 /// Each end that wasn't dead leaves.
 fn all_leave(a_is_dead: bool, b_is_dead: bool) -> Agenda
-    ensures { result ≡ (if a_is_dead then [] else duties.Ask (ask_duties.Leave A) ∷ []) ++ ((if b_is_dead then [] else duties.Ask (ask_duties.Leave B) ∷ []) ++ rest_of_turn) }
+    ensures { result ≡
+        (if a_is_dead then [] else duties.Ask (ask_duties.Leave A) ∷ []) ++
+        ((if b_is_dead then [] else duties.Ask (ask_duties.Leave B) ∷ []) ++ rest_of_turn) }
 {
     let (a, b) = (
         Duty::Ask(AskDuty::Leave(Side::A)),
@@ -292,7 +294,8 @@ impl Machine {
 
     /// The earliest event before the round's end happens. At an error all is as it was.
     pub(crate) fn answer_event(&mut self, reply: &Reply) -> Result<(), AllocError>
-        ensures ok { OnOk result (self.new ≡ happens_if octets (next_event self.old) reply.now self.old) }
+        ensures ok { OnOk result (self.new ≡
+            happens_if octets (next_event self.old) reply.now self.old) }
         ensures err { OnErr result (self.new ≡ self.old) }
         ensures plain { event_needs_memory (next_event self.old) ≡ false → IsOk result }
     {

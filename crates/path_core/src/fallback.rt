@@ -103,7 +103,8 @@ impl Machine {
 
     /// The path is broken with this reason.
     fn break_by_verdict(&mut self, side: Side, reason: u8)
-        ensures { self.new ≡ with_agenda (breaks_by (end_at side self.old).treated.asked side reason) self.old }
+        ensures { self.new ≡
+            with_agenda (breaks_by (end_at side self.old).treated.asked side reason) self.old }
     {
         let asked = self.end(side).treated.is_asked();
         self.sets_about(breaks_by(asked, side, reason));

@@ -15,7 +15,7 @@ use std::marker::Model;
 
 /// Pieces in the order in which they were granted. That is the order of their places unless some were granted again after
 /// a path died.
-#[derive(Debug, Drop)]
+#[derive(Drop)]
 pub(crate) struct GrantedPieces {
     pieces: VecDeque<GrantedPiece>,
     /// None of them begins or ends before one that was granted earlier.
@@ -67,7 +67,8 @@ impl GrantedPieces {
 
     /// Takes the last piece away.
     pub fn pop(&mut self)
-        ensures { (before : List GrantedPiece) (last : GrantedPiece) → self.old ≡ before ++ last ∷ [] → self.new ≡ before }
+        ensures { (before : List GrantedPiece) (last : GrantedPiece) → self.old ≡
+            before ++ last ∷ [] → self.new ≡ before }
     {
         self.pieces.pop_back();
     }
@@ -156,7 +157,8 @@ fn is_newly_heard(heard: u64, next: u64, piece: &GrantedPiece) -> bool
 fn is_first_acknowledged(pieces: &VecDeque<GrantedPiece>, heard: u64) -> bool
     requires { Rise pieces.now.items }
     ensures some { IsTrue result → 0 < deque_len pieces.now }
-    ensures more { IsTrue result → filter (is_open heard) (drop 1 pieces.now.items) ≡ filter (is_open heard) pieces.now.items }
+    ensures more { IsTrue result → filter (is_open heard) (drop 1 pieces.now.items) ≡
+        filter (is_open heard) pieces.now.items }
     ensures none { result ≡ false → filter (is_open heard) pieces.now.items ≡ pieces.now.items }
 {
     match pieces.front() {

@@ -106,7 +106,8 @@ impl PathEnd {
 impl Machine {
     /// The segment of this kind that the end of a side sends.
     fn said(&self, side: Side, kind: SegmentKind) -> Said<'_>
-        ensures value { plain_said result ≡ said_by kind self.now.profile side (end_at side self.now) }
+        ensures value { plain_said result ≡
+            said_by kind self.now.profile side (end_at side self.now) }
         ensures can { CanBeSaid self.now.profile.spelling side (plain_said result) }
     {
         self.end(side).said(&self.profile, side, kind)
@@ -114,7 +115,8 @@ impl Machine {
 
     /// The step of a segment that is sent. Takes no memory.
     pub(crate) fn sent_step(&self, side: Side, kind: SegmentKind) -> Ask
-        ensures value { result ≡ sends octets side (said_by kind self.now.profile side (end_at side self.now)) self.now }
+        ensures value { result ≡
+            sends octets side (said_by kind self.now.profile side (end_at side self.now)) self.now }
         ensures able { CanBeAsked result }
     {
         let said = self.said(side, kind);
@@ -128,7 +130,9 @@ impl Machine {
 
     /// The edge of the window that the segment tells.
     pub(crate) fn edge_told(&self, side: Side, kind: SegmentKind) -> u64
-        ensures value { result ≡ edge_told (said_by kind self.now.profile side (end_at side self.now)) (end_at side self.now) }
+        ensures value { result ≡
+            edge_told (said_by kind self.now.profile side (end_at side self.now))
+            (end_at side self.now) }
         ensures bound { result ≤ 2 ^ 62 + 2 ^ 21 }
     {
         self.end(side).edge_told(&self.said(side, kind))
@@ -136,7 +140,9 @@ impl Machine {
 
     /// What the end of a side knows after the segment.
     pub(crate) fn modes_after(&self, side: Side, kind: SegmentKind) -> Modes
-        ensures { result ≡ (with_mapping_told (said_by kind self.now.profile side (end_at side self.now)) (end_at side self.now)).modes }
+        ensures { result ≡
+            (with_mapping_told (said_by kind self.now.profile side (end_at side self.now))
+            (end_at side self.now)).modes }
     {
         self.end(side).modes_after(&self.said(side, kind))
     }
@@ -144,8 +150,11 @@ impl Machine {
     /// The octets of the segment of this kind, which mean that segment.
     #[tactic(auto, using(crate::proofs::SegmentsTold::made_whole))]
     pub(crate) fn octets_of(&self, side: Side, kind: SegmentKind) -> Result<Vec<u8>, AllocError>
-        ensures value { IfOk result (λ text. text.items ≡ made self.now.profile.spelling side (said_by kind self.now.profile side (end_at side self.now))) }
-        ensures whole { IfOk result (λ text. IsOk (segment_meaning (addresses_from (path_of self.now) side) text.items)) }
+        ensures value { IfOk result (λ text. text.items ≡
+            made self.now.profile.spelling side
+            (said_by kind self.now.profile side (end_at side self.now))) }
+        ensures whole { IfOk result (λ text.
+            IsOk (segment_meaning (addresses_from (path_of self.now) side) text.items)) }
     {
         let _path = self.number();
         let said = self.said(side, kind);
@@ -154,7 +163,11 @@ impl Machine {
 
     /// The link takes the segment of this kind. At an error all is as it was.
     pub(crate) fn hand(&mut self, side: Side, kind: SegmentKind) -> Result<(), AllocError>
-        ensures ok { OnOk result (self.new ≡ record self.old { link = handed octets side (said_by kind self.old.profile side (end_at side self.old)) self.old }) }
+        ensures ok { OnOk result (self.new ≡
+            record self.old {
+              link = handed octets side (said_by kind self.old.profile side (end_at side self.old))
+                  self.old;
+            }) }
         ensures err { OnErr result (self.new ≡ self.old) }
     {
         let said = self.said(side, kind);
@@ -167,7 +180,10 @@ impl Machine {
     /// as it was.
     pub(crate) fn inject(&mut self, from: Side, octets: &[u8]) -> Result<(), AllocError>
         requires { is_none (passable self.old) ≡ true }
-        ensures ok { OnOk result (self.new ≡ settles_down (record self.old { link = after_octets from octets.now self.old.clock self.old.link })) }
+        ensures ok { OnOk result (self.new ≡
+            settles_down
+            (record self.old
+            { link = after_octets from octets.now self.old.clock self.old.link })) }
         ensures err { OnErr result (self.new ≡ self.old) }
         ensures rests { is_none (passable self.new) ≡ true }
     {
@@ -178,7 +194,8 @@ impl Machine {
 
     /// The link takes these octets from a side. At an error all is as it was.
     fn add(&mut self, from: Side, octets: &[u8]) -> Result<(), AllocError>
-        ensures ok { OnOk result (self.new ≡ record self.old { link = after_octets from octets.now self.old.clock self.old.link }) }
+        ensures ok { OnOk result (self.new ≡
+            record self.old { link = after_octets from octets.now self.old.clock self.old.link }) }
         ensures err { OnErr result (self.new ≡ self.old) }
     {
         self.link.send(from, octets, self.clock.now())?;
@@ -211,7 +228,8 @@ impl Machine {
         kind: SegmentKind,
         occasion: Occasion,
     ) -> Result<(), AllocError>
-        ensures ok { OnOk result (self.new ≡ with_agenda (left self.old) (sent_kind occasion kind side self.old)) }
+        ensures ok { OnOk result (self.new ≡
+            with_agenda (left self.old) (sent_kind occasion kind side self.old)) }
         ensures err { OnErr result (self.new ≡ self.old) }
     {
         self.send(side, kind, occasion)?;

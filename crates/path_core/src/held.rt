@@ -28,7 +28,8 @@ impl Profile {
         fin: bool,
         checksum: Option<u16>,
     ) -> KeptMapping
-        ensures { result ≡ kept_of self.now side place position length fin (checksum_heard checksum) }
+        ensures { result ≡
+            kept_of self.now side place position length fin (checksum_heard checksum) }
     {
         let bare = self.bare_mapping(peer(side), place, position, length);
         KeptMapping {
@@ -114,7 +115,8 @@ impl Profile {
         side: Side,
         heard: &HeardSegment<'_>,
     ) -> Result<Vec<KeptMapping>, AllocError>
-        ensures value { IfOk result (λ told. told.items ≡ held_of self.now side (heard_value heard.now)) }
+        ensures value { IfOk result (λ told. told.items ≡
+            held_of self.now side (heard_value heard.now)) }
         ensures within { IfOk result (λ told. All IsWithin told.items) }
     {
         let mut told = Vec::new(alloc);

@@ -1,7 +1,7 @@
 //! Bytes that the edge can pass.
 
 /// Bytes that the edge can pass.
-#[derive(Clone, Copy, Debug, PartialEq, Eq)]
+#[derive(Clone, Copy)]
 pub(crate) struct InOrder {
     /// The place of the first one.
     pub place: u64,

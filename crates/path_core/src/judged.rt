@@ -11,7 +11,7 @@ use path_agenda::Heard;
 use subflow_tcp::{Meaning, State};
 
 /// What a copy is to an end. At an end of path 0 it is what it means to the subflow.
-#[derive(Clone, Copy, Debug, PartialEq, Eq)]
+#[derive(Clone, Copy)]
 pub enum Judged {
     /// What it means to the subflow, or less.
     As(Meaning),

@@ -3,7 +3,7 @@
 use outside_kit::Side;
 
 /// A line of the script that is an event of the path.
-#[derive(Clone, Copy, Debug, PartialEq, Eq)]
+#[derive(Clone, Copy)]
 pub struct LineLeft {
     /// Its number among all lines, the first being 0.
     pub number: u32,
@@ -13,7 +13,7 @@ pub struct LineLeft {
 }
 
 /// What happens by a line of the script.
-#[derive(Clone, Copy, Debug, PartialEq, Eq)]
+#[derive(Clone, Copy)]
 pub enum LineAction {
     /// What is under way is lost, and both ends die.
     Die,

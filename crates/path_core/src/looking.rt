@@ -45,7 +45,7 @@ pub struct Arriving<'a> {
 }
 
 /// Which segment the end of a side sends.
-#[derive(Clone, Copy, Debug, PartialEq, Eq)]
+#[derive(Clone, Copy)]
 pub(crate) struct ToSend {
     pub from: Side,
     pub kind: SegmentKind,

@@ -17,7 +17,7 @@ use std::collections::VecDeque;
 use std::marker::Model;
 
 /// The state of a path. Its turn is an agenda of duties; the rules are methods of it, and of its ends.
-#[derive(Debug, Drop)]
+#[derive(Drop)]
 pub(crate) struct Machine {
     pub(crate) alloc: Global,
     pub(crate) profile: Profile,

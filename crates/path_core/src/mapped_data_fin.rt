@@ -8,7 +8,7 @@ use dss_mapping::KeptMapping;
 use seq_units::Pos;
 
 /// A DATA_FIN behind the bytes of a mapping (RFC 8684, section 3.3.3).
-#[derive(Clone, Copy, Debug, PartialEq, Eq)]
+#[derive(Clone, Copy)]
 pub struct MappedDataFin {
     /// The position behind those bytes.
     pub position: Pos,

@@ -5,7 +5,7 @@ ghost use Rattle.std.specs.Prelude.{◌≡◌};
 use fallback_state::Mode;
 
 /// What an end knows of its side, and of the keys.
-#[derive(Clone, Copy, Debug, PartialEq, Eq)]
+#[derive(Clone, Copy)]
 pub struct Modes {
     /// The side's mode, as the end was told last.
     pub mode: Mode,

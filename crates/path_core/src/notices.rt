@@ -9,7 +9,7 @@ use std::collections::VecDeque;
 use std::marker::Model;
 
 /// What an end has to tell its peer beside its streams, or to do.
-#[derive(Debug, Drop)]
+#[derive(Drop)]
 pub(crate) struct Notices {
     /// What is to be noted to the peer, in its order.
     queue: VecDeque<OwnNotice>,

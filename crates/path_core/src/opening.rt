@@ -122,7 +122,8 @@ impl Machine {
 
     /// The peer's key is told, or that there is none.
     pub(crate) fn peer_key_ask(&self, side: Side) -> Ask
-        ensures value { result ≡ peer_key_ask side (key_heard (end_at side self.now).treated.items) self.now }
+        ensures value { result ≡
+            peer_key_ask side (key_heard (end_at side self.now).treated.items) self.now }
         ensures able { CanBeAsked result }
     {
         match self.end(side).treated.key_heard() {
@@ -133,7 +134,9 @@ impl Machine {
 
     /// That was told.
     pub(crate) fn answer_peer_key(&mut self, side: Side, reply: &Reply)
-        ensures { self.new ≡ answered_peer_key side (key_heard (end_at side self.old).treated.items) reply.now self.old }
+        ensures { self.new ≡
+            answered_peer_key side (key_heard (end_at side self.old).treated.items) reply.now
+            self.old }
     {
         match self.end(side).treated.key_heard() {
             Some(key) => {
@@ -146,7 +149,8 @@ impl Machine {
 
     /// Both keys are told, or that no option came.
     pub(crate) fn opened_ask(&self, side: Side) -> Ask
-        ensures value { result ≡ opened_ask side (keys_heard (end_at side self.now).treated.items) self.now }
+        ensures value { result ≡
+            opened_ask side (keys_heard (end_at side self.now).treated.items) self.now }
         ensures able { CanBeAsked result }
     {
         match self.end(side).treated.keys_heard() {
@@ -157,7 +161,9 @@ impl Machine {
 
     /// That was told.
     pub(crate) fn answer_opened(&mut self, side: Side, reply: &Reply)
-        ensures { self.new ≡ answered_opened side (keys_heard (end_at side self.old).treated.items) reply.now self.old }
+        ensures { self.new ≡
+            answered_opened side (keys_heard (end_at side self.old).treated.items) reply.now
+            self.old }
     {
         match self.end(side).treated.keys_heard() {
             Some(keys) => {

@@ -215,8 +215,10 @@ fn put_removed(items: &mut Items, ids: &[u8])
 
 /// What a DSS says.
 fn put_dss(items: &mut Items, next: Option<Option<u64>>, window: u32, mapping: Option<HeardMapping>)
-    requires { length items.old.items + (1 + (length (ack_items next window) + length (map_items mapping))) ≤ 37 }
-    ensures { items.new.items ≡ items.old.items ++ says.Dss ∷ (ack_items next window ++ map_items mapping) }
+    requires { length items.old.items +
+        (1 + (length (ack_items next window) + length (map_items mapping))) ≤ 37 }
+    ensures { items.new.items ≡
+        items.old.items ++ says.Dss ∷ (ack_items next window ++ map_items mapping) }
 {
     put(items, Heard::Dss);
     put_ack(items, next, window);
@@ -225,8 +227,10 @@ fn put_dss(items: &mut Items, next: Option<Option<u64>>, window: u32, mapping: O
 
 /// What one option says; MP_CAPABLE says nothing on a path that joins.
 fn put_option(items: &mut Items, joined: bool, side: Side, window: u32, option: &HeardOption<'_>)
-    requires { length items.old.items + length (items_in joined side window (heard_plain option.now)) ≤ 37 }
-    ensures { items.new.items ≡ items.old.items ++ items_in joined side window (heard_plain option.now) }
+    requires { length items.old.items + length
+        (items_in joined side window (heard_plain option.now)) ≤ 37 }
+    ensures { items.new.items ≡
+        items.old.items ++ items_in joined side window (heard_plain option.now) }
 {
     match *option {
         PathOption::Capable { keys, .. } => {
@@ -275,7 +279,9 @@ fn without_options<'a>(heard: &HeardSegment<'a>) -> HeardSegment<'a>
 
 /// What an end hears of a segment; after a fallback no option (RFC 8684, section 3.7).
 pub(crate) fn options_heard<'a>(identity: bool, heard: &HeardSegment<'a>) -> HeardSegment<'a>
-    ensures { heard_value result ≡ record (heard_value heard.now) { options = (if identity then [] else (heard_value heard.now).options) } }
+    ensures { heard_value result ≡
+        record (heard_value heard.now)
+        { options = (if identity then [] else (heard_value heard.now).options) } }
 {
     if identity {
         without_options(heard)

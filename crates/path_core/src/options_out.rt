@@ -237,7 +237,8 @@ impl PathEnd {
 
     /// Before A may send a DSS it shows both keys; B says nothing before it has them.
     fn key_option(&self, profile: &Profile, side: Side) -> Option<Saying>
-        ensures value { options_by result ≡ key_options profile.now side self.now.modes.peer_key self.now }
+        ensures value { options_by result ≡
+            key_options profile.now side self.now.modes.peer_key self.now }
     {
         match (side, self.modes.peer_key) {
             (Side::A, Some(receiver)) => Some(profile.capable(CapableKeys::Both {
@@ -277,7 +278,8 @@ impl PathEnd {
 
     /// A's first piece carries both keys, until A may send a DSS.
     fn first_piece_option(&self, profile: &Profile, lent: &RecordRef<'_>) -> Option<Saying>
-        ensures value { options_by result ≡ first_piece_options profile.now self.now.modes.peer_key (record_of lent.now) self.now }
+        ensures value { options_by result ≡
+            first_piece_options profile.now self.now.modes.peer_key (record_of lent.now) self.now }
     {
         let receiver = self.modes.peer_key?;
         Some(profile.capable(CapableKeys::WithData {
@@ -290,7 +292,8 @@ impl PathEnd {
 
     /// On data.
     fn piece_option(&self, profile: &Profile, side: Side, lent: &RecordRef<'_>) -> Option<Saying>
-        ensures value { options_by result ≡ piece_options profile.now side (record_of lent.now) self.now }
+        ensures value { options_by result ≡
+            piece_options profile.now side (record_of lent.now) self.now }
     {
         if self.modes.identity {
             return self.plain_option(lent.pos);
@@ -319,7 +322,8 @@ impl PathEnd {
 
     /// On a record.
     fn record_option(&self, profile: &Profile, side: Side, lent: &RecordRef<'_>) -> Option<Saying>
-        ensures value { options_by result ≡ record_options lent.now.kind profile.now side (record_of lent.now) self.now }
+        ensures value { options_by result ≡
+            record_options lent.now.kind profile.now side (record_of lent.now) self.now }
     {
         match lent.kind {
             RecordKind::Syn => self.syn_option(profile, side),
@@ -336,7 +340,8 @@ impl PathEnd {
         options: SaidOptions,
         payload: &'a [u8],
     ) -> Said<'a>
-        ensures { plain_said result ≡ segment_of profile.now outgoing (said_options options) payload.now self.now }
+        ensures { plain_said result ≡
+            segment_of profile.now outgoing (said_options options) payload.now self.now }
     {
         Said {
             outgoing,
@@ -373,7 +378,8 @@ impl PathEnd {
         lent: Option<RecordRef<'a>>,
     ) -> Said<'a>
         requires { IfSome lent (λ lent. length lent.piece.now ≤ 65475) }
-        ensures { plain_said result ≡ record_or_ack profile.now side (option_map record_of lent.entry) self.now }
+        ensures { plain_said result ≡
+            record_or_ack profile.now side (option_map record_of lent.entry) self.now }
     {
         match lent {
             Some(lent) => self.record_said(profile, side, &lent),
@@ -448,7 +454,8 @@ impl PathEnd {
 
     /// The acknowledgement with the first of what is to be noted; without one an acknowledgement.
     fn noted_said(&self, profile: &Profile, side: Side) -> Said<'_>
-        ensures { plain_said result ≡ noted_said profile.now side (first_of self.now.notices.queue) self.now }
+        ensures { plain_said result ≡
+            noted_said profile.now side (first_of self.now.notices.queue) self.now }
     {
         match self.notices.first() {
             Some(notice) => self.dss_and(profile, self.modes.notice_option(notice)),
@@ -458,7 +465,8 @@ impl PathEnd {
 
     /// The acknowledgement with MP_FASTCLOSE, as the end carries it; without a key an acknowledgement.
     fn carried_said(&self, profile: &Profile, side: Side) -> Said<'_>
-        ensures { plain_said result ≡ carried_said profile.now side self.now.notices.carrier self.now }
+        ensures { plain_said result ≡
+            carried_said profile.now side self.now.notices.carrier self.now }
     {
         match self.notices.carrier() {
             Some(key) => self.dss_and(profile, PathOption::FastClose { key }),

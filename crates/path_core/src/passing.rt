@@ -178,7 +178,8 @@ impl Machine {
 
     /// The window before the growth and the round-trip time are told.
     pub(crate) fn rate_ask(&self, side: Side) -> Ask
-        ensures value { result ≡ rate_ask side (end_at side self.now).tcp.congestion.pending self.now }
+        ensures value { result ≡
+            rate_ask side (end_at side self.now).tcp.congestion.pending self.now }
         ensures able { CanBeAsked result }
     {
         match self.end(side).tcp.pending() {

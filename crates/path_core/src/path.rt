@@ -24,7 +24,7 @@ use std::marker::Model;
 
 /// A path of a connection. Its turn is an agenda of duties, the first of which comes to something: to an ask, or to a
 /// segment. A segment is on its way for a tick or longer, and so a timeout is.
-#[derive(Debug, Drop)]
+#[derive(Drop)]
 pub struct Path {
     machine: Machine,
 }
@@ -151,7 +151,8 @@ impl Path {
         requires { TakesReply (asks_of octets self.old) reply.now }
         ensures ok { OnOk result (self.new ≡ takes octets reply.now self.old) }
         ensures err { OnErr result (self.new ≡ self.old) }
-        ensures plain { needs_memory_first self.old.agenda reply.now self.old ≡ false → IsOk result }
+        ensures plain { needs_memory_first self.old.agenda reply.now self.old ≡ false →
+            IsOk result }
     {
         let taken = self.machine.take(reply);
         self.machine.takes_time();
@@ -176,7 +177,10 @@ impl Path {
     ///
     /// Only where there is no memory for the copies; the path is then as it was.
     pub fn inject(&mut self, from: Side, octets: &[u8]) -> Result<(), AllocError>
-        ensures ok { OnOk result (self.new ≡ settles_down (record self.old { link = after_octets from octets.now self.old.clock self.old.link })) }
+        ensures ok { OnOk result (self.new ≡
+            settles_down
+            (record self.old
+            { link = after_octets from octets.now self.old.clock self.old.link })) }
         ensures err { OnErr result (self.new ≡ self.old) }
     {
         let taken = self.machine.inject(from, octets);

@@ -9,7 +9,7 @@ use path_segments::Spelling;
 use std::marker::Model;
 
 /// What never changes at a path.
-#[derive(Debug, Drop)]
+#[derive(Drop)]
 pub(crate) struct Profile {
     /// Octets of the maximum segment size.
     mss: u16,
@@ -27,9 +27,11 @@ impl Model for Profile {
 
     ghost Value = { Profile };
 
-    ghost view = { λ c. record { mss = c.mss; buffer = c.buffer; backup = c.backup; spelling = c.spelling } };
+    ghost view = { λ c.
+        record { mss = c.mss; buffer = c.buffer; backup = c.backup; spelling = c.spelling } };
 
-    ghost invariant = { λ c. (200 ≤ c.mss) × (c.mss ≤ 1460) × (c.buffer ≤ 2 ^ 20) × (c.spelling.path ≤ 15) };
+    ghost invariant = { λ c. (200 ≤ c.mss) × (c.mss ≤ 1460) × (c.buffer ≤ 2 ^ 20) ×
+        (c.spelling.path ≤ 15) };
 }
 
 impl Profile {
@@ -41,7 +43,8 @@ impl Profile {
         requires most { mss ≤ 1460 }
         requires buffer { buffer ≤ 1048576 }
         requires path { spelling.path ≤ 15 }
-        ensures { result ≡ record { mss = mss; buffer = buffer; backup = backup; spelling = spelling } }
+        ensures { result ≡
+            record { mss = mss; buffer = buffer; backup = backup; spelling = spelling } }
     {
         Profile {
             mss,

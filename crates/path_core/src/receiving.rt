@@ -11,7 +11,7 @@ use std::alloc::Global;
 use std::marker::Model;
 
 /// What an end keeps of the peer's stream. Windows are at most 2^20 octets, and places at most 2^62 + 2^20.
-#[derive(Debug, Drop)]
+#[derive(Drop)]
 pub(crate) struct Receiving {
     /// What is to be acknowledged, as the book told it last.
     next: u64,
@@ -106,7 +106,9 @@ impl Receiving {
 
     /// How often the byte at this position would have been the next one without a mapping, this time among them.
     pub fn times_unmapped(&self, edge: Pos) -> u64
-        ensures { result ≡ (if self.now.receiving.unmapped_at == edge then one_more self.now.receiving.unmapped else 1) }
+        ensures { result ≡
+            (if self.now.receiving.unmapped_at == edge then one_more self.now.receiving.unmapped
+            else 1) }
     {
         if self.unmapped_at == edge {
             one_more(self.unmapped)
@@ -117,7 +119,9 @@ impl Receiving {
 
     /// So often it was.
     pub fn note_unmapped(&mut self, times: u64, edge: Pos)
-        ensures { self.new ≡ record self.old { receiving = record self.old.receiving { unmapped = times; unmapped_at = edge } } }
+        ensures { self.new ≡
+            record self.old
+            { receiving = record self.old.receiving { unmapped = times; unmapped_at = edge } } }
     {
         self.unmapped = times;
         self.unmapped_at = edge;
@@ -132,14 +136,21 @@ impl Receiving {
 
     /// It was.
     pub fn fin_is_told(&mut self)
-        ensures { self.new ≡ record self.old { receiving = record self.old.receiving { fin_told = true } } }
+        ensures { self.new ≡
+            record self.old { receiving = record self.old.receiving { fin_told = true } } }
     {
         self.fin_told = true;
     }
 
     /// The first mapping that is held is learned; a DATA_FIN behind its bytes waits for the edge. Takes no memory.
     pub fn learn_held(&mut self)
-        ensures { self.new.receiving ≡ record self.old.receiving { mappings = after_learn_held self.old.receiving.mappings; mapped_data_fin = data_fin_behind (first_held self.old.receiving.mappings) self.old.receiving.mapped_data_fin } }
+        ensures { self.new.receiving ≡
+            record self.old.receiving {
+              mappings = after_learn_held self.old.receiving.mappings;
+              mapped_data_fin =
+                  data_fin_behind (first_held self.old.receiving.mappings)
+                  self.old.receiving.mapped_data_fin;
+            } }
     {
         self.mapped_data_fin = data_fin_behind(self.mappings.first_held(), self.mapped_data_fin);
         self.mappings.learn_held();
@@ -148,7 +159,14 @@ impl Receiving {
     /// The DATA_FIN behind bytes whose end this edge reached. It waits no more.
     pub fn take_reached(&mut self, edge: Pos) -> Option<u64>
         ensures value { result ≡ data_fin_reached self.old.receiving.mapped_data_fin edge }
-        ensures after { self.new ≡ record self.old { receiving = record self.old.receiving { mapped_data_fin = (if is_some (data_fin_reached self.old.receiving.mapped_data_fin edge) then None else self.old.receiving.mapped_data_fin) } } }
+        ensures after { self.new ≡
+            record self.old {
+              receiving = record self.old.receiving {
+                mapped_data_fin =
+                    (if is_some (data_fin_reached self.old.receiving.mapped_data_fin edge) then None else
+                    self.old.receiving.mapped_data_fin);
+              };
+            } }
         ensures bound { IfSome result (λ place. place ≤ 2 ^ 62) }
     {
         match self.mapped_data_fin {
@@ -163,7 +181,8 @@ impl Receiving {
     /// A segment told this edge.
     pub fn tell_edge(&mut self, edge: u64)
         requires { edge ≤ 2 ^ 62 + 2 ^ 21 }
-        ensures { self.new ≡ record self.old { receiving = record self.old.receiving { told_edge = edge } } }
+        ensures { self.new ≡
+            record self.old { receiving = record self.old.receiving { told_edge = edge } } }
     {
         self.told_edge = edge;
     }
@@ -172,7 +191,9 @@ impl Receiving {
     pub fn tell_window(&mut self, next: u64, window: u32)
         requires next { next ≤ 2 ^ 62 + 2 ^ 20 }
         requires window { window ≤ 2 ^ 20 }
-        ensures { self.new ≡ record self.old { receiving = record self.old.receiving { next = next; window = window } } }
+        ensures { self.new ≡
+            record self.old
+            { receiving = record self.old.receiving { next = next; window = window } } }
     {
         self.next = next;
         self.window = window;

@@ -14,7 +14,7 @@ use subflow_tcp::Outgoing;
 pub(crate) type Saying = PathOption<u64, [u8; 1]>;
 
 /// The options of Multipath TCP that a segment says, in their order: two at most, which have room in forty octets.
-#[derive(Clone, Copy, Debug)]
+#[derive(Clone, Copy)]
 pub(crate) enum SaidOptions {
     Nothing,
     One(Saying),
@@ -34,7 +34,7 @@ impl SaidOptions {
 }
 
 /// A segment that an end is to send.
-#[derive(Clone, Copy, Debug)]
+#[derive(Clone, Copy)]
 pub(crate) struct Said<'a> {
     /// Its position, what it acknowledges, and its flags.
     pub outgoing: Outgoing,
@@ -91,7 +91,8 @@ impl<'a> Said<'a> {
         side: Side,
     ) -> Result<Vec<u8>, AllocError>
         requires { CanBeSaid spelling.now side (plain_said self.now) }
-        ensures { IfOk result (λ octets. octets.items ≡ made spelling.now side (plain_said self.now)) }
+        ensures { IfOk result (λ octets. octets.items ≡
+            made spelling.now side (plain_said self.now)) }
     {
         let from = spelled_by(side);
         match &self.options {

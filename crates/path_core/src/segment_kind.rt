@@ -1,7 +1,7 @@
 //! Which segments an end sends.
 
 /// Which segment an end sends.
-#[derive(Clone, Copy, Debug, PartialEq, Eq)]
+#[derive(Clone, Copy)]
 pub(crate) enum SegmentKind {
     /// An acknowledgement.
     Ack,

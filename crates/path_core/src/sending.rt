@@ -13,7 +13,7 @@ use std::alloc::{AllocError, Global};
 use std::marker::Model;
 
 /// What an end keeps of its side's own stream.
-#[derive(Debug, Drop)]
+#[derive(Drop)]
 pub(crate) struct Sending {
     /// How many bytes there are in all, once a refused grant told it.
     known_end: Option<u64>,
@@ -132,7 +132,9 @@ impl Sending {
 
     /// The DATA_FIN is to be sent: the end is known, and it was neither sent nor acknowledged.
     pub fn is_data_fin_due(&self) -> bool
-        ensures { result ≡ (is_some self.now.known_end && (not self.now.fin_sent && not self.now.close.own_acked)) }
+        ensures { result ≡
+            (is_some self.now.known_end &&
+            (not self.now.fin_sent && not self.now.close.own_acked)) }
     {
         self.known_end.is_some() && !self.fin_sent && !self.close.own_acked
     }
@@ -182,7 +184,8 @@ impl Sending {
 
     /// This piece is granted. At an error all is as it was.
     pub fn push_granted(&mut self, piece: GrantedPiece) -> Result<(), AllocError>
-        ensures ok { OnOk result (self.new ≡ record self.old { granted = self.old.granted ++ piece ∷ [] }) }
+        ensures ok { OnOk result (self.new ≡
+            record self.old { granted = self.old.granted ++ piece ∷ [] }) }
         ensures err { OnErr result (self.new ≡ self.old) }
     {
         self.granted.push(piece)?;

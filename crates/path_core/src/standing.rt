@@ -71,7 +71,8 @@ impl PathEnd {
 
     /// What the side has to note by this path is kept; a dead end does nothing with it. At an error all is as it was.
     fn take_notice_reply(&mut self, reply: &Reply) -> Result<(), AllocError>
-        ensures ok { OnOk result (self.new ≡ record self.old { notices = notices_told reply.now self.old }) }
+        ensures ok { OnOk result (self.new ≡
+            record self.old { notices = notices_told reply.now self.old }) }
         ensures err { OnErr result (self.new ≡ self.old) }
         ensures plain { queues_in reply.now self.old ≡ false → IsOk result }
     {

@@ -61,7 +61,8 @@ impl Machine {
         requires first { stands (duties.Step duty) self.old ≡ true }
         requires grant { IsGrantFit (duties.Step duty) reply.now self.old }
         requires acks { IsAckBounded reply.now }
-        ensures ok { OnOk result (self.new ≡ answered octets (duties.Step duty) reply.now self.old) }
+        ensures ok { OnOk result (self.new ≡
+            answered octets (duties.Step duty) reply.now self.old) }
         ensures err { OnErr result (self.new ≡ self.old) }
         ensures plain { needs_memory (duties.Step duty) reply.now self.old ≡ false → IsOk result }
     {

@@ -54,7 +54,8 @@ impl Machine {
         requires first { is_none (passable self.old) ≡ true }
         ensures ok { OnOk result (self.new ≡ answers octets self.old.agenda reply.now self.old) }
         ensures err { OnErr result (self.new ≡ self.old) }
-        ensures plain { needs_memory_first self.old.agenda reply.now self.old ≡ false → IsOk result }
+        ensures plain { needs_memory_first self.old.agenda reply.now self.old ≡ false →
+            IsOk result }
     {
         let _mss = self.profile.mss();
         match self.agenda.first() {
@@ -70,7 +71,8 @@ impl Machine {
         requires first { is_none (passable self.old) ≡ true }
         ensures ok { OnOk result (self.new ≡ takes octets reply.now self.old) }
         ensures err { OnErr result (self.new ≡ self.old) }
-        ensures plain { needs_memory_first self.old.agenda reply.now self.old ≡ false → IsOk result }
+        ensures plain { needs_memory_first self.old.agenda reply.now self.old ≡ false →
+            IsOk result }
         ensures rests { is_none (passable self.new) ≡ true }
     {
         self.answer_first(reply)?;

@@ -12,7 +12,7 @@ use subflow_tcp::Outgoing;
 
 /// What the last copy said, as far as it is still to be treated. Its payload and its mappings wait beside what they are
 /// to be put to.
-#[derive(Debug, Drop)]
+#[derive(Drop)]
 pub(crate) struct Treated {
     /// What its options say, in their order.
     items: Items,
@@ -63,7 +63,8 @@ impl Model for Treated {
     ghost use Rattle.std.specs.Prelude.{◌^◌, ◌≤◌, All};
     ghost use Rattle.path_agenda.specs.Items.{IsFair};
 
-    ghost invariant = { λ t. All IsFair t.items.items × All (λ place. place ≤ 2 ^ 62) t.fins.items × (t.acknowledged ≤ 2 ^ 62) };
+    ghost invariant = { λ t. All IsFair t.items.items × All (λ place. place ≤ 2 ^ 62) t.fins.items ×
+        (t.acknowledged ≤ 2 ^ 62) };
 }
 
 impl Treated {
@@ -93,7 +94,14 @@ impl Treated {
     /// What the copy said, with the answer to it and the window that it told, is to be treated.
     pub fn of(items: Items, opened: bool, has_option: bool, answer: Outgoing, window: u32) -> Self
         requires { All IsFair items.items }
-        ensures { result ≡ record nothing_treated { items = items.items; opened = opened; has_option = has_option; answer = Some answer; window = window } }
+        ensures { result ≡
+            record nothing_treated {
+              items = items.items;
+              opened = opened;
+              has_option = has_option;
+              answer = Some answer;
+              window = window;
+            } }
     {
         Treated {
             items,
@@ -122,7 +130,8 @@ impl Treated {
     /// It acknowledges this position, at most 2^62, and has the octet at this receive edge, or not.
     pub fn note_positions(&mut self, acknowledged: Pos, held_edge: Option<Pos>)
         requires { acknowledged ≤ 2 ^ 62 }
-        ensures { self.new ≡ record self.old { acknowledged = acknowledged; held_edge = held_edge } }
+        ensures { self.new ≡
+            record self.old { acknowledged = acknowledged; held_edge = held_edge } }
     {
         self.acknowledged = acknowledged;
         self.held_edge = held_edge;

@@ -69,10 +69,7 @@ impl PathEnd {
     {
         let starting = self.modes.mode == Mode::Starting;
         match item {
-            Heard::Dss
-            | Heard::PeerKey { .. }
-            | Heard::Join { .. }
-            | Heard::Fail => false,
+            Heard::Dss | Heard::PeerKey { .. } | Heard::Join { .. } | Heard::Fail => false,
             Heard::DataAck { .. } => true,
             Heard::Notice { .. } => true,
             Heard::FastClose { .. } => true,
@@ -124,7 +121,8 @@ impl PathEnd {
 
     /// The first mapping that is held is learned where it counts, and is held no longer.
     fn pass_mapping(&mut self)
-        ensures { self.new ≡ (if counts self.old then with_learned self.old else with_skipped self.old) }
+        ensures { self.new ≡
+            (if counts self.old then with_learned self.old else with_skipped self.old) }
     {
         if self.counts() {
             self.receiving.learn_held();
@@ -253,10 +251,9 @@ impl Machine {
             Heard::DataFin { .. } => self.fell_ask(side, Event::MappingHeard),
             Heard::InfiniteMapping { .. } => self.fell_ask(side, Event::InfiniteHeard),
             Heard::Keys { own, peer } => keys_ask(side, Some(KeyPair { own, peer })),
-            Heard::Dss
-            | Heard::PeerKey { .. }
-            | Heard::Join { .. }
-            | Heard::Fail => Ask::Local(LocalStep::End),
+            Heard::Dss | Heard::PeerKey { .. } | Heard::Join { .. } | Heard::Fail => Ask::Local(
+                LocalStep::End,
+            ),
             Heard::Notice { notice } => self.notice_ask(side, notice),
             Heard::FastClose { key } => fast_heard_ask(side, key),
         }
@@ -264,7 +261,8 @@ impl Machine {
 
     /// What the thing of this number asks.
     pub(crate) fn item_ask(&self, side: Side, index: u64) -> Ask
-        ensures value { result ≡ item_ask octets side (item_of index (end_at side self.now)) self.now }
+        ensures value { result ≡
+            item_ask octets side (item_of index (end_at side self.now)) self.now }
         ensures able { CanBeAsked result }
     {
         match self.end(side).item(index) {
@@ -305,7 +303,10 @@ impl Machine {
     /// The end of the stream is told later.
     fn answer_data_fin(&mut self, side: Side, place: u64, reply: &Reply)
         requires { place ≤ 2 ^ 62 }
-        ensures { self.new ≡ goes_on side (with_data_fin place (after_fell events.MappingHeard reply.now (end_at side self.old))) (fell_duties side reply.now self.old) self.old }
+        ensures { self.new ≡
+            goes_on side
+            (with_data_fin place (after_fell events.MappingHeard reply.now (end_at side self.old)))
+            (fell_duties side reply.now self.old) self.old }
     {
         self.end_mut(side)
             .take_fell_reply(Event::MappingHeard, reply);
@@ -315,7 +316,9 @@ impl Machine {
 
     /// Both keys were told.
     fn answer_keys(&mut self, side: Side, keys: KeyPair, reply: &Reply)
-        ensures { self.new ≡ goes_on side (after_keys reply.now (Some keys) (end_at side self.old)) (left self.old) self.old }
+        ensures { self.new ≡
+            goes_on side (after_keys reply.now (Some keys) (end_at side self.old)) (left self.old)
+            self.old }
     {
         self.end_mut(side).take_keys_reply(reply, Some(keys));
         self.done();
@@ -366,7 +369,8 @@ impl Machine {
         reply: &Reply,
     ) -> Result<(), AllocError>
         requires { IsAckBounded reply.now }
-        ensures ok { OnOk result (self.new ≡ answered_item octets side (item_of index (end_at side self.old)) reply.now self.old) }
+        ensures ok { OnOk result (self.new ≡
+            answered_item octets side (item_of index (end_at side self.old)) reply.now self.old) }
         ensures err { OnErr result (self.new ≡ self.old) }
     {
         match self.end(side).item(index) {
@@ -380,7 +384,10 @@ impl Machine {
 
     /// The thing of this number is passed in silence.
     pub(crate) fn pass_item(&mut self, side: Side, index: u64)
-        ensures { self.new ≡ with_end side (item_passed side (item_of index (end_at side self.old)) (end_at side self.old)) self.old }
+        ensures { self.new ≡
+            with_end side
+            (item_passed side (item_of index (end_at side self.old)) (end_at side self.old))
+            self.old }
     {
         self.end_mut(side).pass_item(side, index);
     }

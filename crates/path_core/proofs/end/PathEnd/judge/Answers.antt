@@ -16,9 +16,9 @@ returns-clause-taken c =
     ∙ ap (λ (arrived : Copy). meaning_of arrived c.self.inside.tcp) c.arriving_of.ensures
     ∙ ap (λ (e : PathEnd). meaning_of copy e.tcp) c.self.view_is in
     subst (λ (verdict : Judged). IsTakenAs (taken_as verdict) copy c.args.self.now.tcp) (sym c.judged_of.ensures)
-    (judged_taken c.args.heard.now.rst c.as_slice.result.now c.args.self.now (λ m. IsTakenAs m copy c.args.self.now.tcp) (inl refl) c.args.joined c.meaning-meaning.result (inr means))
+    (judged_taken c.args.heard.now.rst c.args.items.now c.args.self.now (λ m. IsTakenAs m copy c.args.self.now.tcp) (inl refl) c.args.joined c.meaning-meaning.result (inr means))
 
 pub returns-clause-below : goal.returns-clause-below
 returns-clause-below c =
     subst (λ (verdict : Judged). IsBelow (taken_as verdict)) (sym c.judged_of.ensures)
-    (judged_taken c.args.heard.now.rst c.as_slice.result.now c.args.self.now IsBelow tt c.args.joined c.meaning-meaning.result c.meaning-meaning.ensures.below)
+    (judged_taken c.args.heard.now.rst c.args.items.now c.args.self.now IsBelow tt c.args.joined c.meaning-meaning.result c.meaning-meaning.ensures.below)
