@@ -714,7 +714,7 @@ module _ (key_a key_b : ℕ) where
       }
       by false over keys = h
 
-  turn_met : (turn : Turn) (w : WorldState Carried) → WorldMet w → WorldMet (after_turn values turn w)
+  pub turn_met : (turn : Turn) (w : WorldState Carried) → WorldMet w → WorldMet (after_turn values turn w)
   turn_met (Turn.Step actor) w h = step_met actor w h
   turn_met Turn.Round w h = round_met w h
 
