@@ -350,4 +350,4 @@ made_whole spelling path s segment same can =
     let reads : segment_meaning addresses (made spelling s segment) ≡ Ok (spelled spelling (spelled_by s) segment) =
     segment_meaning-written addresses (spelled spelling (spelled_by s) segment) (four spelling.path (spelled_by s)) (four spelling.path (peer_of (spelled_by s))) (written spelling (spelled_by s) segment can) in
     subst (λ a. IsOk (segment_meaning a (made spelling s segment))) (same_addresses spelling.path s ∙ ap (λ n. addresses_from n s) same)
-    (subst (λ r. IsOk r) (sym reads) tt)
+    (subst (λ r. IsOk r) (sym reads) refl)

@@ -1,5 +1,5 @@
 -- The sets of ids that a control book keeps have 256 members each: so each id that it tells is below 256.
-use Rattle.std.proofs.Common.{◌≡◌, refl, ◌∙◌, ℕ, zero, suc, ◌<◌, Bool, true, false, if◌then◌else◌, List, [], ◌∷◌, length, Option, Some, None, set, arith}
+use Rattle.std.proofs.Common.{◌≡◌, refl, ◌∙◌, ap, ℕ, zero, suc, ◌<◌, Bool, true, false, if◌then◌else◌, List, [], ◌∷◌, length, Option, Some, None, set, arith}
 use Rattle.std.specs.Prelude.{not, ◌&&◌, ◌==◌, fold, replicate, slice_set}
 use Rattle.std.specs.Option.{IfSome}
 use Rattle.std.proofs.lemmas.List.{length-set, length-replicate}
@@ -101,7 +101,7 @@ call_fits c (call.Rate path window rtt) h = record { due = h.due; withdrawals = 
 call_fits c (call.Announce id) h = record { due = length-set c.addresses.due id true ∙ h.due; withdrawals = h.withdrawals }
 call_fits c (call.Withdraw id) h = either _ _ _ (record { due = h.due; withdrawals = each_fits id c.paths every_path c.notices.withdrawals h.withdrawals }) h
 call_fits c (call.Heard id address port hmac) h =
-    record { due = heard_due (is_right id address port hmac c) id address c.addresses ∙ h.due; withdrawals = h.withdrawals }
+    record { due = ap length (heard_due (is_right id address port hmac c) id address c.addresses) ∙ h.due; withdrawals = h.withdrawals }
 call_fits c (call.Echoed id) h = either _ _ _ (record { due = length-set c.addresses.due id false ∙ h.due; withdrawals = h.withdrawals }) h
 call_fits c (call.Removed id) h = either _ _ _ (record { due = length-set c.addresses.due id false ∙ h.due; withdrawals = h.withdrawals }) h
 call_fits c call.FastClose h = record { due = h.due; withdrawals = h.withdrawals }

@@ -27,6 +27,7 @@ use Rattle.fallback_state.specs.declared.fall.Mode.TheVariants as modes
 use Rattle.fallback_state.specs.declared.fall.Verdict.{Verdict}
 use Rattle.fallback_state.specs.Modes.{is_starting, is_identity, reads_mappings, writes_mappings, receiving}
 use Rattle.fallback_state.specs.Table.{after_sure_sign, after_plain, after_infinite, is_failed_path, goes, stays, breaks, fall_step}
+use Rattle.control_book.specs.SameAddress.{is_same}
 use Rattle.control_book.specs.Replies as control
 use Rattle.control_book.specs.Steps as controlling
 use Rattle.fallback_state.specs.declared.fall.Event.TheVariants as events
@@ -298,7 +299,7 @@ fast_untold test stopped other key c = by (key == c.keys.own)
 address_untold : (test : Reply → Bool) → test (replies.Control control_replies.Echo) ≡ false → test (replies.Control control_replies.Known) ≡ false
     → test (replies.Control control_replies.BadHmac) ≡ false → (id : ℕ) (address : Address) (port hmac : ℕ) (c : Control)
     → test (replies.Control (control.address_reply id address port hmac c)) ≡ false
-address_untold test echo known bad id address port hmac c = by (heard_reply control.is_same id address (control.is_right id address port hmac c) c.addresses)
+address_untold test echo known bad id address port hmac c = by (heard_reply is_same id address (control.is_right id address port hmac c) c.addresses)
   where
     by : (said : AddressHeard) → test (replies.Control (control.told_heard said)) ≡ false
     by address_said.Echo = echo
@@ -354,8 +355,8 @@ module _ (k : Secrets) (right : Bool) (w : Side → Type 0) (did : Deed → Side
       (is ∙ ap (λ o. add_addr64_of (peer_or_zero o) (drawn_key k right s) id address port) (sym has)
       ∙ ap (λ n. add_addr64_of (peer_or_zero c.keys.peer) n id address port) (sym h.own_is))
 
-  right_told : (id : ℕ) (address : Address) (b : Bool) → b ≡ true → tells_bad_address (replies.Control (control.told_heard (heard_reply control.is_same id address b c.addresses))) ≡ false
-  right_told id address true is = by (is_kept control.is_same (address_of id c.addresses.kept) address)
+  right_told : (id : ℕ) (address : Address) (b : Bool) → b ≡ true → tells_bad_address (replies.Control (control.told_heard (heard_reply is_same id address b c.addresses))) ≡ false
+  right_told id address true is = by (is_kept is_same (address_of id c.addresses.kept) address)
     where
       by : (kept : Bool) → tells_bad_address (replies.Control (control.told_heard (if kept then address_said.Known else address_said.Echo))) ≡ false
       by true = refl

@@ -100,6 +100,11 @@ fell_leaves fall.PlainAck r m = verdict_leaves r m
 fell_leaves fall.PlainHandshake r m = verdict_leaves r m
 fell_leaves _ r m = verdict_leaves r m
 
+-- both keys are noted
+abbrev pub is_noted : Reply → Bool
+is_noted (replies.Control control_replies.Noted) = true
+is_noted _ = false
+
 -- ---- what is under way
 
 pub in_removed : {X : Type 0} (xs : List X) (i k : ℕ) (x : X) → slice_get (remove xs i) k ≡ Some x → (j : ℕ) × (slice_get xs j ≡ Some x)
@@ -468,10 +473,6 @@ module _ (k : Secrets) (right : Bool) (w : Side → Type 0) (did : Deed → Side
   never_joins joined P first joins = absurd (both_ways joined first joins)
 
   -- the book noted them, or nothing changes
-  abbrev pub is_noted : Reply → Bool
-  is_noted (replies.Control control_replies.Noted) = true
-  is_noted _ = false
-
   pub keys_are : (joined : Bool) (s : Side) (r : Reply) (o : Option KeyPair) (e : PathEnd) → IfSome o (PairIs joined s) → (is_noted r ≡ true → did Deed.Keyed s)
       → EndIs k right w did joined s e → EndIs k right w did joined s (after_keys r o e)
   keys_are joined s r o e pair keyed h = record {
@@ -679,7 +680,7 @@ module _ (k : Secrets) (right : Bool) (w u : Side → Type 0) (did does : Deed �
       third = λ owes. let knows = h.modes.third owes in (more s knows.0, knows.1);
       cleared = λ joins now. more B (h.modes.cleared joins now);
       fell = λ is. let both = h.modes.fell is in (both.0, further Deed.Fell s both.1);
-      keyed = λ first. key e.modes.peer_key (h.modes.keyed first);
+      keyed = λ first. has e.modes.peer_key (h.modes.keyed first);
       meets = h.modes.meets;
     };
     items = record { each = λ i x at. more_item joined s x (h.items.each i x at) };
@@ -689,9 +690,9 @@ module _ (k : Secrets) (right : Bool) (w u : Side → Type 0) (did does : Deed �
     queued = record { each = λ i x at. more_note s x (h.queued.each i x at) };
   }
     where
-      key : (o : Option ℕ) → IfSome o (λ key. did Deed.Keyed s) → IfSome o (λ key. does Deed.Keyed s)
-      key None keyed = tt
-      key (Some key) keyed = further Deed.Keyed s keyed
+      has : (o : Option ℕ) → IfSome o (λ key. did Deed.Keyed s) → IfSome o (λ key. does Deed.Keyed s)
+      has None keyed = tt
+      has (Some key) keyed = further Deed.Keyed s keyed
 
       by : (o : Option ℕ) → IfSome o (λ key. did Deed.Closed s) → IfSome o (λ key. does Deed.Closed s)
       by None closed = tt

@@ -626,8 +626,8 @@ module _ (c : Profile) (s : Side) (path : c.spelling.path ≤ 15) (mss : c.mss <
     fits = (
       is,
       (
-        All-cons (λ (n : ℕ). n < 256) 10 _ (omega arith) (All-cons (λ (n : ℕ). n < 256) 0 _ (omega arith)
-            (All-cons (λ (n : ℕ). n < 256) id _ is (All-cons (λ (n : ℕ). n < 256) 2 [] (omega arith) (All-nil (λ (n : ℕ). n < 256))))),
+        All-cons (λ (n : ℕ). n < 256) 10 (0 ∷ id ∷ 2 ∷ []) (omega arith) (All-cons (λ (n : ℕ). n < 256) 0 (id ∷ 2 ∷ []) (omega arith)
+            (All-cons (λ (n : ℕ). n < 256) id (2 ∷ []) is (All-cons (λ (n : ℕ). n < 256) 2 [] (omega arith) (All-nil (λ (n : ℕ). n < 256))))),
         refl,
       ),
       tt,
