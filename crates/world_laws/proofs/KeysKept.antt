@@ -585,7 +585,7 @@ module _ (k : Secrets) (right : Bool) (w : Side → Type 0) (did : Deed → Side
       (echo_queued (NoteIs k right w did s) (λ id. tt) (λ id address port. tt) (λ backup. tt) notice r e.notices.queue held.queued) held)
       (λ waiting. waiting) (none_left k right w did p) (λ is has. has) h
   heard_answered s says.Fail r p own said is h = agenda_is k right w did _ p (none_left k right w did p) h
-  heard_answered s (says.FastClose key) r p own said is h = by (is_stopped_by r)
+  heard_answered s (says.FastClose key) r p own said is h = by (is_stopped_by r) is
     where
       known : (t : Side) → did Deed.Stopped t → did Deed.Closed (peer t) → (x : Voice) → speaks x (stops t) ≡ true → VoiceIs k right w did p x
       known A stopped closed (Voice.Aborts A) spoken = (stopped, closed)
@@ -778,7 +778,7 @@ module _ (k : Secrets) (right : Bool) (w : Side → Type 0) (did : Deed → Side
       (requeued k right w did (is_joined p.profile) s (tail_of e.notices.queue) sent
       (tail_queued (NoteIs k right w did s) (λ id. tt) (λ id address port. tt) (λ backup. tt) e.notices.queue own.queued)
       (kept_end k right w did (is_joined p.profile) s e sent refl refl (record { up = λ x. x; waits = λ x. x; past = λ x. x }) own))
-      (λ waiting. waiting) (λ t is. is) (λ is has. has) h
+      (λ waiting. waiting) (λ t is. is) (stays_same k right w did s (having_noted s p) p refl) h
   answered_is (duties.Send (send_duties.Syn s)) r p stands said is h =
       let e = end_at s p in
       let opens = opening_open e.tcp.state (and_parts (is_opening e.tcp.state) (is_some (first_unsent e)) stands).0 in
