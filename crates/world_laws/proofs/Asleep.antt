@@ -44,7 +44,7 @@ use Rattle.path_core.specs.Events.{tick_of, next_join, next_line, next_copy, nex
 use Rattle.path_core.specs.declared.lines.LineAction.{LineAction}
 use Rattle.path_core.specs.declared.lines.LineAction.TheVariants as actions
 use Rattle.path_core.specs.Joining.{keys_begun, is_never, opened_by}
-use Rattle.path_core.specs.Standing.{after_look, after_ack_out, is_connected}
+use Rattle.path_core.specs.Standing.{after_look, after_ack_out, is_connected, may_note}
 use Rattle.path_core.specs.Starts.{PathStart, first_state, waiting_path, first_turn}
 use Rattle.path_core.specs.State.{PathState, Profile, end_at, goes_on, with_end, with_agenda, left, path_of}
 use Rattle.path_core.specs.Steps.{settled, settles_down, asks_first, asks_of, answers, takes, next_round}
@@ -290,7 +290,7 @@ module _ {C : Type 0} where
   answered_asleep k (duties.Ask (ask_duties.Window s)) r p none h idle is = let shut = shut_at s p h in goes_asleep s (after_ack_out r (end_at s p)) (left p) p (record { closed = shut.closed; timer = shut.timer }) (left_idle p h) h
   answered_asleep k (duties.Send (send_duties.Update s)) r p none h idle is = absurd (no _ _ (never_connected (end_at s p) (shut_at s p h)) is)
   answered_asleep k (duties.Send (send_duties.FastClose s)) r p none h idle is = absurd (no _ _ (never_connected (end_at s p) (shut_at s p h)) is)
-  answered_asleep k (duties.Send (send_duties.Notice s)) r p none h idle is = absurd (no _ _ (never_connected (end_at s p) (shut_at s p h)) is)
+  answered_asleep k (duties.Send (send_duties.Notice s)) r p none h idle is = absurd (no _ _ (never_connected (end_at s p) (shut_at s p h)) (and_parts (may_note (end_at s p)) _ is).0)
   answered_asleep k (duties.Send (send_duties.Syn s)) r p none h idle is = absurd (no _ _ (never_opens (end_at s p) (shut_at s p h)) is)
   answered_asleep k (duties.Step (step_duties.Data s)) r p none h idle is = absurd (no_data p.profile s (end_at s p) (first_unsent (end_at s p)) (shut_at s p h) is)
   answered_asleep k (duties.Send (send_duties.DataFin s)) r p none h idle is = absurd (no _ _ (never_finishes (end_at s p) (shut_at s p h)) is)

@@ -237,6 +237,7 @@ abbrev Facts : Cast Carried → Deed → Side → Type 0
 Facts t Deed.Fell s = Unit {0}
 Facts t Deed.Closed s = list_any (note_asks_fast_close s) (seat_of s t).list ≡ true
 Facts t Deed.Stopped s = list_any entry_accepts (control_journal s t.books).journal ≡ true
+Facts t Deed.Keyed s = Unit {0}
 
 -- a side was stopped by its peer, whose application asked for it
 abbrev Caused : Cast Carried → Side → Type 0
@@ -282,6 +283,7 @@ module _ (start : Start) where
     rises : (d : Deed) (s : Side) → Facts t d s → Facts u d s
     rises Deed.Fell s is = tt
     rises Deed.Closed s is = g.closed s is
+    rises Deed.Keyed s is = tt
     rises Deed.Stopped s is = subst (λ (b : StampedBooks). list_any entry_accepts (control_journal s b).journal ≡ true) (sym g.books) (accepts_more x pass t.books s is)
 
     caused : (s : Side) → Caused t s → Caused u s
@@ -513,6 +515,7 @@ module _ (start : Start) where
       facts Deed.Closed A is = is
       facts Deed.Closed B is = is
       facts Deed.Stopped s is = is
+      facts Deed.Keyed s is = tt
 
       both : (s : Side) → Caused t s → Caused (next_cast t) s
       both s is = (facts Deed.Stopped s is.0, facts Deed.Closed (peer s) is.1)

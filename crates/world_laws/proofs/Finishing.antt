@@ -335,7 +335,7 @@ module _ {C : Type 0} where
   answered_shaped k (duties.Ask (ask_duties.Window s)) ds r p h = from_left ds _ h
   answered_shaped k (duties.Send (send_duties.Update s)) ds r p h = from_left ds _ h
   answered_shaped k (duties.Send (send_duties.FastClose s)) ds r p h = from_left ds _ h
-  answered_shaped k (duties.Send (send_duties.Notice s)) ds r p h = from_left ds _ h
+  answered_shaped k (duties.Send (send_duties.Notice s)) ds r p h = with_ahead ds h (λ a. inl a)
   answered_shaped k (duties.Send (send_duties.Syn s)) ds r p h = from_left ds _ h
   answered_shaped k (duties.Step (step_duties.Data s)) ds r p h = with_ahead ds h (λ a. inl (data_ahead k s r (with_agenda (duties.Step (step_duties.Data s) ∷ ds) p) a a a (first_unsent (end_at s p))))
   answered_shaped k (duties.Send (send_duties.DataFin s)) ds r p h = from_left ds _ h

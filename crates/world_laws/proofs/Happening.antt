@@ -238,5 +238,5 @@ module _ (six : SixBooks) (others : Others) (p : PathState Carried) (ab ba : Lan
   event_step (happenings.Fires s tick) r = fire_step s tick (step_for (path_of p) (Some (happenings.Fires s tick))) tt
 
   pub events_step : (o : Option Event) (r : Reply) → Steps (step_for (path_of p) o) (happens_if values o r p)
-  events_step None r = quiet p.profile six others (step_for (path_of p) None) (with_agenda rest_of_turn p) ab ba tt (rest_shows p h)
+  events_step None r = quiet p.profile six others (step_for (path_of p) None) (with_agenda rest_of_turn p) ab ba tt (rest_shows rest_of_turn p h)
   events_step (Some event) r = event_step event r

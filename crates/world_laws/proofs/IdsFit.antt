@@ -1,23 +1,26 @@
 -- The sets of ids that a control book keeps have 256 members each: so each id that it tells is below 256.
-use Rattle.std.proofs.Common.{◌≡◌, refl, ◌∙◌, ℕ, zero, suc, ◌<◌, Bool, true, false, if◌then◌else◌, List, [], ◌∷◌, length, Option, Some, None, set, arith}
-use Rattle.std.specs.Prelude.{not, ◌&&◌, ◌==◌, fold, replicate, slice_set}
+use Rattle.std.proofs.Common.{◌≡◌, refl, ◌∙◌, ap, ℕ, zero, suc, ◌<◌, Bool, true, false, if◌then◌else◌, List, [], ◌∷◌, length, Option, Some, None, set, arith}
+use Rattle.std.specs.Prelude.{not, ◌&&◌, ◌||◌, ◌==◌, fold, replicate, slice_set}
 use Rattle.std.specs.Option.{IfSome}
 use Rattle.std.proofs.lemmas.List.{length-set, length-replicate}
 use Rattle.std.proofs.lemmas.List.Quantifiers.{position-Some}
 use Rattle.outside_kit.specs.declared.side.Side.{Side}
 use Rattle.address_manager.specs.IdSet.{no_ids, lowest}
 use Rattle.address_manager.specs.Addresses.{Addresses}
-use Rattle.address_manager.specs.Steps.{after_heard as addresses_heard}
+use Rattle.address_manager.specs.Steps.{after_heard as addresses_heard, after_removed as addresses_removed}
+use Rattle.fallback_state.specs.declared.fall.Event.TheVariants as event
+use Rattle.key_material.specs.KeyDigest.{token_of}
 use Rattle.key_material.specs.declared.address.Address.{Address}
+use Rattle.control_book.specs.declared.registry.Phase.TheVariants.{Opening}
 use Rattle.control_book.specs.declared.registry.PathState.{PathState}
 use Rattle.control_book.specs.declared.call.ControlCall.{ControlCall}
 use Rattle.control_book.specs.declared.call.ControlCall.TheVariants as call
 use Rattle.control_book.specs.declared.call.Notice.{Notice}
 use Rattle.control_book.specs.declared.call.Notice.TheVariants as notice
-use Rattle.control_book.specs.Registry.{every_path, lives}
+use Rattle.control_book.specs.Registry.{every_path, lives, with_phase, with_removed}
 use Rattle.control_book.specs.Control.{Control, no_withdrawals, new_control, withdrawals_on, with_withdrawal}
-use Rattle.control_book.specs.Replies.{notice_on, is_right}
-use Rattle.control_book.specs.Steps.{after, after_notice, withdrawn_on}
+use Rattle.control_book.specs.Replies.{notice_on, is_right, is_starting, is_sure}
+use Rattle.control_book.specs.Steps.{after, after_event, after_join, after_notice, is_known, withdrawn, withdrawn_on}
 
 abbrev pub AreIds : List Bool → Type 0
 AreIds ids = length ids ≡ 256
@@ -92,20 +95,28 @@ call_fits c (call.Look path) h = notice_fits (notice_on c path) path c h
 call_fits c (call.PeerKey key) h = record { due = h.due; withdrawals = h.withdrawals }
 call_fits c (call.Keys own peer) h = either (own == c.keys.own) _ _ (record { due = h.due; withdrawals = h.withdrawals }) h
 call_fits c (call.Fell path event) h = record { due = h.due; withdrawals = h.withdrawals }
-call_fits c (call.JoinBegin path) h = either _ _ _ (record { due = h.due; withdrawals = h.withdrawals }) h
-call_fits c (call.JoinHeard path token) h = either _ _ _ (record { due = h.due; withdrawals = h.withdrawals }) h
+call_fits c (call.JoinBegin path) h = either (is_sure c.fall.mode) (after_join (record c { paths = with_phase path Opening c.paths })) c (record { due = h.due; withdrawals = h.withdrawals }) h
+call_fits c (call.JoinHeard path token) h =
+    either (token == token_of c.keys.own && c.fall.confirmed && (is_starting c.fall.mode || is_sure c.fall.mode)) (after_join c) c (record { due = h.due; withdrawals = h.withdrawals }) h
 call_fits c (call.Live path backup) h = record { due = h.due; withdrawals = h.withdrawals }
 call_fits c (call.Dead path) h = record { due = h.due; withdrawals = h.withdrawals }
 call_fits c (call.Backup path on) h = record { due = h.due; withdrawals = h.withdrawals }
 call_fits c (call.Rate path window rtt) h = record { due = h.due; withdrawals = h.withdrawals }
 call_fits c (call.Announce id) h = record { due = length-set c.addresses.due id true ∙ h.due; withdrawals = h.withdrawals }
-call_fits c (call.Withdraw id) h = either _ _ _ (record { due = h.due; withdrawals = each_fits id c.paths every_path c.notices.withdrawals h.withdrawals }) h
+call_fits c (call.Withdraw id) h =
+    either (is_known id c)
+    (record c { notices = record c.notices { withdrawals = withdrawn id c.paths c.notices.withdrawals }; paths = with_removed id c.paths }) c
+    (record { due = h.due; withdrawals = each_fits id c.paths every_path c.notices.withdrawals h.withdrawals }) h
 call_fits c (call.Heard id address port hmac) h =
-    record { due = heard_due (is_right id address port hmac c) id address c.addresses ∙ h.due; withdrawals = h.withdrawals }
-call_fits c (call.Echoed id) h = either _ _ _ (record { due = length-set c.addresses.due id false ∙ h.due; withdrawals = h.withdrawals }) h
-call_fits c (call.Removed id) h = either _ _ _ (record { due = length-set c.addresses.due id false ∙ h.due; withdrawals = h.withdrawals }) h
+    record { due = ap length (heard_due (is_right id address port hmac c) id address c.addresses) ∙ h.due; withdrawals = h.withdrawals }
+call_fits c (call.Echoed id) h =
+    either (is_known id c) (record c { addresses = record c.addresses { due = slice_set c.addresses.due id false } }) c
+    (record { due = length-set c.addresses.due id false ∙ h.due; withdrawals = h.withdrawals }) h
+call_fits c (call.Removed id) h =
+    either (is_known id c) (record c { addresses = addresses_removed id c.addresses; paths = with_removed id c.paths }) c
+    (record { due = length-set c.addresses.due id false ∙ h.due; withdrawals = h.withdrawals }) h
 call_fits c call.FastClose h = record { due = h.due; withdrawals = h.withdrawals }
-call_fits c (call.FastHeard key) h = either _ _ _ (record { due = h.due; withdrawals = h.withdrawals }) h
+call_fits c (call.FastHeard key) h = either (key == c.keys.own) (after_event 0 false event.Stop c) c (record { due = h.due; withdrawals = h.withdrawals }) h
 
 -- ---- as a connection opens
 

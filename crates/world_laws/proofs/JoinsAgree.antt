@@ -22,6 +22,7 @@ use Rattle.control_book.specs.declared.call.Notice.TheVariants as notices
 use Rattle.control_book.specs.declared.registry.Phase.TheVariants.{Opening}
 use Rattle.control_book.specs.Control.{Control}
 use Rattle.control_book.specs.Registry.{sole as sole_path, stands as stands_path, with_phase}
+use Rattle.control_book.specs.SameAddress.{is_same}
 use Rattle.control_book.specs.Replies as control
 use Rattle.control_book.specs.Steps as controlling
 use Rattle.stream_lanes.specs.Words.{Every}
@@ -235,8 +236,10 @@ module _ (p : PathState Carried) where
   fell_signs (duties.Ask (ask_duties.Return s)) none = refl
   fell_signs (duties.Ask (ask_duties.AbortSend s)) none = refl
   fell_signs (duties.Ask (ask_duties.AbortReceive s)) none = refl
-  fell_signs (duties.Ask (ask_duties.Announce s id)) none = refl
-  fell_signs (duties.Ask (ask_duties.Withdraw s id)) none = refl
+  fell_signs (duties.Ask (ask_duties.Announce A id)) none = refl
+  fell_signs (duties.Ask (ask_duties.Announce B id)) none = refl
+  fell_signs (duties.Ask (ask_duties.Withdraw A id)) none = refl
+  fell_signs (duties.Ask (ask_duties.Withdraw B id)) none = refl
   fell_signs (duties.Send (send_duties.Resend s)) none = refl
   fell_signs (duties.Ask (ask_duties.BreakAck s reason)) none = refl
   fell_signs (duties.Send (send_duties.BreakReset s reason)) none = refl
@@ -548,7 +551,7 @@ module _ (key_a key_b : ℕ) where
       by false = tt
 
   address_told : (T : Type 0) (id : ℕ) (address : Address) (port hmac : ℕ) (c : Control) → ModeGains T (replies.Control (control.address_reply id address port hmac c))
-  address_told T id address port hmac c = by (heard_reply control.is_same id address (control.is_right id address port hmac c) c.addresses)
+  address_told T id address port hmac c = by (heard_reply is_same id address (control.is_right id address port hmac c) c.addresses)
     where
       by : (said : AddressHeard) → ModeGains T (replies.Control (control.told_heard said))
       by address_said.Echo = tt
@@ -714,7 +717,7 @@ module _ (key_a key_b : ℕ) where
       }
       by false over keys = h
 
-  turn_met : (turn : Turn) (w : WorldState Carried) → WorldMet w → WorldMet (after_turn values turn w)
+  pub turn_met : (turn : Turn) (w : WorldState Carried) → WorldMet w → WorldMet (after_turn values turn w)
   turn_met (Turn.Step actor) w h = step_met actor w h
   turn_met Turn.Round w h = round_met w h
 

@@ -1,5 +1,5 @@
 -- No control book is told another key than its own: what an end hears are the keys that were drawn.
-use Rattle.std.proofs.Common.{◌≡◌, refl, sym, ◌∙◌, ap, subst, ℕ, zero, suc, ◌+◌, ◌==◌, ◌&&◌, ◌||◌, not, nat_lt, ⊎_elim, Bool, true, false, if◌then◌else◌, Option, Some, None, List, [], ◌∷◌, map, arith}
+use Rattle.std.proofs.Common.{◌≡◌, refl, sym, ◌∙◌, ap, subst, ℕ, zero, suc, ◌+◌, ◌==◌, ◌&&◌, ◌||◌, not, is_some, nat_lt, ⊎_elim, Bool, true, false, if◌then◌else◌, Option, Some, None, List, [], ◌∷◌, map, arith}
 use Rattle.std.proofs.lemmas.Bool.{lt-ltb, both_ways, false≢true}
 use Rattle.std.proofs.lemmas.Option.{same_Some}
 use Rattle.std.specs.List.{slice_get}
@@ -74,18 +74,18 @@ use Rattle.world_laws.specs.declared.member.Member.TheVariants.{App, Path}
 use Rattle.world_laws.specs.Actors.{Actor, ActorCrew, member_asks, member_takes, member_next}
 use Rattle.world_laws.specs.Laws.{Always}
 use Rattle.world_laws.specs.Openings.{PathPlan, Start, path_begins, opened_world}
-use Rattle.world_laws.specs.Promises.{tells_other_key, tells_wrong_join, KeysNeverDiffer}
+use Rattle.world_laws.specs.Promises.{tells_other_key, tells_wrong_join, tells_bad_address, KeysNeverDiffer}
 use Rattle.world_laws.specs.Worlds.{WorldState, Turn, crew_after, asked, stepped, world_step, all_over, greatest, begins, end_round, after_turn, world_run}
 use Rattle.world_laws.proofs.Journaling.{books_after}
 use Rattle.world_laws.proofs.Falls.{is_plain, plain_stays, row_falls}
-use Rattle.world_laws.proofs.KeysRight.{Deed, Secrets, is_past, drawn_key, ItemIs}
+use Rattle.world_laws.proofs.KeysRight.{Deed, Secrets, PeerNoteIs, is_past, drawn_key, ItemIs}
 use Rattle.world_laws.proofs.KeysWoken.{is_up, Voice, is_said_by, speaks, first_speaks, itself}
 use Rattle.world_laws.proofs.KeysHeld.{VoiceIs, PathIs, BeginIs, PairIs, AskedIs, end_is, key_found, pair_found, asked_is, more_is}
 use Rattle.world_laws.proofs.KeysKept.{CallIs, CallReplyIs, AskIs, ReplyIs, carrier_told, item_found, takes_is, begins_is}
 use Rattle.world_laws.proofs.Settled.{settled_settled}
 use Rattle.world_laws.proofs.Opened.{opened_actors}
 use Rattle.world_laws.proofs.PromisesNotes.{NoneTold, Untold, from_each, turn_none, opened_none}
-use Rattle.world_laws.proofs.KeysBooks.{BookIs, call_is, call_joined, key_untold, join_untold}
+use Rattle.world_laws.proofs.KeysBooks.{BookIs, address_right, announces_confirmed, call_is, call_joined, call_keyed, key_untold, join_untold, more_book, noted_keyed}
 
 -- ---- what a path asks
 
@@ -123,11 +123,11 @@ module _ (k : Secrets) (right : Bool) (w : Side → Type 0) (did : Deed → Side
       by true = break_is s 1
       by false = tt
 
-  note_is : (s : Side) (notice : PeerNotice) → AskIs k right w did (notice_ask s notice p)
-  note_is s (peer_notes.AddAddr id address port hmac) = tt
-  note_is s (peer_notes.AddEcho id) = tt
-  note_is s (peer_notes.Removed id) = tt
-  note_is s (peer_notes.Prio backup) = tt
+  note_is : (s : Side) (notice : PeerNotice) → PeerNoteIs k right w did s notice → AskIs k right w did (notice_ask s notice p)
+  note_is s (peer_notes.AddAddr id address port hmac) own = own
+  note_is s (peer_notes.AddEcho id) own = tt
+  note_is s (peer_notes.Removed id) own = tt
+  note_is s (peer_notes.Prio backup) own = tt
 
   item_is : (s : Side) (o : Option Heard) → IfSome o (ItemIs k right w did (is_joined p.profile) s) → AskIs k right w did (item_ask values s o p)
   item_is s None own = tt
@@ -139,7 +139,7 @@ module _ (k : Secrets) (right : Bool) (w : Side → Type 0) (did : Deed → Side
   item_is s (Some (says.PeerKey key)) own = tt
   item_is s (Some (says.Keys mine other)) own = own.1
   item_is s (Some (says.Join form)) own = tt
-  item_is s (Some (says.Notice notice)) own = note_is s notice
+  item_is s (Some (says.Notice notice)) own = note_is s notice own
   item_is s (Some says.Fail) own = tt
   item_is s (Some (says.FastClose key)) own = tt
 
@@ -252,11 +252,34 @@ fell_stays six (asks.Reassembly B call) A is = is
 fell_stays six (asks.Reassembly B call) B is = is
 fell_stays six (asks.Local step) s is = is
 
--- What a side did: that it fell back is told by its book, and what there is to say of a fast close beside it.
+-- the book of a side has the peer's key
+abbrev pub HasPeerKey : SixBooks → Side → Type 0
+HasPeerKey six A = is_some six.control_a.keys.peer ≡ true
+HasPeerKey six B = is_some six.control_b.keys.peer ≡ true
+
+-- and keeps it
+keyed_stays : (six : SixBooks) (x : Ask) (s : Side) → HasPeerKey six s → HasPeerKey (after_ask x six) s
+keyed_stays six (asks.Control A call) A is = call_keyed six.control_a call is
+keyed_stays six (asks.Control A call) B is = is
+keyed_stays six (asks.Control B call) A is = is
+keyed_stays six (asks.Control B call) B is = call_keyed six.control_b call is
+keyed_stays six (asks.Send A call) A is = is
+keyed_stays six (asks.Send A call) B is = is
+keyed_stays six (asks.Send B call) A is = is
+keyed_stays six (asks.Send B call) B is = is
+keyed_stays six (asks.Reassembly A call) A is = is
+keyed_stays six (asks.Reassembly A call) B is = is
+keyed_stays six (asks.Reassembly B call) A is = is
+keyed_stays six (asks.Reassembly B call) B is = is
+keyed_stays six (asks.Local step) s is = is
+
+-- What a side did: that it fell back, and that it has the peer's key, is told by its book, and what there is to say of a fast close
+-- beside it.
 abbrev pub Past : SixBooks → (Deed → Side → Type 0) → Deed → Side → Type 0
 Past six also Deed.Fell s = FellBack six s
 Past six also Deed.Closed s = also Deed.Closed s
 Past six also Deed.Stopped s = also Deed.Stopped s
+Past six also Deed.Keyed s = HasPeerKey six s
 
 -- nothing is said of a fast close
 abbrev pub NoMore : Deed → Side → Type 0
@@ -267,11 +290,13 @@ past_stays : (also later : Deed → Side → Type 0) → ((d : Deed) (s : Side) 
 past_stays also later rises six x Deed.Fell s is = fell_stays six x s is
 past_stays also later rises six x Deed.Closed s is = rises Deed.Closed s is
 past_stays also later rises six x Deed.Stopped s is = rises Deed.Stopped s is
+past_stays also later rises six x Deed.Keyed s is = keyed_stays six x s is
 
 module _ (key_a key_b : ℕ) (right : Bool) where
+  -- A's book is never confirmed; and where B's is, A's has the peer's key
   pub record BooksAre (six : SixBooks) : Type 0 where
-    pub a : BookIs key_a key_b six.control_a
-    pub b : BookIs key_b key_a six.control_b
+    pub a : BookIs key_a key_b ⊥ six.control_a
+    pub b : BookIs key_b key_a (HasPeerKey six A) six.control_b
 
   abbrev pub with_nonces : ℕ → ℕ → Secrets
   with_nonces nonce_a nonce_b = record { key_a = key_a; key_b = key_b; nonce_a = nonce_a; nonce_b = nonce_b }
@@ -284,7 +309,7 @@ module _ (key_a key_b : ℕ) (right : Bool) where
   KeysAsk six x = AsksFor NoMore six x
 
   pub ask_keeps : (also : Deed → Side → Type 0) (six : SixBooks) (x : Ask) → AsksFor also six x → BooksAre six → BooksAre (after_ask x six)
-  ask_keeps also six (asks.Control A call) is h = record { a = call_is (with_nonces 0 0) right (Joined six) (Past six also) A six.control_a call is h.a; b = h.b }
+  ask_keeps also six (asks.Control A call) is h = record { a = call_is (with_nonces 0 0) right (Joined six) (Past six also) A six.control_a call is h.a; b = more_book _ _ _ _ six.control_b (keyed_stays six (asks.Control A call) A) h.b }
   ask_keeps also six (asks.Control B call) is h = record { a = h.a; b = call_is (with_nonces 0 0) right (Joined six) (Past six also) B six.control_b call is h.b }
   ask_keeps also six (asks.Send A call) is h = record { a = h.a; b = h.b }
   ask_keeps also six (asks.Send B call) is h = record { a = h.a; b = h.b }
@@ -305,6 +330,13 @@ module _ (key_a key_b : ℕ) (right : Bool) where
   join_answers sure six (asks.Send s call) h is = refl
   join_answers sure six (asks.Reassembly s call) h is = refl
   join_answers sure six (asks.Local step) h is = refl
+
+  address_answers : right ≡ true → (six : SixBooks) (x : Ask) → BooksAre six → KeysAsk six x → tells_bad_address (reply_of six x) ≡ false
+  address_answers sure six (asks.Control A call) h is = address_right (with_nonces 0 0) right (Joined six) (Past six NoMore) A six.control_a h.a sure (λ has. has) call is
+  address_answers sure six (asks.Control B call) h is = address_right (with_nonces 0 0) right (Joined six) (Past six NoMore) B six.control_b h.b sure (λ has. has) call is
+  address_answers sure six (asks.Send s call) h is = refl
+  address_answers sure six (asks.Reassembly s call) h is = refl
+  address_answers sure six (asks.Local step) h is = refl
 
   -- where A is sure, it has the peer's key
   abbrev pub SureHasKey : SixBooks → Type 0
@@ -328,10 +360,10 @@ module _ (key_a key_b : ℕ) (right : Bool) where
       by false sure true = tt
       by false sure false = tt
 
-  heard_so : (s : Side) (token : ℕ) (c : Control) (u : Side → Type 0) (gone : Deed → Side → Type 0) → ((controlling.after_join_heard token c).fall.joined ≡ true → u s)
-      → BookIs (drawn_key (with_nonces 0 0) right s) (drawn_key (with_nonces 0 0) right (peer s)) c
+  heard_so : (s : Side) (token : ℕ) (c : Control) (u : Side → Type 0) (gone : Deed → Side → Type 0) (T : Type 0) → ((controlling.after_join_heard token c).fall.joined ≡ true → u s)
+      → BookIs (drawn_key (with_nonces 0 0) right s) (drawn_key (with_nonces 0 0) right (peer s)) T c
       → IfSome (keys_begun (replies.Control (control.join_heard_reply token c))) (BeginIs (with_nonces 0 0) right u gone s)
-  heard_so s token c u gone joins h = by (token == token_of c.keys.own) c.fall.confirmed refl (control.is_starting c.fall.mode || control.is_sure c.fall.mode) joins
+  heard_so s token c u gone T joins h = by (token == token_of c.keys.own) c.fall.confirmed refl (control.is_starting c.fall.mode || control.is_sure c.fall.mode) joins
     where
       by : (known confirmed : Bool) → c.fall.confirmed ≡ confirmed → (begins : Bool)
           → ((if known && confirmed && begins then controlling.after_join c else c).fall.joined ≡ true → u s)
@@ -339,7 +371,7 @@ module _ (key_a key_b : ℕ) (right : Bool) where
           else (if not confirmed then control_replies.NotConfirmed else (if begins then control.begin c else control_replies.Fallen c.fall.mode))))) (BeginIs (with_nonces 0 0) right u gone s)
       by false confirmed is begins joins = tt
       by true false is begins joins = tt
-      by true true is true joins = (h.own_is, (joins refl, λ sure. ap peer_or_zero (h.confirmed is)))
+      by true true is true joins = (h.own_is, (joins refl, λ sure. ap peer_or_zero (h.confirmed is).0))
       by true true is false joins = tt
 
   -- what a reply tells of a fast close is so
@@ -354,12 +386,12 @@ module _ (key_a key_b : ℕ) (right : Bool) where
     where
       by : (call : ControlCall) → Tells also (asks.Control A call) (replies.Control (control.reply_to six.control_a call))
           → CallReplyIs (with_nonces 0 0) right (Joined (after_ask (asks.Control A call) six)) (Past (after_ask (asks.Control A call) six) also) A call (replies.Control (control.reply_to six.control_a call))
-      by (control_calls.Look path) told = told
-      by (control_calls.PeerKey key) told = tt
-      by (control_calls.Keys own other) told = tt
+      by (control_calls.Look path) told = (told, announces_confirmed _ six.control_a path (λ confirmed. absurd (h.a.confirmed confirmed).1))
+      by (control_calls.PeerKey key) told = refl
+      by (control_calls.Keys own other) told = noted_keyed own other six.control_a
       by (control_calls.Fell path event) told = λ fell. let row = row_falls path (sole_path six.control_a.paths path) event six.control_a.fall fell in (row.0, λ is. both_ways _ row.1 is)
       by (control_calls.JoinBegin path) told = begins_so also six path knows h
-      by (control_calls.JoinHeard path token) told = heard_so A token six.control_a (Joined (after_ask (asks.Control A (control_calls.JoinHeard path token)) six)) (Past (after_ask (asks.Control A (control_calls.JoinHeard path token)) six) also) (λ is. is) h.a
+      by (control_calls.JoinHeard path token) told = heard_so A token six.control_a (Joined (after_ask (asks.Control A (control_calls.JoinHeard path token)) six)) (Past (after_ask (asks.Control A (control_calls.JoinHeard path token)) six) also) _ (λ is. is) h.a
       by (control_calls.Live path backup) told = tt
       by (control_calls.Dead path) told = tt
       by (control_calls.Rate path window rtt) told = tt
@@ -375,12 +407,12 @@ module _ (key_a key_b : ℕ) (right : Bool) where
     where
       by : (call : ControlCall) → Tells also (asks.Control B call) (replies.Control (control.reply_to six.control_b call))
           → CallReplyIs (with_nonces 0 0) right (Joined (after_ask (asks.Control B call) six)) (Past (after_ask (asks.Control B call) six) also) B call (replies.Control (control.reply_to six.control_b call))
-      by (control_calls.Look path) told = told
-      by (control_calls.PeerKey key) told = tt
-      by (control_calls.Keys own other) told = tt
+      by (control_calls.Look path) told = (told, announces_confirmed _ six.control_b path (λ confirmed. (refl, (h.b.confirmed confirmed).1)))
+      by (control_calls.PeerKey key) told = refl
+      by (control_calls.Keys own other) told = noted_keyed own other six.control_b
       by (control_calls.Fell path event) told = λ fell. let row = row_falls path (sole_path six.control_b.paths path) event six.control_b.fall fell in (row.0, λ is. both_ways _ row.1 is)
       by (control_calls.JoinBegin path) told = tt
-      by (control_calls.JoinHeard path token) told = heard_so B token six.control_b (Joined (after_ask (asks.Control B (control_calls.JoinHeard path token)) six)) (Past (after_ask (asks.Control B (control_calls.JoinHeard path token)) six) also) (λ is. is) h.b
+      by (control_calls.JoinHeard path token) told = heard_so B token six.control_b (Joined (after_ask (asks.Control B (control_calls.JoinHeard path token)) six)) (Past (after_ask (asks.Control B (control_calls.JoinHeard path token)) six) also) _ (λ is. is) h.b
       by (control_calls.Live path backup) told = tt
       by (control_calls.Dead path) told = tt
       by (control_calls.Rate path window rtt) told = tt
@@ -488,7 +520,8 @@ module _ (key_a key_b : ℕ) (right : Bool) where
         by s (control_calls.Backup path on) h = h
         by s (control_calls.Announce id) h = h
         by s (control_calls.Withdraw id) h = h
-        by s (control_calls.Heard id address port hmac) h = h
+        by A (control_calls.Heard id address port hmac) h = h
+        by B (control_calls.Heard id address port hmac) h = h
         by s (control_calls.Echoed id) h = h
         by s (control_calls.Removed id) h = h
         by s control_calls.FastClose h = h
@@ -503,10 +536,10 @@ module _ (key_a key_b : ℕ) (right : Bool) where
         by : (s : Side) (call : ControlCall) → CallReplyIs (with_nonces 0 0) right w did s call r → CallReplyIs (with_nonces nonce_a nonce_b) right w did s call r
         by A (control_calls.Look path) h = h
         by B (control_calls.Look path) h = h
-        by A (control_calls.PeerKey key) h = tt
-        by B (control_calls.PeerKey key) h = tt
-        by A (control_calls.Keys own other) h = tt
-        by B (control_calls.Keys own other) h = tt
+        by A (control_calls.PeerKey key) h = h
+        by B (control_calls.PeerKey key) h = h
+        by A (control_calls.Keys own other) h = h
+        by B (control_calls.Keys own other) h = h
         by A (control_calls.Fell path event) h = h
         by B (control_calls.Fell path event) h = h
         by A (control_calls.JoinBegin path) h = h
@@ -643,6 +676,9 @@ module _ (key_a key_b : ℕ) (right : Bool) where
   untold : (w : WorldState Carried) → WorldIs w → Untold tells_other_key values w
   untold w h actor c x there asks = ask_untold (books_in w.books) x h.books (member_asks_are (books_in w.books) c.member x (h.crew.each actor c there) asks)
 
+  pub addresses_untold : right ≡ true → (w : WorldState Carried) → WorldIs w → Untold tells_bad_address values w
+  addresses_untold sure w h actor c x there asks = address_answers sure (books_in w.books) x h.books (member_asks_are (books_in w.books) c.member x (h.crew.each actor c there) asks)
+
   pub joins_untold : right ≡ true → (w : WorldState Carried) → WorldIs w → Untold tells_wrong_join values w
   joins_untold sure w h actor c x there asks = join_answers sure (books_in w.books) x h.books (member_asks_are (books_in w.books) c.member x (h.crew.each actor c there) asks)
 
@@ -661,18 +697,20 @@ opened_path also right start number plan = record {
   settled = settled_settled start_of_turn (with_agenda start_of_turn (waiting_path (path_begins start number plan) start.lines));
   is = begins_is (record { key_a = start.key_a; key_b = start.key_b; nonce_a = plan.nonce_a; nonce_b = plan.nonce_b }) right (Joined (opened_six start)) (Past (opened_six start) also) (waiting_path (path_begins start number plan) start.lines) (record {
     a = record {
-      modes = record { own = refl; nonce = refl; peer_is = λ sure. tt; joins = λ owes. absurd (false≢true owes); third = λ owes. absurd (false≢true owes); cleared = λ joined is. absurd (false≢true is); fell = λ is. absurd (false≢true is) };
+      modes = record { own = refl; nonce = refl; peer_is = λ sure. tt; joins = λ owes. absurd (false≢true owes); third = λ owes. absurd (false≢true owes); cleared = λ joined is. absurd (false≢true is); fell = λ is. absurd (false≢true is); keyed = λ first. tt; meets = λ sure is. tt };
       items = Every-nil _;
       woken = λ joined up. absurd (false≢true (sym (waits_up number joined) ∙ up));
       past = λ joined so. absurd (false≢true (sym (waits_past number) ∙ so));
       carries = tt;
+      queued = Every-nil _;
     };
     b = record {
-      modes = record { own = refl; nonce = refl; peer_is = λ sure. tt; joins = λ owes. absurd (false≢true owes); third = λ owes. absurd (false≢true owes); cleared = λ joined is. absurd (false≢true is); fell = λ is. absurd (false≢true is) };
+      modes = record { own = refl; nonce = refl; peer_is = λ sure. tt; joins = λ owes. absurd (false≢true owes); third = λ owes. absurd (false≢true owes); cleared = λ joined is. absurd (false≢true is); fell = λ is. absurd (false≢true is); keyed = λ first. tt; meets = λ sure is. absurd (false≢true is) };
       items = Every-nil _;
       woken = λ joined up. absurd (false≢true up);
       past = λ joined so. absurd (false≢true so);
       carries = tt;
+      queued = Every-nil _;
     };
     copies = Every-nil _;
     known = λ x spoken. absurd (false≢true spoken);

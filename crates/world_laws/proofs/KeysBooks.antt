@@ -1,6 +1,6 @@
 -- What the calls that a path makes do to the keys of a control book, and what it answers.
-use Rattle.std.proofs.Common.{◌≡◌, refl, sym, ◌∙◌, ap, subst, ℕ, ◌==◌, ◌&&◌, ◌||◌, not, is_none, Bool, true, false, if◌then◌else◌, Some}
-use Rattle.std.proofs.lemmas.Bool.{eq-eqb, both_ways}
+use Rattle.std.proofs.Common.{◌≡◌, refl, sym, ◌∙◌, ap, subst, ℕ, ◌==◌, ◌&&◌, ◌||◌, not, is_none, is_some, Bool, true, false, if◌then◌else◌, Option, Some, None}
+use Rattle.std.proofs.lemmas.Bool.{eq-eqb, both_ways, false≢true}
 use Rattle.std.specs.Option.{IfSome}
 use Rattle.outside_kit.specs.declared.side.Side.{Side}
 use Rattle.link_model.specs.Steps.{peer}
@@ -9,14 +9,17 @@ use Rattle.control_book.specs.declared.call.ControlCall.TheVariants as control_c
 use Rattle.control_book.specs.declared.call.ControlReply.TheVariants as control_replies
 use Rattle.control_book.specs.declared.call.Notice.{Notice}
 use Rattle.control_book.specs.declared.call.Notice.TheVariants as notices
-use Rattle.control_book.specs.Control.{Control, peer_or_zero}
-use Rattle.control_book.specs.Registry.{sole as sole_path, stands as stands_path, with_phase}
+use Rattle.control_book.specs.Control.{Control, peer_or_zero, is_path, withdrawals_on}
+use Rattle.control_book.specs.Registry.{sole as sole_path, stands as stands_path, with_phase, lowest_living}
 use Rattle.control_book.specs.declared.registry.Phase.TheVariants.{Opening}
+use Rattle.key_material.specs.AddressHmac.{add_addr64_of}
 use Rattle.key_material.specs.KeyDigest.{token_of}
 use Rattle.key_material.specs.declared.address.Address.{Address}
 use Rattle.address_manager.specs.declared.manager.Heard.{Heard as AddressHeard}
 use Rattle.address_manager.specs.declared.manager.Heard.TheVariants as address_said
-use Rattle.address_manager.specs.Steps.{heard_reply}
+use Rattle.address_manager.specs.Addresses.{address_of}
+use Rattle.address_manager.specs.IdSet.{lowest}
+use Rattle.address_manager.specs.Steps.{heard_reply, is_kept}
 use Rattle.fallback_state.specs.declared.fall.Event.{Event as FallEvent}
 use Rattle.fallback_state.specs.declared.fall.Fall.{Fall}
 use Rattle.fallback_state.specs.declared.fall.Mode.{Mode}
@@ -24,45 +27,51 @@ use Rattle.fallback_state.specs.declared.fall.Mode.TheVariants as modes
 use Rattle.fallback_state.specs.declared.fall.Verdict.{Verdict}
 use Rattle.fallback_state.specs.Modes.{is_starting, is_identity, reads_mappings, writes_mappings, receiving}
 use Rattle.fallback_state.specs.Table.{after_sure_sign, after_plain, after_infinite, is_failed_path, goes, stays, breaks, fall_step}
+use Rattle.control_book.specs.SameAddress.{is_same}
 use Rattle.control_book.specs.Replies as control
 use Rattle.control_book.specs.Steps as controlling
 use Rattle.fallback_state.specs.declared.fall.Event.TheVariants as events
 use Rattle.actor_desk.specs.declared.ask.Ask.TheVariants as asks
 use Rattle.actor_desk.specs.declared.ask.Reply.{Reply}
 use Rattle.actor_desk.specs.declared.ask.Reply.TheVariants as replies
-use Rattle.world_laws.specs.Promises.{tells_other_key, tells_wrong_join}
+use Rattle.world_laws.specs.Promises.{tells_other_key, tells_wrong_join, tells_bad_address}
 use Rattle.world_laws.specs.Worlds.{begins}
-use Rattle.world_laws.proofs.KeysRight.{Deed, Secrets, drawn_key}
-use Rattle.world_laws.proofs.KeysHeld.{IsSign}
+use Rattle.world_laws.proofs.KeysRight.{Deed, Secrets, KeysFor, drawn_key}
+use Rattle.world_laws.proofs.Queued.{announced_in}
+use Rattle.world_laws.proofs.KeysHeld.{IsSign, is_noted}
 use Rattle.world_laws.proofs.KeysKept.{AskIs}
 use Rattle.world_laws.proofs.KeysRight.{drawn_key}
 
 -- ---- the keys of a control book
 
--- its own key, and the peer's once it has one, which it has once it is confirmed
-pub record BookIs (own other : ℕ) (c : Control) : Type 0 where
+-- its own key, and the peer's once it has one, which it has once it is confirmed; and then T holds
+pub record BookIs (own other : ℕ) (T : Type 0) (c : Control) : Type 0 where
   pub own_is : c.keys.own ≡ own
   pub peer_is : IfSome c.keys.peer (λ key. key ≡ other)
-  pub confirmed : c.fall.confirmed ≡ true → c.keys.peer ≡ Some other
+  pub confirmed : c.fall.confirmed ≡ true → (c.keys.peer ≡ Some other) × T
 
 -- with the same keys, and no more confirmed
-same_book : (own other : ℕ) (c d : Control) → d.keys ≡ c.keys → d.fall.confirmed ≡ c.fall.confirmed → BookIs own other c → BookIs own other d
-same_book own other c d keys confirmed h = record {
+same_book : (own other : ℕ) (T : Type 0) (c d : Control) → d.keys ≡ c.keys → d.fall.confirmed ≡ c.fall.confirmed → BookIs own other T c → BookIs own other T d
+same_book own other T c d keys confirmed h = record {
   own_is = ap (λ x. x.own) keys ∙ h.own_is;
   peer_is = subst (λ x. IfSome x.peer (λ key. key ≡ other)) (sym keys) h.peer_is;
-  confirmed = λ is. ap (λ x. x.peer) keys ∙ h.confirmed (sym confirmed ∙ is);
+  confirmed = λ is. let both = h.confirmed (sym confirmed ∙ is) in (ap (λ x. x.peer) keys ∙ both.0, both.1);
 }
 
-if_book : (own other : ℕ) (b : Bool) (c d : Control) → BookIs own other c → BookIs own other d → BookIs own other (if b then c else d)
-if_book own other true c d x y = x
-if_book own other false c d x y = y
+-- the more T says
+pub more_book : (own other : ℕ) (T U : Type 0) (c : Control) → (T → U) → BookIs own other T c → BookIs own other U c
+more_book own other T U c more h = record { own_is = h.own_is; peer_is = h.peer_is; confirmed = λ is. let both = h.confirmed is in (both.0, more both.1) }
 
-notice_is : (own other : ℕ) (n : Notice) (path : ℕ) (c : Control) → BookIs own other c → BookIs own other (controlling.after_notice n path c)
-notice_is own other (notices.Withdraw id) path c h = same_book own other c _ refl refl h
-notice_is own other notices.Nothing path c h = h
-notice_is own other (notices.Announce id) path c h = h
-notice_is own other (notices.Carrier key) path c h = h
-notice_is own other notices.Reset path c h = h
+if_book : (own other : ℕ) (T : Type 0) (b : Bool) (c d : Control) → BookIs own other T c → BookIs own other T d → BookIs own other T (if b then c else d)
+if_book own other T true c d x y = x
+if_book own other T false c d x y = y
+
+notice_is : (own other : ℕ) (T : Type 0) (n : Notice) (path : ℕ) (c : Control) → BookIs own other T c → BookIs own other T (controlling.after_notice n path c)
+notice_is own other T (notices.Withdraw id) path c h = same_book own other T c _ refl refl h
+notice_is own other T notices.Nothing path c h = h
+notice_is own other T (notices.Announce id) path c h = h
+notice_is own other T (notices.Carrier key) path c h = h
+notice_is own other T notices.Reset path c h = h
 
 -- a sign of the peer's, which makes a side sure
 sign_confirms : (f : Fall) → (after_sure_sign f).0.confirmed ≡ f.confirmed
@@ -100,36 +109,36 @@ fell_confirms path sole events.CheckFailed f is = absurd is
 fell_confirms path sole (events.FailHeard contiguous) f is = absurd is
 fell_confirms path sole events.Stop f is = absurd is
 
-keys_told : (own other : ℕ) (mine peer_key : ℕ) (c : Control) → peer_key ≡ other → BookIs own other c → BookIs own other (controlling.after_keys mine peer_key c)
-keys_told own other mine peer_key c is h =
-    if_book own other (mine == c.keys.own) (controlling.after_event 0 false events.KeysHeard (controlling.after_peer_key peer_key c)) c
-    (record { own_is = h.own_is; peer_is = is; confirmed = λ confirmed. ap (λ n. Some n) is }) h
+keys_told : (own other : ℕ) (T : Type 0) (mine peer_key : ℕ) (c : Control) → peer_key ≡ other → T → BookIs own other T c → BookIs own other T (controlling.after_keys mine peer_key c)
+keys_told own other T mine peer_key c is holds h =
+    if_book own other T (mine == c.keys.own) (controlling.after_event 0 false events.KeysHeard (controlling.after_peer_key peer_key c)) c
+    (record { own_is = h.own_is; peer_is = is; confirmed = λ confirmed. (ap (λ n. Some n) is, holds) }) h
 
-pub call_is : (k : Secrets) (right : Bool) (w : Side → Type 0) (did : Deed → Side → Type 0) (s : Side) (c : Control) (call : ControlCall) → AskIs k right w did (asks.Control s call) → BookIs (drawn_key k right s) (drawn_key k right (peer s)) c
-    → BookIs (drawn_key k right s) (drawn_key k right (peer s)) (controlling.after c call)
-call_is k right w did s c (control_calls.Look path) is h = notice_is _ _ (control.notice_on c path) path c h
-call_is k right w did s c (control_calls.PeerKey key) is h = record { own_is = h.own_is; peer_is = is; confirmed = λ confirmed. ap (λ n. Some n) is }
-call_is k right w did s c (control_calls.Keys own other) is h = keys_told _ _ own other c is.1 h
-call_is k right w did s c (control_calls.Fell path event) is h = same_book _ _ c _ refl (fell_confirms path (sole_path c.paths path) event c.fall is) h
+pub call_is : (k : Secrets) (right : Bool) (w : Side → Type 0) (did : Deed → Side → Type 0) (s : Side) (c : Control) (call : ControlCall) → AskIs k right w did (asks.Control s call)
+    → BookIs (drawn_key k right s) (drawn_key k right (peer s)) (KeysFor k right w did s) c → BookIs (drawn_key k right s) (drawn_key k right (peer s)) (KeysFor k right w did s) (controlling.after c call)
+call_is k right w did s c (control_calls.Look path) is h = notice_is _ _ _ (control.notice_on c path) path c h
+call_is k right w did s c (control_calls.PeerKey key) is h = record { own_is = h.own_is; peer_is = is; confirmed = λ confirmed. (ap (λ n. Some n) is, (h.confirmed confirmed).1) }
+call_is k right w did s c (control_calls.Keys own other) is h = keys_told _ _ _ own other c is.1 is.2 h
+call_is k right w did s c (control_calls.Fell path event) is h = same_book _ _ _ c _ refl (fell_confirms path (sole_path c.paths path) event c.fall is) h
 call_is k right w did s c (control_calls.JoinBegin path) is h =
     let d : Control = controlling.after_join (record c { paths = with_phase path Opening c.paths }) in
-    if_book (drawn_key k right s) (drawn_key k right (peer s)) (control.is_sure c.fall.mode) d c (same_book _ _ c d refl refl h) h
+    if_book _ _ _ (control.is_sure c.fall.mode) d c (same_book _ _ _ c d refl refl h) h
 call_is k right w did s c (control_calls.JoinHeard path token) is h =
-    if_book (drawn_key k right s) (drawn_key k right (peer s)) (token == token_of c.keys.own && c.fall.confirmed && (control.is_starting c.fall.mode || control.is_sure c.fall.mode))
-    (controlling.after_join c) c (same_book _ _ c (controlling.after_join c) refl refl h) h
-call_is k right w did s c (control_calls.Live path backup) is h = same_book _ _ c _ refl refl h
-call_is k right w did s c (control_calls.Dead path) is h = same_book _ _ c _ refl refl h
-call_is k right w did s c (control_calls.Rate path window rtt) is h = same_book _ _ c _ refl refl h
-call_is k right w did s c (control_calls.Backup path on) is h = same_book _ _ c _ refl refl h
-call_is k right w did s c (control_calls.Announce id) is h = same_book _ _ c _ refl refl h
-call_is k right w did s c (control_calls.Withdraw id) is h = if_book _ _ (controlling.is_known id c) _ c (same_book _ _ c _ refl refl h) h
-call_is k right w did s c (control_calls.Heard id address port hmac) is h = same_book _ _ c _ refl refl h
-call_is k right w did s c (control_calls.Echoed id) is h = if_book _ _ (controlling.is_known id c) _ c (same_book _ _ c _ refl refl h) h
-call_is k right w did s c (control_calls.Removed id) is h = if_book _ _ (controlling.is_known id c) _ c (same_book _ _ c _ refl refl h) h
-call_is k right w did s c control_calls.FastClose is h = same_book _ _ c _ refl refl h
+    if_book _ _ _ (token == token_of c.keys.own && c.fall.confirmed && (control.is_starting c.fall.mode || control.is_sure c.fall.mode))
+    (controlling.after_join c) c (same_book _ _ _ c (controlling.after_join c) refl refl h) h
+call_is k right w did s c (control_calls.Live path backup) is h = same_book _ _ _ c _ refl refl h
+call_is k right w did s c (control_calls.Dead path) is h = same_book _ _ _ c _ refl refl h
+call_is k right w did s c (control_calls.Rate path window rtt) is h = same_book _ _ _ c _ refl refl h
+call_is k right w did s c (control_calls.Backup path on) is h = same_book _ _ _ c _ refl refl h
+call_is k right w did s c (control_calls.Announce id) is h = same_book _ _ _ c _ refl refl h
+call_is k right w did s c (control_calls.Withdraw id) is h = if_book _ _ _ (controlling.is_known id c) _ c (same_book _ _ _ c _ refl refl h) h
+call_is k right w did s c (control_calls.Heard id address port hmac) is h = same_book _ _ _ c _ refl refl h
+call_is k right w did s c (control_calls.Echoed id) is h = if_book _ _ _ (controlling.is_known id c) _ c (same_book _ _ _ c _ refl refl h) h
+call_is k right w did s c (control_calls.Removed id) is h = if_book _ _ _ (controlling.is_known id c) _ c (same_book _ _ _ c _ refl refl h) h
+call_is k right w did s c control_calls.FastClose is h = same_book _ _ _ c _ refl refl h
 call_is k right w did s c (control_calls.FastHeard key) is h =
     let d : Control = controlling.after_event 0 false events.Stop c in
-    if_book (drawn_key k right s) (drawn_key k right (peer s)) (key == c.keys.own) d c (same_book _ _ c d refl refl h) h
+    if_book _ _ _ (key == c.keys.own) d c (same_book _ _ _ c d refl refl h) h
 
 -- a book that joined stays so
 either_joined : (b : Bool) (c d : Control) → c.fall.joined ≡ true → d.fall.joined ≡ true → (if b then c else d).fall.joined ≡ true
@@ -180,6 +189,72 @@ call_joined c (control_calls.Removed id) is = either_joined _ _ _ is is
 call_joined c control_calls.FastClose is = is
 call_joined c (control_calls.FastHeard key) is = either_joined _ _ _ is is
 
+-- a book that has the peer's key keeps one
+either_keyed : (b : Bool) (c d : Control) → is_some c.keys.peer ≡ true → is_some d.keys.peer ≡ true → is_some (if b then c else d).keys.peer ≡ true
+either_keyed true c d x y = x
+either_keyed false c d x y = y
+
+notice_keyed : (n : Notice) (path : ℕ) (c : Control) → is_some c.keys.peer ≡ true → is_some (controlling.after_notice n path c).keys.peer ≡ true
+notice_keyed (notices.Withdraw id) path c is = is
+notice_keyed notices.Nothing path c is = is
+notice_keyed (notices.Announce id) path c is = is
+notice_keyed (notices.Carrier key) path c is = is
+notice_keyed notices.Reset path c is = is
+
+pub call_keyed : (c : Control) (call : ControlCall) → is_some c.keys.peer ≡ true → is_some (controlling.after c call).keys.peer ≡ true
+call_keyed c (control_calls.Look path) is = notice_keyed (control.notice_on c path) path c is
+call_keyed c (control_calls.PeerKey key) is = refl
+call_keyed c (control_calls.Keys own other) is = either_keyed (own == c.keys.own) _ _ refl is
+call_keyed c (control_calls.Fell path event) is = is
+call_keyed c (control_calls.JoinBegin path) is = either_keyed (control.is_sure c.fall.mode) _ _ is is
+call_keyed c (control_calls.JoinHeard path token) is =
+    either_keyed (token == token_of c.keys.own && c.fall.confirmed && (control.is_starting c.fall.mode || control.is_sure c.fall.mode)) _ _ is is
+call_keyed c (control_calls.Live path backup) is = is
+call_keyed c (control_calls.Dead path) is = is
+call_keyed c (control_calls.Rate path window rtt) is = is
+call_keyed c (control_calls.Backup path on) is = is
+call_keyed c (control_calls.Announce id) is = is
+call_keyed c (control_calls.Withdraw id) is = either_keyed _ _ _ is is
+call_keyed c (control_calls.Heard id address port hmac) is = is
+call_keyed c (control_calls.Echoed id) is = either_keyed _ _ _ is is
+call_keyed c (control_calls.Removed id) is = either_keyed _ _ _ is is
+call_keyed c control_calls.FastClose is = is
+call_keyed c (control_calls.FastHeard key) is = either_keyed _ _ _ is is
+
+-- it has it once it noted both keys
+pub noted_keyed : (own other : ℕ) (c : Control) → is_noted (replies.Control (control.keys_reply own c)) ≡ true → is_some (controlling.after_keys own other c).keys.peer ≡ true
+noted_keyed own other c = by (own == c.keys.own)
+  where
+    by : (b : Bool) → is_noted (replies.Control (if b then control_replies.Noted else control_replies.KeysDiffer c.keys.own)) ≡ true
+        → is_some (if b then controlling.after_event 0 false events.KeysHeard (controlling.after_peer_key other c) else c).keys.peer ≡ true
+    by true noted = refl
+    by false noted = absurd (false≢true noted)
+
+-- it announces an address once it is confirmed
+pub announces_confirmed : (T : Type 0) (c : Control) (path : ℕ) → (c.fall.confirmed ≡ true → T) → IfSome (announced_in (control.notice_on c path)) (λ id. T)
+announces_confirmed T c path holds = by (control.resets c path) (control.carries c path) c.fall.confirmed refl
+  where
+    withdrawn : Option ℕ
+    withdrawn = lowest (withdrawals_on c.notices.withdrawals path)
+
+    addresses : (o withdrawn : Option ℕ) → T → IfSome (announced_in (control.address_notice o withdrawn)) (λ id. T)
+    addresses (Some id) withdrawn is = is
+    addresses None (Some id) is = tt
+    addresses None None is = tt
+
+    none : (withdrawn : Option ℕ) → IfSome (announced_in (control.address_notice None withdrawn)) (λ id. T)
+    none (Some id) = tt
+    none None = tt
+
+    by : (resets carries confirmed : Bool) → c.fall.confirmed ≡ confirmed
+        → IfSome (announced_in (if resets then notices.Reset
+        else (if carries then notices.Carrier (peer_or_zero c.keys.peer)
+        else control.address_notice (if confirmed && is_path (lowest_living c.paths) path then lowest c.addresses.due else None) withdrawn))) (λ id. T)
+    by true carries confirmed is = tt
+    by false true confirmed is = tt
+    by false false true is = addresses (if is_path (lowest_living c.paths) path then lowest c.addresses.due else None) withdrawn (holds is)
+    by false false false is = none withdrawn
+
 -- ---- what it answers
 
 keys_untold : (test : Reply → Bool) → ((key : ℕ) → test (replies.Control control_replies.Noted) ≡ false) → (own : ℕ) (c : Control) → own ≡ c.keys.own
@@ -224,14 +299,14 @@ fast_untold test stopped other key c = by (key == c.keys.own)
 address_untold : (test : Reply → Bool) → test (replies.Control control_replies.Echo) ≡ false → test (replies.Control control_replies.Known) ≡ false
     → test (replies.Control control_replies.BadHmac) ≡ false → (id : ℕ) (address : Address) (port hmac : ℕ) (c : Control)
     → test (replies.Control (control.address_reply id address port hmac c)) ≡ false
-address_untold test echo known bad id address port hmac c = by (heard_reply control.is_same id address (control.is_right id address port hmac c) c.addresses)
+address_untold test echo known bad id address port hmac c = by (heard_reply is_same id address (control.is_right id address port hmac c) c.addresses)
   where
     by : (said : AddressHeard) → test (replies.Control (control.told_heard said)) ≡ false
     by address_said.Echo = echo
     by address_said.Known = known
     by address_said.BadHmac = bad
 
-module _ (k : Secrets) (right : Bool) (w : Side → Type 0) (did : Deed → Side → Type 0) (s : Side) (c : Control) (h : BookIs (drawn_key k right s) (drawn_key k right (peer s)) c) where
+module _ (k : Secrets) (right : Bool) (w : Side → Type 0) (did : Deed → Side → Type 0) (s : Side) (c : Control) (h : BookIs (drawn_key k right s) (drawn_key k right (peer s)) (KeysFor k right w did s) c) where
   pub key_untold : (call : ControlCall) → AskIs k right w did (asks.Control s call) → tells_other_key (replies.Control (control.reply_to c call)) ≡ false
   key_untold (control_calls.Look path) is = refl
   key_untold (control_calls.PeerKey key) is = refl
@@ -271,3 +346,43 @@ module _ (k : Secrets) (right : Bool) (w : Side → Type 0) (did : Deed → Side
   join_untold sure (control_calls.Removed id) is = refl
   join_untold sure control_calls.FastClose is = refl
   join_untold sure (control_calls.FastHeard key) is = fast_untold tells_wrong_join refl (λ own. refl) key c
+
+  -- an address has the HMAC that the book demands, where it has the peer's key
+  heard_right : (id : ℕ) (address : Address) (port hmac : ℕ) → c.keys.peer ≡ Some (drawn_key k right (peer s))
+      → hmac ≡ add_addr64_of (drawn_key k right (peer s)) (drawn_key k right s) id address port → control.is_right id address port hmac c ≡ true
+  heard_right id address port hmac has is =
+      eq-eqb hmac (add_addr64_of (peer_or_zero c.keys.peer) c.keys.own id address port)
+      (is ∙ ap (λ o. add_addr64_of (peer_or_zero o) (drawn_key k right s) id address port) (sym has)
+      ∙ ap (λ n. add_addr64_of (peer_or_zero c.keys.peer) n id address port) (sym h.own_is))
+
+  right_told : (id : ℕ) (address : Address) (b : Bool) → b ≡ true → tells_bad_address (replies.Control (control.told_heard (heard_reply is_same id address b c.addresses))) ≡ false
+  right_told id address true is = by (is_kept is_same (address_of id c.addresses.kept) address)
+    where
+      by : (kept : Bool) → tells_bad_address (replies.Control (control.told_heard (if kept then address_said.Known else address_said.Echo))) ≡ false
+      by true = refl
+      by false = refl
+  right_told id address false is = absurd (false≢true is)
+
+  peer_known : (o : Option ℕ) → is_some o ≡ true → IfSome o (λ key. key ≡ drawn_key k right (peer s)) → o ≡ Some (drawn_key k right (peer s))
+  peer_known None some is = absurd (false≢true some)
+  peer_known (Some key) some is = ap (λ n. Some n) is
+
+  pub address_right : right ≡ true → (did Deed.Keyed s → is_some c.keys.peer ≡ true) → (call : ControlCall) → AskIs k right w did (asks.Control s call) → tells_bad_address (replies.Control (control.reply_to c call)) ≡ false
+  address_right sure keyed (control_calls.Look path) is = refl
+  address_right sure keyed (control_calls.PeerKey key) is = refl
+  address_right sure keyed (control_calls.Keys own other) is = keys_untold tells_bad_address (λ key. refl) own c (is.0 ∙ sym h.own_is)
+  address_right sure keyed (control_calls.Fell path event) is = refl
+  address_right sure keyed (control_calls.JoinBegin path) is = begin_untold tells_bad_address (λ own other. refl) refl (λ mode. refl) c
+  address_right sure keyed (control_calls.JoinHeard path token) is = heard_untold tells_bad_address (token == token_of c.keys.own) c (λ own other. refl) refl (λ mode. refl) (λ unknown. refl)
+  address_right sure keyed (control_calls.Live path backup) is = refl
+  address_right sure keyed (control_calls.Dead path) is = refl
+  address_right sure keyed (control_calls.Rate path window rtt) is = refl
+  address_right sure keyed (control_calls.Backup path on) is = refl
+  address_right sure keyed (control_calls.Announce id) is = refl
+  address_right sure keyed (control_calls.Withdraw id) is = refl
+  address_right sure keyed (control_calls.Heard id address port hmac) is =
+      right_told id address (control.is_right id address port hmac c) (heard_right id address port hmac (peer_known c.keys.peer (keyed is.1) h.peer_is) (is.0 sure))
+  address_right sure keyed (control_calls.Echoed id) is = refl
+  address_right sure keyed (control_calls.Removed id) is = refl
+  address_right sure keyed control_calls.FastClose is = refl
+  address_right sure keyed (control_calls.FastHeard key) is = fast_untold tells_bad_address refl (λ own. refl) key c

@@ -34,7 +34,7 @@ use Rattle.path_core.specs.Joins.{is_joined, join_answer, join_asked}
 use Rattle.path_core.specs.State.{PathState, end_at, with_end, goes_on}
 use Rattle.path_core.specs.Values.{Carried, as_arrived, values}
 use Rattle.world_laws.proofs.KeysHeld.{VoiceIs, arrived_is, in_removed, FlightIs, AreKnown, PathIs, end_is, goes_by, agenda_is, AnswerIs, answer_is_right}
-use Rattle.world_laws.proofs.KeysRight.{Deed, Secrets, is_past, known_in, SegmentIs, ItemIs, ModesAre, EndIs, Needs, Knows, met_needs, needs_key, same_knows, same_modes, heard_items_are}
+use Rattle.world_laws.proofs.KeysRight.{Deed, Secrets, of_b, is_past, known_in, SegmentIs, ItemIs, ModesAre, EndIs, Needs, Knows, met_needs, needs_key, same_knows, same_modes, heard_items_are}
 use Rattle.world_laws.proofs.KeysWoken.{is_up, is_lively, arrived_waits, held_past, copy_up, copy_past, WakesNone, joined_wakes_none, Voice, speaks, came_said, came_calm, came_goes_on, same_or_calm}
 
 module _ (k : Secrets) (right : Bool) (w : Side → Type 0) (did : Deed → Side → Type 0) where
@@ -59,14 +59,26 @@ module _ (k : Secrets) (right : Bool) (w : Side → Type 0) (did : Deed → Side
       third = λ owes. (knows.0, λ sure. (needs_key k right s m (knows.1 sure), is.1.1 sure));
       cleared = h.cleared;
       fell = h.fell;
+      keyed = λ first. absurd (false≢true (sym first));
+      meets = h.meets;
     };
     stays = λ has. (has.0, λ sure. met_needs k right s (with_answer (Some answer) m) (needs_key k right s m (has.1 sure), is.1.1 sure));
   }
 
   -- a copy that B takes while it is half open clears it
-  taken_told : (s : Side) (b : Bool) (m : Modes) → (b ≡ true → w B) → ModesAre k right w did true s m → JoinTold s m (record m { clear = m.clear || b })
-  taken_told s b m half h = record {
-    modes = record { own = h.own; nonce = h.nonce; peer_is = h.peer_is; joins = h.joins; third = h.third; cleared = λ joins now. by m.clear refl now; fell = h.fell };
+  taken_told : (s : Side) (b : Bool) (m : Modes) → (b ≡ true → w B) → Knows k right w did s m → ModesAre k right w did true s m → JoinTold s m (record m { clear = m.clear || b })
+  taken_told s b m half knows h = record {
+    modes = record {
+      own = h.own;
+      nonce = h.nonce;
+      peer_is = h.peer_is;
+      joins = h.joins;
+      third = h.third;
+      cleared = λ joins now. by m.clear refl now;
+      fell = h.fell;
+      keyed = λ first. absurd (false≢true (sym first));
+      meets = λ sure now. of_b s _ (needs_key k right s m (knows.1 sure));
+    };
     stays = λ has. (has.0, λ sure. stay s (has.1 sure));
   }
     where
@@ -81,7 +93,7 @@ module _ (k : Secrets) (right : Bool) (w : Side → Type 0) (did : Deed → Side
   told_join : (s : Side) (items : List Heard) (m : Meaning) (state : EndPhase) (modes : Modes) → Every (ItemIs k right w did true s) items → (is_lively m ≡ true → Knows k right w did s modes)
       → (is_half_open state ≡ true → w B) → ModesAre k right w did true s modes → JoinTold s modes (cleared_in m state (answered_in m items modes))
   told_join s items (means.Accepts acknowledged) state modes said knows half h = answer_told s (join_answer items modes) modes (answer_is_right k right w did true s modes items said) (knows refl) h
-  told_join s items (means.Taken pos acknowledged) state modes said knows half h = taken_told s (is_half_open state) modes half h
+  told_join s items (means.Taken pos acknowledged) state modes said knows half h = taken_told s (is_half_open state) modes half (knows refl) h
   told_join s items means.Ignored state modes said knows half h = same_told s modes modes refl h
   told_join s items means.Unwanted state modes said knows half h = same_told s modes modes refl h
   told_join s items means.Opens state modes said knows half h = same_told s modes modes refl h
@@ -134,6 +146,7 @@ module _ (k : Secrets) (right : Bool) (w : Side → Type 0) (did : Deed → Side
           past = λ joined so. copy_past m (owes_by m items) (hint_of items) now (copy_of heard) heard.payload e.tcp (w B) none.no_syn
               (λ acknowledged same. some_answer s (join_answer items e.modes) (accepts acknowledged same) (answer_is_right k right w did true s e.modes items said)) (h.past refl) so;
           carries = h.carries;
+          queued = h.queued;
         };
         waits = up.waits;
         stays = stays;
@@ -283,6 +296,7 @@ module _ (k : Secrets) (right : Bool) (w : Side → Type 0) (did : Deed → Side
             woken = λ joined. absurd (false≢true joined);
             past = λ joined. absurd (false≢true joined);
             carries = own.carries;
+            queued = own.queued;
           }))
           (λ waiting. arrived_waits m (owes_by m (items_of false s heard)) (hint_of (items_of false s heard)) now (copy_of heard) heard.payload e.tcp waiting)
           (voices (with_end s (copy_judged false told answer s now heard m e) p) (template_of false s (items_of false s heard) (judged.As m)) (λ t spoken joined. absurd (false≢true (sym is ∙ joined))) (λ t. template_calm false s t (length (items_of false s heard)) (judged.As m))) h

@@ -1,5 +1,5 @@
 -- What the ends of a path know of keys and nonces, and hear of them, and how they go on.
-use Rattle.std.proofs.Common.{◌≡◌, refl, ◌∙◌, ap, subst, ℕ, zero, suc, ◌+◌, ◌==◌, not, ◌||◌, Bool, true, false, if◌then◌else◌, Option, Some, None, Ok, Err, List, [], ◌∷◌, remove}
+use Rattle.std.proofs.Common.{◌≡◌, refl, sym, ◌∙◌, ap, subst, ℕ, zero, suc, ◌+◌, ◌==◌, not, ◌||◌, Bool, true, false, if◌then◌else◌, Option, Some, None, Ok, Err, List, [], ◌∷◌, remove}
 use Rattle.std.proofs.lemmas.Bool.{both_ways, false≢true}
 use Rattle.std.specs.List.{slice_get}
 use Rattle.std.specs.Option.{IfSome, option_or}
@@ -14,6 +14,9 @@ use Rattle.link_model.specs.Fate.{is_stripped, is_altered, fate_of}
 use Rattle.link_model.specs.Steps.{peer, arrivals, changed, next_number}
 use Rattle.key_material.specs.JoinHmac.{join_b64_of}
 use Rattle.key_material.specs.KeyDigest.{token_of}
+use Rattle.key_material.specs.declared.address.Address.{Address}
+use Rattle.mptcp_options.specs.declared.capable.CapableKeys.{CapableKeys}
+use Rattle.mptcp_options.specs.declared.capable.CapableKeys.TheVariants.{NoKey, Sender, Both, WithData}
 use Rattle.mptcp_options.specs.declared.join.JoinForm.{JoinForm}
 use Rattle.mptcp_options.specs.declared.join.JoinForm.TheVariants.{Syn as JoinSyn, Answer, Third}
 use Rattle.join_handshake.specs.declared.hearing.JoinAnswer.{JoinAnswer}
@@ -42,6 +45,10 @@ use Rattle.path_agenda.specs.declared.heard.Heard.TheVariants as says
 use Rattle.path_agenda.specs.declared.heard.JoinStep.{JoinStep}
 use Rattle.path_agenda.specs.declared.heard.JoinStep.TheVariants as step
 use Rattle.path_agenda.specs.declared.keys.KeyPair.{KeyPair}
+use Rattle.path_agenda.specs.declared.notice.OwnNotice.{OwnNotice}
+use Rattle.path_agenda.specs.declared.notice.OwnNotice.TheVariants as own_notes
+use Rattle.path_agenda.specs.declared.notice.PeerNotice.{PeerNotice}
+use Rattle.path_agenda.specs.declared.notice.PeerNotice.TheVariants as peer_notes
 use Rattle.path_core.specs.declared.modes.Modes.{Modes}
 use Rattle.path_core.specs.Ends.{PathEnd}
 use Rattle.path_core.specs.Events.{died, died_unless_dead}
@@ -55,7 +62,7 @@ use Rattle.path_core.specs.State.{PathState, Profile, end_at, with_end, with_age
 use Rattle.path_core.specs.Fallback.{mode_in, fell_in, after_fell}
 use Rattle.path_core.specs.Values.{Carried, as_arrived, carried_by, stripped, altered, values}
 use Rattle.join_handshake.specs.Heard.{answer_heard, answer_taken, syn_heard}
-use Rattle.world_laws.proofs.KeysRight.{Deed, Secrets, told_in, is_past, known_in, OfB, IsFor, sure_if, drawn_key, drawn_nonce, JoinIs, OptionIs, SegmentIs, ItemIs, ModesAre, EndIs, HasMet, Knows, met_needs, same_knows, same_end}
+use Rattle.world_laws.proofs.KeysRight.{Deed, Secrets, KeysFor, AddressIs, NoteIs, PeerNoteIs, ShownBy, twice, of_b, told_in, is_past, known_in, OfB, IsFor, sure_if, drawn_key, drawn_nonce, JoinIs, OptionIs, SegmentIs, ItemIs, ModesAre, EndIs, HasMet, Knows, met_needs, same_knows, same_end}
 use Rattle.world_laws.proofs.KeysWoken.{NoWaking, Voice, is_said_by, speaks, tail_speaks}
 use Rattle.world_laws.proofs.Saying.{flights_kept}
 
@@ -93,6 +100,11 @@ fell_leaves fall.PlainAck r m = verdict_leaves r m
 fell_leaves fall.PlainHandshake r m = verdict_leaves r m
 fell_leaves _ r m = verdict_leaves r m
 
+-- both keys are noted
+abbrev pub is_noted : Reply → Bool
+is_noted (replies.Control control_replies.Noted) = true
+is_noted _ = false
+
 -- ---- what is under way
 
 pub in_removed : {X : Type 0} (xs : List X) (i k : ℕ) (x : X) → slice_get (remove xs i) k ≡ Some x → (j : ℕ) × (slice_get xs j ≡ Some x)
@@ -127,10 +139,6 @@ finish_open _ is = absurd (false≢true is)
 pub not_closed : (b : Bool) → not b ≡ true → b ≡ false
 not_closed false is = refl
 not_closed true is = absurd (false≢true is)
-
-twice : (s : Side) → peer (peer s) ≡ s
-twice A = refl
-twice B = refl
 
 -- an event that a path tells: neither both keys nor a failure, and no end of the connection
 abbrev pub IsSign : FallEvent → Type 0
@@ -188,6 +196,11 @@ module _ (k : Secrets) (right : Bool) (w : Side → Type 0) (did : Deed → Side
   -- it waits only where it waited
   abbrev Still : Side → PathEnd → PathState Carried → Type 0
   Still s e p = is_waiting e.tcp.state ≡ true → is_waiting (end_at s p).tcp.state ≡ true
+
+  -- with other notices
+  pub requeued : (joined : Bool) (s : Side) (queue : List OwnNotice) (e : PathEnd) → Every (NoteIs k right w did s) queue → EndIs k right w did joined s e
+      → EndIs k right w did joined s (record e { notices = record e.notices { queue = queue } })
+  requeued joined s queue e each h = record { modes = h.modes; items = h.items; woken = h.woken; past = h.past; carries = h.carries; queued = each }
 
   pub goes_by : (s : Side) (e : PathEnd) (ds : List Duty) (p : PathState Carried) → EndIs k right w did (is_joined p.profile) s e → Still s e p → AreKnown (with_end s e p) ds → PathIs p
       → PathIs (goes_on s e ds p)
@@ -330,7 +343,7 @@ module _ (k : Secrets) (right : Bool) (w : Side → Type 0) (did : Deed → Side
   -- ---- ends
 
   pub died_is : (joined : Bool) (s : Side) (e : PathEnd) → EndIs k right w did joined s e → EndIs k right w did joined s (died e)
-  died_is joined s e h = record { modes = h.modes; items = Every-nil _; woken = λ is up. absurd (false≢true up); past = λ is so. absurd (false≢true so); carries = tt }
+  died_is joined s e h = record { modes = h.modes; items = Every-nil _; woken = λ is up. absurd (false≢true up); past = λ is so. absurd (false≢true so); carries = tt; queued = Every-nil _ }
 
   pub refused_is : (joined : Bool) (s : Side) (r : Reply) (e : PathEnd) → EndIs k right w did joined s e → EndIs k right w did joined s (with_mode_refused r e)
   refused_is joined s r e h = kept_end joined s e (with_mode_refused r e) refl refl (record { up = λ x. x; waits = λ x. x; past = λ x. x }) h
@@ -359,7 +372,7 @@ module _ (k : Secrets) (right : Bool) (w : Side → Type 0) (did : Deed → Side
         by _ own rest = rest
 
     abbrev pub PairIs : Side → KeyPair → Type 0
-    PairIs s keys = (joined ≡ false) × ((keys.own ≡ drawn_key k right s) × (keys.peer ≡ drawn_key k right (peer s)))
+    PairIs s keys = (joined ≡ false) × ((keys.own ≡ drawn_key k right s) × (keys.peer ≡ drawn_key k right (peer s)) × KeysFor k right w did s)
 
     pub pair_found : (s : Side) (items : List Heard) → Every (ItemIs k right w did joined s) items → IfSome (keys_heard items) (PairIs s)
     pair_found s [] h = tt
@@ -438,9 +451,9 @@ module _ (k : Secrets) (right : Bool) (w : Side → Type 0) (did : Deed → Side
   -- ---- an end learns
 
   -- the peer's key, and on the path that opens the connection, that it may send a DSS
-  pub rekeyed : (joined : Bool) (s : Side) (key : ℕ) (clear : Bool) (m : Modes) → key ≡ drawn_key k right (peer s) → (joined ≡ true → clear ≡ true → m.clear ≡ true) → ModesAre k right w did joined s m
-      → ModesAre k right w did joined s (record m { peer_key = Some key; clear = clear })
-  rekeyed joined s key clear m is was h = record {
+  pub rekeyed : (joined : Bool) (s : Side) (key : ℕ) (clear : Bool) (m : Modes) → key ≡ drawn_key k right (peer s) → (joined ≡ true → clear ≡ true → m.clear ≡ true) → did Deed.Keyed s
+      → ModesAre k right w did joined s m → ModesAre k right w did joined s (record m { peer_key = Some key; clear = clear })
+  rekeyed joined s key clear m is was keyed h = record {
     own = h.own;
     nonce = h.nonce;
     peer_is = λ sure. is;
@@ -448,6 +461,8 @@ module _ (k : Secrets) (right : Bool) (w : Side → Type 0) (did : Deed → Side
     third = λ owes. let knows = h.third owes in (knows.0, λ sure. (ap (λ n. Some n) is, (knows.1 sure).1));
     cleared = λ joins now. h.cleared joins (was joins now);
     fell = h.fell;
+    keyed = λ first. keyed;
+    meets = λ sure now. of_b s _ (ap (λ n. Some n) is);
   }
 
   pub rekeyed_knows : (s : Side) (key : ℕ) (clear : Bool) (m : Modes) → key ≡ drawn_key k right (peer s) → Knows k right w did s m → Knows k right w did s (record m { peer_key = Some key; clear = clear })
@@ -458,27 +473,29 @@ module _ (k : Secrets) (right : Bool) (w : Side → Type 0) (did : Deed → Side
   never_joins joined P first joins = absurd (both_ways joined first joins)
 
   -- the book noted them, or nothing changes
-  pub keys_are : (joined : Bool) (s : Side) (r : Reply) (o : Option KeyPair) (e : PathEnd) → IfSome o (PairIs joined s)
+  pub keys_are : (joined : Bool) (s : Side) (r : Reply) (o : Option KeyPair) (e : PathEnd) → IfSome o (PairIs joined s) → (is_noted r ≡ true → did Deed.Keyed s)
       → EndIs k right w did joined s e → EndIs k right w did joined s (after_keys r o e)
-  keys_are joined s r o e pair h = record {
-    modes = modes r o pair;
+  keys_are joined s r o e pair keyed h = record {
+    modes = modes r o pair keyed;
     items = h.items;
     woken = λ is up. knows r o pair (h.woken is up);
     past = h.past;
     carries = h.carries;
+    queued = h.queued;
   }
     where
-      modes : (r : Reply) (o : Option KeyPair) → IfSome o (PairIs joined s) → ModesAre k right w did joined s (keys_in r o e.modes)
-      modes (replies.Send reply) o pair = h.modes
-      modes (replies.Reassembly reply) o pair = h.modes
-      modes replies.Done o pair = h.modes
-      modes (replies.Control reply) o pair = by reply o pair
+      modes : (r : Reply) (o : Option KeyPair) → IfSome o (PairIs joined s) → (is_noted r ≡ true → did Deed.Keyed s) → ModesAre k right w did joined s (keys_in r o e.modes)
+      modes (replies.Send reply) o pair keyed = h.modes
+      modes (replies.Reassembly reply) o pair keyed = h.modes
+      modes replies.Done o pair keyed = h.modes
+      modes (replies.Control reply) o pair keyed = by reply o pair keyed
         where
-          by : (reply : ControlReply) (o : Option KeyPair) → IfSome o (PairIs joined s) → ModesAre k right w did joined s (keys_in (replies.Control reply) o e.modes)
-          by control_replies.Noted (Some keys) pair = rekeyed joined s keys.peer true e.modes pair.1.1 (λ joins now. never_joins joined _ pair.0 joins) h.modes
-          by control_replies.Noted None pair = h.modes
-          by control_replies.NotYet o pair = h.modes
-          by _ o pair = h.modes
+          by : (reply : ControlReply) (o : Option KeyPair) → IfSome o (PairIs joined s) → (is_noted (replies.Control reply) ≡ true → did Deed.Keyed s)
+              → ModesAre k right w did joined s (keys_in (replies.Control reply) o e.modes)
+          by control_replies.Noted (Some keys) pair keyed = rekeyed joined s keys.peer true e.modes pair.1.1 (λ joins now. never_joins joined _ pair.0 joins) (keyed refl) h.modes
+          by control_replies.Noted None pair keyed = h.modes
+          by control_replies.NotYet o pair keyed = h.modes
+          by _ o pair keyed = h.modes
 
       knows : (r : Reply) (o : Option KeyPair) → IfSome o (PairIs joined s) → Knows k right w did s e.modes → Knows k right w did s (keys_in r o e.modes)
       knows (replies.Send reply) o pair has = has
@@ -531,11 +548,14 @@ module _ (k : Secrets) (right : Bool) (w : Side → Type 0) (did : Deed → Side
       third = λ owes. let knows = h.modes.third owes in (knows.0, λ sure. (ap (λ n. Some n) (is.1.1 sure), (knows.1 sure).1));
       cleared = h.modes.cleared;
       fell = h.modes.fell;
+      keyed = λ first. absurd (false≢true (sym first));
+      meets = λ sure now. tt;
     };
     items = h.items;
     woken = λ joined up. (is.1.0, λ sure. ap (λ n. Some n) (is.1.1 sure));
     past = λ joined so. h.past refl (begun (is_waiting e.tcp.state) so);
     carries = h.carries;
+    queued = h.queued;
   }
     where
       begun : (b : Bool) → is_past (if b then after_begin e.tcp else e.tcp).state ≡ true → is_past e.tcp.state ≡ true
@@ -559,11 +579,14 @@ module _ (k : Secrets) (right : Bool) (w : Side → Type 0) (did : Deed → Side
       third = λ owes. (is.1.0, met);
       cleared = h.modes.cleared;
       fell = h.modes.fell;
+      keyed = λ first. absurd (false≢true (sym first));
+      meets = λ sure now. of_b s _ (ap (λ n. Some n) (is.1.1 sure));
     };
     items = h.items;
     woken = λ joined up. (is.1.0, λ sure. met_needs k right s (joined_by keys asked e).modes (met sure));
     past = λ joined so. subst w heard.1.0 is.1.0;
     carries = h.carries;
+    queued = h.queued;
   }
     where
       met : right ≡ true → HasMet k right s (joined_by keys asked e).modes
@@ -593,11 +616,38 @@ module _ (k : Secrets) (right : Bool) (w u : Side → Type 0) (did does : Deed �
   more_b A h = h
   more_b B h = more B h
 
+  more_shown : (s : Side) (keys : CapableKeys) → ShownBy k right w did s keys → ShownBy k right u does s keys
+  more_shown s NoKey h = h
+  more_shown s (Sender sender) h = h
+  more_shown s (Both sender receiver) h = further Deed.Keyed s h
+  more_shown s (WithData sender receiver len checksum) h = further Deed.Keyed s h
+
+  more_address : (s : Side) (echo : Bool) (id : ℕ) (address : Address) (port hmac : Option ℕ) → AddressIs k right w did s echo id address port hmac → AddressIs k right u does s echo id address port hmac
+  more_address s true id address port hmac h = h
+  more_address s false id address port (Some hmac) h = (h.0, further Deed.Keyed (peer s) h.1)
+  more_address s false id address port None h = h
+
+  more_for : (s : Side) → KeysFor k right w did s → KeysFor k right u does s
+  more_for A h = h
+  more_for B h = further Deed.Keyed A h
+
+  more_heard : (s : Side) (notice : PeerNotice) → PeerNoteIs k right w did s notice → PeerNoteIs k right u does s notice
+  more_heard s (peer_notes.AddAddr id address port hmac) h = (h.0, further Deed.Keyed s h.1)
+  more_heard s (peer_notes.AddEcho id) h = h
+  more_heard s (peer_notes.Removed id) h = h
+  more_heard s (peer_notes.Prio backup) h = h
+
+  more_note : (s : Side) (notice : OwnNotice) → NoteIs k right w did s notice → NoteIs k right u does s notice
+  more_note s (own_notes.AddAddr id) h = (h.0, further Deed.Keyed (peer s) h.1)
+  more_note s (own_notes.AddEcho id address port) h = h
+  more_note s (own_notes.Removes id) h = h
+  more_note s (own_notes.Prio backup) h = h
+
   more_option : (joined : Bool) (s : Side) (o : PlainOption) → OptionIs k right w did joined s o → OptionIs k right u does joined s o
-  more_option joined s (Capable flag_a flag_c keys) h = h
+  more_option joined s (Capable flag_a flag_c keys) h = (h.0, λ first. more_shown s keys (h.1 first))
   more_option joined s (Join form) h = (h.0, (more s h.1.0, h.1.1))
   more_option joined s (Dss next mapping) h = λ joins. more_b s (h joins)
-  more_option joined s (AddAddr echo id address port hmac) h = h
+  more_option joined s (AddAddr echo id address port hmac) h = more_address s echo id address port hmac h
   more_option joined s (Remove ids) h = h
   more_option joined s (Prio backup) h = h
   more_option joined s (Fail place) h = h
@@ -605,10 +655,10 @@ module _ (k : Secrets) (right : Bool) (w u : Side → Type 0) (did does : Deed �
   more_option joined s (Reset transient reason) h = h
 
   more_item : (joined : Bool) (s : Side) (item : Heard) → ItemIs k right w did joined s item → ItemIs k right u does joined s item
-  more_item joined s (says.Keys own other) h = h
+  more_item joined s (says.Keys own other) h = (h.0, (h.1.0, h.1.1, more_for s h.1.2))
   more_item joined s (says.PeerKey key) h = h
   more_item joined s (says.Join form) h = (h.0, (h.1.0, (more (peer s) h.1.1.0, h.1.1.1)))
-  more_item joined s (says.Notice notice) h = h
+  more_item joined s (says.Notice notice) h = more_heard s notice h
   more_item joined s says.Fail h = h
   more_item joined s (says.FastClose key) h = further Deed.Closed (peer s) h
   more_item joined s says.Dss h = λ joins. more_b (peer s) (h joins)
@@ -630,13 +680,20 @@ module _ (k : Secrets) (right : Bool) (w u : Side → Type 0) (did does : Deed �
       third = λ owes. let knows = h.modes.third owes in (more s knows.0, knows.1);
       cleared = λ joins now. more B (h.modes.cleared joins now);
       fell = λ is. let both = h.modes.fell is in (both.0, further Deed.Fell s both.1);
+      keyed = λ first. has e.modes.peer_key (h.modes.keyed first);
+      meets = h.modes.meets;
     };
     items = record { each = λ i x at. more_item joined s x (h.items.each i x at) };
     woken = λ joins up. more_knows s e.modes (h.woken joins up);
     past = λ joins so. more B (h.past joins so);
     carries = by e.notices.carrier h.carries;
+    queued = record { each = λ i x at. more_note s x (h.queued.each i x at) };
   }
     where
+      has : (o : Option ℕ) → IfSome o (λ key. did Deed.Keyed s) → IfSome o (λ key. does Deed.Keyed s)
+      has None keyed = tt
+      has (Some key) keyed = further Deed.Keyed s keyed
+
       by : (o : Option ℕ) → IfSome o (λ key. did Deed.Closed s) → IfSome o (λ key. does Deed.Closed s)
       by None closed = tt
       by (Some key) closed = further Deed.Closed s closed

@@ -72,17 +72,19 @@ use Rattle.path_core.specs.Fallback.{is_fall, fell_ask, in_identity, after_fell,
 use Rattle.path_core.specs.Treating.{is_acked, is_dropped, with_acked, counts, is_clash, with_data_fin, with_plain_ack, breaks_by_ack, answered_plain_ack, answered_heard, answered_item, item_of, item_passed, heard_ask, item_ask, plain_ack_ask}
 use Rattle.path_core.specs.Values.{Carried, values}
 use Rattle.path_core.specs.FastClosing.{is_stopped_by, fast_close_of, is_fast_close_due}
-use Rattle.path_core.specs.Addressing.{is_note_due, note_of, after_peer_notice}
+use Rattle.path_core.specs.Addressing.{is_note_due, having_noted, note_of, after_peer_notice, with_echo}
+use Rattle.path_core.specs.Handover.{having_sent}
 use Rattle.path_agenda.specs.Words.{first_of}
 use Rattle.world_laws.proofs.Finding.{find_every, one_side}
+use Rattle.world_laws.proofs.Queued.{announced_told, echo_queued, first_queued, look_queued, prio_queued, tail_queued}
 use Rattle.fallback_state.specs.declared.fall.Event.{Event as FallEvent}
 use Rattle.fallback_state.specs.declared.fall.Event.TheVariants as fall
 use Rattle.subflow_tcp.specs.Emitting.{fin_position}
 use Rattle.subflow_tcp.specs.declared.handshake.State.{State as EndPhase}
 use Rattle.subflow_tcp.specs.declared.handshake.State.TheVariants as phase
 use Rattle.world_laws.proofs.Verdicts.{fell_cases}
-use Rattle.world_laws.proofs.KeysHeld.{VoiceIs, with_voice, fewer_known, stays_same, replaced_known, look_leaves, verdict_leaves, fell_leaves, opening_open, not_closed, finish_open, IsSign, FlightIs, OnJoined, AreKnown, PathIs, end_is, Fewer, none_left, Stays, goes_by, goes_is, with_is, agenda_is, kept_end, same_goes, sent_is, same_sent, died_is, refused_is, unless_dead_is, key_found, PairIs, pair_found, AskedIs, asked_is, rekeyed, rekeyed_knows, keys_are, keys_stay, BeginIs, opened_end, opened_stays, joined_end, joined_knows, joined_waits}
-use Rattle.world_laws.proofs.KeysRight.{Deed, Secrets, told_in, known_in, OfB, drawn_key, SegmentIs, ItemIs, EndIs, Needs, Knows, same_knows, same_modes, reset_options_are, reset_is as reset_said_is, fin_options_are, ack_is, syn_ack_is, record_or_ack_is, carried_is, noted_is, dss_known, is_past, of_b}
+use Rattle.world_laws.proofs.KeysHeld.{VoiceIs, with_voice, fewer_known, stays_same, replaced_known, is_noted, look_leaves, verdict_leaves, fell_leaves, opening_open, not_closed, finish_open, IsSign, FlightIs, OnJoined, AreKnown, PathIs, end_is, Fewer, none_left, Stays, requeued, goes_by, goes_is, with_is, agenda_is, kept_end, same_goes, sent_is, same_sent, died_is, refused_is, unless_dead_is, key_found, PairIs, pair_found, AskedIs, asked_is, rekeyed, rekeyed_knows, keys_are, keys_stay, BeginIs, opened_end, opened_stays, joined_end, joined_knows, joined_waits}
+use Rattle.world_laws.proofs.KeysRight.{Deed, Secrets, HmacIs, KeysFor, NoteIs, told_in, known_in, OfB, drawn_key, SegmentIs, ItemIs, EndIs, Needs, Knows, same_knows, same_modes, reset_options_are, reset_is as reset_said_is, fin_options_are, ack_is, syn_ack_is, record_or_ack_is, carried_is, noted_is, dss_known, is_past, of_b}
 use Rattle.world_laws.proofs.KeysWoken.{is_up, NoWaking, open_is_up, timer_up, sending_up, finishing_up, passing_up, is_said_by, speaks, tail_speaks, replaced_speaks, same_or_calm, itself, next_happens, first_speaks, Voice, tells_same, falls_same}
 use Rattle.world_laws.proofs.KeysCopied.{copy_is, delivered_is, own_knows, voices}
 
@@ -137,6 +139,12 @@ module _ (k : Secrets) (right : Bool) (w : Side → Type 0) (did : Deed → Side
       by true is now = was joins is
       by false is now = at s (said joins) now
 
+  -- B's end may send one where it might
+  cleared_meets : (s : Side) (b : Bool) (P : Type 0) → (b ≡ true → OfB s P) → b || is_side_a s ≡ true → OfB s P
+  cleared_meets A b P has now = tt
+  cleared_meets B true P has now = has refl
+  cleared_meets B false P has now = absurd (false≢true now)
+
   passed_item : (joined : Bool) (s : Side) (o : Option Heard) (e : PathEnd) → IfSome o (ItemIs k right w did joined s) → EndIs k right w did joined s e → EndIs k right w did joined s (item_passed s o e)
   passed_item joined s None e said h = h
   passed_item joined s (Some says.Dss) e said h = record {
@@ -148,11 +156,14 @@ module _ (k : Secrets) (right : Bool) (w : Side → Type 0) (did : Deed → Side
       third = λ owes. absurd (false≢true owes);
       cleared = cleared_by joined s e.modes said h.modes.cleared;
       fell = h.modes.fell;
+      keyed = h.modes.keyed;
+      meets = λ sure now. cleared_meets s e.modes.clear _ (h.modes.meets sure) now;
     };
     items = h.items;
     woken = λ is up. let has = h.woken is up in (has.0, λ sure. by s (has.1 sure));
     past = h.past;
     carries = h.carries;
+    queued = h.queued;
   }
     where
       by : (t : Side) → Needs k right t e.modes → Needs k right t (item_passed s (Some says.Dss) e).modes
@@ -162,12 +173,12 @@ module _ (k : Secrets) (right : Bool) (w : Side → Type 0) (did : Deed → Side
   passed_item joined s (Some (says.Mapping fin)) e said h = by (counts e)
     where
       by : (b : Bool) → EndIs k right w did joined s (if b then with_learned e else with_skipped e)
-      by true = record { modes = h.modes; items = h.items; woken = h.woken; past = h.past; carries = h.carries }
-      by false = record { modes = h.modes; items = h.items; woken = h.woken; past = h.past; carries = h.carries }
+      by true = record { modes = h.modes; items = h.items; woken = h.woken; past = h.past; carries = h.carries; queued = h.queued }
+      by false = record { modes = h.modes; items = h.items; woken = h.woken; past = h.past; carries = h.carries; queued = h.queued }
   passed_item joined s (Some (says.DataFin place)) e said h = by (counts e)
     where
       by : (b : Bool) → EndIs k right w did joined s (if b then with_data_fin place e else e)
-      by true = record { modes = h.modes; items = h.items; woken = h.woken; past = h.past; carries = h.carries }
+      by true = record { modes = h.modes; items = h.items; woken = h.woken; past = h.past; carries = h.carries; queued = h.queued }
       by false = h
   passed_item joined s (Some (says.InfiniteMapping place position)) e said h = h
   passed_item joined s (Some (says.PeerKey key)) e said h = h
@@ -320,12 +331,12 @@ module _ (k : Secrets) (right : Bool) (w : Side → Type 0) (did : Deed → Side
 
   -- ---- what is asked, and answered
 
-  -- Keys that are told to a control book are those of its side and of the peer, and a token that is told is that of its key. A path
-  -- tells no address; and it asks for no fast close, but where the side's application did.
+  -- Keys that are told to a control book are those of its side and of the peer, and a token that is told is that of its key. An
+  -- address has the HMAC of both keys, and the book has the peer's. A fast close is asked for where the side's application did.
   abbrev pub CallIs : Side → ControlCall → Type 0
   CallIs s (control_calls.Look path) = Unit {0}
   CallIs s (control_calls.PeerKey key) = key ≡ drawn_key k right (peer s)
-  CallIs s (control_calls.Keys own other) = (own ≡ drawn_key k right s) × (other ≡ drawn_key k right (peer s))
+  CallIs s (control_calls.Keys own other) = (own ≡ drawn_key k right s) × (other ≡ drawn_key k right (peer s)) × KeysFor k right w did s
   CallIs s (control_calls.Fell path event) = IsSign event
   CallIs s (control_calls.JoinBegin path) = s ≡ A
   CallIs s (control_calls.JoinHeard path token) = (s ≡ B) × (w (peer s) × (right ≡ true → token ≡ token_of (drawn_key k right s)))
@@ -337,7 +348,7 @@ module _ (k : Secrets) (right : Bool) (w : Side → Type 0) (did : Deed → Side
   CallIs s (control_calls.Backup path on) = Unit {0}
   CallIs s (control_calls.Announce id) = Unit {0}
   CallIs s (control_calls.Withdraw id) = Unit {0}
-  CallIs s (control_calls.Heard id address port hmac) = Unit {0}
+  CallIs s (control_calls.Heard id address port hmac) = HmacIs k right w did (peer s) s id address port hmac
   CallIs s (control_calls.Echoed id) = Unit {0}
   CallIs s (control_calls.Removed id) = Unit {0}
 
@@ -362,7 +373,10 @@ module _ (k : Secrets) (right : Bool) (w : Side → Type 0) (did : Deed → Side
   FallIs s r = is_fall r ≡ true → did Deed.Fell s × (w s → ⊥)
 
   abbrev pub CallReplyIs : Side → ControlCall → Reply → Type 0
-  CallReplyIs s (control_calls.Look path) r = IfSome (carrier_told r) (λ key. did Deed.Closed s)
+  CallReplyIs s (control_calls.Look path) r =
+      IfSome (carrier_told r) (λ key. did Deed.Closed s) × IfSome (announced_told r) (λ id. (s ≡ B) × did Deed.Keyed (peer s))
+  CallReplyIs s (control_calls.PeerKey key) r = did Deed.Keyed s
+  CallReplyIs s (control_calls.Keys own other) r = is_noted r ≡ true → did Deed.Keyed s
   CallReplyIs s (control_calls.FastHeard key) r = is_stopped_by r ≡ true → did Deed.Stopped s
   CallReplyIs s (control_calls.JoinHeard path token) r = IfSome (keys_begun r) (BeginIs k right w did s)
   CallReplyIs s (control_calls.JoinBegin path) r = BeginsAt s r
@@ -399,7 +413,11 @@ module _ (k : Secrets) (right : Bool) (w : Side → Type 0) (did : Deed → Side
   line_is : (action : LineAction) (p : PathState Carried) → PathIs k right w did p → PathIs k right w did (after_line action p)
   line_is actions.Die p h = died_path p h
   line_is (actions.Prio s backup) p h =
-      same_goes k right w did s (with_priority backup (end_at s p)) (emission s) p refl refl (record { up = λ x. x; waits = λ x. x; past = λ x. x }) (λ t spoken. absurd (false≢true spoken)) h
+      let e = end_at s p in let own = end_is k right w did s p h in
+      goes_is k right w did s (with_priority backup e) (emission s) p
+      (requeued k right w did (is_joined p.profile) s (with_priority backup e).notices.queue e
+      (prio_queued (NoteIs k right w did s) (λ id. tt) (λ id address port. tt) (λ backup. tt) backup (is_dead e.tcp.state) e.notices.queue own.queued) own)
+      (λ waiting. waiting) (λ t spoken. absurd (false≢true spoken)) (λ is has. has) h
   line_is (actions.Announce s id) p h = agenda_is k right w did _ p (λ t spoken. absurd (false≢true spoken)) h
   line_is (actions.Withdraw s id) p h = agenda_is k right w did _ p (λ t spoken. absurd (false≢true spoken)) h
 
@@ -437,10 +455,10 @@ module _ (k : Secrets) (right : Bool) (w : Side → Type 0) (did : Deed → Side
 
       by : (b : Bool) → PathIs k right w did (goes_on s (record e { tcp = (if b then after_death true e.tcp else after_expiry q.clock e.tcp) }) (template_fired b s) q)
       by true =
-          goes_is k right w did s (record e { tcp = after_death true e.tcp }) (template_fired true s) q (record { modes = own.modes; items = own.items; woken = λ is woken. absurd (false≢true woken); past = λ is so. absurd (false≢true so); carries = own.carries })
+          goes_is k right w did s (record e { tcp = after_death true e.tcp }) (template_fired true s) q (record { modes = own.modes; items = own.items; woken = λ is woken. absurd (false≢true woken); past = λ is so. absurd (false≢true so); carries = own.carries; queued = own.queued })
           (λ waiting. absurd (false≢true waiting)) (λ t spoken. absurd (false≢true spoken)) (λ is has. has) h
       by false =
-          goes_by k right w did s (record e { tcp = after_expiry q.clock e.tcp }) (template_fired false s) q (record { modes = own.modes; items = own.items; woken = λ is woken. own.woken is up; past = own.past; carries = own.carries })
+          goes_by k right w did s (record e { tcp = after_expiry q.clock e.tcp }) (template_fired false s) q (record { modes = own.modes; items = own.items; woken = λ is woken. own.woken is up; past = own.past; carries = own.carries; queued = own.queued })
           (λ waiting. waiting) (voices k right w did (with_end s (record e { tcp = after_expiry q.clock e.tcp }) q) (template_fired false s) (λ t spoken is. own_knows k right w did s t (record e { tcp = after_expiry q.clock e.tcp }) q (same_or_calm t s spoken) (own.woken is up)) (λ t. (refl, refl))) h
 
   event_is : (o : Option Event) (r : Reply) (p : PathState Carried) → next_event p ≡ o → ReplyIs (step_for p.link.path o) r → PathIs k right w did p → PathIs k right w did (happens_if values o r p)
@@ -555,15 +573,19 @@ module _ (k : Secrets) (right : Bool) (w : Side → Type 0) (did : Deed → Side
       verdict_is s (with_data_fin place (after_fell fall.MappingHeard r (end_at s p))) r p (verdict_leaves r (end_at s p).modes) refl (record { up = λ x. x; waits = λ x. x; past = λ x. x }) said is h
   heard_answered s (says.InfiniteMapping place position) r p own said is h = told_is s fall.InfiniteHeard r p said is h
   heard_answered s (says.Keys mine other) r p own said is h =
-      goes_is k right w did s _ _ p (keys_are k right w did (is_joined p.profile) s r (Some (record { own = mine; peer = other })) (end_at s p) own (end_is k right w did s p h)) (λ is. is) (none_left k right w did p)
+      goes_is k right w did s _ _ p (keys_are k right w did (is_joined p.profile) s r (Some (record { own = mine; peer = other })) (end_at s p) own is (end_is k right w did s p h)) (λ waiting. waiting) (none_left k right w did p)
       (keys_stay k right w did s r (Some (record { own = mine; peer = other })) p own) h
   heard_answered s says.Dss r p own said is h = agenda_is k right w did _ p (none_left k right w did p) h
   heard_answered s (says.PeerKey key) r p own said is h = agenda_is k right w did _ p (none_left k right w did p) h
   heard_answered s (says.Join form) r p own said is h = agenda_is k right w did _ p (none_left k right w did p) h
   heard_answered s (says.Notice notice) r p own said is h =
-      same_goes k right w did s (after_peer_notice notice r (end_at s p)) (left p) p refl refl (record { up = λ x. x; waits = λ x. x; past = λ x. x }) (none_left k right w did p) h
+      let e = end_at s p in let held = end_is k right w did s p h in
+      goes_is k right w did s (after_peer_notice notice r e) (left p) p
+      (requeued k right w did (is_joined p.profile) s (with_echo notice r e.notices.queue) e
+      (echo_queued (NoteIs k right w did s) (λ id. tt) (λ id address port. tt) (λ backup. tt) notice r e.notices.queue held.queued) held)
+      (λ waiting. waiting) (none_left k right w did p) (λ is has. has) h
   heard_answered s says.Fail r p own said is h = agenda_is k right w did _ p (none_left k right w did p) h
-  heard_answered s (says.FastClose key) r p own said is h = by (is_stopped_by r)
+  heard_answered s (says.FastClose key) r p own said is h = by (is_stopped_by r) is
     where
       known : (t : Side) → did Deed.Stopped t → did Deed.Closed (peer t) → (x : Voice) → speaks x (stops t) ≡ true → VoiceIs k right w did p x
       known A stopped closed (Voice.Aborts A) spoken = (stopped, closed)
@@ -629,9 +651,10 @@ module _ (k : Secrets) (right : Bool) (w : Side → Type 0) (did : Deed → Side
   note_is s p due h =
       let e = end_at s p in
       let own = end_is k right w did s p h in
+      let notes = and_parts (is_connected e.tcp.state) _ (and_parts (may_note e) _ due).0 in
       noted_is k right w did p.profile s e own
-      (λ joins. of_b s (w B) (own.past joins (connected_past e.tcp.state (and_parts (is_connected e.tcp.state) _ (and_parts (may_note e) _ due).0).0)))
-      (first_of e.notices.queue)
+      (λ joins. of_b s (w B) (own.past joins (connected_past e.tcp.state notes.0))) (and_parts e.modes.clear _ notes.1).0
+      (first_of e.notices.queue) (first_queued (NoteIs k right w did s) (λ id. tt) (λ id address port. tt) (λ backup. tt) e.notices.queue own.queued)
 
   fin_segment_is : (s : Side) (p : PathState Carried) → Said s p → PathIs k right w did p → SegmentIs k right w did p.profile s (fin_segment_of s p)
   fin_segment_is s p said h = fin_options_are k right w did p.profile s (end_at s p) (end_is k right w did s p h) said (fin_position (end_at s p).tcp.send)
@@ -646,18 +669,19 @@ module _ (k : Secrets) (right : Bool) (w : Side → Type 0) (did : Deed → Side
   key_kept s (Some key) r p is said falls h =
       let own = end_is k right w did s p h in let m = (end_at s p).modes in
       goes_is k right w did s _ _ p (record {
-        modes = rekeyed k right w did (is_joined p.profile) s key m.clear m is (λ joins now. now) own.modes;
+        modes = rekeyed k right w did (is_joined p.profile) s key m.clear m is (λ joins now. now) falls own.modes;
         items = own.items;
         woken = λ joined up. rekeyed_knows k right w did s key m.clear m is (own.woken joined up);
         past = own.past;
         carries = own.carries;
+        queued = own.queued;
       }) (λ waiting. waiting) (none_left k right w did p) (λ joined has. rekeyed_knows k right w did s key m.clear m is has) h
 
   -- so are both keys
   keys_kept : (s : Side) (o : Option KeyPair) (r : Reply) (p : PathState Carried) → IfSome o (PairIs k right w did (is_joined p.profile) s) → Said s p → ReplyIs (opened_ask s o p) r → PathIs k right w did p → PathIs k right w did (answered_opened s o r p)
   keys_kept s None r p pair said falls h = told_is s fall.PlainHandshake r p said falls h
   keys_kept s (Some keys) r p pair said falls h =
-      goes_is k right w did s _ _ p (keys_are k right w did (is_joined p.profile) s r (Some keys) (end_at s p) pair (end_is k right w did s p h)) (λ waiting. waiting) (none_left k right w did p)
+      goes_is k right w did s _ _ p (keys_are k right w did (is_joined p.profile) s r (Some keys) (end_at s p) pair falls (end_is k right w did s p h)) (λ waiting. waiting) (none_left k right w did p)
       (keys_stay k right w did s r (Some keys) p pair) h
 
   plain_ack_is : (s : Side) (r : Reply) (p : PathState Carried) → Said s p → ReplyIs (plain_ack_ask values s p) r → PathIs k right w did p → PathIs k right w did (answered_plain_ack values s r p)
@@ -737,7 +761,8 @@ module _ (k : Secrets) (right : Bool) (w : Side → Type 0) (did : Deed → Side
         items = own.items;
         woken = λ joined up. same_knows k right w did s e.modes (modes_told r e.modes) same (own.woken joined up);
         past = own.past;
-        carries = look_carries s r e is own.carries;
+        carries = look_carries s r e is.0 own.carries;
+        queued = look_queued (NoteIs k right w did s) (λ id. tt) (λ id address port. tt) (λ backup. tt) r e is.1 own.queued;
       })
       (λ waiting. waiting) (none_left k right w did p) (λ joined has. same_knows k right w did s e.modes (modes_told r e.modes) same has) h
   answered_is (duties.Ask (ask_duties.Window s)) r p stands said is h = same_goes k right w did s _ _ p refl refl (record { up = λ x. x; waits = λ x. x; past = λ x. x }) (none_left k right w did p) h
@@ -746,7 +771,14 @@ module _ (k : Secrets) (right : Bool) (w : Side → Type 0) (did : Deed → Side
   answered_is (duties.Send (send_duties.FastClose s)) r p stands said is h =
       same_sent k right w did s _ _ _ p (fast_close_is s p stands h) refl refl (record { up = λ x. x; waits = λ x. x; past = λ x. x }) (none_left k right w did p) h
   answered_is (duties.Send (send_duties.Notice s)) r p stands said is h =
-      same_sent k right w did s _ _ p.agenda p (note_is s p stands h) refl refl (record { up = λ x. x; waits = λ x. x; past = λ x. x }) (λ t is. is) h
+      let e = end_at s p in
+      let own = end_is k right w did s p h in
+      let sent = having_sent to_send.Ack p.clock (note_of s p) e in
+      sent_is k right w did s (note_of s p) (having_noted s p) p.agenda p (note_is s p stands h)
+      (requeued k right w did (is_joined p.profile) s (tail_of e.notices.queue) sent
+      (tail_queued (NoteIs k right w did s) (λ id. tt) (λ id address port. tt) (λ backup. tt) e.notices.queue own.queued)
+      (kept_end k right w did (is_joined p.profile) s e sent refl refl (record { up = λ x. x; waits = λ x. x; past = λ x. x }) own))
+      (λ waiting. waiting) (λ t is. is) (stays_same k right w did s (having_noted s p) p refl) h
   answered_is (duties.Send (send_duties.Syn s)) r p stands said is h =
       let e = end_at s p in
       let opens = opening_open e.tcp.state (and_parts (is_opening e.tcp.state) (is_some (first_unsent e)) stands).0 in
@@ -788,11 +820,12 @@ module _ (k : Secrets) (right : Bool) (w : Side → Type 0) (did : Deed → Side
       let own = end_is k right w did s p h in let m = own.modes in
       goes_is k right w did s (in_identity (end_at s p)) (left p) p
       (record {
-        modes = record { own = m.own; nonce = m.nonce; peer_is = m.peer_is; joins = m.joins; third = m.third; cleared = m.cleared; fell = λ goes. said (Voice.Falls s) (itself s) };
+        modes = record { own = m.own; nonce = m.nonce; peer_is = m.peer_is; joins = m.joins; third = m.third; cleared = m.cleared; fell = λ goes. said (Voice.Falls s) (itself s); keyed = m.keyed; meets = m.meets };
         items = own.items;
         woken = λ joined woken. identity_knows s (end_at s p) (own.woken joined woken);
         past = own.past;
         carries = own.carries;
+        queued = own.queued;
       })
       (λ waiting. waiting) (none_left k right w did p) (λ joined has. identity_knows s (end_at s p) has) h
   answered_is (duties.Step (step_duties.Unmapped s)) r p stands said is h = break_is s 6 r p h

@@ -5,8 +5,11 @@ use Rattle.std.specs.Option.{IfSome, option_map}
 use Rattle.outside_kit.specs.declared.side.Side.{Side}
 use Rattle.outside_kit.specs.declared.side.Side.TheVariants.{A, B}
 use Rattle.link_model.specs.Steps.{peer}
+use Rattle.key_material.specs.AddressHmac.{add_addr64_of}
 use Rattle.key_material.specs.JoinHmac.{join_a160_of, join_b64_of}
 use Rattle.key_material.specs.KeyDigest.{token_of}
+use Rattle.key_material.specs.declared.address.Address.{Address}
+use Rattle.key_material.specs.declared.address.Address.TheVariants.{V4}
 use Rattle.mptcp_options.specs.declared.capable.CapableKeys.{CapableKeys}
 use Rattle.mptcp_options.specs.declared.capable.CapableKeys.TheVariants.{NoKey, Sender, Both, WithData}
 use Rattle.mptcp_options.specs.declared.join.JoinForm.{JoinForm}
@@ -27,13 +30,14 @@ use Rattle.stream_lanes.specs.Words.{Every}
 use Rattle.stream_lanes.proofs.Lists.{Every-nil, Every-append, Every-push}
 use Rattle.path_agenda.specs.declared.heard.Heard.{Heard}
 use Rattle.path_agenda.specs.declared.heard.Heard.TheVariants as says
+use Rattle.path_agenda.specs.declared.notice.PeerNotice.{PeerNotice}
 use Rattle.path_agenda.specs.declared.notice.PeerNotice.TheVariants as notes
-use Rattle.world_laws.proofs.Noting.{noted, removed_noted, address_noted}
+use Rattle.world_laws.proofs.Noting.{removed_each}
 use Rattle.path_core.specs.declared.modes.Modes.{Modes}
-use Rattle.path_core.specs.Arriving.{options_heard, ack_items, is_mapping, mapping_items, data_fin_items, infinite_items, map_items, key_items, join_items, items_in, items_of}
+use Rattle.path_core.specs.Arriving.{address_items, options_heard, ack_items, is_mapping, mapping_items, data_fin_items, infinite_items, map_items, key_items, join_items, items_in, items_of}
 use Rattle.path_core.specs.Ends.{PathEnd}
 use Rattle.path_core.specs.Joins.{is_joined, peer_key_of, join_options, third_options}
-use Rattle.path_core.specs.OptionsOut.{capable_options, syn_options, key_options, opening_options, ack_options, data_fin_mapping, is_first_piece, first_piece_options, piece_options, piece_mapping, owes_mapping, plain_options, fin_options, record_options, reset_options, reset_said, ack_said, carried_said, syn_ack_said, record_or_ack}
+use Rattle.path_core.specs.OptionsOut.{announcement, capable_options, syn_options, key_options, opening_options, ack_options, data_fin_mapping, is_first_piece, first_piece_options, piece_options, piece_mapping, owes_mapping, plain_options, fin_options, record_options, reset_options, reset_said, ack_said, carried_said, syn_ack_said, record_or_ack}
 use Rattle.path_core.specs.State.{Profile}
 use Rattle.path_core.specs.OptionsOut.{noted_said}
 use Rattle.path_agenda.specs.declared.notice.OwnNotice.{OwnNotice}
@@ -66,19 +70,22 @@ pub record Known : Type 0 where
 abbrev pub known_in : Modes → Known
 known_in m = record { own_key = m.own_key; peer_key = m.peer_key; own_nonce = m.own_nonce; peer_nonce = m.peer_nonce; owes_third = m.owes_third; clear = m.clear; identity = m.identity }
 
--- what a side did: it fell back to plain TCP; its application asked for a fast close; it was stopped by the peer's
+-- what a side did: it fell back to plain TCP; its application asked for a fast close; it was stopped by the peer's; its control book
+-- learned the peer's key
 pub data Deed : Type 0 where
   Fell : Deed
   Closed : Deed
   Stopped : Deed
+  Keyed : Deed
 
--- what was said to an end, and the fast close that it carries
+-- what was said to an end, the fast close that it carries, and what it has to note
 pub record Told : Type 0 where
   pub items : List Heard
   pub carrier : Option ℕ
+  pub queue : List OwnNotice
 
 abbrev pub told_in : PathEnd → Told
-told_in e = record { items = e.treated.items; carrier = e.notices.carrier }
+told_in e = record { items = e.treated.items; carrier = e.notices.carrier; queue = e.notices.queue }
 
 -- it began, and maybe died since; or its timer runs
 abbrev pub is_woken : PathEnd → Bool
@@ -100,6 +107,18 @@ OfB B P = P
 pub of_b : (s : Side) (P : Type 0) → P → OfB s P
 of_b A P is = tt
 of_b B P is = is
+
+map_b : (s : Side) (P Q : Type 0) → (P → Q) → OfB s P → OfB s Q
+map_b A P Q more is = tt
+map_b B P Q more is = more is
+
+at_b : (s : Side) (P : Type 0) → s ≡ B → OfB s P → P
+at_b A P same is = cc
+at_b B P same is = is
+
+pub twice : (s : Side) → peer (peer s) ≡ s
+twice A = refl
+twice B = refl
 
 -- the forms that an end of this side hears
 abbrev pub IsFor : Side → JoinForm → Type 0
@@ -171,13 +190,31 @@ module _ (k : Secrets) (right : Bool) where
 
 -- And that the control book of a side began a join, or answered one; and what else the side did.
 module _ (k : Secrets) (right : Bool) (w : Side → Type 0) (did : Deed → Side → Type 0) where
-  -- an MP_JOIN is said on a path that joins alone, by a side that joined; and there B says a DSS once it answered. MP_FASTCLOSE is
+  -- A alone shows both keys of path 0, once it has them; the peer's end hears them.
+  abbrev pub ShownBy : Side → CapableKeys → Type 0
+  ShownBy s NoKey = Unit {0}
+  ShownBy s (Sender sender) = Unit {0}
+  ShownBy s (Both sender receiver) = did Deed.Keyed s
+  ShownBy s (WithData sender receiver len checksum) = did Deed.Keyed s
+
+  -- the HMAC of an address that a side announces is that of both keys; and the other side's book has the key then
+  abbrev pub HmacIs : Side → Side → ℕ → Address → ℕ → ℕ → Type 0
+  HmacIs s t id address port hmac =
+      (right ≡ true → hmac ≡ add_addr64_of (drawn_key k right s) (drawn_key k right t) id address port) × did Deed.Keyed t
+
+  abbrev pub AddressIs : Side → Bool → ℕ → Address → Option ℕ → Option ℕ → Type 0
+  AddressIs s false id address port (Some hmac) = HmacIs s (peer s) id address (unwrap_or port 0) hmac
+  AddressIs s false id address port None = Unit {0}
+  AddressIs s true id address port hmac = Unit {0}
+
+  -- An MP_JOIN is said on a path that joins alone, by a side that joined; and there B says a DSS once it answered. MP_FASTCLOSE is
   -- said by a side whose application asked for it.
   abbrev pub OptionIs : Bool → Side → PlainOption → Type 0
-  OptionIs joined s (Capable flag_a flag_c keys) = sure_if k right joined ≡ true → KeysAre k right s keys
+  OptionIs joined s (Capable flag_a flag_c keys) = (sure_if k right joined ≡ true → KeysAre k right s keys) × (joined ≡ false → ShownBy s keys)
   OptionIs joined s (Join form) = (joined ≡ true) × (w s × (right ≡ true → JoinIs k right s form))
   OptionIs joined s (Dss next mapping) = joined ≡ true → OfB s (w B)
   OptionIs joined s (FastClose key) = did Deed.Closed s
+  OptionIs joined s (AddAddr echo id address port hmac) = AddressIs s echo id address port hmac
   OptionIs joined s _ = Unit {0}
 
   abbrev pub SegmentIs : Profile → Side → PlainSegment → Type 0
@@ -185,12 +222,24 @@ module _ (k : Secrets) (right : Bool) (w : Side → Type 0) (did : Deed → Side
 
   -- ---- what was heard by an end of this side
 
+  -- B alone is told both keys, which A shows once it has them
+  abbrev pub KeysFor : Side → Type 0
+  KeysFor A = ⊥
+  KeysFor B = did Deed.Keyed A
+
+  abbrev pub PeerNoteIs : Side → PeerNotice → Type 0
+  PeerNoteIs s (notes.AddAddr id address port hmac) = HmacIs (peer s) s id address (unwrap_or port 0) hmac
+  PeerNoteIs s (notes.AddEcho id) = Unit {0}
+  PeerNoteIs s (notes.Removed id) = Unit {0}
+  PeerNoteIs s (notes.Prio backup) = Unit {0}
+
   abbrev pub ItemIs : Bool → Side → Heard → Type 0
-  ItemIs joined s (says.Keys own other) = (joined ≡ false) × ((own ≡ drawn_key k right s) × (other ≡ drawn_key k right (peer s)))
+  ItemIs joined s (says.Keys own other) = (joined ≡ false) × ((own ≡ drawn_key k right s) × (other ≡ drawn_key k right (peer s)) × KeysFor s)
   ItemIs joined s (says.PeerKey key) = key ≡ drawn_key k right (peer s)
   ItemIs joined s (says.Join form) = (joined ≡ true) × (IsFor s form × (w (peer s) × (right ≡ true → JoinIs k right (peer s) form)))
   ItemIs joined s says.Dss = joined ≡ true → OfB (peer s) (w B)
   ItemIs joined s (says.FastClose key) = did Deed.Closed (peer s)
+  ItemIs joined s (says.Notice notice) = PeerNoteIs s notice
   ItemIs joined s _ = Unit {0}
 
   -- ---- an end
@@ -198,6 +247,13 @@ module _ (k : Secrets) (right : Bool) (w : Side → Type 0) (did : Deed → Side
   -- its side joined, and it knows that
   abbrev pub Knows : Side → Modes → Type 0
   Knows s m = w s × (right ≡ true → Needs k right s m)
+
+  -- B alone announces addresses, and A's book has its key then
+  abbrev pub NoteIs : Side → OwnNotice → Type 0
+  NoteIs s (own_notes.AddAddr id) = (s ≡ B) × did Deed.Keyed (peer s)
+  NoteIs s (own_notes.AddEcho id address port) = Unit {0}
+  NoteIs s (own_notes.Removes id) = Unit {0}
+  NoteIs s (own_notes.Prio backup) = Unit {0}
 
   pub record ModesAre (joined : Bool) (s : Side) (m : Modes) : Type 0 where
     pub own : m.own_key ≡ drawn_key k right s
@@ -207,6 +263,9 @@ module _ (k : Secrets) (right : Bool) (w : Side → Type 0) (did : Deed → Side
     pub third : m.owes_third ≡ true → w s × (right ≡ true → HasMet k right s m)
     pub cleared : joined ≡ true → m.clear ≡ true → w B
     pub fell : m.identity ≡ true → (joined ≡ false) × did Deed.Fell s
+    -- on path 0 an end has the peer's key once its book does; and B's end has it where it may send a DSS
+    pub keyed : joined ≡ false → IfSome m.peer_key (λ key. did Deed.Keyed s)
+    pub meets : right ≡ true → m.clear ≡ true → OfB s (HasKey k right s m)
 
   pub record EndIs (joined : Bool) (s : Side) (e : PathEnd) : Type 0 where
     pub modes : ModesAre joined s e.modes
@@ -214,6 +273,7 @@ module _ (k : Secrets) (right : Bool) (w : Side → Type 0) (did : Deed → Side
     pub woken : joined ≡ true → is_woken e ≡ true → Knows s e.modes
     pub past : joined ≡ true → is_past e.tcp.state ≡ true → w B
     pub carries : IfSome e.notices.carrier (λ key. did Deed.Closed s)
+    pub queued : Every (NoteIs s) e.notices.queue
 
   pub same_knows : (s : Side) (m n : Modes) → known_in n ≡ known_in m → Knows s m → Knows s n
   same_knows s m n same h = (h.0, λ sure. same_needs k right s m n same (h.1 sure))
@@ -228,6 +288,8 @@ module _ (k : Secrets) (right : Bool) (w : Side → Type 0) (did : Deed → Side
         (knows.0, λ sure. let met = knows.1 sure in (ap (λ (x : Known). x.peer_key) same ∙ met.0, ap (λ (x : Known). x.peer_nonce) same ∙ met.1));
     cleared = λ joins is. h.cleared joins (sym (ap (λ (x : Known). x.clear) same) ∙ is);
     fell = λ is. h.fell (sym (ap (λ (x : Known). x.identity) same) ∙ is);
+    keyed = λ first. subst (λ o. IfSome o (λ key. did Deed.Keyed s)) (sym (ap (λ (x : Known). x.peer_key) same)) (h.keyed first);
+    meets = λ sure is. map_b s _ _ (λ has. ap (λ (x : Known). x.peer_key) same ∙ has) (h.meets sure (sym (ap (λ (x : Known). x.clear) same) ∙ is));
   }
 
   -- an end that knows the same, to which the same was said, and which didn't wake
@@ -239,16 +301,17 @@ module _ (k : Secrets) (right : Bool) (w : Side → Type 0) (did : Deed → Side
     woken = λ is woken. same_knows s e.modes f.modes same (h.woken is (awake woken));
     past = λ is so. h.past is (past so);
     carries = subst (λ o. IfSome o (λ key. did Deed.Closed s)) (sym (ap (λ x. x.carrier) told)) h.carries;
+    queued = subst (Every (NoteIs s)) (sym (ap (λ x. x.queue) told)) h.queued;
   }
 
   -- ---- what it sends
 
   module _ (c : Profile) (s : Side) (e : PathEnd) (h : EndIs (is_joined c) s e) where
     keys_say : (s : Side) (o : Option ℕ) → e.modes.own_key ≡ drawn_key k right s → (is_sure_on k right c ≡ true → IfSome o (λ key. key ≡ drawn_key k right (peer s)))
-        → Every (OptionIs (is_joined c) s) (key_options c s o e)
-    keys_say A (Some key) own is = every_one _ (λ sure. (own, is sure))
-    keys_say A None own is = Every-nil _
-    keys_say B o own is = Every-nil _
+        → (is_joined c ≡ false → IfSome o (λ key. did Deed.Keyed s)) → Every (OptionIs (is_joined c) s) (key_options c s o e)
+    keys_say A (Some key) own is keyed = every_one _ (λ sure. (own, is sure), keyed)
+    keys_say A None own is keyed = Every-nil _
+    keys_say B o own is keyed = Every-nil _
 
     third_is : is_joined c ≡ true → w s × (right ≡ true → HasMet k right s e.modes) → Every (OptionIs (is_joined c) s) (third_options e.modes)
     third_is joins knows = every_one _ (
@@ -269,7 +332,7 @@ module _ (k : Secrets) (right : Bool) (w : Side → Type 0) (did : Deed → Side
       where
         by : (b : Bool) → e.modes.owes_third ≡ b → Every (OptionIs (is_joined c) s) (if b then third_options e.modes else key_options c s e.modes.peer_key e)
         by true owes = third_is (h.modes.joins owes) (h.modes.third owes)
-        by false owes = keys_say s e.modes.peer_key h.modes.own h.modes.peer_is
+        by false owes = keys_say s e.modes.peer_key h.modes.own h.modes.peer_is h.modes.keyed
 
     ack_options_are : (fin : Option ℕ) → Every (OptionIs (is_joined c) s) (ack_options c s fin e)
     ack_options_are fin = by e.modes.identity e.modes.clear refl
@@ -281,9 +344,9 @@ module _ (k : Secrets) (right : Bool) (w : Side → Type 0) (did : Deed → Side
         by false false is = opening_is
 
     first_are : (o : Option ℕ) (r : Record) → (is_sure_on k right c ≡ true → IfSome o (λ key. key ≡ drawn_key k right (peer s)))
-        → Every (OptionIs (is_joined c) s) (first_piece_options c o r e)
-    first_are (Some key) r is = every_one _ (λ sure. (h.modes.own, is sure))
-    first_are None r is = Every-nil _
+        → (is_joined c ≡ false → IfSome o (λ key. did Deed.Keyed s)) → Every (OptionIs (is_joined c) s) (first_piece_options c o r e)
+    first_are (Some key) r is keyed = every_one _ (λ sure. (h.modes.own, is sure), keyed)
+    first_are None r is keyed = Every-nil _
 
     pub reset_options_are : (reason : Option ℕ) → Every (OptionIs (is_joined c) s) (reset_options reason)
     reset_options_are None = Every-nil _
@@ -303,12 +366,23 @@ module _ (k : Secrets) (right : Bool) (w : Side → Type 0) (did : Deed → Side
     carried_is knows (Some key) closed = every_two _ _ knows closed
     carried_is knows None closed = ack_options_are None
 
-    pub noted_is : (is_joined c ≡ true → OfB s (w B)) → (o : Option OwnNotice) → SegmentIs c s (noted_said c s o e)
-    noted_is knows (Some (own_notes.AddAddr id)) = every_two _ _ knows tt
-    noted_is knows (Some (own_notes.AddEcho id address port)) = every_two _ _ knows tt
-    noted_is knows (Some (own_notes.Removes id)) = every_two _ _ knows tt
-    noted_is knows (Some (own_notes.Prio backup)) = every_two _ _ knows tt
-    noted_is knows None = ack_options_are None
+    -- an announcement, where the end may send a DSS
+    announced : (id : ℕ) → e.modes.clear ≡ true → (s ≡ B) × did Deed.Keyed (peer s) → OptionIs (is_joined c) s (announcement id e.modes)
+    announced id clear is = (
+      λ sure.
+          let address = V4 (10 ∷ 0 ∷ id ∷ 2 ∷ []) in
+          let has : HasKey k right s e.modes = at_b s _ is.0 (h.modes.meets sure clear) in
+          ap (λ n. add_addr64_of n (peer_key_of e.modes) id address 0) h.modes.own
+          ∙ ap (λ o. add_addr64_of (drawn_key k right s) (unwrap_or o 0) id address 0) has,
+      is.1,
+    )
+
+    pub noted_is : (is_joined c ≡ true → OfB s (w B)) → e.modes.clear ≡ true → (o : Option OwnNotice) → IfSome o (NoteIs s) → SegmentIs c s (noted_said c s o e)
+    noted_is knows clear (Some (own_notes.AddAddr id)) is = every_two _ _ knows (announced id clear is)
+    noted_is knows clear (Some (own_notes.AddEcho id address port)) is = every_two _ _ knows tt
+    noted_is knows clear (Some (own_notes.Removes id)) is = every_two _ _ knows tt
+    noted_is knows clear (Some (own_notes.Prio backup)) is = every_two _ _ knows tt
+    noted_is knows clear None is = ack_options_are None
 
     -- where it knows what it has to, its SYN is right, and so is its DSS
     module _ (knows : is_joined c ≡ true → Knows s e.modes) where
@@ -332,7 +406,7 @@ module _ (k : Secrets) (right : Bool) (w : Side → Type 0) (did : Deed → Side
           by : (fell b : Bool) → Every (OptionIs (is_joined c) s)
               (if fell then plain_options r.pos e else (if b then first_piece_options c e.modes.peer_key r e else Dss (Some e.receiving.next) (Some (piece_mapping c s r)) ∷ []))
           by true b = plain_are r.pos
-          by false true = first_are e.modes.peer_key r h.modes.peer_is
+          by false true = first_are e.modes.peer_key r h.modes.peer_is h.modes.keyed
           by false false = every_one _ dss_known
 
       pub fin_options_are : (position : ℕ) → Every (OptionIs (is_joined c) s) (fin_options position e)
@@ -343,11 +417,11 @@ module _ (k : Secrets) (right : Bool) (w : Side → Type 0) (did : Deed → Side
           by false = every_one _ dss_known
 
       capable_is : (s : Side) → e.modes.own_key ≡ drawn_key k right s → Every (OptionIs false s) (capable_options c s e)
-      capable_is A own = every_one _ (λ is. tt)
+      capable_is A own = every_one _ (λ is. tt, λ is. tt)
       capable_is B own = by (e.modes.capable_asked && not e.modes.identity)
         where
           by : (asked : Bool) → Every (OptionIs false B) (if asked then Capable c.spelling.checksums false (Sender e.modes.own_key) ∷ [] else [])
-          by true = every_one _ (λ is. own)
+          by true = every_one _ (λ is. own, λ is. tt)
           by false = Every-nil _
 
       join_is : (s : Side) → e.modes.own_key ≡ drawn_key k right s → e.modes.own_nonce ≡ drawn_nonce k right s → Knows s e.modes → Every (OptionIs true s) (join_options c s e.modes)
@@ -436,21 +510,27 @@ module _ (k : Secrets) (right : Bool) (w : Side → Type 0) (did : Deed → Side
     join_items_are B (Third hmac) h = every_one _ (h.0, (tt, h.1))
     join_items_are B (Answer backup id hmac nonce) h = Every-nil _
 
-  key_items_are : (s : Side) (keys : CapableKeys) → KeysAre k right (peer s) keys → Every (ItemIs false s) (key_items s keys)
-  key_items_are A NoKey h = Every-nil _
-  key_items_are A (Sender sender) h = every_one _ h
-  key_items_are A (Both sender receiver) h = Every-nil _
-  key_items_are A (WithData sender receiver len checksum) h = Every-nil _
-  key_items_are B NoKey h = Every-nil _
-  key_items_are B (Sender sender) h = Every-nil _
-  key_items_are B (Both sender receiver) h = every_one _ (refl, (h.1, h.0))
-  key_items_are B (WithData sender receiver len checksum) h = Every-append {xs = says.Keys receiver sender ∷ []} (every_one _ (refl, (h.1, h.0))) (mapping_items_are false B 0 1 len false)
+  key_items_are : (s : Side) (keys : CapableKeys) → KeysAre k right (peer s) keys → ShownBy (peer s) keys → Every (ItemIs false s) (key_items s keys)
+  key_items_are A NoKey h shown = Every-nil _
+  key_items_are A (Sender sender) h shown = every_one _ h
+  key_items_are A (Both sender receiver) h shown = Every-nil _
+  key_items_are A (WithData sender receiver len checksum) h shown = Every-nil _
+  key_items_are B NoKey h shown = Every-nil _
+  key_items_are B (Sender sender) h shown = Every-nil _
+  key_items_are B (Both sender receiver) h shown = every_one _ (refl, (h.1, h.0, shown))
+  key_items_are B (WithData sender receiver len checksum) h shown = Every-append {xs = says.Keys receiver sender ∷ []} (every_one _ (refl, (h.1, h.0, shown))) (mapping_items_are false B 0 1 len false)
 
   -- MP_CAPABLE says nothing on a path that joins
-  capable_heard : (joined : Bool) (s : Side) (keys : CapableKeys) → (sure_if k right joined ≡ true → KeysAre k right (peer s) keys)
+  capable_heard : (joined : Bool) (s : Side) (keys : CapableKeys) → (sure_if k right joined ≡ true → KeysAre k right (peer s) keys) × (joined ≡ false → ShownBy (peer s) keys)
       → Every (ItemIs joined s) (if joined then [] else key_items s keys)
   capable_heard true s keys h = Every-nil _
-  capable_heard false s keys h = key_items_are s keys (h refl)
+  capable_heard false s keys h = key_items_are s keys (h.0 refl) (h.1 refl)
+
+  address_heard : (joined : Bool) (s : Side) (echo : Bool) (id : ℕ) (address : Address) (port hmac : Option ℕ) → AddressIs (peer s) echo id address port hmac
+      → Every (ItemIs joined s) (address_items echo id address port hmac)
+  address_heard joined s true id address port hmac h = every_one _ tt
+  address_heard joined s false id address port (Some hmac) h = every_one _ (subst (λ t. HmacIs (peer s) t id address (unwrap_or port 0) hmac) (twice s) h)
+  address_heard joined s false id address port None h = Every-nil _
 
   module _ (joined : Bool) where
     items_in_are : (s : Side) (window : ℕ) (o : PlainOption) → OptionIs joined (peer s) o
@@ -460,9 +540,9 @@ module _ (k : Secrets) (right : Bool) (w : Side → Type 0) (did : Deed → Side
         Every-append {xs = says.Dss ∷ []} (every_one _ h)
         (Every-append (ack_items_are joined s (option_map (λ n. Some n) next) window) (map_items_are joined s (option_map meant_mapping mapping)))
     items_in_are s window (Join form) h = join_items_are joined s form h
-    items_in_are s window (AddAddr echo id address port hmac) h = address_noted (λ notice. tt) echo id address port hmac
-    items_in_are s window (Remove ids) h = removed_noted (λ notice. tt) ids
-    items_in_are s window (Prio backup) h = noted (λ notice. tt) (notes.Prio backup)
+    items_in_are s window (AddAddr echo id address port hmac) h = address_heard joined s echo id address port hmac h
+    items_in_are s window (Remove ids) h = removed_each (λ id. tt) ids
+    items_in_are s window (Prio backup) h = every_one (says.Notice (notes.Prio backup)) tt
     items_in_are s window (Fail place) h = every_one says.Fail tt
     items_in_are s window (FastClose key) h = every_one (says.FastClose key) h
     items_in_are s window (Reset transient reason) h = Every-nil _

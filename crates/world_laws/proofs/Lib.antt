@@ -19,6 +19,7 @@ pub mod Applying
 pub mod Journaling
 pub mod Rules
 pub mod Noting
+pub mod Queued
 pub mod Arriving
 pub mod Asking
 pub mod Verdicts
@@ -64,6 +65,7 @@ pub mod KeysBooks
 pub mod KeysAgree
 pub mod JoinedSo
 pub mod JoinsAgree
+pub mod AddressesAgree
 pub mod JoinsWelcome
 pub mod PromisesShown
 pub mod Lanes

@@ -6,12 +6,13 @@ use Rattle.path_core.specs.Octets.{octets}
 use Rattle.path_core.specs.Values.{Carried, values}
 use Rattle.world_laws.specs.Fresh.{shown_world}
 use Rattle.world_laws.specs.Openings.{Start, opened_world}
-use Rattle.world_laws.specs.Promises.{IsPlain, NumbersFit, was_told_end, BothKeepTheirWord, NothingCame, NothingFollows, IsOneStep, EachTurnIsOneStep, NothingWasRefused, JoinsAreRight, KeysNeverDiffer, IsPromised, IsPromisedOfOctets, OctetsAreValuesShown}
+use Rattle.world_laws.specs.Promises.{IsPlain, NumbersFit, was_told_end, BothKeepTheirWord, NothingCame, NothingFollows, IsOneStep, EachTurnIsOneStep, NothingWasRefused, JoinsAreRight, AddressesAreRight, KeysNeverDiffer, IsPromised, IsPromisedOfOctets, OctetsAreValuesShown}
 use Rattle.world_laws.specs.Worlds.{WorldState, Turn, after_turn, world_run}
 use Rattle.world_laws.proofs.KeysAgree.{keys_never_differ}
+use Rattle.world_laws.proofs.AddressesAgree.{addresses_are_right}
 use Rattle.world_laws.proofs.JoinsAgree.{joins_are_right}
 use Rattle.world_laws.proofs.PromisesRuns.{always_keep_word, never_follows, always_one_step, never_refused}
-use Rattle.world_laws.proofs.PromisesShown.{both_shown, came_shown, step_shown, refused_shown, joins_shown, keys_shown, same_told, run_shown}
+use Rattle.world_laws.proofs.PromisesShown.{both_shown, came_shown, step_shown, refused_shown, addresses_shown, joins_shown, keys_shown, same_told, run_shown}
 use Rattle.world_laws.proofs.TellingWorlds.{every_list_is_fresh}
 use Rattle.world_laws.proofs.WeavingRounds.{run_append}
 
@@ -50,6 +51,9 @@ keys_in_octets start turns plain fit = subst KeysNeverDiffer (sym (run_fresh sta
 
 pub joins_in_octets : IsPromisedOfOctets JoinsAreRight
 joins_in_octets start turns plain fit = subst JoinsAreRight (sym (run_fresh start turns plain fit)) (joins_shown (valued start turns) (joins_are_right start turns))
+
+pub addresses_in_octets : IsPromisedOfOctets AddressesAreRight
+addresses_in_octets start turns plain fit = subst AddressesAreRight (sym (run_fresh start turns plain fit)) (addresses_shown (valued start turns) (addresses_are_right start turns))
 
 module _ (start : Start) (turns : List Turn) (plain : IsPlain start) (fit : NumbersFit start) where
   abbrev heard : WorldState (List ℕ)

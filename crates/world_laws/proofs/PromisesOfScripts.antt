@@ -24,10 +24,11 @@ use Rattle.world_laws.specs.PlainScripts.{alters_payload, PlainScriptsStartPlain
 use Rattle.world_laws.proofs.Causing.{aborts_have_cause_in_octets}
 use Rattle.world_laws.proofs.FallsRight.{falls_in_octets, falls_last_in_octets, places_in_octets}
 use Rattle.world_laws.proofs.GrantingOnce.{granted_once}
+use Rattle.world_laws.proofs.Standbys.{backups_get_nothing}
 use Rattle.world_laws.proofs.LowHalves.{short_numbers}
 use Rattle.world_laws.proofs.PlacesAgree.{mappings_agree_in_octets}
 use Rattle.world_laws.proofs.JoinsShown.{each_copy_is_welcome_in_octets}
-use Rattle.world_laws.proofs.PromisesMade.{keep_their_word_in_octets, nothing_follows_in_octets, one_step_each_in_octets, nothing_refused_in_octets, keys_in_octets, joins_in_octets, run_fresh}
+use Rattle.world_laws.proofs.PromisesMade.{keep_their_word_in_octets, nothing_follows_in_octets, one_step_each_in_octets, nothing_refused_in_octets, keys_in_octets, addresses_in_octets, joins_in_octets, run_fresh}
 
 -- ---- lines
 
@@ -116,12 +117,14 @@ plain_scripts_keep_all_promises script file_a file_b turns h =
       refused = nothing_refused_in_octets start turns starts.0 starts.1;
       keys = keys_in_octets start turns starts.0 starts.1;
       joins = joins_in_octets start turns starts.0 starts.1;
+      addresses = addresses_in_octets start turns starts.0 starts.1;
       copies = each_copy_is_welcome_in_octets start turns starts.0 starts.1;
       mappings = mappings_agree_in_octets start turns starts.0 starts.1;
       falls = falls_in_octets start turns starts.0 starts.1;
       lasting = falls_last_in_octets start turns starts.0 starts.1;
       places = places_in_octets start turns starts.0 starts.1;
       granted = granted_once octets start turns;
+      standbys = backups_get_nothing octets start turns;
       aborts = aborts_have_cause_in_octets start turns starts.0 starts.1;
     }
 

@@ -17,7 +17,7 @@ use Rattle.world_laws.specs.Actors.{ActorCrew}
 use Rattle.world_laws.specs.Fresh.{AreFresh, shown_crew, shown_world}
 use Rattle.world_laws.specs.Openings.{PathPlan, Start, path_begins, new_crew, new_path, paths_from, opened_world}
 use Rattle.world_laws.specs.Outcomes.{notes_at, notes_of, output_of, pipe_of, read_by, was_told, tells_end}
-use Rattle.world_laws.specs.Promises.{tells_refusal, tells_other_key, tells_wrong_join, arrived_at, was_told_end, KeepsItsWord, BothKeepTheirWord, NothingCame, IsOneStep, NothingWasRefused, KeysNeverDiffer, JoinsAreRight}
+use Rattle.world_laws.specs.Promises.{tells_refusal, tells_other_key, tells_wrong_join, tells_bad_address, arrived_at, was_told_end, KeepsItsWord, BothKeepTheirWord, NothingCame, IsOneStep, NothingWasRefused, KeysNeverDiffer, JoinsAreRight, AddressesAreRight}
 use Rattle.world_laws.specs.Worlds.{WorldState, Turn, world_run}
 use Rattle.world_laws.proofs.Carrying.{run_same}
 
@@ -70,6 +70,9 @@ keys_shown w h actor = ap (was_told tells_other_key) (same_notes_at actor w.crew
 
 pub joins_shown : (w : WorldState Carried) → JoinsAreRight w → JoinsAreRight (shown_world w)
 joins_shown w h actor = ap (was_told tells_wrong_join) (same_notes_at actor w.crew) ∙ h actor
+
+pub addresses_shown : (w : WorldState Carried) → AddressesAreRight w → AddressesAreRight (shown_world w)
+addresses_shown w h actor = ap (was_told tells_bad_address) (same_notes_at actor w.crew) ∙ h actor
 
 -- ---- from the opening on
 

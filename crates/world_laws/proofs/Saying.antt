@@ -174,17 +174,17 @@ module _ (c : Profile) (s : Side) (e : PathEnd) (acks : List AckCopy) (p : Lane)
     noted_says (Some notice) = record {
       window = w.alone;
       sub = λ syn rst. now;
-      options = every_two _ _ (w.ack, tt) (shows notice);
+      options = every_two _ _ (w.ack, tt) (shows _ notice);
       payload = inl refl;
       fin = λ is. absurd (false≢true is);
       plain = λ syn. refl;
     }
       where
-        shows : (notice : OwnNotice) → OptionShows acks p (notice_option notice e.modes)
-        shows (notes.AddAddr id) = tt
-        shows (notes.AddEcho id address port) = tt
-        shows (notes.Removes id) = tt
-        shows (notes.Prio backup) = tt
+        shows : (window : ℕ) (notice : OwnNotice) → OptionShows window acks p (notice_option notice e.modes)
+        shows window (notes.AddAddr id) = tt
+        shows window (notes.AddEcho id address port) = tt
+        shows window (notes.Removes id) = tt
+        shows window (notes.Prio backup) = tt
 
     pub fin_says : HasFin p.fins (fin_position e.tcp.send) → SegmentShows acks p (fin_said c e)
     fin_says h = record {

@@ -364,7 +364,7 @@ module _ {C : Type 0} where
     item_goes s index (Some (says.PeerKey key)) p = rests (first (duties.Step (step_duties.Heard s index)) p) _ refl refl shape
     item_goes s index (Some (says.Keys own peer)) p = side_goes s _ (first (duties.Step (step_duties.Heard s index)) p) _ (λ h. h) refl refl shape
     item_goes s index (Some (says.Join form)) p = rests (first (duties.Step (step_duties.Heard s index)) p) _ refl refl shape
-    item_goes s index (Some (says.Notice notice)) p = rests (first (duties.Step (step_duties.Heard s index)) p) _ refl refl shape
+    item_goes s index (Some (says.Notice notice)) p = side_goes s _ (first (duties.Step (step_duties.Heard s index)) p) _ (λ h. h) refl refl shape
     item_goes s index (Some says.Fail) p = rests (first (duties.Step (step_duties.Heard s index)) p) _ refl refl shape
     item_goes s index (Some (says.FastClose key)) p = rests (first (duties.Step (step_duties.Heard s index)) p) _ refl refl (stopped_shape s index (is_stopped_by r) p)
 

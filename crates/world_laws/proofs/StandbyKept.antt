@@ -130,6 +130,11 @@ pub checked_end : (checksums : Bool) (o : Option KeptMapping) (e : PathEnd) → 
 checked_end checksums None e = refl
 checked_end checksums (Some kept) e = either_end (is_wrong checksums kept e.tcp) e _ _ refl refl
 
+-- a Look tells its own end
+told_modes : (r : Reply) (m : Modes) → (modes_told r m).standby ≡ standby_told m.standby r
+told_modes (replies.Control (control_replies.Standing mode standby sole notice)) m = refl
+told_modes _ m = refl
+
 -- ---- a path
 
 module _ {C : Type 0} where
@@ -305,11 +310,6 @@ module _ {C : Type 0} where
   answered_kept k (duties.Ask (ask_duties.LeaveNoted s)) other r p = side_kept s _ p _ refl refl refl
   answered_kept k duties.End other r p = record { a = refl; b = refl }
   answered_kept k _ other r p = record { a = refl; b = refl }
-
-  -- a Look tells its own end
-  told_modes : (r : Reply) (m : Modes) → (modes_told r m).standby ≡ standby_told m.standby r
-  told_modes (replies.Control (control_replies.Standing mode standby sole notice)) m = refl
-  told_modes _ m = refl
 
   look_stands : (s t : Side) (path : ℕ) (r : Reply) (p : PathState C)
       → (end_at t (goes_on s (after_look r (end_at s p)) (left p) p)).modes.standby

@@ -172,7 +172,7 @@ module _ {C : Type 0} (k : Codec C) where
       × (asks_grant s x && is_grant (reply_of six x) ≡ true → standby_at s m ≡ false)
 
   app_asks : (six : SixBooks) (a : AppState) (ds : List AppDuty) (x : Ask) → app_asks_first ds a ≡ Some x → Asks six (App a) x
-  app_asks six a [] x is = let never : None ≡ Some x = is in cc
+  app_asks six a [] x is s = let never : None ≡ Some x = is in cc
   app_asks six a (d ∷ ds) x is s = subst (λ y. (looks s y ≡ false) × (asks_grant s y ≡ false) → (false ≡ (if looks s y then standby_told false (reply_of six y) else false))
       × (asks_grant s y && is_grant (reply_of six y) ≡ true → false ≡ false)) (same_Some (app_ask d a) x is) (by (app_ask d a)) (subst (λ y. (looks s y ≡ false) × (asks_grant s y ≡ false)) (same_Some (app_ask d a) x is) (app_quiet d a s))
     where

@@ -623,9 +623,16 @@ module _ (c : Profile) (s : Side) (path : c.spelling.path ≤ 15) (mss : c.mss <
 
   note_tells : (notice : OwnNotice) → NoteTells notice → OptionTells c s (notice_option notice e.modes)
   note_tells (notes.AddAddr id) is = record {
-    fits = (is, (All-cons (λ (n : ℕ). n < 256) 10 _ (omega arith) (All-cons (λ (n : ℕ). n < 256) 0 _ (omega arith)
-        (All-cons (λ (n : ℕ). n < 256) id _ is (All-cons (λ (n : ℕ). n < 256) 2 [] (omega arith) (All-nil (λ (n : ℕ). n < 256))))), refl), tt,
-        add_addr64_of_below e.modes.own_key (peer_key_of e.modes) id (path_address id) 0);
+    fits = (
+      is,
+      (
+        All-cons (λ (n : ℕ). n < 256) 10 (0 ∷ id ∷ 2 ∷ []) (omega arith) (All-cons (λ (n : ℕ). n < 256) 0 (id ∷ 2 ∷ []) (omega arith)
+            (All-cons (λ (n : ℕ). n < 256) id (2 ∷ []) is (All-cons (λ (n : ℕ). n < 256) 2 [] (omega arith) (All-nil (λ (n : ℕ). n < 256))))),
+        refl,
+      ),
+      tt,
+      add_addr64_of_below e.modes.own_key (peer_key_of e.modes) id (path_address id) 0,
+    );
     short = tt;
   }
   note_tells (notes.AddEcho id address port) is = record { fits = (is.0, is.1, is.2, tt); short = tt }

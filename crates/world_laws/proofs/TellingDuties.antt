@@ -1,5 +1,5 @@
 -- What each duty's reply leaves of the numbers that a path's ends and copies tell.
-use Rattle.std.proofs.Common.{◌≡◌, refl, ap, subst, is_none, ℕ, suc, ◌+◌, ◌-◌, ◌^◌, ◌<◌, ◌≤◌, min, ◌&&◌, nat_lt, not, Bool, true, false, if◌then◌else◌, Option, Some, None, Result, Ok, Err, List, [], length, take, drop, arith}
+use Rattle.std.proofs.Common.{◌≡◌, refl, ap, subst, is_none, ℕ, suc, ◌+◌, ◌-◌, ◌^◌, ◌<◌, ◌≤◌, min, ◌&&◌, nat_lt, not, Bool, true, false, if◌then◌else◌, Option, Some, None, Result, Ok, Err, List, [], ◌∷◌, length, take, drop, arith}
 use Rattle.std.proofs.lemmas.Bool.{and_parts, and_from, ltb-true}
 use Rattle.std.proofs.lemmas.List.{length-take, length-drop}
 use Rattle.std.specs.Option.{IfSome}

@@ -14,8 +14,9 @@ use Rattle.world_laws.specs.Fresh.{shown_world}
 use Rattle.world_laws.specs.Granted.{GrantedOnce}
 use Rattle.world_laws.specs.Laws.{CanRun}
 use Rattle.world_laws.specs.Openings.{Start, opened_world, start_of}
-use Rattle.world_laws.specs.Promises.{IsPlain, NumbersFit, BothKeepTheirWord, NothingFollows, EachTurnIsOneStep, NothingWasRefused, KeysNeverDiffer, JoinsAreRight}
+use Rattle.world_laws.specs.Promises.{IsPlain, NumbersFit, BothKeepTheirWord, NothingFollows, EachTurnIsOneStep, NothingWasRefused, KeysNeverDiffer, JoinsAreRight, AddressesAreRight}
 use Rattle.world_laws.specs.ShortNumbers.{ShortNumbersGoShort}
+use Rattle.world_laws.specs.Standbys.{BackupsGetNothing}
 use Rattle.world_laws.specs.Welcome.{EachCopyIsWelcome}
 use Rattle.world_laws.specs.Worlds.{WorldState, Turn, world_run}
 
@@ -44,12 +45,14 @@ pub record KeepsAllPromises (w : WorldState (List ℕ)) : Type 0 where
   pub refused : NothingWasRefused w
   pub keys : KeysNeverDiffer w
   pub joins : JoinsAreRight w
+  pub addresses : AddressesAreRight w
   pub copies : EachCopyIsWelcome octets w
   pub mappings : MappingsAgree w
   pub falls : FallsAreRight w
   pub lasting : FallsLast octets w
   pub places : PositionsArePlaces w
   pub granted : GrantedOnce w
+  pub standbys : BackupsGetNothing w
   pub aborts : AbortsHaveCause w
 
 -- so it keeps all promises, whatever the order of the steps

@@ -6,7 +6,7 @@ ghost use Rattle.world_laws.specs.Granted.{GrantedOnce};
 ghost use Rattle.world_laws.specs.JoinsWait.{JoinsWait};
 ghost use Rattle.world_laws.specs.Laws.{AfterFreshTurns, Always, NothingDueIsLeft, SerialExists, SerialIsOne, StaysFine, OctetsDoAsValues, WritesTheFiles};
 ghost use Rattle.world_laws.specs.PlainScripts.{PlainScriptsAreShownOfValues, PlainScriptsKeepAllPromises, PlainScriptsStartPlainly, ScriptsCanRun};
-ghost use Rattle.world_laws.specs.Promises.{BothKeepTheirWord, EachTurnIsOneStep, EveryListIsFresh, IsPromised, IsPromisedOfOctets, JoinsAreRight, KeysNeverDiffer, NothingFollows, NothingWasRefused, OctetsAreValuesShown};
+ghost use Rattle.world_laws.specs.Promises.{AddressesAreRight, BothKeepTheirWord, EachTurnIsOneStep, EveryListIsFresh, IsPromised, IsPromisedOfOctets, JoinsAreRight, KeysNeverDiffer, NothingFollows, NothingWasRefused, OctetsAreValuesShown};
 ghost use Rattle.world_laws.specs.RoundDone.{LawfulRoundsAreDone, RoundsAreDone, RoundsEndOnTime, StampsSinceTheRound};
 ghost use Rattle.world_laws.specs.RoundEnd.{GrantsAreDone, ReadersAreDone};
 ghost use Rattle.world_laws.specs.RoundNumbers.{InEachRound, PathsAskForAll, ReadersCaughtUp};
@@ -167,6 +167,14 @@ pub fn joins_are_right()
     ensures heard { IsPromisedOfOctets (EachCopyIsWelcome octets) }
 {}
 
+/// A law: no control book is told of an address whose HMAC is wrong by an announcement of its peer: each shows that of both keys, as
+/// they were drawn, and comes to a side that has the peer's key (RFC 8684, section 3.4.1). Over segments as values this holds whatever
+/// the script does. Premises over octets as for `both_sides_keep_their_word`.
+pub fn addresses_are_right()
+    ensures values { Always values (λ start w. AddressesAreRight w) }
+    ensures octets { IsPromisedOfOctets AddressesAreRight }
+{}
+
 /// A law: at every moment, in each direction, what the reader got is a prefix of what the writer wrote; what is acknowledged was
 /// received, and what was received was written; where DATA_FIN is acknowledged the stream is closed and all of it was received;
 /// and the end is told only where the stream is closed and the reader has all of it.
@@ -215,10 +223,10 @@ pub fn nothing_is_refused()
 
 /// A law: a connection by a script that alters no payload, with files shorter than 2^31 - 2 octets, starts plainly, with
 /// numbers that fit; so over octets it keeps every promise, in whatever order its actors go: both sides keep their word, nothing
-/// follows the end, each turn is on each pipe one step or none, nothing is refused, keys never differ, joins are right, no copy is
-/// refused for what it says of a join, mappings agree, falls are right and last, positions are places after one, each byte is
-/// granted to a path once at most, and an abort that a reader is told of has its cause. And it is the connection over segments as values, shown in octets, whose short data numbers go
-/// short.
+/// follows the end, each turn is on each pipe one step or none, nothing is refused, keys never differ, joins and the HMACs of addresses are
+/// right, no copy is refused for what it says of a join, mappings agree, falls are right and last, positions are places after one,
+/// each byte is granted to a path once at most, and none to one that stands by, and an abort that a reader is told of has its cause.
+/// And it is the connection over segments as values, shown in octets, whose short data numbers go short.
 pub fn plain_scripts_keep_all_promises()
     ensures starts { PlainScriptsStartPlainly }
     ensures promises { PlainScriptsKeepAllPromises }
