@@ -70,7 +70,8 @@ none_out q ds (inr (inr (inr (inr (inl same))))) = differ refl same
 none_out q ds (inr (inr (inr (inr (inr (inl same)))))) = differ refl same
 none_out q ds (inr (inr (inr (inr (inr (inr (inl same))))))) = differ refl same
 none_out q ds (inr (inr (inr (inr (inr (inr (inr (inl same)))))))) = differ refl same
-none_out q ds (inr (inr (inr (inr (inr (inr (inr (inr never)))))))) = never
+none_out q ds (inr (inr (inr (inr (inr (inr (inr (inr (inl same))))))))) = differ refl same
+none_out q ds (inr (inr (inr (inr (inr (inr (inr (inr (inr never))))))))) = never
 
 -- nor is what is acknowledged
 no_question : (q : Side) (asked b : Bool)
