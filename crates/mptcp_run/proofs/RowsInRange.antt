@@ -43,6 +43,9 @@ use Rattle.path_core.specs.declared.event.Event.TheVariants as happening
 use Rattle.path_agenda.specs.declared.heard.Heard.{Heard}
 use Rattle.path_agenda.specs.declared.heard.Heard.TheVariants as says
 use Rattle.path_agenda.specs.declared.keys.KeyPair.{KeyPair}
+use Rattle.path_agenda.specs.declared.notice.PeerNotice.{PeerNotice}
+use Rattle.path_agenda.specs.declared.notice.PeerNotice.TheVariants as notes
+use Rattle.path_core.specs.Addressing.{notice_ask}
 use Rattle.path_core.specs.Breaking.{break_ask, reset_of}
 use Rattle.path_core.specs.Codec.{Codec}
 use Rattle.path_core.specs.Duties.{ask_for}
@@ -132,6 +135,12 @@ module _ {C : Type 0} (k : Codec C) (p : PathState C) (low : path_of p < 16) whe
       by true = break_fair s 6
       by false = low
 
+  note_fair : (s : Side) (notice : PeerNotice) → IsFair (notice_ask s notice p)
+  note_fair s (notes.AddAddr id address port hmac) = tt
+  note_fair s (notes.AddEcho id) = tt
+  note_fair s (notes.Removed id) = tt
+  note_fair s (notes.Prio backup) = low
+
   item_fair : (s : Side) (o : Option Heard) → IsFair (item_ask k s o p)
   item_fair s None = tt
   item_fair s (Some says.Dss) = tt
@@ -142,7 +151,7 @@ module _ {C : Type 0} (k : Codec C) (p : PathState C) (low : path_of p < 16) whe
   item_fair s (Some (says.PeerKey key)) = tt
   item_fair s (Some (says.Keys own peer)) = tt
   item_fair s (Some (says.Join form)) = tt
-  item_fair s (Some (says.Notice notice)) = tt
+  item_fair s (Some (says.Notice notice)) = note_fair s notice
   item_fair s (Some says.Fail) = tt
   item_fair s (Some (says.FastClose key)) = tt
 
