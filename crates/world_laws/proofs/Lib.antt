@@ -126,3 +126,8 @@ pub mod WrittenShort
 pub mod RoundsDone
 pub mod Stopping
 pub mod Causing
+pub mod Wanted
+pub mod AnnouncingKept
+pub mod AnnouncingAhead
+pub mod AnnouncingSaid
+pub mod Announcing

@@ -23,3 +23,4 @@ pub mod Laws
 pub mod RoundDone
 pub mod Stopping
 pub mod AbortCause
+pub mod Announcing

@@ -1,6 +1,7 @@
 //! What holds of every connection, as clauses of functions that do nothing.
 ghost use Rattle.world_laws.specs.AbortCause.{AbortsHaveCause};
 ghost use Rattle.world_laws.specs.Agreement.{MappingsAgree};
+ghost use Rattle.world_laws.specs.Announcing.{AnnouncementsEnd};
 ghost use Rattle.world_laws.specs.FallsRight.{FallsAreRight, FallsLast, PositionsArePlaces};
 ghost use Rattle.world_laws.specs.Granted.{GrantedOnce};
 ghost use Rattle.world_laws.specs.JoinsWait.{JoinsWait};
@@ -245,6 +246,14 @@ pub fn bytes_are_granted_once()
 pub fn backups_get_nothing()
     ensures octets { Always octets (λ start w. BackupsGetNothing w) }
     ensures values { Always values (λ start w. BackupsGetNothing w) }
+{}
+
+/// A law: an announcement goes out in no turn after its echo or its removal was heard (RFC 8684, section 3.4.1). At every moment,
+/// where the next step of a path sends an ADD_ADDR that is no echo, its side was told to announce that id by the look of the same
+/// turn; and of the calls that the side's control book had taken before that look, the last one that names the id was to announce it.
+pub fn announcements_end()
+    ensures octets { Always octets (λ start w. AnnouncementsEnd w) }
+    ensures values { Always values (λ start w. AnnouncementsEnd w) }
 {}
 
 /// A law: at every moment no mapping that an end of a path heard, and has still to treat, gives a position another place than the
