@@ -1,0 +1,4 @@
+pub mod Numerals
+pub mod Names
+pub mod Cuts
+pub mod ReadOn

@@ -1,0 +1,10 @@
+use Rattle.std.proofs.Common.{sym}
+use Rattle.std.proofs.lemmas.List.{take_rest}
+use Rattle.connection_list.proofs.Cuts.{cut_at, cut_nowhere}
+use Rattle.connection_list.proofs.list.split_line.Goals as goal
+
+pub returns-in-Some-clause-line : goal.returns-in-Some-clause-line
+returns-in-Some-clause-line c = rw take_rest (cut_at c.args.list.now c.in-Some.end (sym c.in-Some.ensures))
+
+pub returns-in-None-clause-line : goal.returns-in-None-clause-line
+returns-in-None-clause-line c = cut_nowhere c.args.list.now c.requires (sym c.in-None.ensures)
