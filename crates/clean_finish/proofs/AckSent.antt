@@ -125,9 +125,9 @@ module _ {s : Side} {keys : Keys} {k j : Setting} {c : Profile} {begun begun_bac
         pub heard : HeardIs s k.total (last_told h.out.heard None) m.end.tcp
         heard = subst (λ (o : Option Hand). HeardIs s k.total (last_told h.out.heard o) m.end.tcp) hand h.own.subflow.heard
 
-        pub done : WayIs c keys k (peer s) h.back.sender h.back.receiver h.back.datas h.out.acks None m.end.tcp.send.una n.end.tcp.recv.edge n.flying
-        done = way_done c keys k (peer s) h.back.sender h.back.receiver h.back.datas h.out.acks m.end.tcp.send.una n.end.tcp.recv.edge n.flying x
-            (subst (λ (o : Option Hand). WayIs c keys k (peer s) h.back.sender h.back.receiver h.back.datas h.out.acks o m.end.tcp.send.una
+        pub done : WayIs c keys k j (peer s) h.back.sender h.back.receiver h.back.datas h.out.acks None m.end.tcp.send.una n.end.tcp.recv.edge n.flying
+        done = way_done c keys k j (peer s) h.back.sender h.back.receiver h.back.datas h.out.acks m.end.tcp.send.una n.end.tcp.recv.edge n.flying x
+            (subst (λ (o : Option Hand). WayIs c keys k j (peer s) h.back.sender h.back.receiver h.back.datas h.out.acks o m.end.tcp.send.una
             n.end.tcp.recv.edge n.flying) hand h.way_back)
 
         pub same : (x : ℕ) → max x x ≡ x
@@ -172,7 +172,7 @@ module _ {s : Side} {keys : Keys} {k j : Setting} {c : Profile} {begun begun_bac
                 (least_told ticks t u k_is j_is going going_back h still una answered asked asks)
                 (λ is zero_is. absurd (not_clear clear zero_is)) row heard)
                 fs gs f flies more same_back
-                (acks ticks t u k_is j_is going going_back h still una answered ack refl refl, λ is e. shows_some is)
+                (acks ticks t u k_is j_is going going_back h still una answered ack refl refl, λ is e. shows_some is, tt)
                 (refl, came ticks t u k_is j_is going going_back h still una answered, refl) refl
                 (sent_some ticks t u k_is j_is going going_back h still una answered, refl, refl)
                 (le_refl m.end.tcp.recv.edge) (le_refl m.end.tcp.recv.edge) (sym (same h.out.control_sent)) (sym (same h.out.keys_sent)) done

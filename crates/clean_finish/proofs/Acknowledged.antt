@@ -1,5 +1,6 @@
 -- What a segment in hand acknowledges is told to the send book, and heard by the lane.
-use Rattle.std.proofs.Common.{◌≡◌, refl, sym, subst, ap, ◌∙◌, ℕ, ◌+◌, ◌<◌, ◌≤◌, min, max, Bool, true, false, if◌then◌else◌, ◌⊎◌, inl, inr, ⊎_elim, Option, None, List, ◌∷◌, ◌++◌, length, map, drop, replicate}
+use Rattle.std.proofs.Common.{◌≡◌, refl, sym, subst, ap, ◌∙◌, ℕ, ◌+◌, ◌<◌, ◌≤◌, min, max, nat_lt, ◌||◌, Bool, true, false, if◌then◌else◌, ◌⊎◌, inl, inr, ⊎_elim, Option, None, List, ◌∷◌, ◌++◌, length, map, drop, replicate, arith}
+use Rattle.std.proofs.lemmas.Bool.{both_ways, cases_lt, le-ltb, ltb-false}
 use Rattle.outside_kit.specs.declared.side.Side.{Side}
 use Rattle.link_model.specs.Steps.{peer}
 use Rattle.send_book.specs.State.{Sending as SendBook}
@@ -73,14 +74,14 @@ module _ {s : Side} {keys : Keys} {k j : Setting} {c : Profile} {begun begun_bac
           rests = rests;
         }
 
-        pub way_back_after : WayIs c keys k (peer s) h.back.sender h.back.receiver h.back.datas rest (in_hand x brings false) m.end.tcp.send.una
+        pub way_back_after : WayIs c keys k j (peer s) h.back.sender h.back.receiver h.back.datas rest (in_hand x brings false) m.end.tcp.send.una
             n.end.tcp.recv.edge n.flying
         way_back_after = record {
           sent = h.way_back.sent;
           flights = h.way_back.flights;
           datas_are = h.way_back.datas_are ∙ ap (λ (o : Option Hand). map copy_in (brings_in o ++ h.way_back.sent)) hand;
           acks_are = refl;
-          follow = subst (λ (o : Option Hand). Follow k.least k.total (peer s) h.back.received h.back.control_came h.back.keys_came
+          follow = subst (λ (o : Option Hand). Follow k.least k.total j.total (peer s) h.back.received h.back.control_came h.back.keys_came
               (brings_in o ++ h.way_back.sent)) hand h.way_back.follow;
           low = ap (λ (o : Option Hand). low_after h.back.received (brings_in o ++ h.way_back.sent)) (sym hand) ∙ h.way_back.low;
           control = ap (λ (o : Option Hand). control_after h.back.control_came (brings_in o ++ h.way_back.sent)) (sym hand) ∙ h.way_back.control;
@@ -92,6 +93,48 @@ module _ {s : Side} {keys : Keys} {k j : Setting} {c : Profile} {begun begun_bac
         pub writes_after : WriterIs k h.out.written h.out.closed out_after.acked m.app (after_ack next window m.send)
         writes_after = subst (λ (n : ℕ). WriterIs k h.out.written h.out.closed (max h.out.acked n) m.app (after_ack next window m.send)) (sym next_is)
             (hears_as_lanes k h.out.written h.out.closed h.out.acked next window m.app m.send now h.apps.book.marks h.apps.writes.numbers)
+
+        pub fin_heard : (after_ack next window m.send).fin ≡ true → k.total < out_after.acked
+        fin_heard = subst (λ (b : Bool). (if b then m.send else heard_book).fin ≡ true → k.total < out_after.acked) (sym now)
+            (subst (λ (n : ℕ). (m.send.fin || nat_lt (length m.send.written) next) ≡ true → k.total < max h.out.acked n) (sym next_is)
+            (fin_is (cases_lt (length m.send.written) next)))
+          where
+            heard_book : SendBook
+            heard_book = record m.send {
+              marks = replicate (min next (length m.send.marks)) Acked ++ drop next m.send.marks;
+              edge = max m.send.edge (next + window);
+              fin = fin_after next m.send;
+            }
+
+            up : {a : ℕ} (b : ℕ) → k.total < a → k.total < max a b
+            up b less = omega (arith, less)
+
+            -- the stream is closed, so that all of it was written
+            beyond : length m.send.written < next → k.total < max h.out.acked next
+            beyond less = more h.out.acked less (closed_is m.send.closed refl)
+              where
+                more : {w n : ℕ} (a : ℕ) → w < n → k.total ≤ w → k.total < max a n
+                more a p q = omega (arith, p, q)
+
+                late : {w n : ℕ} → n ≤ w + 0 → w < n → ⊥
+                late p q = absurd (omega (arith, p, q))
+
+                whole_of : {w r total : ℕ} → w + r ≡ total → r ≡ 0 → total ≤ w
+                whole_of p q = omega (arith, p, q)
+
+                closed_is : (b : Bool) → m.send.closed ≡ b → k.total ≤ length m.send.written
+                closed_is true is = whole_of h.apps.writes.numbers.file (ap (λ (xs : List ℕ). length xs) (h.apps.writes.numbers.whole is))
+                closed_is false is = absurd (late (ltb-false (length m.send.written + 0) next
+                    (subst (λ (b : Bool). nat_lt (length m.send.written + (if b then 1 else 0)) next ≡ false) is now)) less)
+
+            fin_is : (length m.send.written < next) ⊎ (next ≤ length m.send.written) → (m.send.fin || nat_lt (length m.send.written) next) ≡ true
+                → k.total < max h.out.acked next
+            fin_is (inl less) e = beyond less
+            fin_is (inr low) e = by m.send.fin refl (subst (λ (b : Bool). (m.send.fin || b) ≡ true) (le-ltb (length m.send.written) next low) e)
+              where
+                by : (b : Bool) → m.send.fin ≡ b → (b || false) ≡ true → k.total < max h.out.acked next
+                by true is e = up next (h.apps.fin is)
+                by false is e = absurd (both_ways false refl e)
 
         pub book_after : BookIs out_after.sender h.waiting (after_ack next window m.send)
         book_after = book_hears next window x.telling.edge h.waiting h.out.sender out_after.sender m.send now h.apps.book refl refl edge_is few
@@ -179,6 +222,8 @@ module _ {s : Side} {keys : Keys} {k j : Setting} {c : Profile} {begun begun_bac
               taken = book_after.taken;
             };
             room = h.apps.room;
+            whole = h.apps.whole;
+            fin = fin_heard;
           };
           apps_back = record {
             writes = record {
@@ -203,6 +248,8 @@ module _ {s : Side} {keys : Keys} {k j : Setting} {c : Profile} {begun begun_bac
               taken = h.apps_back.book.taken;
             };
             room = h.apps_back.room;
+            whole = h.apps_back.whole;
+            fin = h.apps_back.fin;
           };
           stages = stage_raised s (peer s) ds n.end.treated.asked h.owes_back h.stage there
               (stage_drops s (peer s) d ds n.end.treated.asked h.owes_back h.stage (is_apart s (peer s) d free) h.stages);

@@ -33,7 +33,7 @@ module _ {keys : Keys} {k j : Setting} {c : Profile} {begun begun_back : Lane} {
     (low : m.end.tcp.send.una ≡ 0) (sent_one : h.out.control_sent ≡ 1) (nothing_waits : h.waiting ≡ 0)
     (tick window edge : ℕ) (some : 1 ≤ edge) (one_edge : edge ≤ 1) (most_edge : edge ≤ m.end.tcp.send.nxt)
     (f : Flight Carried) (fs : List (Flight Carried)) (xs : List Sent)
-    (w : WayIs c keys k B h.back.sender h.back.receiver h.back.datas h.out.acks None m.end.tcp.send.una n.end.tcp.recv.edge (f ∷ fs))
+    (w : WayIs c keys k j B h.back.sender h.back.receiver h.back.datas h.out.acks None m.end.tcp.send.una n.end.tcp.recv.edge (f ∷ fs))
     (sent : w.sent ≡ answer_at tick h.back.received window edge k.least ∷ xs) (turn : h.stage_back.wait ≡ true)
     (told : List KeptMapping) (answer : Outgoing)
   where
@@ -155,9 +155,9 @@ module _ {keys : Keys} {k j : Setting} {c : Profile} {begun begun_back : Lane} {
     came_same {now} {book} is =
         subst (λ (y : ℕ). ReaderIs j h.back.read y h.back.got h.back.told_end now book) (sym (max_none h.back.data_fin_came)) is
 
-    pub way_after : WayIs c keys k B h.back.sender back_after.receiver back_after.datas h.out.acks hand_after edge n.end.tcp.recv.edge fs
-    way_after = way_brought c keys k B h.back.sender h.back.receiver h.back.datas h.out.acks edge n.end.tcp.recv.edge true fs x
-        back_after.receiver (way_arrives c keys k B h.back.sender h.back.receiver h.back.datas h.out.acks m.end.tcp.send.una n.end.tcp.recv.edge
+    pub way_after : WayIs c keys k j B h.back.sender back_after.receiver back_after.datas h.out.acks hand_after edge n.end.tcp.recv.edge fs
+    way_after = way_brought c keys k j B h.back.sender h.back.receiver h.back.datas h.out.acks edge n.end.tcp.recv.edge true fs x
+        back_after.receiver (way_arrives c keys k j B h.back.sender h.back.receiver h.back.datas h.out.acks m.end.tcp.send.una n.end.tcp.recv.edge
         edge f fs x xs w sent (le_refl edge)) refl (came_one none_came) (zero_max none_keys)
 
     abbrev pub answer_arrived : Facing A keys k j c begun begun_back (record m { end = end_after }) (record n { flying = fs }) clock until (syn_ack_came A)
@@ -216,6 +216,8 @@ module _ {keys : Keys} {k j : Setting} {c : Profile} {begun begun_back : Lane} {
           taken = subst (λ (n : ℕ). AreTaken (h.out.granted + n) m.send.marks) nothing_waits h.apps.book.taken;
         };
         room = room_on h.out.granted nothing_waits h.apps.room;
+        whole = h.apps.whole;
+        fin = h.apps.fin;
       };
       apps_back = record {
         writes = record {
@@ -240,6 +242,8 @@ module _ {keys : Keys} {k j : Setting} {c : Profile} {begun begun_back : Lane} {
           taken = h.apps_back.book.taken;
         };
         room = h.apps_back.room;
+        whole = h.apps_back.whole;
+        fin = h.apps_back.fin;
       };
       stages = stages_after;
       stages_back = stages_back_after;

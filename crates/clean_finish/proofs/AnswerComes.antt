@@ -227,9 +227,9 @@ module _ (start : Start) (plan : PathPlan) (k j : Setting) (s v : Lane) (t0 u0 :
           acked_tcp = acked face none state.0 sent_one h.treats.1 x.at h.back.received x.window x.edge refl follow.acknowledges.some one_edge most_edge
               (held_of p.profile A heard) (reset_for p.profile A heard)
 
-          abbrev way : WayIs p.profile keys k B face.back.sender face.back.receiver face.back.datas face.out.acks None p.a.tcp.send.una p.b.tcp.recv.edge
+          abbrev way : WayIs p.profile keys k j B face.back.sender face.back.receiver face.back.datas face.out.acks None p.a.tcp.send.una p.b.tcp.recv.edge
               (copy start plan k j s v t0 u0 going going_back a b books p f others k_is j_is ∷ going_to A others)
-          way = way_none p.profile keys k B face.back.sender face.back.receiver face.back.datas face.out.acks p.a.tcp.send.una p.b.tcp.recv.edge h.hand
+          way = way_none p.profile keys k j B face.back.sender face.back.receiver face.back.datas face.out.acks p.a.tcp.send.una p.b.tcp.recv.edge h.hand
               h.treats.0.0.none (copy start plan k j s v t0 u0 going going_back a b books p f others k_is j_is ∷ going_to A others) face.way_back
 
           taken : Relation (goes_on A (end_of acked_tcp) (syn_ack_came A) now)
@@ -258,6 +258,7 @@ module _ (start : Start) (plan : PathPlan) (k j : Setting) (s v : Lane) (t0 u0 :
                     edge = λ e. sym tells.4;
                     seen = refl;
                     idle = idle_on h.treats.0.0.idle none (came_one none) refl refl;
+                    mapped = record { live = h.treats.0.0.mapped.live; tail = h.treats.0.0.mapped.tail; beyond = h.treats.0.0.mapped.beyond; no_fin = h.treats.0.0.mapped.no_fin; forgotten = h.treats.0.0.mapped.forgotten };
                     owes = refl;
                     came = came_one none;
                     sent_one = sent_one;
@@ -267,6 +268,7 @@ module _ (start : Start) (plan : PathPlan) (k j : Setting) (s v : Lane) (t0 u0 :
                     data_fin = zero_max quiet.2;
                     unshown = none_shown h.own.modes.shown quiet.1;
                     key = λ e. refl;
+                    opened = refl;
                     news = refl;
                     waiting = refl;
                   },

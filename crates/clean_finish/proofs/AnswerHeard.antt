@@ -30,6 +30,7 @@ use Rattle.clean_finish.specs.Shows.IsToldEdge.{Same, Before}
 use Rattle.clean_finish.specs.Running.{Half, Facing}
 use Rattle.clean_finish.proofs.AckNew.{acked_to, new_ack, records_acked, row_ends, window_on, open_acked}
 use Rattle.clean_finish.proofs.Machine.{stays_long}
+use Rattle.clean_finish.proofs.Spans.{spans_for}
 
 -- B's SYN with what varies of it
 abbrev pub answer_at : (at low window edge least : ℕ) → Sent
@@ -185,6 +186,7 @@ module _ {keys : Keys} {k j : Setting} {c : Profile} {begun begun_back : Lane} {
           bytes = bytes_on low h.own.subflow.ahead.bytes;
           opened = opened_on low h.own.subflow.ahead.opened;
           finished = λ e. absurd (not_next low (h.own.subflow.ahead.finished e) some most_edge);
+          seen = h.own.subflow.ahead.seen;
         };
         congestion = record {
           window = grown.0;
@@ -193,7 +195,7 @@ module _ {keys : Keys} {k j : Setting} {c : Profile} {begun begun_back : Lane} {
           row = zero_low (row_seen h.out.sender hand_after) (row_ends octets rtt m.end.tcp.congestion);
         };
         come = record { edge = edge_on h.own.subflow.come.edge at none_came; window = h.own.subflow.come.window };
-        heard = record { told = tt; most = una_low k.total one_edge; end = λ e. absurd (omega (arith, e)); few = omega arith };
+        heard = record { told = tt; most = una_low k.total one_edge; end = λ e. absurd (omega (arith, e)); few = omega arith; some = λ e. omega arith };
         quiet = λ e. absurd (both_ways _ e open_is.connected);
         begun = λ is. absurd (not_b is);
         keyed = λ is. absurd (not_b is);
@@ -209,6 +211,7 @@ module _ {keys : Keys} {k j : Setting} {c : Profile} {begun begun_back : Lane} {
         shut = (λ e. h.own.sending.shut.0 nothing_waits, λ some. absurd (omega (arith, some)));
         granted = All-weaker (IsGranted h.out.sender h.waiting) (IsGranted (rested h.out).sender 0)
             (λ span is. record { waits = is.waits; within = within h.out.granted nothing_waits is.within }) m.end.sending.granted h.own.sending.granted;
+        spans = spans_for m.end.sending.granted h.out.acked h.out.granted h.waiting h.out.granted refl nothing_waits h.own.sending.spans;
         bytes = λ some_bytes. h.own.sending.bytes (bytes_some h.out.granted nothing_waits some_bytes);
         end = h.own.sending.end;
         acked_end = h.own.sending.acked_end;

@@ -34,6 +34,7 @@ use Rattle.clean_finish.proofs.Passing.{stands_then}
 use Rattle.clean_finish.proofs.Quiet.{now_out, now_back}
 use Rattle.clean_finish.proofs.Sent.{resent_alone}
 use Rattle.clean_finish.proofs.Ways.{way_more}
+use Rattle.clean_finish.proofs.Spans.{spans_for}
 
 -- as a lane counts it, from a tick on, with this window
 abbrev pub syn_ack_at : Setting → ℕ → ℕ → ℕ → Sent
@@ -303,6 +304,7 @@ module _ {keys : Keys} {k j : Setting} {c : Profile} {begun begun_back : Lane} {
                   bytes = h.own.subflow.ahead.bytes;
                   opened = h.own.subflow.ahead.opened;
                   finished = h.own.subflow.ahead.finished;
+                  seen = h.own.subflow.ahead.seen;
                 };
                 congestion = record {
                   window = h.own.subflow.congestion.window;
@@ -316,6 +318,7 @@ module _ {keys : Keys} {k j : Setting} {c : Profile} {begun begun_back : Lane} {
                   most = heard.most;
                   end = heard.end;
                   few = heard.few;
+                  some = heard.some;
                 };
                 quiet = h.own.subflow.quiet;
                 begun = λ is. one_low h.out.control_sent came;
@@ -333,6 +336,7 @@ module _ {keys : Keys} {k j : Setting} {c : Profile} {begun begun_back : Lane} {
                 granted = All-weaker (IsGranted h.out.sender h.waiting) (IsGranted out_after.sender 0)
                     (λ span is. record { waits = is.waits; within = within none_granted nothing_waits is.within }) m.end.sending.granted
                     h.own.sending.granted;
+                spans = spans_for m.end.sending.granted h.out.acked h.out.granted h.waiting 0 (sym none_granted) nothing_waits h.own.sending.spans;
                 bytes = λ some. absurd (omega (arith, some));
                 end = subst (λ (x : ℕ). x ≤ h.out.clear) (sym (max_none h.out.data_fin_sent)) h.own.sending.end;
                 acked_end = λ more. subst (λ (x : ℕ). 1 ≤ x) (sym (max_none h.out.data_fin_sent)) (h.own.sending.acked_end more);
@@ -370,21 +374,22 @@ module _ {keys : Keys} {k j : Setting} {c : Profile} {begun begun_back : Lane} {
               notices = h.own.notices;
             }
 
-            pub way_after : WayIs c keys j B out_after.sender out_after.receiver out_after.datas back_after.acks h.hand_back n.end.tcp.send.una
+            pub way_after : WayIs c keys j k B out_after.sender out_after.receiver out_after.datas back_after.acks h.hand_back n.end.tcp.send.una
                 m.end.tcp.recv.edge fs
-            way_after = subst (λ (flying : List (Flight Carried)). WayIs c keys j B out_after.sender out_after.receiver out_after.datas
+            way_after = subst (λ (flying : List (Flight Carried)). WayIs c keys j k B out_after.sender out_after.receiver out_after.datas
                 back_after.acks h.hand_back n.end.tcp.send.una m.end.tcp.recv.edge flying) (sym more)
-                (way_more c keys j B h.out.sender out_after.sender h.out.receiver h.hand_back n.end.tcp.send.una m.end.tcp.recv.edge
+                (way_more c keys j k B h.out.sender out_after.sender h.out.receiver h.hand_back n.end.tcp.send.una m.end.tcp.recv.edge
                 m.end.tcp.recv.edge f answer h.out.datas h.back.acks m.flying h.way flies (
                   record { some = some_edge edge_one; bytes = omega arith; most = most_edge j.total edge_one; end = λ e. absurd (omega (arith, e)) },
                   λ is e. absurd (both_ways true e refl),
+                  tt,
                 )
                 (refl, refl, refl, refl, least_told buffer_is j_is.least) (sym none_granted) (unsent, refl, refl)
                 (le_refl m.end.tcp.recv.edge) (le_refl m.end.tcp.recv.edge) refl (control_is unsent) (keys_are h.own.modes.shown))
 
-            pub way_back_after : WayIs c keys k A h.back.sender back_after.receiver h.back.datas out_after.acks None m.end.tcp.send.una
+            pub way_back_after : WayIs c keys k j A h.back.sender back_after.receiver h.back.datas out_after.acks None m.end.tcp.send.una
                 n.end.tcp.recv.edge gs
-            way_back_after = subst (λ (flying : List (Flight Carried)). WayIs c keys k A h.back.sender back_after.receiver h.back.datas out_after.acks
+            way_back_after = subst (λ (flying : List (Flight Carried)). WayIs c keys k j A h.back.sender back_after.receiver h.back.datas out_after.acks
                 None m.end.tcp.send.una n.end.tcp.recv.edge flying) (sym same) record {
                   sent = done.sent;
                   flights = done.flights;
@@ -398,9 +403,9 @@ module _ {keys : Keys} {k j : Setting} {c : Profile} {begun begun_back : Lane} {
                   passed = done.passed;
                 }
               where
-                done : WayIs c keys k A h.back.sender h.back.receiver h.back.datas h.out.acks None m.end.tcp.send.una n.end.tcp.recv.edge n.flying
-                done = way_done c keys k A h.back.sender h.back.receiver h.back.datas h.out.acks m.end.tcp.send.una n.end.tcp.recv.edge n.flying x
-                    (subst (λ (o : Option Hand). WayIs c keys k A h.back.sender h.back.receiver h.back.datas h.out.acks o m.end.tcp.send.una
+                done : WayIs c keys k j A h.back.sender h.back.receiver h.back.datas h.out.acks None m.end.tcp.send.una n.end.tcp.recv.edge n.flying
+                done = way_done c keys k j A h.back.sender h.back.receiver h.back.datas h.out.acks m.end.tcp.send.una n.end.tcp.recv.edge n.flying x
+                    (subst (λ (o : Option Hand). WayIs c keys k j A h.back.sender h.back.receiver h.back.datas h.out.acks o m.end.tcp.send.una
                     n.end.tcp.recv.edge n.flying) hand h.way_back)
 
             abbrev pub syn_ack_sent : Facing B keys k j c begun begun_back (record m { end = end_by true; flying = fs }) (record n { flying = gs })
@@ -450,6 +455,8 @@ module _ {keys : Keys} {k j : Setting} {c : Profile} {begun begun_back : Lane} {
                   taken = subst (λ (n : ℕ). AreTaken n m.send.marks) (none_yet none_granted nothing_waits) h.apps.book.taken;
                 };
                 room = omega arith;
+                whole = h.apps.whole;
+                fin = h.apps.fin;
               };
               apps_back = record {
                 writes = record {
@@ -474,6 +481,8 @@ module _ {keys : Keys} {k j : Setting} {c : Profile} {begun begun_back : Lane} {
                   taken = h.apps_back.book.taken;
                 };
                 room = h.apps_back.room;
+                whole = h.apps_back.whole;
+                fin = h.apps_back.fin;
               };
               stages = stage_waits B A ds n.end.treated.asked h.owes_back h.stage events
                   (stage_drops B A (duties.Send (send_duties.SynAck B)) ds n.end.treated.asked h.owes_back h.stage others h.stages);

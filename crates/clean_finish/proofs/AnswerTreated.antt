@@ -22,7 +22,7 @@ use Rattle.clean_finish.specs.Machine.{seen_timer}
 use Rattle.clean_finish.specs.Segments.{Keys}
 use Rattle.clean_finish.specs.Shows.{IsPhase}
 use Rattle.clean_finish.specs.Shows.IsPhase.{Opening, Listening, HalfOpen, Open}
-use Rattle.clean_finish.specs.Running.{IsSetting, Runs, keys_in}
+use Rattle.clean_finish.specs.Running.{TreatsAnswered, other_bench, own_bench, IsSetting, Runs, keys_in}
 use Rattle.clean_finish.proofs.Acknowledged.{hears_on}
 use Rattle.clean_finish.proofs.Enlivened.{enlivened}
 use Rattle.clean_finish.proofs.Keyed.{keyed}
@@ -106,6 +106,7 @@ module _ (start : Start) (plan : PathPlan) (k j : Setting) (s v : Lane) (t0 u0 :
                   edge = λ e. absurd (both_ways false refl e);
                   seen = t.0.seen;
                   idle = t.0.idle;
+                  mapped = t.0.mapped;
                   owes = t.0.owes;
                   came = t.0.came;
                   sent_one = t.0.sent_one;
@@ -115,6 +116,7 @@ module _ (start : Start) (plan : PathPlan) (k j : Setting) (s v : Lane) (t0 u0 :
                   unshown = t.0.unshown;
                   data_fin = t.0.data_fin;
                   key = t.0.key;
+                  opened = t.0.opened;
                   news = t.0.news;
                   waiting = t.0.waiting;
                 },
@@ -168,7 +170,7 @@ module _ (start : Start) (plan : PathPlan) (k j : Setting) (s v : Lane) (t0 u0 :
               };
               link = h.link;
               faces = faces;
-              treats = (
+              treats = inl (
                 record {
                   side = refl;
                   sent = t.0.sent;
@@ -177,6 +179,7 @@ module _ (start : Start) (plan : PathPlan) (k j : Setting) (s v : Lane) (t0 u0 :
                   edge = λ e. absurd (both_ways false refl e);
                   seen = t.0.seen;
                   idle = t.0.idle;
+                  mapped = t.0.mapped;
                   owes = t.0.owes;
                   came = t.0.came;
                   sent_one = t.0.sent_one;
@@ -186,6 +189,7 @@ module _ (start : Start) (plan : PathPlan) (k j : Setting) (s v : Lane) (t0 u0 :
                   unshown = t.0.unshown;
                   data_fin = t.0.data_fin;
                   key = λ e. absurd (omega (arith, e));
+                  opened = t.0.opened;
                   news = t.0.news;
                   waiting = refl;
                 },
@@ -215,10 +219,10 @@ module _ (start : Start) (plan : PathPlan) (k j : Setting) (s v : Lane) (t0 u0 :
         abbrev lives : SixBooks
         lives = after_ask (live_ask A p) books
 
-        enlivens : Relation books (with_agenda (duties.Ask (ask_duties.Live A) ∷ duties.Send (send_duties.Acknowledge A) ∷ emission A) p)
+        enlivens : (h : Relation books (with_agenda (duties.Ask (ask_duties.Live A) ∷ duties.Send (send_duties.Acknowledge A) ∷ emission A) p))
+            → TreatsAnswered A keys (own_bench h.faces) (other_bench h.faces) (duties.Send (send_duties.Acknowledge A) ∷ emission A)
             → Relation lives (with_agenda (duties.Send (send_duties.Acknowledge A) ∷ emission A) p)
-        enlivens h =
-            let t = h.treats in
+        enlivens h t =
             let faces = enlivened (duties.Ask (ask_duties.Live A)) (duties.Send (send_duties.Acknowledge A) ∷ emission A) refl p.link.path p.a.modes.backup_heard h.path.number h.faces in
             record {
               path = record {
@@ -240,6 +244,7 @@ module _ (start : Start) (plan : PathPlan) (k j : Setting) (s v : Lane) (t0 u0 :
                   edge = λ e. absurd (both_ways false refl e);
                   seen = t.0.seen;
                   idle = t.0.idle;
+                  mapped = t.0.mapped;
                   owes = t.0.owes;
                   came = t.0.came;
                   sent_one = t.0.sent_one;
@@ -249,6 +254,7 @@ module _ (start : Start) (plan : PathPlan) (k j : Setting) (s v : Lane) (t0 u0 :
                   unshown = t.0.unshown;
                   data_fin = t.0.data_fin;
                   key = λ e. absurd (omega (arith, e));
+                  opened = t.0.opened;
                   news = t.0.news;
                   waiting = t.0.waiting;
                 },
@@ -258,7 +264,10 @@ module _ (start : Start) (plan : PathPlan) (k j : Setting) (s v : Lane) (t0 u0 :
               );
             }
 
-        pub answers_live : Relation books (with_agenda (duties.Ask (ask_duties.Live A) ∷ ds) p) → Relation lives (with_agenda ds p)
-        answers_live h =
-            subst (λ (es : List Duty). Relation lives (with_agenda es p)) (sym h.treats.3)
-            (enlivens (subst (λ (es : List Duty). Relation books (with_agenda (duties.Ask (ask_duties.Live A) ∷ es) p)) h.treats.3 h))
+        -- where the SYN/ACK is treated
+        pub lives_on : (h : Relation books (with_agenda (duties.Ask (ask_duties.Live A) ∷ ds) p)) → TreatsAnswered A keys (own_bench h.faces) (other_bench h.faces) ds
+            → Relation lives (with_agenda ds p)
+        lives_on h t =
+            subst (λ (es : List Duty). (g : Relation books (with_agenda (duties.Ask (ask_duties.Live A) ∷ es) p))
+            → TreatsAnswered A keys (own_bench g.faces) (other_bench g.faces) es → Relation lives (with_agenda es p))
+            (sym t.3) enlivens h t

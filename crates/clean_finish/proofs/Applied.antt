@@ -1,5 +1,5 @@
 -- The relation goes on with each step of an application.
-use Rattle.std.proofs.Common.{◌+◌, ◌≡◌, refl, sym, subst, ap, ◌∙◌, ℕ, ◌≤◌, Bool, true, false, not, ◌||◌, if◌then◌else◌, is_some, List, [], ◌∷◌, ◌++◌, length, take, replicate, le_refl, length-append, length-take, arith}
+use Rattle.std.proofs.Common.{◌+◌, ◌≡◌, refl, sym, subst, ap, ◌∙◌, ℕ, ◌≤◌, Bool, true, false, not, ◌||◌, if◌then◌else◌, is_some, List, [], ◌∷◌, ◌++◌, length, take, replicate, le_refl, length-append, length-take, arith, map, Some}
 use Rattle.std.proofs.lemmas.Bool.{and_parts, not-true, both_ways}
 use Rattle.std.proofs.lemmas.List.{length-replicate}
 use Rattle.outside_kit.specs.declared.side.Side.{Side}
@@ -10,7 +10,7 @@ use Rattle.send_book.specs.Tried.{no_paths}
 use Rattle.send_book.specs.State.{Sending}
 use Rattle.send_book.specs.Steps.{bytes_taken, after_write, after_close}
 use Rattle.reassembly_book.specs.declared.call.ReassemblyCall.TheVariants as reassembly_calls
-use Rattle.reassembly_book.specs.State.{Arriving}
+use Rattle.reassembly_book.specs.State.{Arriving, filled}
 use Rattle.reassembly_book.specs.Steps.{after_read, after_reading}
 use Rattle.actor_desk.specs.declared.ask.Ask.{Ask}
 use Rattle.actor_desk.specs.declared.ask.Ask.TheVariants as asks
@@ -37,6 +37,7 @@ use Rattle.clean_finish.proofs.TakenMarks.{taken_written}
 use Rattle.clean_finish.proofs.Acting.{Acts, acts_by_write, acts_by_close, acts_by_read, acts_by_end}
 use Rattle.clean_finish.proofs.Moving.{more_than, moves_then}
 use Rattle.clean_finish.proofs.Turned.{rebooked}
+use Rattle.clean_finish.proofs.Whole.{read_whole}
 
 -- ---- what is left of a turn, by its first duty
 
@@ -102,6 +103,7 @@ none_left (x ∷ xs) e = cc
 record Grows (out : Sender) (waiting : ℕ) (b after : Sending) : Type 0 where
   book : BookIs out waiting after
   more : length b.written ≤ length after.written
+  fin : after.fin ≡ b.fin
 
 write_grows : (out : Sender) (waiting : ℕ) (bytes : List ℕ) (b : Sending) → BookIs out waiting b → Grows out waiting b (after_write bytes b)
 write_grows out waiting bytes b is = by (b.closed || b.aborted)
@@ -110,7 +112,7 @@ write_grows out waiting bytes b is = by (b.closed || b.aborted)
       written = b.written ++ take (bytes_taken bytes b) bytes;
       marks = b.marks ++ replicate (bytes_taken bytes b) (Free no_paths);
     })
-    by true = record { book = is; more = le_refl _ }
+    by true = record { book = is; more = le_refl _; fin = refl }
     by false =
         let len = length-append b.written (take (bytes_taken bytes b) bytes) in
         let some = length-take (bytes_taken bytes b) bytes in
@@ -124,14 +126,15 @@ write_grows out waiting bytes b is = by (b.closed || b.aborted)
             taken = taken_written (out.granted + waiting) (bytes_taken bytes b) b.marks is.taken;
           };
           more = omega (arith, len);
+          fin = refl;
         }
 
 close_grows : (out : Sender) (waiting : ℕ) (b : Sending) → BookIs out waiting b → Grows out waiting b (after_close b)
 close_grows out waiting b is = by b.aborted
   where
     by : (aborted : Bool) → Grows out waiting b (if aborted then b else record b { closed = true })
-    by true = record { book = is; more = le_refl _ }
-    by false = record { book = record { edge = is.edge; owner = is.owner; marks = is.marks; taken = is.taken }; more = le_refl _ }
+    by true = record { book = is; more = le_refl _; fin = refl }
+    by false = record { book = record { edge = is.edge; owner = is.owner; marks = is.marks; taken = is.taken }; more = le_refl _; fin = refl }
 
 read_keeps : (most : ℕ) (b : Arriving) → (after_read most b).capacity ≡ b.capacity
 read_keeps most b = by (is_some b.aborted)
@@ -159,9 +162,9 @@ module _ (start : Start) (plan : PathPlan) (k j : Setting) (s v : Lane) (t0 u0 :
       acted : (ask : Ask) (send : Sending) (arrived : Arriving)
           → books_in (after_entry ask t.at_a.pass t.books) ≡ record six { send_a = send; reassembly_a = arrived }
           → Acts k s t0 h.stage h.out j v u0 h.stage_back h.back now now_back (app_takes (answer_to t.books ask) t.a) send arrived
-          → Grows h.out.sender h.waiting six.send_a send → arrived.capacity ≡ j.buffer
+          → Grows h.out.sender h.waiting six.send_a send → arrived.capacity ≡ j.buffer → arrived.places ≡ map Some (filled arrived.places)
           → Running start plan k j s v (after_a ask t)
-      acted ask send arrived only acts grows capacity = record {
+      acted ask send arrived only acts grows capacity whole = record {
         walker = h.walker;
         alone = h.alone;
         runs = record {
@@ -205,6 +208,8 @@ module _ (start : Start) (plan : PathPlan) (k j : Setting) (s v : Lane) (t0 u0 :
               };
               book = grows.book;
               room = omega (arith, h.apps.room, h.apps.writes.numbers.bytes, acts.writes.shows.numbers.bytes, grows.more);
+              whole = h.apps.whole;
+              fin = λ e. h.apps.fin (sym grows.fin ∙ e);
             };
             apps_back = record {
               writes = record { numbers = h.apps_back.writes.numbers; over = h.apps_back.writes.over };
@@ -217,6 +222,8 @@ module _ (start : Start) (plan : PathPlan) (k j : Setting) (s v : Lane) (t0 u0 :
               };
               book = h.apps_back.book;
               room = h.apps_back.room;
+              whole = whole;
+              fin = h.apps_back.fin;
             };
             stages = h.stages;
             stages_back = h.stages_back;
@@ -245,7 +252,7 @@ module _ (start : Start) (plan : PathPlan) (k j : Setting) (s v : Lane) (t0 u0 :
           (sym f.a.side_is) (acted ask (after_write (offered t.a) six.send_a) six.reassembly_a (books_after ask t.at_a.pass t.books)
           (acts_by_write k s t0 h.stage h.out j v u0 h.stage_back h.back now now_back t.a six.send_a six.reassembly_a h.apps.writes
           h.apps_back.reads (from_write t.a.agenda ds h.turn at) (some_left t.a.rest (stands Write ds f at)) small)
-          (write_grows h.out.sender h.waiting (offered t.a) six.send_a h.apps.book) h.apps_back.receives.capacity)
+          (write_grows h.out.sender h.waiting (offered t.a) six.send_a h.apps.book) h.apps_back.receives.capacity h.apps_back.whole)
 
       act_close : Fare start t → (ds : List AppDuty) → t.a.agenda ≡ Close ∷ ds → Running start plan k j s v (after_a (app_ask Close t.a) t)
       act_close f ds at =
@@ -255,7 +262,7 @@ module _ (start : Start) (plan : PathPlan) (k j : Setting) (s v : Lane) (t0 u0 :
           (acts_by_close k s t0 h.stage h.out j v u0 h.stage_back h.back now now_back t.a six.send_a six.reassembly_a h.apps.writes
           h.apps_back.reads (from_close t.a.agenda ds h.turn at)
           (none_left t.a.rest (and_parts (is_nil t.a.rest) (not t.a.closed) (stands Close ds f at)).0))
-          (close_grows h.out.sender h.waiting six.send_a h.apps.book) h.apps_back.receives.capacity)
+          (close_grows h.out.sender h.waiting six.send_a h.apps.book) h.apps_back.receives.capacity h.apps_back.whole)
 
       act_read : Fare start t → (ds : List AppDuty) → t.a.agenda ≡ Read ∷ ds → Running start plan k j s v (after_a (app_ask Read t.a) t)
       act_read f ds at =
@@ -264,20 +271,21 @@ module _ (start : Start) (plan : PathPlan) (k j : Setting) (s v : Lane) (t0 u0 :
           (sym f.a.side_is) (acted ask six.send_a (after_read 65536 six.reassembly_a) (books_after ask t.at_a.pass t.books)
           (acts_by_read k s t0 h.stage h.out j v u0 h.stage_back h.back now now_back t.a six.send_a six.reassembly_a h.apps.writes
           h.apps_back.reads (from_read t.a.agenda ds h.turn at) (not-true t.a.told (stands Read ds f at)))
-          (record { book = h.apps.book; more = le_refl _ }) (read_keeps 65536 six.reassembly_a ∙ h.apps_back.receives.capacity))
+          (record { book = h.apps.book; more = le_refl _; fin = refl }) (read_keeps 65536 six.reassembly_a ∙ h.apps_back.receives.capacity)
+          (read_whole 65536 six.reassembly_a h.apps_back.whole))
 
       act_end : (ds : List AppDuty) → t.a.agenda ≡ End ∷ ds → Running start plan k j s v (after_a (app_ask End t.a) t)
       act_end ds at = acted (asks.Local steps.End) six.send_a six.reassembly_a refl
           (acts_by_end k s t0 h.stage h.out j v u0 h.stage_back h.back now now_back t.a six.send_a six.reassembly_a h.apps.writes
           h.apps_back.reads (from_end t.a.agenda ds h.turn at))
-          (record { book = h.apps.book; more = le_refl _ }) h.apps_back.receives.capacity
+          (record { book = h.apps.book; more = le_refl _; fin = refl }) h.apps_back.receives.capacity h.apps_back.whole
 
       acted_back : (ask : Ask) (send : Sending) (arrived : Arriving)
           → books_in (after_entry ask t.at_b.pass t.books) ≡ record six { send_b = send; reassembly_b = arrived }
           → Acts j v u0 h.stage_back h.back k s t0 h.stage h.out now_back now (app_takes (answer_to t.books ask) t.b) send arrived
-          → Grows h.back.sender h.waiting_back six.send_b send → arrived.capacity ≡ k.buffer
+          → Grows h.back.sender h.waiting_back six.send_b send → arrived.capacity ≡ k.buffer → arrived.places ≡ map Some (filled arrived.places)
           → Running start plan k j s v (after_b ask t)
-      acted_back ask send arrived only acts grows capacity = record {
+      acted_back ask send arrived only acts grows capacity whole = record {
         walker = h.walker;
         alone = h.alone;
         runs = record {
@@ -321,6 +329,8 @@ module _ (start : Start) (plan : PathPlan) (k j : Setting) (s v : Lane) (t0 u0 :
               };
               book = h.apps.book;
               room = h.apps.room;
+              whole = whole;
+              fin = h.apps.fin;
             };
             apps_back = record {
               writes = acts.writes.shows;
@@ -337,6 +347,8 @@ module _ (start : Start) (plan : PathPlan) (k j : Setting) (s v : Lane) (t0 u0 :
               };
               book = grows.book;
               room = omega (arith, h.apps_back.room, h.apps_back.writes.numbers.bytes, acts.writes.shows.numbers.bytes, grows.more);
+              whole = h.apps_back.whole;
+              fin = λ e. h.apps_back.fin (sym grows.fin ∙ e);
             };
             stages = h.stages;
             stages_back = h.stages_back;
@@ -365,7 +377,7 @@ module _ (start : Start) (plan : PathPlan) (k j : Setting) (s v : Lane) (t0 u0 :
           (sym f.b.side_is) (acted_back ask (after_write (offered t.b) six.send_b) six.reassembly_b (books_after ask t.at_b.pass t.books)
           (acts_by_write j v u0 h.stage_back h.back k s t0 h.stage h.out now_back now t.b six.send_b six.reassembly_b h.apps_back.writes
           h.apps.reads (from_write t.b.agenda ds h.turn_back at) (some_left t.b.rest (stands_b Write ds f at)) small_back)
-          (write_grows h.back.sender h.waiting_back (offered t.b) six.send_b h.apps_back.book) h.apps.receives.capacity)
+          (write_grows h.back.sender h.waiting_back (offered t.b) six.send_b h.apps_back.book) h.apps.receives.capacity h.apps.whole)
 
       act_b_close : Fare start t → (ds : List AppDuty) → t.b.agenda ≡ Close ∷ ds → Running start plan k j s v (after_b (app_ask Close t.b) t)
       act_b_close f ds at =
@@ -375,7 +387,7 @@ module _ (start : Start) (plan : PathPlan) (k j : Setting) (s v : Lane) (t0 u0 :
           (acts_by_close j v u0 h.stage_back h.back k s t0 h.stage h.out now_back now t.b six.send_b six.reassembly_b h.apps_back.writes
           h.apps.reads (from_close t.b.agenda ds h.turn_back at)
           (none_left t.b.rest (and_parts (is_nil t.b.rest) (not t.b.closed) (stands_b Close ds f at)).0))
-          (close_grows h.back.sender h.waiting_back six.send_b h.apps_back.book) h.apps.receives.capacity)
+          (close_grows h.back.sender h.waiting_back six.send_b h.apps_back.book) h.apps.receives.capacity h.apps.whole)
 
       act_b_read : Fare start t → (ds : List AppDuty) → t.b.agenda ≡ Read ∷ ds → Running start plan k j s v (after_b (app_ask Read t.b) t)
       act_b_read f ds at =
@@ -384,13 +396,14 @@ module _ (start : Start) (plan : PathPlan) (k j : Setting) (s v : Lane) (t0 u0 :
           (sym f.b.side_is) (acted_back ask six.send_b (after_read 65536 six.reassembly_b) (books_after ask t.at_b.pass t.books)
           (acts_by_read j v u0 h.stage_back h.back k s t0 h.stage h.out now_back now t.b six.send_b six.reassembly_b h.apps_back.writes
           h.apps.reads (from_read t.b.agenda ds h.turn_back at) (not-true t.b.told (stands_b Read ds f at)))
-          (record { book = h.apps_back.book; more = le_refl _ }) (read_keeps 65536 six.reassembly_b ∙ h.apps.receives.capacity))
+          (record { book = h.apps_back.book; more = le_refl _; fin = refl }) (read_keeps 65536 six.reassembly_b ∙ h.apps.receives.capacity)
+          (read_whole 65536 six.reassembly_b h.apps.whole))
 
       act_b_end : (ds : List AppDuty) → t.b.agenda ≡ End ∷ ds → Running start plan k j s v (after_b (app_ask End t.b) t)
       act_b_end ds at = acted_back (asks.Local steps.End) six.send_b six.reassembly_b refl
           (acts_by_end j v u0 h.stage_back h.back k s t0 h.stage h.out now_back now t.b six.send_b six.reassembly_b h.apps_back.writes
           h.apps.reads (from_end t.b.agenda ds h.turn_back at))
-          (record { book = h.apps_back.book; more = le_refl _ }) h.apps.receives.capacity
+          (record { book = h.apps_back.book; more = le_refl _; fin = refl }) h.apps.receives.capacity h.apps.whole
 
     -- a step of A's application, of those that a lemma over all steps asks for (`Stepwise`)
     pub act_a : (t : Cast Carried) → Fare start t → (d : AppDuty) (ds : List AppDuty) → t.a.agenda ≡ d ∷ ds

@@ -20,7 +20,7 @@ use Rattle.world_laws.specs.Openings.{PathPlan, Start}
 use Rattle.pace.specs.Lane.{Setting, Copy, Lane, all_left}
 use Rattle.pace.specs.Going.{Going}
 use Rattle.pace.specs.Lists.{first_at}
-use Rattle.clean_finish.specs.Segments.{Sent, Keys, copy_in, said, CountsAs, TellsAs, AcknowledgesAs, ShowsFirst, Follow}
+use Rattle.clean_finish.specs.Segments.{Sent, Keys, copy_in, said, CountsAs, TellsAs, AcknowledgesAs, ShowsFirst, BringsAs, Follow}
 use Rattle.clean_finish.specs.Shows.{Hand, brings_in}
 use Rattle.clean_finish.specs.Running.{Facing, half, IsSetting, Runs, keys_in, LinkIs}
 use Rattle.clean_finish.proofs.Arriving.{AreFrom, way_from, FirstSent, first_sent, first_later, from_first, going_from, link_arrived}
@@ -86,11 +86,11 @@ module _ (start : Start) (plan : PathPlan) (k j : Setting) (s v : Lane) (t0 u0 :
           under less = omega (arith, less)
 
           pub there : (tick ≤ first_at p.until h.out.datas) × (tick ≤ first_at p.until h.back.acks)
-          there = way_from p.profile keys j A h.out.sender h.out.receiver h.out.datas h.back.acks h.hand_back p.b.tcp.send.una p.a.tcp.recv.edge
+          there = way_from p.profile keys j k A h.out.sender h.out.receiver h.out.datas h.back.acks h.hand_back p.b.tcp.send.una p.a.tcp.recv.edge
               tick p.until (going_to B (copy ∷ others)) h.way h.treats.0.1.none (going_from tick B (copy ∷ others) all_from) (under before)
 
           pub here : (tick ≤ first_at p.until h.back.datas) × (tick ≤ first_at p.until h.out.acks)
-          here = way_from p.profile keys k B h.back.sender h.back.receiver h.back.datas h.out.acks h.hand p.a.tcp.send.una p.b.tcp.recv.edge
+          here = way_from p.profile keys k j B h.back.sender h.back.receiver h.back.datas h.out.acks h.hand p.a.tcp.send.una p.b.tcp.recv.edge
               tick p.until (going_to A (copy ∷ others)) h.way_back h.treats.0.0.none (going_from tick A (copy ∷ others) all_from) (under before)
 
           abbrev pub moved : Facing A keys k j p.profile s v (half A a books q) (half B b books q) tick p.until ((duties.Step step_duties.Events) ∷ duties.End ∷ [])
@@ -110,13 +110,14 @@ module _ (start : Start) (plan : PathPlan) (k j : Setting) (s v : Lane) (t0 u0 :
             pub tells : TellsAs j.least A first.x.window first.x.telling first.x.brings
             pub acknowledges : AcknowledgesAs j.total first.x
             pub shows : ShowsFirst A first.x
+            pub brings : BringsAs k.total first.x.low first.x.edge first.x.brings
 
           pub follows : Follows
-          follows = record { low = all.0; counts = all.1; tells = all.2; acknowledges = all.3.0; shows = all.3.1 }
+          follows = record { low = all.0; counts = all.1; tells = all.2; acknowledges = all.3.0; shows = all.3.1; brings = all.3.2 }
             where
-              all : Follow j.least j.total A h.out.received h.out.control_came h.out.keys_came (first.x ∷ first.xs)
-              all = subst (λ (ys : List Sent). Follow j.least j.total A h.out.received h.out.control_came h.out.keys_came ys) first.is
-                  (subst (λ (o : Option Hand). Follow j.least j.total A h.out.received h.out.control_came h.out.keys_came
+              all : Follow j.least j.total k.total A h.out.received h.out.control_came h.out.keys_came (first.x ∷ first.xs)
+              all = subst (λ (ys : List Sent). Follow j.least j.total k.total A h.out.received h.out.control_came h.out.keys_came ys) first.is
+                  (subst (λ (o : Option Hand). Follow j.least j.total k.total A h.out.received h.out.control_came h.out.keys_came
                   (brings_in o ++ h.way.sent)) h.treats.0.1.none h.way.follow)
 
           -- taken as this, it makes this of the path

@@ -30,10 +30,10 @@ copies_from c keys from tick until [] (x ∷ xs) fly all low = absurd fly
 copies_from c keys from tick until (f ∷ fs) [] fly all low = absurd fly
 
 -- nothing on its way from a side comes before a tick from which on all arrive
-pub way_from : (c : Profile) (keys : Keys) (j : Setting) (from : Side) (out : Sender) (other : Receiver) (datas acks : List Copy) (hand : Option Hand)
-    (una edge tick until : ℕ) (flying : List (Flight Carried)) → WayIs c keys j from out other datas acks hand una edge flying → hand ≡ None
+pub way_from : (c : Profile) (keys : Keys) (j k : Setting) (from : Side) (out : Sender) (other : Receiver) (datas acks : List Copy) (hand : Option Hand)
+    (una edge tick until : ℕ) (flying : List (Flight Carried)) → WayIs c keys j k from out other datas acks hand una edge flying → hand ≡ None
     → AreFrom tick flying → tick ≤ until → (tick ≤ first_at until datas) × (tick ≤ first_at until acks)
-way_from c keys j from out other datas acks hand una edge tick until flying w none all low = (
+way_from c keys j k from out other datas acks hand una edge tick until flying w none all low = (
   subst (λ (xs : List Copy). tick ≤ first_at until xs)
       (sym (w.datas_are ∙ ap (λ (o : Option Hand). map copy_in (brings_in o ++ w.sent)) none))
       (copies_from c keys from tick until flying w.sent w.flights all low),

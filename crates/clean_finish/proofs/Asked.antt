@@ -114,6 +114,7 @@ module _ {s : Side} {keys : Keys} {k j : Setting} {c : Profile} {begun begun_bac
           came = h.own.sending.came;
           shut = h.own.sending.shut;
           granted = h.own.sending.granted;
+          spans = h.own.sending.spans;
           bytes = h.own.sending.bytes;
           end = h.own.sending.end;
           acked_end = h.own.sending.acked_end;
@@ -206,6 +207,8 @@ module _ {s : Side} {keys : Keys} {k j : Setting} {c : Profile} {begun begun_bac
             taken = h.apps_back.book.taken;
           };
           room = h.apps_back.room;
+          whole = h.apps_back.whole;
+          fin = h.apps_back.fin;
         };
         stages = stage_drops s (peer s) (duties.Ask (ask_duties.Window s)) ds n.end.treated.asked h.owes_back h.stage others h.stages;
         stages_back = window_drops (peer s) s (duties.Ask (ask_duties.Window s)) ds m.end.treated.asked h.owes h.stage_back refl h.stages_back;

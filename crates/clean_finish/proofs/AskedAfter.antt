@@ -122,6 +122,7 @@ module _ {s : Side} {keys : Keys} {k j : Setting} {c : Profile} {begun begun_bac
             bytes = h.own.subflow.ahead.bytes;
             opened = h.own.subflow.ahead.opened;
             finished = h.own.subflow.ahead.finished;
+            seen = h.own.subflow.ahead.seen;
           };
           congestion = record {
             window = h.own.subflow.congestion.window;
@@ -138,6 +139,7 @@ module _ {s : Side} {keys : Keys} {k j : Setting} {c : Profile} {begun begun_bac
             most = h.own.subflow.heard.most;
             end = h.own.subflow.heard.end;
             few = h.own.subflow.heard.few;
+            some = h.own.subflow.heard.some;
           };
           quiet = h.own.subflow.quiet;
           begun = h.own.subflow.begun;
@@ -153,6 +155,7 @@ module _ {s : Side} {keys : Keys} {k j : Setting} {c : Profile} {begun begun_bac
           came = h.own.sending.came;
           shut = h.own.sending.shut;
           granted = h.own.sending.granted;
+          spans = h.own.sending.spans;
           bytes = h.own.sending.bytes;
           end = h.own.sending.end;
           acked_end = h.own.sending.acked_end;
@@ -255,6 +258,8 @@ module _ {s : Side} {keys : Keys} {k j : Setting} {c : Profile} {begun begun_bac
             taken = h.apps.book.taken;
           };
           room = h.apps.room;
+          whole = h.apps.whole;
+          fin = h.apps.fin;
         };
         apps_back = record {
           writes = record {
@@ -279,6 +284,8 @@ module _ {s : Side} {keys : Keys} {k j : Setting} {c : Profile} {begun begun_bac
             taken = h.apps_back.book.taken;
           };
           room = h.apps_back.room;
+          whole = h.apps_back.whole;
+          fin = h.apps_back.fin;
         };
         stages = stage_drops s (peer s) (duties.Ask (ask_duties.AckOut s)) ds n.end.treated.asked h.owes_back h.stage others h.stages;
         stages_back = out_drops (peer s) s (duties.Ask (ask_duties.AckOut s)) ds m.end.treated.asked h.owes h.stage_back refl h.stages_back;

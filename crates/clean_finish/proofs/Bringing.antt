@@ -18,6 +18,7 @@ use Rattle.clean_finish.specs.Shows.{EndIs, HeardIs, IsGranted, IsToldEdge, last
 use Rattle.clean_finish.specs.Running.{Half, Facing}
 use Rattle.clean_finish.proofs.Sendings.{out_after as sent_after, back_after as said_after}
 use Rattle.clean_finish.proofs.Sent.{sent_all}
+use Rattle.clean_finish.proofs.Spans.{spans_moved}
 
 module _ {s : Side} {keys : Keys} {k j : Setting} {c : Profile} {begun begun_back : Lane} {m n : Half} {clock until : ℕ} {es : List Duty}
     (h : Facing s keys k j c begun begun_back m n clock until es) (x : Sent)
@@ -83,6 +84,7 @@ module _ {s : Side} {keys : Keys} {k j : Setting} {c : Profile} {begun begun_bac
               bytes = h.own.subflow.ahead.bytes;
               opened = h.own.subflow.ahead.opened;
               finished = h.own.subflow.ahead.finished;
+              seen = h.own.subflow.ahead.seen;
             };
             congestion = record {
               window = h.own.subflow.congestion.window;
@@ -96,6 +98,7 @@ module _ {s : Side} {keys : Keys} {k j : Setting} {c : Profile} {begun begun_bac
               most = heard.most;
               end = heard.end;
               few = heard.few;
+              some = heard.some;
             };
             quiet = h.own.subflow.quiet;
             begun = λ is. subst (λ (n : ℕ). min 1 n ≤ h.back.control_came) (one ∙ sym one_sent) (h.own.subflow.begun is);
@@ -112,6 +115,7 @@ module _ {s : Side} {keys : Keys} {k j : Setting} {c : Profile} {begun begun_bac
             shut = (λ e. h.own.sending.shut.1 some, λ more. absurd (omega (arith, more)));
             granted = All-weaker (IsGranted h.out.sender h.waiting) (IsGranted out_after.sender 0)
                 (λ span is. record { waits = is.waits; within = within bytes is.within }) m.end.sending.granted h.own.sending.granted;
+            spans = spans_moved m.end.sending.granted h.out.acked (h.out.granted + h.waiting) out_after.granted bytes h.own.sending.spans;
             bytes = λ more. h.own.sending.bytes (bytes_some h.out.granted some);
             end = subst (λ (n : ℕ). n ≤ h.out.clear) (sym (max_none none_fin)) h.own.sending.end;
             acked_end = λ more. subst (λ (n : ℕ). 1 ≤ n) (sym (max_none none_fin)) (h.own.sending.acked_end more);

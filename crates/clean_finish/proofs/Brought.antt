@@ -1,8 +1,8 @@
 -- What a segment in hand brings is taken by its lane: keys, bytes, a DATA_FIN or a FIN.
-use Rattle.std.proofs.Common.{◌≡◌, refl, sym, subst, ap, ◌∙◌, ℕ, ◌+◌, ◌<◌, ◌≤◌, Bool, true, false, ◌||◌, ◌⊎◌, inl, inr, Option, List, ◌∷◌, ◌++◌, length, map, arith}
+use Rattle.std.proofs.Common.{◌≡◌, refl, sym, subst, ap, ◌∙◌, ℕ, ◌+◌, ◌<◌, ◌≤◌, Bool, true, false, ◌||◌, ◌⊎◌, inl, inr, Option, Some, List, ◌∷◌, ◌++◌, length, map, arith}
 use Rattle.outside_kit.specs.declared.side.Side.{Side}
 use Rattle.link_model.specs.Steps.{peer}
-use Rattle.reassembly_book.specs.State.{Arriving}
+use Rattle.reassembly_book.specs.State.{Arriving, filled}
 use Rattle.subflow_recv.specs.Receiving.{Receiving as SubflowReceiving}
 use Rattle.subflow_tcp.specs.declared.handshake.State.{State}
 use Rattle.path_agenda.specs.declared.duty.Duty.{Duty}
@@ -52,7 +52,7 @@ module _ {s : Side} {keys : Keys} {k j : Setting} {c : Profile} {begun begun_bac
           (received : back_after.received ≡ h.back.received + length (octets_of x.brings)) (control_is : back_after.control_came ≡ x.control)
           (shown_is : back_after.keys_came ≡ x.keys) (further : m.end.tcp.recv.edge ≤ r.edge)
           (own : EndIs s keys k j h.out.sender back_after.receiver (in_hand x false tells) h.owes h.waiting end_after)
-          (reads : ReaderShows j back_after m.app b) (receives : ReceiverIs j back_after b)
+          (reads : ReaderShows j back_after m.app b) (receives : ReceiverIs j back_after b) (whole : b.places ≡ map Some (filled b.places))
           (settles : v.news ≡ m.end.sending.news)
         where
           pub up : {y z t : ℕ} → y ≤ z → z ≤ t → y ≤ t
@@ -69,11 +69,11 @@ module _ {s : Side} {keys : Keys} {k j : Setting} {c : Profile} {begun begun_bac
             asked = asked;
           }
 
-          pub follow_on : Follow k.least k.total (peer s) back_after.received back_after.control_came back_after.keys_came h.way_back.sent
-          follow_on = subst (λ (n : ℕ). Follow k.least k.total (peer s) n back_after.control_came back_after.keys_came h.way_back.sent) (sym received)
-              (subst (λ (n : ℕ). Follow k.least k.total (peer s) (h.back.received + length (octets_of x.brings)) n back_after.keys_came h.way_back.sent) (sym control_is)
-              (subst (λ (n : ℕ). Follow k.least k.total (peer s) (h.back.received + length (octets_of x.brings)) x.control n h.way_back.sent) (sym shown_is)
-              (subst (λ (o : Option Hand). Follow k.least k.total (peer s) h.back.received h.back.control_came h.back.keys_came (brings_in o ++ h.way_back.sent))
+          pub follow_on : Follow k.least k.total j.total (peer s) back_after.received back_after.control_came back_after.keys_came h.way_back.sent
+          follow_on = subst (λ (n : ℕ). Follow k.least k.total j.total (peer s) n back_after.control_came back_after.keys_came h.way_back.sent) (sym received)
+              (subst (λ (n : ℕ). Follow k.least k.total j.total (peer s) (h.back.received + length (octets_of x.brings)) n back_after.keys_came h.way_back.sent) (sym control_is)
+              (subst (λ (n : ℕ). Follow k.least k.total j.total (peer s) (h.back.received + length (octets_of x.brings)) x.control n h.way_back.sent) (sym shown_is)
+              (subst (λ (o : Option Hand). Follow k.least k.total j.total (peer s) h.back.received h.back.control_came h.back.keys_came (brings_in o ++ h.way_back.sent))
               hand h.way_back.follow).4))
 
           pub stages_after : StageIs (peer s) s ds tr.asked h.owes stage_after
@@ -158,6 +158,8 @@ module _ {s : Side} {keys : Keys} {k j : Setting} {c : Profile} {begun begun_bac
                 taken = h.apps.book.taken;
               };
               room = h.apps.room;
+              whole = h.apps.whole;
+              fin = h.apps.fin;
             };
             apps_back = record {
               writes = record {
@@ -173,6 +175,8 @@ module _ {s : Side} {keys : Keys} {k j : Setting} {c : Profile} {begun begun_bac
                 taken = h.apps_back.book.taken;
               };
               room = h.apps_back.room;
+              whole = whole;
+              fin = h.apps_back.fin;
             };
             stages = stage_drops s (peer s) d ds n.end.treated.asked h.owes_back h.stage (is_apart s (peer s) d free) h.stages;
             stages_back = stages_after;

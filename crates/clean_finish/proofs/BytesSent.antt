@@ -181,10 +181,10 @@ module _ {s : Side} {keys : Keys} {k j : Setting} {c : Profile} {begun begun_bac
                 (least_told ticks t u k_is j_is going going_back h still una answered asked asks)
                 (λ is clear. ((h.own.receiving.unheard is clear).0, (h.own.receiving.unheard is clear).1, λ more. full)) row heard)
                 fs gs f flies more same_back
-                (acks ticks t u k_is j_is going going_back h still una answered piece refl refl, λ is e. keyed is)
+                (acks ticks t u k_is j_is going going_back h still una answered piece refl refl, λ is e. keyed is, tt)
                 (refl, came ticks t u k_is j_is going going_back h still una answered, refl) refl
                 (sent_some ticks t u k_is j_is going going_back h still una answered, refl, refl, some)
                 (le_refl m.end.tcp.recv.edge) (le_refl m.end.tcp.recv.edge) (sym (same h.out.control_sent)) (sym (same h.out.keys_sent))
-                (way_none c keys k (peer s) h.back.sender h.back.receiver h.back.datas h.out.acks m.end.tcp.send.una n.end.tcp.recv.edge h.hand none n.flying h.way_back)
+                (way_none c keys k j (peer s) h.back.sender h.back.receiver h.back.datas h.out.acks m.end.tcp.send.una n.end.tcp.recv.edge h.hand none n.flying h.way_back)
                 room (none_left all_bytes) (inr events) h.stages (ended_stays (peer s) s (inr events) h.stages_back) h.settles h.settles_back
                 (up_one one) h.begins_back (λ e b. absurd (both_ways false refl e))

@@ -58,7 +58,7 @@ module _ {s : Side} {keys : Keys} {k j : Setting} {c : Profile} {begun begun_bac
     (edge : (held h x told answer).recv.edge ≡ m.end.tcp.recv.edge)
     (waiting : h.waiting ≡ 0) (sent_some : 1 ≤ h.out.control_sent) (sent_back : 1 ≤ h.back.control_sent) (count : ℕ)
     (f : Flight Carried) (fs : List (Flight Carried)) (xs : List Sent)
-    (w : WayIs c keys k (peer s) h.back.sender h.back.receiver h.back.datas h.out.acks None m.end.tcp.send.una n.end.tcp.recv.edge (f ∷ fs))
+    (w : WayIs c keys k j (peer s) h.back.sender h.back.receiver h.back.datas h.out.acks None m.end.tcp.send.una n.end.tcp.recv.edge (f ∷ fs))
     (sent : w.sent ≡ x ∷ xs)
     (own : EndIs s keys k j (rested_if (fresh h x told answer) h.out).sender h.back.receiver (in_hand x true true) (owes_after h x told answer) 0
     (end_by h x told answer y))
@@ -110,9 +110,9 @@ module _ {s : Side} {keys : Keys} {k j : Setting} {c : Profile} {begun begun_bac
         never_asks (inl i) = not_last refl refl i
         never_asks (inr i) = not_last refl refl i.0
 
-    pub way_after : WayIs c keys j s out_after.sender out_after.receiver out_after.datas h.back.acks h.hand_back n.end.tcp.send.una
+    pub way_after : WayIs c keys j k s out_after.sender out_after.receiver out_after.datas h.back.acks h.hand_back n.end.tcp.send.una
         (end_by h x told answer y).tcp.recv.edge m.flying
-    way_after = subst (λ (e : ℕ). WayIs c keys j s out_after.sender out_after.receiver out_after.datas h.back.acks h.hand_back n.end.tcp.send.una
+    way_after = subst (λ (e : ℕ). WayIs c keys j k s out_after.sender out_after.receiver out_after.datas h.back.acks h.hand_back n.end.tcp.send.una
         e m.flying) (sym (ap (λ (v : Receiving). v.edge) heed.recv ∙ edge)) record {
           sent = h.way.sent;
           flights = h.way.flights;
@@ -126,9 +126,9 @@ module _ {s : Side} {keys : Keys} {k j : Setting} {c : Profile} {begun begun_bac
           passed = h.way.passed;
         }
 
-    pub way_back_after : WayIs c keys k (peer s) h.back.sender h.back.receiver h.back.datas out_after.acks (in_hand x true true)
+    pub way_back_after : WayIs c keys k j (peer s) h.back.sender h.back.receiver h.back.datas out_after.acks (in_hand x true true)
         (end_by h x told answer y).tcp.send.una n.end.tcp.recv.edge fs
-    way_back_after = way_arrives c keys k (peer s) h.back.sender h.back.receiver h.back.datas h.out.acks m.end.tcp.send.una n.end.tcp.recv.edge
+    way_back_after = way_arrives c keys k j (peer s) h.back.sender h.back.receiver h.back.datas h.out.acks m.end.tcp.send.una n.end.tcp.recv.edge
         y.send.una f fs x xs w sent (same heed.una)
       where
         same : {a b : ℕ} → a ≡ b → a ≤ b
@@ -178,6 +178,8 @@ module _ {s : Side} {keys : Keys} {k j : Setting} {c : Profile} {begun begun_bac
           taken = subst (λ (n : ℕ). AreTaken (h.out.granted + n) m.send.marks) waiting h.apps.book.taken;
         };
         room = room_on h.out.granted waiting h.apps.room;
+        whole = h.apps.whole;
+        fin = h.apps.fin;
       };
       apps_back = h.apps_back;
       stages = stages_after;

@@ -1,5 +1,5 @@
 -- A copy that is no SYN arrives: what its end knows of it, and the world from its side.
-use Rattle.std.proofs.Common.{◌≡◌, refl, sym, subst, ap, ◌∙◌, ℕ, ◌+◌, ◌-◌, ◌^◌, ◌<◌, ◌≤◌, min, nat_lt, nat_le, Bool, true, false, if◌then◌else◌, ◌⊎◌, inl, inr, Option, None, List, [], ◌∷◌, length, map, arith}
+use Rattle.std.proofs.Common.{◌≡◌, refl, sym, subst, ap, ◌∙◌, ℕ, ◌+◌, ◌-◌, ◌^◌, ◌<◌, ◌≤◌, min, nat_lt, nat_le, Bool, true, false, not, ◌&&◌, ◌||◌, if◌then◌else◌, ◌⊎◌, inl, inr, Option, Some, None, List, [], ◌∷◌, length, map, arith}
 use Rattle.std.specs.List.{list_any}
 use Rattle.std.proofs.lemmas.Bool.{both_ways, cases_lt, and_parts, lt-ltb, le-ltb, lt-leb}
 use Rattle.outside_kit.specs.declared.side.Side.{Side}
@@ -12,37 +12,58 @@ use Rattle.path_segments.specs.Laws.{window_told}
 use Rattle.subflow_tcp.specs.declared.handshake.State.TheVariants as states
 use Rattle.subflow_tcp.specs.declared.segments.Outgoing.{Outgoing}
 use Rattle.subflow_tcp.specs.declared.verdicts.Meaning.TheVariants as means
+use Rattle.subflow_send.specs.declared.record.AckKind.{AckKind}
 use Rattle.subflow_send.specs.declared.record.AckKind.TheVariants.{Duplicate}
-use Rattle.subflow_recv.specs.Receiving.{after_hold}
+use Rattle.subflow_send.specs.Rules.{ack_kind}
+use Rattle.subflow_recv.specs.Receiving.{Receiving, after_hold}
+use Rattle.subflow_tcp.specs.declared.verdicts.Arrival.TheVariants.{Took, Opened}
+use Rattle.subflow_tcp.specs.States.{is_half_open}
+use Rattle.subflow_tcp.specs.Segments.{occupied}
 use Rattle.subflow_tcp.specs.Dues.{owing_ack}
 use Rattle.subflow_tcp.specs.Judging.{meaning_of}
 use Rattle.subflow_tcp.specs.State.{EndState}
-use Rattle.subflow_tcp.specs.Taking.{is_empty, told_by, is_duplicate, after_holding, after_occupying, after_telling}
+use Rattle.subflow_tcp.specs.Taking.{arrival_of, is_empty, told_by, is_duplicate, after_holding, after_occupying, after_telling}
 use Rattle.actor_desk.specs.Words.{pick, is_nil}
 use Rattle.path_agenda.specs.declared.duty.Duty.TheVariants as duties
 use Rattle.path_agenda.specs.declared.duty.StepDuty.TheVariants as step_duties
 use Rattle.path_agenda.specs.Agenda.{copy_came}
 use Rattle.path_agenda.specs.Items.{place_in_first, wants_ack}
-use Rattle.path_core.specs.Arriving.{after_copy, copy_judged, hint_of, owing_if}
+use Rattle.path_agenda.specs.declared.heard.Heard.{Heard}
+use Rattle.path_core.specs.Arriving.{after_copy, copy_judged, edge_held, has_data_ack, held_of, hint_of, is_plain_ack, octets_acked, owing_if}
+use Rattle.path_core.specs.Joins.{is_joined}
 use Rattle.path_core.specs.Standing.{is_connected}
 use Rattle.path_core.specs.State.{Profile}
 use Rattle.path_core.specs.Values.{Carried}
-use Rattle.pace.specs.Lane.{Setting, Copy, Lane, all_left}
-use Rattle.pace.specs.Lists.{In, repeated}
+use Rattle.pace.specs.Lane.{Setting, Telling, Copy, Lane, all_left}
+use Rattle.pace.specs.Lists.{Chain, In, repeated}
+use Rattle.pace.proofs.Lists.{chain_le}
 use Rattle.pace.specs.Rules.{is_same}
 use Rattle.pace.specs.Going.{Going, Covers, may_tell, pending}
-use Rattle.clean_finish.specs.Segments.{Sent, Keys, Brings, is_opening, copy_in, octets_of, position_by, position_of, CountsAs, TellsAs, AcknowledgesAs, ShowsFirst, Rise, edge_after}
+use Rattle.clean_finish.specs.Segments.{Sent, Keys, Brings, BringsAs, shows_keys, is_third, is_opening, is_subflow_end, copy_in, octets_of, position_by, position_of, CountsAs, TellsAs, AcknowledgesAs, ShowsFirst, Rise, edge_after}
 use Rattle.clean_finish.specs.Segments.Brings.{OpensSubflow, ShowsKeys, FirstPiece, Piece, Acknowledges, EndsStream, EndsSubflow}
 use Rattle.clean_finish.specs.Shows.{Hand, EndIs, RecordsAre, brings_still, last_told, row_seen, HeardIs, WayIs}
-use Rattle.clean_finish.specs.Running.{Half, Facing, IsSetting}
+use Rattle.clean_finish.specs.Running.{Half, Facing, IsBetween, IsSetting, TreatsCopy, count_in, heard_by}
+use Rattle.clean_finish.specs.Running.Treatment.{AtFirst}
+use Rattle.clean_finish.proofs.AckNew.{kind_same}
 use Rattle.clean_finish.proofs.AnswerComes.{edge_first}
 use Rattle.clean_finish.proofs.CopyArrived.{copy_arrived}
 use Rattle.clean_finish.proofs.Hands.{in_hand}
+use Rattle.clean_finish.proofs.CopyKinds.{keys_shown_by, first_keys, third_first, third_shows, later_keys, fin_once, some_bytes, not_true, opens_third, third_opens, open_una, has_options, acks_data, length_heard, held_at, incoming_is, places_kept, fin_is}
+use Rattle.clean_finish.proofs.CopySays.{says_are, held_are, owed_is}
 use Rattle.clean_finish.proofs.CopyHeeded.{Repeated, Heeds, heeded, heeds, open_after}
 use Rattle.clean_finish.proofs.Quiet.{now_out, now_back}
 use Rattle.clean_finish.proofs.TakenMeant.{taken_meant}
-use Rattle.clean_finish.proofs.TakenOwn.{held, heard, copy, items, fresh, rested_if, owes_after, end_by, taken_own}
-use Rattle.clean_finish.proofs.TakenRepeats.{TellsPlace, empty_nil, shows_keys, placed, tells_by, repeats_lane}
+use Rattle.clean_finish.proofs.TakenOwn.{held, heard, holds, copy, items, fresh, rested_if, owes_after, end_by, taken_own}
+use Rattle.clean_finish.proofs.TakenRepeats.{TellsPlace, empty_nil, placed, tells_by, repeats_lane}
+
+some_one : {x : ℕ} → x ≡ 1 → 1 ≤ x
+some_one is = omega (arith, is)
+
+some_two : {x : ℕ} → x ≡ 2 → 1 ≤ x
+some_two is = omega (arith, is)
+
+some_same : {x y : ℕ} → 1 ≤ x → y ≡ x → 1 ≤ y
+some_same one is = omega (arith, one, is)
 
 -- all but a SYN come after one
 counts_some : (control keys control_then keys_then : ℕ) (b : Brings) → is_opening b ≡ false → CountsAs control keys control_then keys_then b → 1 ≤ control
@@ -62,6 +83,26 @@ counts_some control keys control_then keys_then EndsSubflow e is = one is.0
   where
     one : {x : ℕ} → x ≡ 1 → 1 ≤ x
     one same = omega (arith, same)
+
+-- so does it itself
+control_some : (control keys control_then keys_then : ℕ) (b : Brings) → is_opening b ≡ false → CountsAs control keys control_then keys_then b → 1 ≤ control_then
+control_some control keys control_then keys_then OpensSubflow e is = absurd (both_ways _ e refl)
+control_some control keys control_then keys_then ShowsKeys e is = some_one is.1
+control_some control keys control_then keys_then (FirstPiece octets) e is = some_one is.1
+control_some control keys control_then keys_then (Piece octets) e is = some_same is.0 is.1
+control_some control keys control_then keys_then Acknowledges e is = some_same is.0 is.1
+control_some control keys control_then keys_then (EndsStream place) e is = some_same is.0 is.1
+control_some control keys control_then keys_then EndsSubflow e is = some_two is.1
+
+-- all but A's SYN acknowledge a SYN
+tells_seen : (least : ℕ) (s : Side) (window : ℕ) (t : Telling) (b : Brings) → is_opening b ≡ false → TellsAs least s window t b → 1 ≤ t.seen
+tells_seen least s window t OpensSubflow e is = absurd (both_ways _ e refl)
+tells_seen least s window t ShowsKeys e is = some_one is.2
+tells_seen least s window t (FirstPiece octets) e is = some_one is.2
+tells_seen least s window t (Piece octets) e is = is.1
+tells_seen least s window t Acknowledges e is = is.1
+tells_seen least s window t (EndsStream place) e is = is.1
+tells_seen least s window t EndsSubflow e is = is.1
 
 -- it stands at the edge of what came
 at_edge : (x : Sent) (received control keys : ℕ) → is_opening x.brings ≡ false → x.low ≡ received → CountsAs control keys x.control x.keys x.brings
@@ -93,7 +134,7 @@ module _ {s : Side} {keys : Keys} {k j : Setting} {c : Profile} {begun begun_bac
     (h : Facing s keys k j c begun begun_back m n clock until ((duties.Step step_duties.Events) ∷ duties.End ∷ []))
     (none : h.hand ≡ None) (unowed : h.owes ≡ false) (waiting : h.waiting ≡ 0) (answered : min 1 h.back.control_came ≤ h.out.control_sent)
     (f : Flight Carried) (fs : List (Flight Carried)) (x : Sent) (xs : List Sent)
-    (w : WayIs c keys k (peer s) h.back.sender h.back.receiver h.back.datas h.out.acks None m.end.tcp.send.una n.end.tcp.recv.edge (f ∷ fs))
+    (w : WayIs c keys k j (peer s) h.back.sender h.back.receiver h.back.datas h.out.acks None m.end.tcp.send.una n.end.tcp.recv.edge (f ∷ fs))
     (sent : w.sent ≡ x ∷ xs) (opens : is_opening x.brings ≡ false) (low : x.low ≡ h.back.received)
     (counts : CountsAs h.back.control_came h.back.keys_came x.control x.keys x.brings)
     (tells : TellsAs k.least (peer s) x.window x.telling x.brings) (acknowledges : AcknowledgesAs k.total x) (shows : ShowsFirst (peer s) x)
@@ -164,6 +205,9 @@ module _ {s : Side} {keys : Keys} {k j : Setting} {c : Profile} {begun begun_bac
       where
         up : {a b d : ℕ} → a ≤ b → b ≤ d → d ≤ 2 → a ≤ 2
         up p q r = omega (arith, p, q, r)
+
+    pub seen_some : 1 ≤ x.telling.seen
+    seen_some = tells_seen k.least (peer s) x.window x.telling x.brings opens tells
 
     pub small : nat_lt x.telling.next (2 ^ 62) ≡ true
     small = lt-ltb x.telling.next (2 ^ 62) (few h.out.data_fin_came covers.0 lane.numbers.received (up_two lane.numbers.granted lane.numbers.written) k_is.small)
@@ -303,7 +347,7 @@ module _ {s : Side} {keys : Keys} {k j : Setting} {c : Profile} {begun begun_bac
 
     pub own : EndIs s keys k j (rested_if (fresh h x told answer) h.out).sender h.back.receiver (in_hand x true true) (owes_after h x told answer) 0
         (end_by h x told answer taken)
-    own = taken_own h x told answer taken heed none unowed came waiting acknowledges.some rise.0 high acknowledges seen tells_place
+    own = taken_own h x told answer taken heed none unowed came waiting acknowledges.some rise.0 high acknowledges seen seen_some tells_place
 
     -- all is as it was, but for what has arrived
     abbrev pub comes : Facing s keys k j c begun begun_back (record m { end = end_by h x told answer taken }) (record n { flying = fs }) clock until
@@ -327,3 +371,213 @@ module _ {s : Side} {keys : Keys} {k j : Setting} {c : Profile} {begun begun_bac
             ≡ record m.end.tcp { recv = (if b then m.end.tcp.recv else after_hold (position_of x) (octets_of x.brings) m.end.tcp.recv) }
         holds_is true = refl
         holds_is false = refl
+
+    -- ---- what is treated
+
+    pub chain : (x.low ≤ x.low + length (octets_of x.brings)) × Chain (x.low + length (octets_of x.brings)) (map copy_in xs) h.back.granted
+    chain = let all = subst (λ (cs : List Copy). Chain h.back.received cs h.back.granted)
+        (w.datas_are ∙ ap (λ (ys : List Sent). map copy_in ys) sent) lane_back.under_way.chain in (subst (λ (n : ℕ). n ≤ x.low + length (octets_of x.brings)) (sym all.0) all.1, all.2)
+
+    pub high_is : x.low + length (octets_of x.brings) ≤ h.back.granted
+    high_is = chain_le (x.low + length (octets_of x.brings)) h.back.granted (map copy_in xs) chain.1
+
+    module _ (brings : BringsAs j.total x.low x.edge x.brings)
+        (between : IsBetween s (record { profile = c; out = h.out.sender; back = h.back.receiver; hand = h.hand; owes = h.owes; waiting = h.waiting; end = m.end }))
+        (path : is_joined c ≡ false) (told_is : told ≡ held_of c s (heard h x told answer))
+      where
+        few_octets : x.low + length (octets_of x.brings) ≤ 2 ^ 62
+        few_octets = up high_is lane_back.numbers.granted lane_back.numbers.written j_is.small
+          where
+            up : {a g v total : ℕ} → a ≤ g → g ≤ v → v ≤ total → total ≤ 16777216 → a ≤ 2 ^ 62
+            up p q r z = omega (arith, p, q, r, z)
+
+        small_total : j.total ≤ 2 ^ 62
+        small_total = up j_is.small
+          where
+            up : {total : ℕ} → total ≤ 16777216 → total ≤ 2 ^ 62
+            up z = omega (arith, z)
+
+        short : length (octets_of x.brings) ≤ 1048576
+        short = up high_is lane_back.numbers.fits lane_back.numbers.read low j_is.most
+          where
+            up : {l n g r received buffer : ℕ} → l + n ≤ g → g ≤ r + buffer → r ≤ received → l ≡ received → buffer ≤ 1048576 → n ≤ 1048576
+            up p q r is z = omega (arith, p, q, r, is, z)
+
+        key_sent : x.keys ≤ h.back.keys_sent
+        key_sent = (lane_back.under_way.datas_are (copy_in x) (subst (λ (cs : List Copy). In (copy_in x) cs)
+            (sym (w.datas_are ∙ ap (λ (ys : List Sent). map copy_in ys) sent)) (inl refl))).2
+
+        -- A hears no keys in this way
+        not_at_a : s ≡ A → 1 ≤ x.keys → ⊥
+        not_at_a side one = low_none one key_sent (subst (λ (z : Side). h.back.keys_sent ≤ pick (peer z) h.back.ready 0) side h.other.modes.shown)
+          where
+            low_none : {a b : ℕ} → 1 ≤ a → a ≤ b → b ≤ 0 → ⊥
+            low_none p q r = absurd (omega (arith, p, q, r))
+
+        keyed : shows_keys x.brings ≡ true → s ≡ B
+        keyed e = by s refl
+          where
+            by : (q : Side) → s ≡ q → s ≡ B
+            by B is = is
+            by A is = absurd (not_at_a is (keys_shown_by h.back.control_came h.back.keys_came x.control x.keys x.brings e counts))
+
+        shows_b : s ≡ B → 1 ≤ x.keys
+        shows_b is = shows (ap peer is) opens
+
+        half : s ≡ B → is_connected m.end.tcp.state ≡ false → is_third x.brings ≡ true
+        half side quiet = first_keys h.back.control_came h.back.keys_came x.control x.keys x.brings opens counts (h.own.subflow.quiet quiet).3 (shows_b side)
+
+        whole : 1 ≤ m.end.tcp.send.una → is_third x.brings ≡ false
+        whole una = not_true (is_third x.brings) (λ e. none_some (third_first h.back.control_came h.back.keys_came x.control x.keys x.brings e counts)
+            (h.own.subflow.keyed (keyed (third_shows x.brings e)) una (ap brings_still none)))
+          where
+            none_some : {a : ℕ} → a ≡ 0 → 1 ≤ a → ⊥
+            none_some p q = absurd (omega (arith, p, q))
+
+        opened_is : is_half_open m.end.tcp.state ≡ is_third x.brings
+        opened_is = opens_third s h.back.control_came m.end.tcp.send.una m.end.tcp.send.finished m.end.tcp.state (is_third x.brings) h.own.subflow.phase came half whole
+
+        some_key : s ≡ B → is_third x.brings ≡ false → 1 ≤ h.out.clear
+        some_key side other = up (later_keys h.back.control_came h.back.keys_came x.control x.keys x.brings opens other counts (shows_b side))
+            (h.own.modes.both side).1 (h.own.modes.both side).0
+          where
+            up : {a r d : ℕ} → 1 ≤ a → a ≤ r → r ≡ d → 1 ≤ d
+            up p q is = omega (arith, p, q, is)
+
+        says : items h x told answer ≡ heard_by keys x.telling.next (window_told false x.window) x.brings
+        says = says_are c keys x s x.brings opens keyed small (some_control came counts) few_octets j.total small_total brings
+          where
+            some_control : 1 ≤ h.back.control_came → CountsAs h.back.control_came h.back.keys_came x.control x.keys x.brings → 1 ≤ x.control
+            some_control p is = control_some h.back.control_came h.back.keys_came x.control x.keys x.brings opens is
+
+        pos_is : position_of x ≡ m.end.tcp.recv.edge
+        pos_is = at_edge x h.back.received h.back.control_came h.back.keys_came opens low counts ∙ sym h.own.subflow.come.edge
+
+        recv_is : (end_by h x told answer taken).tcp.recv ≡ (if is_nil (octets_of x.brings) then m.end.tcp.recv else after_hold (position_of x) (octets_of x.brings) m.end.tcp.recv)
+        recv_is = heed.recv
+
+        edge_is : (end_by h x told answer taken).tcp.recv.edge ≡ m.end.tcp.recv.edge
+        edge_is = ap (λ (r : Receiving). r.edge) recv_is ∙ edge_kept (is_nil (octets_of x.brings))
+
+        -- a copy with a Data ACK, or one that acknowledges no data for the first time
+        plain_ack : is_plain_ack (arrival_of (means.Taken (position_of x) x.edge) (hint_of (items h x told answer)) (copy h x told answer) (holds h x told answer))
+            (heard h x told answer) ≡ false
+        plain_ack = by (shows_keys x.brings) refl
+          where
+            no_and : (a b : Bool) → b ≡ true → (a && not b) ≡ false
+            no_and true b e = ap not e
+            no_and false b e = refl
+
+            by : (b : Bool) → shows_keys x.brings ≡ b → is_plain_ack (arrival_of (means.Taken (position_of x) x.edge) (hint_of (items h x told answer)) (copy h x told answer) (holds h x told answer))
+                (heard h x told answer) ≡ false
+            by false e = no_and _ _ (acks_data c keys (peer s) x x.brings opens e)
+            by true e = ap (λ (n : ℕ). nat_lt 0 n && not (list_any has_data_ack (heard h x told answer).options)) (none_acked (is_third x.brings) refl)
+              where
+                none_acked : (b : Bool) → is_third x.brings ≡ b
+                    → octets_acked (if is_half_open m.end.tcp.state then Opened else Took (ack_kind x.edge m.end.tcp.send) 0 (is_subflow_end x.brings)) ≡ 0
+                none_acked true third = ap (λ (y : Bool). octets_acked (if y then Opened else Took (ack_kind x.edge m.end.tcp.send) 0 (is_subflow_end x.brings))) (opened_is ∙ third)
+                none_acked false other =
+                    ap (λ (y : Bool). octets_acked (if y then Opened else Took (ack_kind x.edge m.end.tcp.send) 0 (is_subflow_end x.brings))) (opened_is ∙ other)
+                    ∙ ap (λ (kind : AckKind). octets_acked (Took kind 0 (is_subflow_end x.brings))) (kind_same x.edge m.end.tcp.send
+                    (same (one_edge x.brings e other brings) rise.0 (open_una s h.back.control_came m.end.tcp.send.una m.end.tcp.send.finished m.end.tcp.state h.own.subflow.phase came (opened_is ∙ other))) high)
+                  where
+                    same : {a b : ℕ} → a ≡ 1 → b ≤ a → 1 ≤ b → a ≡ b
+                    same p q r = omega (arith, p, q, r)
+
+                    one_edge : (b : Brings) → shows_keys b ≡ true → is_third b ≡ false → BringsAs j.total x.low x.edge b → x.edge ≡ 1
+                    one_edge OpensSubflow e f is = absurd (both_ways false refl e)
+                    one_edge ShowsKeys e f is = is
+                    one_edge (FirstPiece octets) e f is = is.0
+                    one_edge (Piece octets) e f is = absurd (both_ways false refl e)
+                    one_edge Acknowledges e f is = absurd (both_ways false refl e)
+                    one_edge (EndsStream place) e f is = absurd (both_ways false refl e)
+                    one_edge EndsSubflow e f is = absurd (both_ways false refl e)
+
+        -- where a SYN or FIN is acknowledged for the first time, something new is
+        rests_before : h.out.control_acked < x.telling.seen → (if fresh h x told answer then None else h.out.timer) ≡ None
+        rests_before less = ap (λ (b : Bool). if b then None else h.out.timer) (lt-ltb m.end.tcp.send.una x.edge (newer (cases_lt m.end.tcp.send.una x.edge)))
+          where
+            two : {a b : ℕ} → 1 ≤ a → a < b → b ≤ 2 → b ≡ 2
+            two p q r = omega (arith, p, q, r)
+
+            last : {una edge seen : ℕ} (total : ℕ) → edge ≤ una → total + 2 ≤ edge → una ≤ 1 + total + (seen - 1) → 2 ≤ seen
+            last total p q r = omega (arith, p, q, r)
+
+            not_both : {a b : ℕ} → 2 ≤ a → a ≤ b → b < 2 → ⊥
+            not_both p q r = absurd (omega (arith, p, q, r))
+
+            up : {a b : ℕ} → a ≤ b → 1 ≤ a → 1 ≤ b
+            up p q = omega (arith, p, q)
+
+            some_edge : {a b : ℕ} → 1 ≤ a → a ≤ b → 1 ≤ b
+            some_edge p q = omega (arith, p, q)
+
+            seen_two : {a b : ℕ} → b ≡ 2 → a < b → a < 2
+            seen_two p q = omega (arith, p, q)
+
+            newer : (m.end.tcp.send.una < x.edge) ⊎ (x.edge ≤ m.end.tcp.send.una) → m.end.tcp.send.una < x.edge
+            newer (inl some) = some
+            newer (inr again) =
+                let one = up h.own.subflow.ahead.seen (before.some (some_edge acknowledges.some again)) in
+                let second = two one less seen in
+                absurd (not_both (last k.total again (acknowledges.end second) before.most) h.own.subflow.ahead.seen (seen_two second less))
+
+        pub count_is : length (items h x told answer) ≡ count_in x.brings
+        count_is = ap (λ (ys : List Heard). length ys) says ∙ length_heard keys x.telling.next (window_told false x.window) x.brings
+
+        pub treats : TreatsCopy s keys AtFirst false x.brings (record {
+          profile = c;
+          out = (rested_if (fresh h x told answer) h.out).sender;
+          back = h.back.receiver;
+          hand = in_hand x true true;
+          owes = owes_after h x told answer;
+          waiting = 0;
+          end = end_by h x told answer taken;
+        })
+        treats = record {
+          sent = x;
+          brings = refl;
+          hand = refl;
+          kind = opens;
+          some = λ e. some_bytes h.back.control_came h.back.keys_came x.control x.keys x.brings e counts;
+          keyed = keyed;
+          items = says;
+          opened = opened_is;
+          keys_told = refl;
+          has_option = has_options c keys (peer s) x x.brings opens;
+          fins = refl;
+          asked = refl;
+          plain_ack = plain_ack;
+          held_edge = ap (λ (n : ℕ). edge_held (means.Taken (position_of x) x.edge) (octets_of x.brings) n) (edge_kept (is_nil (octets_of x.brings)))
+              ∙ (held_at (position_of x) m.end.tcp.recv.edge x.edge (octets_of x.brings) pos_is
+              ∙ ap (λ (n : ℕ). if is_nil (octets_of x.brings) then None else Some n) (sym edge_is));
+          owes = ap (λ (ys : List Heard). list_any wants_ack ys || nat_lt 0 (occupied (copy h x told answer))) says
+              ∙ owed_is c keys x s x.brings opens x.telling.next (window_told false x.window) h.back.control_came h.back.keys_came counts;
+          came = came;
+          una = heed.una;
+          high = subst (λ (n : ℕ). x.edge ≤ n) (sym heed.next) high;
+          rests = rests_before;
+          waiting = refl;
+          answered = between.answered;
+          ready = between.ready;
+          shown = between.shown;
+          least = λ side. between.least side came;
+          clear = (some_key, λ e. absurd (both_ways false refl e), λ e. absurd (both_ways false refl e));
+          unkeyed = λ third e. (h.own.subflow.quiet (third_opens s h.back.control_came m.end.tcp.send.una m.end.tcp.send.finished m.end.tcp.state h.own.subflow.phase came (opened_is ∙ third))).1;
+          places = ap (λ (r : Receiving). r.places) recv_is ∙ (places_kept (position_of x) (octets_of x.brings) m.end.tcp.recv ∙ between.idle.places);
+          incoming = ap (λ (r : Receiving). r.incoming) recv_is
+              ∙ incoming_is (position_of x) (octets_of x.brings) m.end.tcp.recv pos_is between.idle.places between.idle.incoming h.own.subflow.come.window short;
+          fin = heed.fin_at
+              ∙ (fin_is x.brings m.end.tcp.fin_at h.back.control_came h.back.received (position_of x) m.end.tcp.recv.edge between.idle.fin
+              (λ e. fin_once h.back.control_came h.back.keys_came x.control x.keys x.brings e counts) pos_is
+              ∙ ap (λ (n : ℕ). if is_subflow_end x.brings then Some n else (if nat_lt 1 h.back.control_came then Some (h.back.received + 1) else None)) (sym edge_is));
+          maps = record {
+            live = between.mapped.live;
+            held = told_is ∙ held_are c keys x s x.brings opens keyed path (control_some h.back.control_came h.back.keys_came x.control x.keys x.brings opens counts) few_octets
+                j.total h.back.control_came h.back.keys_came brings counts;
+            tail = between.mapped.tail;
+            beyond = λ p less. between.mapped.beyond p (subst (λ (n : ℕ). n ≤ p) edge_is less);
+            no_fin = between.mapped.no_fin;
+            forgotten = subst (λ (n : ℕ). m.end.receiving.mappings.forgotten ≤ n) (sym edge_is) between.mapped.forgotten;
+          };
+        }

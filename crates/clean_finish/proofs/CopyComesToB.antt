@@ -1,5 +1,5 @@
 -- The step in which a copy that is no SYN arrives at B.
-use Rattle.std.proofs.Common.{◌≡◌, refl, sym, subst, ℕ, ◌<◌, ◌≤◌, min, false, None, List, [], ◌∷◌, length}
+use Rattle.std.proofs.Common.{◌≡◌, refl, sym, subst, ap, ℕ, ◌<◌, ◌≤◌, min, false, None, List, [], ◌∷◌, length}
 use Rattle.outside_kit.specs.declared.side.Side.TheVariants.{A, B}
 use Rattle.dss_mapping.specs.declared.kept.KeptMapping.{KeptMapping}
 use Rattle.link_model.specs.declared.flight.Flight.{Flight}
@@ -12,10 +12,12 @@ use Rattle.actor_desk.specs.Desk.{SixBooks}
 use Rattle.stream_apps.specs.Apps.{AppState}
 use Rattle.path_agenda.specs.declared.duty.Duty.TheVariants as duties
 use Rattle.path_agenda.specs.declared.duty.StepDuty.TheVariants as step_duties
-use Rattle.path_agenda.specs.Agenda.{copy_came}
+use Rattle.path_agenda.specs.declared.duty.AskDuty.TheVariants as ask_duties
+use Rattle.path_agenda.specs.Agenda.{copy_came, heard_and, payload_came}
 use Rattle.path_core.specs.Arriving.{held_of, reset_for}
 use Rattle.path_core.specs.Ends.{PathEnd}
 use Rattle.path_core.specs.Events.{copy_taken}
+use Rattle.path_core.specs.Joins.{is_joined}
 use Rattle.path_core.specs.State.{PathState, goes_on}
 use Rattle.path_core.specs.Values.{Carried, values}
 use Rattle.world_laws.specs.Openings.{PathPlan, Start}
@@ -25,7 +27,7 @@ use Rattle.clean_finish.specs.Segments.{Sent, Keys, is_opening, position_of, sai
 use Rattle.clean_finish.specs.Shows.{WayIs}
 use Rattle.clean_finish.specs.Running.{Facing, half, IsSetting, Runs, keys_in}
 use Rattle.clean_finish.proofs.ArrivesAtB.{copy, q, tick, moment, first, faced, link, Follows, follows, comes_as}
-use Rattle.clean_finish.proofs.CopyComes.{comes, judged_is, meaning, taken}
+use Rattle.clean_finish.proofs.CopyComes.{comes, count_is, judged_is, meaning, taken, treats}
 use Rattle.clean_finish.proofs.Hands.{way_none}
 use Rattle.clean_finish.proofs.TakenOwn.{end_by, items}
 use Rattle.clean_finish.proofs.Turned.{from_b}
@@ -75,9 +77,9 @@ module _ (start : Start) (plan : PathPlan) (k j : Setting) (s v : Lane) (t0 u0 :
           answered : min 1 face.back.control_came ≤ face.out.control_sent
           answered = h.treats.0.1.answered
 
-          abbrev way : WayIs p.profile keys j A face.back.sender face.back.receiver face.back.datas face.out.acks None p.b.tcp.send.una p.a.tcp.recv.edge
+          abbrev way : WayIs p.profile keys j k A face.back.sender face.back.receiver face.back.datas face.out.acks None p.b.tcp.send.una p.a.tcp.recv.edge
               (copy start plan k j s v t0 u0 going going_back a b books p f others k_is j_is ∷ going_to B others)
-          way = way_none p.profile keys j A face.back.sender face.back.receiver face.back.datas face.out.acks p.b.tcp.send.una p.a.tcp.recv.edge h.hand_back
+          way = way_none p.profile keys j k A face.back.sender face.back.receiver face.back.datas face.out.acks p.b.tcp.send.una p.a.tcp.recv.edge h.hand_back
               h.treats.0.1.none (copy start plan k j s v t0 u0 going going_back a b books p f others k_is j_is ∷ going_to B others) face.way_back
 
           sent : way.sent ≡ x ∷ xs
@@ -88,6 +90,9 @@ module _ (start : Start) (plan : PathPlan) (k j : Setting) (s v : Lane) (t0 u0 :
 
           abbrev answer : Outgoing
           answer = reset_for p.profile B (meant (said p.profile keys A x))
+
+          opens_first : is_joined p.profile ≡ false
+          opens_first = rw k_is.path refl
 
           abbrev count : ℕ
           count = length (items face x told answer)
@@ -113,18 +118,16 @@ module _ (start : Start) (plan : PathPlan) (k j : Setting) (s v : Lane) (t0 u0 :
                 link = link start plan k j s v t0 u0 going going_back a b books p f others k_is j_is h early;
                 faces = faces;
                 treats = (
-                  record {
-                    sent = x;
-                    hand = refl;
-                    kind = opens;
-                    items = refl;
-                    asked = refl;
-                    waiting = refl;
-                    owes = refl;
-                  },
-                  h.treats.0.0,
-                  h.treats.1,
-                  refl,
+                  x.brings,
+                  treats plan.delay u0 t0 j_is k_is going_back going face none unowed waiting answered (copy start plan k j s v t0 u0 going going_back a b books p f others k_is j_is) (going_to B others) x xs way sent opens follow.low follow.counts follow.tells
+                      follow.acknowledges follow.shows told answer follow.brings h.treats.0.1 opens_first refl,
+                  (
+                    h.treats.0.0,
+                    h.treats.1,
+                    ap (λ (n : ℕ). duties.Ask (ask_duties.Live B) ∷ heard_and B 0 n (payload_came B))
+                        (count_is plan.delay u0 t0 j_is k_is going_back going face none unowed waiting answered (copy start plan k j s v t0 u0 going going_back a b books p f others k_is j_is) (going_to B others) x xs way sent opens follow.low follow.counts follow.tells
+                        follow.acknowledges follow.shows told answer follow.brings h.treats.0.1 opens_first refl),
+                  ),
                 );
               }
 

@@ -55,6 +55,7 @@ module _ {s : Side} {keys : Keys} {k j : Setting} {c : Profile} {begun begun_bac
           bytes = h.own.subflow.ahead.bytes;
           opened = h.own.subflow.ahead.opened;
           finished = h.own.subflow.ahead.finished;
+          seen = h.own.subflow.ahead.seen;
         };
         congestion = record {
           window = h.own.subflow.congestion.window;
@@ -81,6 +82,7 @@ module _ {s : Side} {keys : Keys} {k j : Setting} {c : Profile} {begun begun_bac
         came = h.own.sending.came;
         shut = h.own.sending.shut;
         granted = h.own.sending.granted;
+        spans = h.own.sending.spans;
         bytes = h.own.sending.bytes;
         end = h.own.sending.end;
         acked_end = h.own.sending.acked_end;
@@ -137,8 +139,8 @@ module _ {s : Side} {keys : Keys} {k j : Setting} {c : Profile} {begun begun_bac
       own = own_done;
       other = h.other;
       way = h.way;
-      way_back = way_done c keys k (peer s) h.back.sender h.back.receiver h.back.datas h.out.acks m.end.tcp.send.una n.end.tcp.recv.edge n.flying x
-          (subst (λ (o : Option Hand). WayIs c keys k (peer s) h.back.sender h.back.receiver h.back.datas h.out.acks o m.end.tcp.send.una
+      way_back = way_done c keys k j (peer s) h.back.sender h.back.receiver h.back.datas h.out.acks m.end.tcp.send.una n.end.tcp.recv.edge n.flying x
+          (subst (λ (o : Option Hand). WayIs c keys k j (peer s) h.back.sender h.back.receiver h.back.datas h.out.acks o m.end.tcp.send.una
           n.end.tcp.recv.edge n.flying) hand h.way_back);
       apps = h.apps;
       apps_back = h.apps_back;

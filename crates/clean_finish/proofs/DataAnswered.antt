@@ -1,6 +1,6 @@
 -- The steps in which an end asks for bytes and sends them.
 use Rattle.std.proofs.Common.{◌≡◌, refl, sym, subst, ap, ◌∙◌, ℕ, ◌+◌, ◌<◌, ◌≤◌, ◌^◌, ◌==◌, max, nat_le, nat_lt, if◌then◌else◌, Bool, true, false, not, ◌&&◌, ◌⊎◌, inl, inr, Option, Some, None, Result, Ok, Err, List, [], ◌∷◌, length, find, arith}
-use Rattle.std.proofs.lemmas.Bool.{both_ways, leb-true, lt-ltb}
+use Rattle.std.proofs.lemmas.Bool.{both_ways, leb-true, lt-ltb, eqb-true}
 use Rattle.outside_kit.specs.declared.side.Side.{Side}
 use Rattle.outside_kit.specs.declared.side.Side.TheVariants.{A, B}
 use Rattle.link_model.specs.Laws.{plain_flight, going_to}
@@ -103,6 +103,16 @@ first_parts true false pos e = refl
 first_parts false clear pos e = absurd (both_ways _ refl e)
 first_parts true true pos e = absurd (both_ways _ refl e)
 
+first_at_one : (clear pos : Bool) → (true && (not clear && pos)) ≡ true → pos ≡ true
+first_at_one false pos e = e
+first_at_one true pos e = absurd (both_ways _ refl e)
+
+none_before : {pos granted : ℕ} → pos ≡ granted + 1 → (pos == 1) ≡ true → granted ≡ 0
+none_before {pos} at is = none at (eqb-true pos 1 is)
+  where
+    none : {n g : ℕ} → n ≡ g + 1 → n ≡ 1 → g ≡ 0
+    none p q = omega (arith, p, q)
+
 module _ (start : Start) (plan : PathPlan) (k j : Setting) (s v : Lane) (t0 u0 : ℕ)
     (going : Going k s t0 all_left s) (going_back : Going j v u0 all_left v)
   where
@@ -167,6 +177,8 @@ module _ (start : Start) (plan : PathPlan) (k j : Setting) (s v : Lane) (t0 u0 :
                   record {
                     none = refl;
                     idle = record { places = t.0.0.idle.places; incoming = t.0.0.idle.incoming; fin = t.0.0.idle.fin };
+                    mapped = t.0.0.mapped;
+                    least = t.0.0.least;
                     owes = refl;
                     answered = up_max view.out.control_sent t.0.0.answered;
                     ready = λ is. t.0.0.ready is;
@@ -202,7 +214,7 @@ module _ (start : Start) (plan : PathPlan) (k j : Setting) (s v : Lane) (t0 u0 :
             let flight = plain_flight strip alter A carried p.clock p.link in
             let flies : FliesAs p.profile keys A flight x =
             record { tick = ap (λ (n : ℕ). p.clock + n) h.path.delay; to = refl; carried = carried_is strip alter carried p.clock p.link h.path.unspoken h.link A } in
-            let faces = first_goes plan.delay t0 u0 k_is j_is going going_back view r t.0.0.none t.0.0.owes una t.0.0.answered window w.alone w.unsent w.one w.waits w.some w.edge unclear (ready refl) t.3.2
+            let faces = first_goes plan.delay t0 u0 k_is j_is going going_back view r t.0.0.none t.0.0.owes una t.0.0.answered window w.alone w.unsent w.one w.waits w.some w.edge unclear (ready refl) (t.0.0.shown refl) (none_before w.pos (first_at_one p.a.modes.clear (r.pos == 1) which)) t.3.2
             (going_to B (after_send strip alter A carried p.clock p.link).under_way)
             (going_to A (after_send strip alter A carried p.clock p.link).under_way)
             flight flies
@@ -230,6 +242,8 @@ module _ (start : Start) (plan : PathPlan) (k j : Setting) (s v : Lane) (t0 u0 :
                   record {
                     none = refl;
                     idle = record { places = t.0.0.idle.places; incoming = t.0.0.idle.incoming; fin = t.0.0.idle.fin };
+                    mapped = t.0.0.mapped;
+                    least = t.0.0.least;
                     owes = refl;
                     answered = up_max 1 t.0.0.answered;
                     ready = λ is. t.0.0.ready is;
@@ -299,6 +313,8 @@ module _ (start : Start) (plan : PathPlan) (k j : Setting) (s v : Lane) (t0 u0 :
                     record {
                       none = t.0.0.none;
                       idle = record { places = t.0.0.idle.places; incoming = t.0.0.idle.incoming; fin = t.0.0.idle.fin };
+                      mapped = t.0.0.mapped;
+                      least = t.0.0.least;
                       owes = t.0.0.owes;
                       answered = t.0.0.answered;
                       ready = t.0.0.ready;
@@ -336,6 +352,8 @@ module _ (start : Start) (plan : PathPlan) (k j : Setting) (s v : Lane) (t0 u0 :
                   record {
                     none = t.0.0.none;
                     idle = record { places = t.0.0.idle.places; incoming = t.0.0.idle.incoming; fin = t.0.0.idle.fin };
+                    mapped = t.0.0.mapped;
+                    least = t.0.0.least;
                     owes = t.0.0.owes;
                     answered = t.0.0.answered;
                     ready = t.0.0.ready;
@@ -465,6 +483,8 @@ module _ (start : Start) (plan : PathPlan) (k j : Setting) (s v : Lane) (t0 u0 :
                   record {
                     none = refl;
                     idle = record { places = t.0.1.idle.places; incoming = t.0.1.idle.incoming; fin = t.0.1.idle.fin };
+                    mapped = t.0.1.mapped;
+                    least = t.0.1.least;
                     owes = refl;
                     answered = up_max view.out.control_sent t.0.1.answered;
                     ready = λ is. t.0.1.ready is;
@@ -530,6 +550,8 @@ module _ (start : Start) (plan : PathPlan) (k j : Setting) (s v : Lane) (t0 u0 :
                     record {
                       none = t.0.1.none;
                       idle = record { places = t.0.1.idle.places; incoming = t.0.1.idle.incoming; fin = t.0.1.idle.fin };
+                      mapped = t.0.1.mapped;
+                      least = t.0.1.least;
                       owes = t.0.1.owes;
                       answered = t.0.1.answered;
                       ready = t.0.1.ready;
@@ -567,6 +589,8 @@ module _ (start : Start) (plan : PathPlan) (k j : Setting) (s v : Lane) (t0 u0 :
                   record {
                     none = t.0.1.none;
                     idle = record { places = t.0.1.idle.places; incoming = t.0.1.idle.incoming; fin = t.0.1.idle.fin };
+                    mapped = t.0.1.mapped;
+                    least = t.0.1.least;
                     owes = t.0.1.owes;
                     answered = t.0.1.answered;
                     ready = t.0.1.ready;

@@ -349,10 +349,10 @@ module _ {s : Side} {keys : Keys} {k j : Setting} {c : Profile} {begun begun_bac
                 (own_ended h ending h.out.shut None (ap brings_still none) nothing_waits sent_some refl refl refl refl unsent clear_one same_control
                 (subst (λ (x : ℕ). x ≤ pick s h.out.ready 0) (sym same_keys) h.own.modes.shown) (Same refl) least_told
                 (λ is zero_is. absurd (clear_some zero_is)) row heard)
-                fs gs f flies more same (acks, λ is e. shows_some is)
+                fs gs f flies more same (acks, λ is e. shows_some is, refl)
                 (refl, came, refl) refl (sent_some, refl, refl) (le_refl m.end.tcp.recv.edge) (le_refl m.end.tcp.recv.edge)
                 (sym same_control) (sym same_keys)
-                (way_none c keys k (peer s) h.back.sender h.back.receiver h.back.datas h.out.acks m.end.tcp.send.una n.end.tcp.recv.edge h.hand none n.flying h.way_back)
+                (way_none c keys k j (peer s) h.back.sender h.back.receiver h.back.datas h.out.acks m.end.tcp.send.una n.end.tcp.recv.edge h.hand none n.flying h.way_back)
                 (room lane.numbers.granted) (same_bytes h.out.granted nothing_waits) (inr events) h.stages (ended_stays (peer s) s (inr events) h.stages_back) h.settles h.settles_back
                 (subst (λ (x : ℕ). 1 ≤ x) (sym same_control) sent_some) h.begins_back
                 (λ e b. absurd (both_ways false refl e))

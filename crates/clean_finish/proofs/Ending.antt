@@ -17,6 +17,7 @@ use Rattle.clean_finish.specs.Shows.{Hand, EndIs, HeardIs, IsGranted, IsToldEdge
 use Rattle.clean_finish.specs.Running.{Half, Facing}
 use Rattle.clean_finish.proofs.AckNew.{records_same}
 use Rattle.clean_finish.proofs.Sendings.{out_after as sent_after, back_after as said_after}
+use Rattle.clean_finish.proofs.Spans.{spans_for}
 
 module _ {s : Side} {keys : Keys} {k j : Setting} {c : Profile} {begun begun_back : Lane} {m n : Half} {clock until : ℕ} {es : List Duty}
     (h : Facing s keys k j c begun begun_back m n clock until es) (x : Sent) (shut : Bool)
@@ -81,6 +82,7 @@ module _ {s : Side} {keys : Keys} {k j : Setting} {c : Profile} {begun begun_bac
               bytes = h.own.subflow.ahead.bytes;
               opened = h.own.subflow.ahead.opened;
               finished = h.own.subflow.ahead.finished;
+              seen = h.own.subflow.ahead.seen;
             };
             congestion = record {
               window = h.own.subflow.congestion.window;
@@ -94,6 +96,7 @@ module _ {s : Side} {keys : Keys} {k j : Setting} {c : Profile} {begun begun_bac
               most = heard.most;
               end = heard.end;
               few = heard.few;
+              some = heard.some;
             };
             quiet = h.own.subflow.quiet;
             begun = λ is. subst (λ (n : ℕ). min 1 n ≤ h.back.control_came) (sym control) (h.own.subflow.begun is);
@@ -110,6 +113,7 @@ module _ {s : Side} {keys : Keys} {k j : Setting} {c : Profile} {begun begun_bac
             shut = (λ e. h.own.sending.shut.0 nothing_waits ∙ sym same_shut, λ some. absurd (omega (arith, some)));
             granted = All-weaker (IsGranted h.out.sender h.waiting) (IsGranted out_after.sender 0)
                 (λ span is. record { waits = is.waits; within = within same_granted nothing_waits is.within }) m.end.sending.granted h.own.sending.granted;
+            spans = spans_for m.end.sending.granted h.out.acked h.out.granted h.waiting out_after.granted same_granted nothing_waits h.own.sending.spans;
             bytes = λ one. h.own.sending.bytes (bytes_some h.waiting same_granted one);
             end = fin_clear h.own.sending.end clear;
             acked_end = λ more. fin_some h.out.data_fin_sent;

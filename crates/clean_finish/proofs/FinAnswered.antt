@@ -93,6 +93,8 @@ module _ (start : Start) (plan : PathPlan) (k j : Setting) (s v : Lane) (t0 u0 :
                 record {
                   none = refl;
                   idle = record { places = t.0.0.idle.places; incoming = t.0.0.idle.incoming; fin = t.0.0.idle.fin };
+                  mapped = t.0.0.mapped;
+                  least = t.0.0.least;
                   owes = refl;
                   answered = up_two t.0.0.answered;
                   ready = λ is. t.0.0.ready is;
@@ -147,6 +149,8 @@ module _ (start : Start) (plan : PathPlan) (k j : Setting) (s v : Lane) (t0 u0 :
                 record {
                   none = refl;
                   idle = record { places = t.0.1.idle.places; incoming = t.0.1.idle.incoming; fin = t.0.1.idle.fin };
+                  mapped = t.0.1.mapped;
+                  least = t.0.1.least;
                   owes = refl;
                   answered = up_two t.0.1.answered;
                   ready = λ is. t.0.1.ready is;

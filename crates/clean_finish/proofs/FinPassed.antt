@@ -47,8 +47,8 @@ module _ {s : Side} {keys : Keys} {k j : Setting} {c : Profile} {begun begun_bac
     (h : Facing s keys k j c begun begun_back m n clock until (duties.Silent (silent_duties.PassFin s) ∷ ds)) (x : Sent) (hand : h.hand ≡ in_hand x true false)
     (brings : x.brings ≡ EndsSubflow)
   where
-    pub follow : Follow k.least k.total (peer s) h.back.received h.back.control_came h.back.keys_came (x ∷ h.way_back.sent)
-    follow = subst (λ (o : Option Hand). Follow k.least k.total (peer s) h.back.received h.back.control_came h.back.keys_came (brings_in o ++ h.way_back.sent))
+    pub follow : Follow k.least k.total j.total (peer s) h.back.received h.back.control_came h.back.keys_came (x ∷ h.way_back.sent)
+    follow = subst (λ (o : Option Hand). Follow k.least k.total j.total (peer s) h.back.received h.back.control_came h.back.keys_came (brings_in o ++ h.way_back.sent))
         hand h.way_back.follow
 
     pub counts : (h.back.control_came ≡ 1) × (x.control ≡ 2) × (x.keys ≡ h.back.keys_came)
@@ -146,6 +146,7 @@ module _ {s : Side} {keys : Keys} {k j : Setting} {c : Profile} {begun begun_bac
             bytes = h.own.subflow.ahead.bytes;
             opened = h.own.subflow.ahead.opened;
             finished = h.own.subflow.ahead.finished;
+            seen = h.own.subflow.ahead.seen;
           };
           congestion = record {
             window = h.own.subflow.congestion.window;
@@ -157,7 +158,7 @@ module _ {s : Side} {keys : Keys} {k j : Setting} {c : Profile} {begun begun_bac
             edge = edge_is h.own.subflow.come.edge received counts.0 counts.1;
             window = h.own.subflow.come.window;
           };
-          heard = record { told = heard_on.told; most = heard_on.most; end = heard_on.end; few = heard_on.few };
+          heard = record { told = heard_on.told; most = heard_on.most; end = heard_on.end; few = heard_on.few; some = heard_on.some };
           quiet = λ off. absurd (both_ways _ off open_now.connected);
           begun = λ is. up (h.own.subflow.begun is) (less_max h.back.control_came x.control);
           keyed = λ is one b. shows is;
@@ -172,6 +173,7 @@ module _ {s : Side} {keys : Keys} {k j : Setting} {c : Profile} {begun begun_bac
           came = max_none none_fin ∙ h.own.sending.came;
           shut = h.own.sending.shut;
           granted = h.own.sending.granted;
+          spans = h.own.sending.spans;
           bytes = h.own.sending.bytes;
           end = h.own.sending.end;
           acked_end = h.own.sending.acked_end;
@@ -270,4 +272,4 @@ module _ {s : Side} {keys : Keys} {k j : Setting} {c : Profile} {begun begun_bac
           abbrev pub fin_passed : Facing s keys k j c begun begun_back (record m { end = end_now }) n clock until ds
           fin_passed = brought h refl x false hand (after_advance (m.end.tcp.recv.edge + 1) m.end.tcp.recv) (after_fin_passed m.end.tcp.state) m.end.sending
               m.end.receiving m.end.modes m.end.treated m.arrived h.stage_back.ask some_sent owes acknowledges events (inr (inr (inl more)))
-              (λ e. (e, no_bytes, no_fin)) asks all_of control_is shown_is (further m.end.tcp.recv.edge) own_passed reads_on receives_on refl
+              (λ e. (e, no_bytes, no_fin)) asks all_of control_is shown_is (further m.end.tcp.recv.edge) own_passed reads_on receives_on h.apps_back.whole refl

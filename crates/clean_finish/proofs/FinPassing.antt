@@ -144,6 +144,8 @@ module _ (start : Start) (plan : PathPlan) (k j : Setting) (s v : Lane) (t0 u0 :
                   ready = λ is. up_to f.sent.control came (f.ready is);
                   shown = f.shown;
                   clear = f.clear;
+                  mapped = record { live = f.mapped.live; tail = f.mapped.tail; beyond = λ p less. f.mapped.beyond p (down less); no_fin = f.mapped.no_fin; forgotten = more f.mapped.forgotten };
+                  least = f.least;
                 },
                 t.1,
                 t.2,
@@ -151,6 +153,12 @@ module _ (start : Start) (plan : PathPlan) (k j : Setting) (s v : Lane) (t0 u0 :
               );
             }
           where
+            more : {x y : ℕ} → x ≤ y → x ≤ y + 1
+            more less = omega (arith, less)
+
+            down : {x y : ℕ} → x + 1 ≤ y → x ≤ y
+            down less = omega (arith, less)
+
             one : {x : ℕ} → x ≡ 1 → 1 ≤ x
             one is = omega (arith, is)
 
@@ -256,6 +264,8 @@ module _ (start : Start) (plan : PathPlan) (k j : Setting) (s v : Lane) (t0 u0 :
                   ready = λ is. up_to f.sent.control came (f.ready is);
                   shown = f.shown;
                   clear = f.clear;
+                  mapped = record { live = f.mapped.live; tail = f.mapped.tail; beyond = λ p less. f.mapped.beyond p (down less); no_fin = f.mapped.no_fin; forgotten = more f.mapped.forgotten };
+                  least = f.least;
                 },
                 t.1,
                 t.2,
@@ -263,6 +273,12 @@ module _ (start : Start) (plan : PathPlan) (k j : Setting) (s v : Lane) (t0 u0 :
               );
             }
           where
+            more : {x y : ℕ} → x ≤ y → x ≤ y + 1
+            more less = omega (arith, less)
+
+            down : {x y : ℕ} → x + 1 ≤ y → x ≤ y
+            down less = omega (arith, less)
+
             one : {x : ℕ} → x ≡ 1 → 1 ≤ x
             one is = omega (arith, is)
 

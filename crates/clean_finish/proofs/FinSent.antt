@@ -200,10 +200,10 @@ module _ {s : Side} {keys : Keys} {k j : Setting} {c : Profile} {begun begun_bac
                 (subst (λ (x : ℕ). x ≤ pick s h.out.ready 0) (sym same_keys) h.own.modes.shown) (Same refl)
                 (least_told ticks t u k_is j_is going going_back h still is_open.0 answered asked asks) clear row heard)
                 fs gs f flies more same
-                (acks ticks t u k_is j_is going going_back h still is_open.0 answered finishing refl refl, λ is e. shows_some is)
+                (acks ticks t u k_is j_is going going_back h still is_open.0 answered finishing refl refl, λ is e. shows_some is, tt)
                 (refl, came ticks t u k_is j_is going going_back h still is_open.0 answered, refl) refl (one_sent, refl, refl)
                 (le_refl m.end.tcp.recv.edge) (le_refl m.end.tcp.recv.edge) two_sent (sym same_keys)
-                (way_none c keys k (peer s) h.back.sender h.back.receiver h.back.datas h.out.acks m.end.tcp.send.una n.end.tcp.recv.edge h.hand none n.flying h.way_back)
+                (way_none c keys k j (peer s) h.back.sender h.back.receiver h.back.datas h.out.acks m.end.tcp.send.una n.end.tcp.recv.edge h.hand none n.flying h.way_back)
                 (room (lane ticks t u k_is j_is going going_back h).numbers.granted) (same_bytes h.out.granted nothing_waits) events
                 (stage_drops s (peer s) (duties.Send (send_duties.Fin s)) ds n.end.treated.asked h.owes_back h.stage (is_apart s (peer s) (duties.Send (send_duties.Fin s)) refl) h.stages)
                 (ended_stays (peer s) s events

@@ -1,5 +1,7 @@
 -- The relation holds as the first round begins.
 use Rattle.std.proofs.Common.{◌≡◌, refl, sym, subst, ℕ, ◌+◌, ◌≤◌, Bool, true, false, inl, inr, None, List, [], ◌∷◌, length, arith}
+use Rattle.std.specs.FinMap.{get-empty}
+use Rattle.std.specs.Ordering.{nat_cmp}
 use Rattle.std.proofs.lemmas.Bool.{both_ways, le-ltb}
 use Rattle.std.proofs.lemmas.List.Elements.{All-nil, All-cons}
 use Rattle.outside_kit.specs.declared.side.Side.{Side}
@@ -139,13 +141,13 @@ module _ (k j : Setting) (window window_back : ℕ) (writer writer_back : Writer
         control = omega arith;
         fits = omega arith;
       };
-      ahead = record { bytes = omega arith; opened = omega arith; finished = λ e. absurd (omega (arith, e)) };
+      ahead = record { bytes = omega arith; opened = omega arith; finished = λ e. absurd (omega (arith, e)); seen = omega arith };
       congestion = record { window = room; most = most; steady = refl; row = omega arith };
       come = record { edge = refl; window = refl };
       quiet = λ e. (refl, refl, refl, refl);
       begun = λ is. omega arith;
       keyed = λ is one still. absurd (omega (arith, one));
-      heard = record { told = tt; most = omega arith; end = λ e. absurd (omega (arith, e)); few = omega arith };
+      heard = record { told = tt; most = omega arith; end = λ e. absurd (omega (arith, e)); few = omega arith; some = λ e. absurd (omega (arith, e)) };
       long = omega arith;
       due = refl;
     };
@@ -157,6 +159,7 @@ module _ (k j : Setting) (window window_back : ℕ) (writer writer_back : Writer
       came = refl;
       shut = (λ e. refl, λ some. absurd (omega (arith, some)));
       granted = All-nil (IsGranted out.sender 0);
+      spans = omega arith;
       bytes = λ some. absurd (omega (arith, some));
       end = omega arith;
       acked_end = λ more. absurd (omega (arith, more));
@@ -302,6 +305,8 @@ module _ (start : Start) (plan : PathPlan) (k j : Setting) (a b t t' : ℕ)
             receives = record { read = there.reads.numbers.bytes; received = there.reads.received; known = there.reads.numbers.known; capacity = sym buffer };
             book = record { edge = refl; owner = refl; marks = refl; taken = All-nil IsFree };
             room = omega arith;
+            whole = refl;
+            fin = λ e. absurd (both_ways false refl e);
           };
           apps_back = record {
             writes = subst (λ (n : ℕ). WriterShows j (with_apps b here.writes_by here.reads_by) (first_app_turn B start.buffer start.file_b None)
@@ -311,6 +316,8 @@ module _ (start : Start) (plan : PathPlan) (k j : Setting) (a b t t' : ℕ)
             receives = record { read = here.reads.numbers.bytes; received = here.reads.received; known = here.reads.numbers.known; capacity = sym buffer_back };
             book = record { edge = refl; owner = refl; marks = refl; taken = All-nil IsFree };
             room = omega arith;
+            whole = refl;
+            fin = λ e. absurd (both_ways false refl e);
           };
           stages = record {
             window = inr (inr (inr (inr (inr (inl refl)))));
@@ -364,6 +371,8 @@ module _ (start : Start) (plan : PathPlan) (k j : Setting) (a b t t' : ℕ)
             record {
               none = refl;
               idle = record { places = refl; incoming = refl; fin = refl };
+              mapped = record { live = refl; tail = refl; beyond = λ p less. get-empty nat_cmp p; no_fin = refl; forgotten = omega arith };
+              least = λ is some. absurd (omega (arith, some));
               owes = refl;
               answered = omega arith;
               ready = λ is. omega arith;
@@ -372,6 +381,8 @@ module _ (start : Start) (plan : PathPlan) (k j : Setting) (a b t t' : ℕ)
             record {
               none = refl;
               idle = record { places = refl; incoming = refl; fin = refl };
+              mapped = record { live = refl; tail = refl; beyond = λ p less. get-empty nat_cmp p; no_fin = refl; forgotten = omega arith };
+              least = λ is some. absurd (omega (arith, some));
               owes = refl;
               answered = omega arith;
               ready = λ is. omega arith;

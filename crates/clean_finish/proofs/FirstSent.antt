@@ -79,7 +79,7 @@ module _ {keys : Keys} {k j : Setting} {c : Profile} {begun begun_back : Lane} {
         (answered : min 1 h.back.control_came ≤ h.out.control_sent) (asked : h.stage_back.window ≡ false)
         (rest : h.own.subflow.records.rest ≡ r ∷ []) (unsent : is_unsent r ≡ true) (one : h.out.control_sent ≡ 1)
         (waits : h.waiting ≡ length r.piece) (some : 1 ≤ length r.piece) (edge : h.out.granted + length r.piece ≤ h.out.edge)
-        (unclear : h.out.clear ≡ 0) (ready : 1 ≤ h.out.ready)
+        (unclear : h.out.clear ≡ 0) (ready : 1 ≤ h.out.ready) (shown_before : h.out.ready ≤ h.out.keys_sent) (none_granted : h.out.granted ≡ 0)
       where
         pub still : brings_still h.hand ≡ false
         still = ap brings_still none
@@ -183,6 +183,16 @@ module _ {keys : Keys} {k j : Setting} {c : Profile} {begun begun_back : Lane} {
         pub under : (x : ℕ) → x ≤ x + 31
         under x = omega arith
 
+        pub edge_is : {e r d : ℕ} → e ≡ 1 + r + (d - 1) → r ≡ 0 → d ≤ 1 → e ≡ 1
+        edge_is is a b = omega (arith, is, a, b)
+
+        -- the keys were shown before
+        pub keyed : h.out.keys_sent ≡ 1
+        keyed = once h.back.control_came ready shown_before h.own.modes.shown h.own.modes.ready
+          where
+            once : {r x : ℕ} (d : ℕ) → 1 ≤ r → r ≤ x → x ≤ r → r ≤ min 1 d → x ≡ 1
+            once d p q a b = omega (arith, p, q, a, b)
+
         pub edge_some : {e : ℕ} (received_now d : ℕ) → e ≡ 1 + received_now + (d - 1) → 1 ≤ e
         edge_some received_now d is = omega (arith, is)
 
@@ -207,9 +217,10 @@ module _ {keys : Keys} {k j : Setting} {c : Profile} {begun begun_back : Lane} {
                     end = λ e. absurd (omega (arith, e));
                   },
                   λ is e. omega arith,
+                  (edge_is h.own.subflow.come.edge received (h.own.receiving.unended refl unclear), none_granted),
                 )
-                (refl, refl, refl, refl) refl (one, refl, refl, some)
+                (refl, refl, refl, refl) refl (one, refl, refl, some, keyed)
                 (le_refl m.end.tcp.recv.edge) (le_refl m.end.tcp.recv.edge) (one_again one) (key_is h.back.control_came h.own.modes.shown h.own.modes.ready)
-                (way_none c keys k B h.back.sender h.back.receiver h.back.datas h.out.acks m.end.tcp.send.una n.end.tcp.recv.edge h.hand none n.flying h.way_back)
+                (way_none c keys k j B h.back.sender h.back.receiver h.back.datas h.out.acks m.end.tcp.send.una n.end.tcp.recv.edge h.hand none n.flying h.way_back)
                 room (none_left all_bytes) (inr events) h.stages (ended_stays B A (inr events) h.stages_back) h.settles h.settles_back
                 (some_one h.out.control_sent) h.begins_back (λ e b. absurd (both_ways false refl e))

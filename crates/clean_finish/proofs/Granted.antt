@@ -24,13 +24,14 @@ use Rattle.path_core.specs.State.{Profile}
 use Rattle.pace.specs.Lane.{Setting, Lane}
 use Rattle.clean_finish.specs.Machine.{IsPiece}
 use Rattle.clean_finish.specs.Segments.{Keys}
-use Rattle.clean_finish.specs.Shows.{AreTaken, EndIs, IsGranted, RecordsAre, Waits}
+use Rattle.clean_finish.specs.Shows.{AreTaken, EndIs, IsGranted, RecordsAre, Waits, AreSpans}
 use Rattle.clean_finish.specs.Shows.Waits.{WaitsBytes}
 use Rattle.clean_finish.specs.Running.{Half, Facing}
 use Rattle.clean_finish.proofs.AckNew.{records_sent}
 use Rattle.clean_finish.proofs.Emitted.{first_waits}
 use Rattle.clean_finish.proofs.TakenMarks.{granted_marks, taken_granted, granted_acked, granted_length}
 use Rattle.clean_finish.proofs.Ways.{map_end}
+use Rattle.clean_finish.proofs.Spans.{spans_more}
 
 -- what isn't sent isn't under way
 flight_same : (rs : List Record) (r : Record) → is_unsent r ≡ true → sum_by octets_under_way (rs ++ r ∷ []) ≡ sum_by octets_under_way rs
@@ -181,6 +182,7 @@ module _ {s : Side} {keys : Keys} {k j : Setting} {c : Profile} {begun begun_bac
               bytes = h.own.subflow.ahead.bytes;
               opened = h.own.subflow.ahead.opened;
               finished = λ two. absurd (not_two unacked two);
+              seen = h.own.subflow.ahead.seen;
             };
             congestion = record {
               window = h.own.subflow.congestion.window;
@@ -197,6 +199,7 @@ module _ {s : Side} {keys : Keys} {k j : Setting} {c : Profile} {begun begun_bac
               most = h.own.subflow.heard.most;
               end = h.own.subflow.heard.end;
               few = h.own.subflow.heard.few;
+              some = h.own.subflow.heard.some;
             };
             quiet = h.own.subflow.quiet;
             begun = h.own.subflow.begun;
@@ -215,6 +218,7 @@ module _ {s : Side} {keys : Keys} {k j : Setting} {c : Profile} {begun begun_bac
                 (All-weaker (IsGranted h.out.sender h.waiting) (IsGranted h.out.sender count)
                 (λ piece is. record { waits = is.waits; within = within_more h.out.granted nothing_waits is.within }) m.end.sending.granted h.own.sending.granted)
                 (record { waits = ahead; within = le_refl (h.out.granted + count) });
+            spans = spans_more m.end.sending.granted h.out.acked h.out.granted (granted_at m.end.tcp.send.nxt span) refl (subst (λ (n : ℕ). AreSpans h.out.acked n m.end.sending.granted) none_more h.own.sending.spans);
             bytes = λ one_byte. ready;
             end = h.own.sending.end;
             acked_end = h.own.sending.acked_end;
@@ -328,6 +332,8 @@ module _ {s : Side} {keys : Keys} {k j : Setting} {c : Profile} {begun begun_bac
               taken = taken_same;
             };
             room = room_after;
+            whole = h.apps.whole;
+            fin = h.apps.fin;
           };
           apps_back = h.apps_back;
           stages = h.stages;

@@ -23,17 +23,17 @@ passed_from low edge most (x ∷ xs) less all = all
 abbrev pub in_hand : Sent → Bool → Bool → Option Hand
 in_hand x brings tells = Some (record { sent = x; brings = brings; tells = tells })
 
-module _ (c : Profile) (keys : Keys) (j : Setting) (from : Side) (out : Sender) (other : Receiver) (datas acks : List Copy) (una edge : ℕ) where
+module _ (c : Profile) (keys : Keys) (j k : Setting) (from : Side) (out : Sender) (other : Receiver) (datas acks : List Copy) (una edge : ℕ) where
   -- the first on its way arrives; what it acknowledges is acknowledged by the subflow at once
   abbrev pub way_arrives : (now : ℕ) (f : Flight Carried) (fs : List (Flight Carried)) (x : Sent) (xs : List Sent)
-      (w : WayIs c keys j from out other datas acks None una edge (f ∷ fs)) → w.sent ≡ x ∷ xs → now ≤ x.edge
-      → WayIs c keys j from out other datas acks (in_hand x true true) now edge fs
+      (w : WayIs c keys j k from out other datas acks None una edge (f ∷ fs)) → w.sent ≡ x ∷ xs → now ≤ x.edge
+      → WayIs c keys j k from out other datas acks (in_hand x true true) now edge fs
   way_arrives now f fs x xs w is low = record {
     sent = xs;
     flights = (subst (λ (ys : List Sent). FlyAs c keys from (f ∷ fs) ys) is w.flights).1;
     datas_are = w.datas_are ∙ ap (λ (ys : List Sent). map copy_in ys) is;
     acks_are = w.acks_are ∙ ap (λ (ys : List Sent). map copy_in ys) is;
-    follow = subst (λ (ys : List Sent). Follow j.least j.total from other.received other.control_came other.keys_came ys) is w.follow;
+    follow = subst (λ (ys : List Sent). Follow j.least j.total k.total from other.received other.control_came other.keys_came ys) is w.follow;
     low = ap (λ (ys : List Sent). low_after other.received ys) (sym is) ∙ w.low;
     control = ap (λ (ys : List Sent). control_after other.control_came ys) (sym is) ∙ w.control;
     keys_shown = ap (λ (ys : List Sent). keys_after other.keys_came ys) (sym is) ∙ w.keys_shown;
@@ -43,13 +43,13 @@ module _ (c : Profile) (keys : Keys) (j : Setting) (from : Side) (out : Sender) 
 
   -- nothing is in hand
   abbrev pub way_none : (hand : Option Hand) → hand ≡ None → (flying : List (Flight Carried))
-      → WayIs c keys j from out other datas acks hand una edge flying → WayIs c keys j from out other datas acks None una edge flying
+      → WayIs c keys j k from out other datas acks hand una edge flying → WayIs c keys j k from out other datas acks None una edge flying
   way_none hand none flying w = record {
     sent = w.sent;
     flights = w.flights;
     datas_are = w.datas_are ∙ ap (λ (o : Option Hand). map copy_in (brings_in o ++ w.sent)) none;
     acks_are = w.acks_are ∙ ap (λ (o : Option Hand). map copy_in (tells_in o ++ w.sent)) none;
-    follow = subst (λ (o : Option Hand). Follow j.least j.total from other.received other.control_came other.keys_came (brings_in o ++ w.sent)) none w.follow;
+    follow = subst (λ (o : Option Hand). Follow j.least j.total k.total from other.received other.control_came other.keys_came (brings_in o ++ w.sent)) none w.follow;
     low = ap (λ (o : Option Hand). low_after other.received (brings_in o ++ w.sent)) (sym none) ∙ w.low;
     control = ap (λ (o : Option Hand). control_after other.control_came (brings_in o ++ w.sent)) (sym none) ∙ w.control;
     keys_shown = ap (λ (o : Option Hand). keys_after other.keys_came (brings_in o ++ w.sent)) (sym none) ∙ w.keys_shown;
@@ -59,17 +59,17 @@ module _ (c : Profile) (keys : Keys) (j : Setting) (from : Side) (out : Sender) 
 
   -- its lane takes what it brings
   abbrev pub way_brought : (tells : Bool) (flying : List (Flight Carried)) (x : Sent) (later : Receiver)
-      (w : WayIs c keys j from out other datas acks (in_hand x true tells) una edge flying)
+      (w : WayIs c keys j k from out other datas acks (in_hand x true tells) una edge flying)
       → later.received ≡ other.received + length (octets_of x.brings) → later.control_came ≡ x.control → later.keys_came ≡ x.keys
-      → WayIs c keys j from out later (map copy_in w.sent) acks (in_hand x false tells) una edge flying
+      → WayIs c keys j k from out later (map copy_in w.sent) acks (in_hand x false tells) una edge flying
   way_brought tells flying x later w received control shown = record {
     sent = w.sent;
     flights = w.flights;
     datas_are = refl;
     acks_are = w.acks_are;
-    follow = subst (λ (n : ℕ). Follow j.least j.total from n later.control_came later.keys_came w.sent) (sym received)
-        (subst (λ (n : ℕ). Follow j.least j.total from (other.received + length (octets_of x.brings)) n later.keys_came w.sent) (sym control)
-        (subst (λ (n : ℕ). Follow j.least j.total from (other.received + length (octets_of x.brings)) x.control n w.sent) (sym shown) w.follow.4));
+    follow = subst (λ (n : ℕ). Follow j.least j.total k.total from n later.control_came later.keys_came w.sent) (sym received)
+        (subst (λ (n : ℕ). Follow j.least j.total k.total from (other.received + length (octets_of x.brings)) n later.keys_came w.sent) (sym control)
+        (subst (λ (n : ℕ). Follow j.least j.total k.total from (other.received + length (octets_of x.brings)) x.control n w.sent) (sym shown) w.follow.4));
     low = ap (λ (n : ℕ). low_after n w.sent) received ∙ w.low;
     control = ap (λ (n : ℕ). control_after n w.sent) control ∙ w.control;
     keys_shown = ap (λ (n : ℕ). keys_after n w.sent) shown ∙ w.keys_shown;
@@ -79,8 +79,8 @@ module _ (c : Profile) (keys : Keys) (j : Setting) (from : Side) (out : Sender) 
 
   -- the other lane takes what it acknowledges
   abbrev pub way_told : (flying : List (Flight Carried)) (x : Sent)
-      (w : WayIs c keys j from out other datas acks (in_hand x false true) una edge flying)
-      → WayIs c keys j from out other datas (map copy_in w.sent) (in_hand x false false) una edge flying
+      (w : WayIs c keys j k from out other datas acks (in_hand x false true) una edge flying)
+      → WayIs c keys j k from out other datas (map copy_in w.sent) (in_hand x false false) una edge flying
   way_told flying x w = record {
     sent = w.sent;
     flights = w.flights;
@@ -96,8 +96,8 @@ module _ (c : Profile) (keys : Keys) (j : Setting) (from : Side) (out : Sender) 
 
   -- while it still brings something
   abbrev pub way_told_first : (flying : List (Flight Carried)) (x : Sent)
-      (w : WayIs c keys j from out other datas acks (in_hand x true true) una edge flying)
-      → WayIs c keys j from out other datas (map copy_in w.sent) (in_hand x true false) una edge flying
+      (w : WayIs c keys j k from out other datas acks (in_hand x true true) una edge flying)
+      → WayIs c keys j k from out other datas (map copy_in w.sent) (in_hand x true false) una edge flying
   way_told_first flying x w = record {
     sent = w.sent;
     flights = w.flights;
@@ -113,8 +113,8 @@ module _ (c : Profile) (keys : Keys) (j : Setting) (from : Side) (out : Sender) 
 
   -- it is done with
   abbrev pub way_done : (flying : List (Flight Carried)) (x : Sent)
-      → WayIs c keys j from out other datas acks (in_hand x false false) una edge flying
-      → WayIs c keys j from out other datas acks None una edge flying
+      → WayIs c keys j k from out other datas acks (in_hand x false false) una edge flying
+      → WayIs c keys j k from out other datas acks None una edge flying
   way_done flying x w = record {
     sent = w.sent;
     flights = w.flights;

@@ -24,6 +24,7 @@ use Rattle.clean_finish.proofs.Dropping.{apart, is_apart, stage_drops, settles_d
 use Rattle.clean_finish.proofs.Passing.{stands_then}
 use Rattle.clean_finish.proofs.Quiet.{now_out, now_back}
 use Rattle.clean_finish.proofs.Raised.{raised, before_raised, Emits, stage_raised}
+use Rattle.clean_finish.proofs.Spans.{spans_for}
 
 module _ {keys : Keys} {k j : Setting} {c : Profile} {begun begun_back : Lane} {m n : Half} {clock until : ℕ} (ticks t u : ℕ)
     (k_is : IsSetting c ticks k) (j_is : IsSetting c ticks j)
@@ -107,6 +108,7 @@ module _ {keys : Keys} {k j : Setting} {c : Profile} {begun begun_back : Lane} {
           bytes = h.own.subflow.ahead.bytes;
           opened = h.own.subflow.ahead.opened;
           finished = h.own.subflow.ahead.finished;
+          seen = h.own.subflow.ahead.seen;
         };
         congestion = record {
           window = h.own.subflow.congestion.window;
@@ -131,6 +133,7 @@ module _ {keys : Keys} {k j : Setting} {c : Profile} {begun begun_back : Lane} {
         shut = (λ e. h.own.sending.shut.0 nothing_waits, λ some. absurd (omega (arith, some)));
         granted = All-weaker (IsGranted h.out.sender h.waiting) (IsGranted out_after.sender 0)
             (λ span is. record { waits = is.waits; within = within h.out.granted nothing_waits is.within }) m.end.sending.granted h.own.sending.granted;
+        spans = spans_for m.end.sending.granted h.out.acked h.out.granted h.waiting h.out.granted refl nothing_waits h.own.sending.spans;
         bytes = λ some. omega arith;
         end = h.own.sending.end;
         acked_end = h.own.sending.acked_end;
@@ -223,6 +226,8 @@ module _ {keys : Keys} {k j : Setting} {c : Profile} {begun begun_back : Lane} {
           taken = subst (λ (n : ℕ). AreTaken (h.out.granted + n) m.send.marks) nothing_waits h.apps.book.taken;
         };
         room = room_on h.out.granted nothing_waits h.apps.room;
+        whole = h.apps.whole;
+        fin = h.apps.fin;
       };
       apps_back = h.apps_back;
       stages = stage_raised A B ds n.end.treated.asked h.owes_back h.stage there

@@ -124,6 +124,8 @@ module _ (start : Start) (plan : PathPlan) (k j : Setting) (s v : Lane) (t0 u0 :
                   sent = t.0.sent;
                   hand = t.0.hand;
                   idle = record { places = t.0.idle.places; incoming = t.0.idle.incoming; fin = t.0.idle.fin };
+                  mapped = t.0.mapped;
+                  least = t.0.least;
                   waiting = t.0.waiting;
                   answered = t.0.answered;
                   ready = t.0.ready;
@@ -164,6 +166,8 @@ module _ (start : Start) (plan : PathPlan) (k j : Setting) (s v : Lane) (t0 u0 :
                   sent = t.0.sent;
                   hand = t.0.hand;
                   idle = record { places = t.0.idle.places; incoming = t.0.idle.incoming; fin = t.0.idle.fin };
+                  mapped = t.0.mapped;
+                  least = t.0.least;
                   waiting = t.0.waiting;
                   answered = t.0.answered;
                   ready = t.0.ready;
@@ -214,6 +218,8 @@ module _ (start : Start) (plan : PathPlan) (k j : Setting) (s v : Lane) (t0 u0 :
                   sent = t.0.sent;
                   hand = t.0.hand;
                   idle = record { places = t.0.idle.places; incoming = t.0.idle.incoming; fin = t.0.idle.fin };
+                  mapped = t.0.mapped;
+                  least = t.0.least;
                   waiting = t.0.waiting;
                   answered = t.0.answered;
                   ready = t.0.ready;
@@ -297,6 +303,8 @@ module _ (start : Start) (plan : PathPlan) (k j : Setting) (s v : Lane) (t0 u0 :
                 record {
                   none = refl;
                   idle = record { places = t.0.idle.places; incoming = t.0.idle.incoming; fin = t.0.idle.fin };
+                  mapped = t.0.mapped;
+                  least = λ is some. t.0.least is;
                   owes = refl;
                   answered = up_max view.out.control_sent t.0.answered;
                   ready = t.0.ready;
@@ -327,6 +335,8 @@ module _ (start : Start) (plan : PathPlan) (k j : Setting) (s v : Lane) (t0 u0 :
                 record {
                   none = refl;
                   idle = record { places = t.0.idle.places; incoming = t.0.idle.incoming; fin = t.0.idle.fin };
+                  mapped = t.0.mapped;
+                  least = λ is some. t.0.least is;
                   owes = unowed;
                   answered = t.0.answered;
                   ready = t.0.ready;
@@ -370,6 +380,8 @@ module _ (start : Start) (plan : PathPlan) (k j : Setting) (s v : Lane) (t0 u0 :
                   sent = t.0.sent;
                   hand = t.0.hand;
                   idle = record { places = t.0.idle.places; incoming = t.0.idle.incoming; fin = t.0.idle.fin };
+                  mapped = t.0.mapped;
+                  least = t.0.least;
                   waiting = t.0.waiting;
                   answered = t.0.answered;
                   ready = t.0.ready;
@@ -410,6 +422,8 @@ module _ (start : Start) (plan : PathPlan) (k j : Setting) (s v : Lane) (t0 u0 :
                   sent = t.0.sent;
                   hand = t.0.hand;
                   idle = record { places = t.0.idle.places; incoming = t.0.idle.incoming; fin = t.0.idle.fin };
+                  mapped = t.0.mapped;
+                  least = t.0.least;
                   waiting = t.0.waiting;
                   answered = t.0.answered;
                   ready = t.0.ready;
@@ -460,6 +474,8 @@ module _ (start : Start) (plan : PathPlan) (k j : Setting) (s v : Lane) (t0 u0 :
                   sent = t.0.sent;
                   hand = t.0.hand;
                   idle = record { places = t.0.idle.places; incoming = t.0.idle.incoming; fin = t.0.idle.fin };
+                  mapped = t.0.mapped;
+                  least = t.0.least;
                   waiting = t.0.waiting;
                   answered = t.0.answered;
                   ready = t.0.ready;
@@ -544,6 +560,8 @@ module _ (start : Start) (plan : PathPlan) (k j : Setting) (s v : Lane) (t0 u0 :
                 record {
                   none = refl;
                   idle = record { places = t.0.idle.places; incoming = t.0.idle.incoming; fin = t.0.idle.fin };
+                  mapped = t.0.mapped;
+                  least = λ is some. t.0.least is;
                   owes = refl;
                   answered = up_max view.out.control_sent t.0.answered;
                   ready = t.0.ready;
@@ -574,6 +592,8 @@ module _ (start : Start) (plan : PathPlan) (k j : Setting) (s v : Lane) (t0 u0 :
                 record {
                   none = refl;
                   idle = record { places = t.0.idle.places; incoming = t.0.idle.incoming; fin = t.0.idle.fin };
+                  mapped = t.0.mapped;
+                  least = λ is some. t.0.least is;
                   owes = unowed;
                   answered = t.0.answered;
                   ready = t.0.ready;

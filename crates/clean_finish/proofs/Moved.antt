@@ -76,6 +76,8 @@ module _ {s : Side} {keys : Keys} {k j : Setting} {c : Profile} {begun begun_bac
         taken = h.apps.book.taken;
       };
       room = h.apps.room;
+      whole = h.apps.whole;
+      fin = h.apps.fin;
     };
     apps_back = record {
       writes = record {
@@ -100,6 +102,8 @@ module _ {s : Side} {keys : Keys} {k j : Setting} {c : Profile} {begun begun_bac
         taken = h.apps_back.book.taken;
       };
       room = h.apps_back.room;
+      whole = h.apps_back.whole;
+      fin = h.apps_back.fin;
     };
     stages = stage_waits s (peer s) ds n.end.treated.asked h.owes_back h.stage events h.stages;
     stages_back = stage_waits (peer s) s ds m.end.treated.asked h.owes h.stage_back events h.stages_back;

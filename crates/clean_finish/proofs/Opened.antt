@@ -34,6 +34,7 @@ use Rattle.clean_finish.proofs.Passing.{stands_then}
 use Rattle.clean_finish.proofs.Quiet.{now_out, now_back}
 use Rattle.clean_finish.proofs.Sent.{sent_all}
 use Rattle.clean_finish.proofs.Ways.{way_more}
+use Rattle.clean_finish.proofs.Spans.{spans_for}
 
 -- as a lane counts it, from a tick on, with this window
 abbrev pub syn_of : Setting → ℕ → ℕ → Sent
@@ -294,6 +295,7 @@ module _ {keys : Keys} {k j : Setting} {c : Profile} {begun begun_back : Lane} {
                   bytes = h.own.subflow.ahead.bytes;
                   opened = h.own.subflow.ahead.opened;
                   finished = h.own.subflow.ahead.finished;
+                  seen = h.own.subflow.ahead.seen;
                 };
                 congestion = record {
                   window = h.own.subflow.congestion.window;
@@ -302,7 +304,7 @@ module _ {keys : Keys} {k j : Setting} {c : Profile} {begun begun_back : Lane} {
                   row = h.own.subflow.congestion.row;
                 };
                 come = record { edge = h.own.subflow.come.edge; window = h.own.subflow.come.window };
-                heard = record { told = h.own.subflow.heard.told; most = h.own.subflow.heard.most; end = h.own.subflow.heard.end; few = h.own.subflow.heard.few };
+                heard = record { told = h.own.subflow.heard.told; most = h.own.subflow.heard.most; end = h.own.subflow.heard.end; few = h.own.subflow.heard.few; some = h.own.subflow.heard.some };
                 quiet = h.own.subflow.quiet;
                 begun = λ is. absurd (not_a_b is);
                 keyed = λ is. absurd (not_a_b is);
@@ -319,6 +321,7 @@ module _ {keys : Keys} {k j : Setting} {c : Profile} {begun begun_back : Lane} {
                 granted = All-weaker (IsGranted h.out.sender h.waiting) (IsGranted out_after.sender 0)
                     (λ span is. record { waits = is.waits; within = within none_granted nothing_waits is.within }) m.end.sending.granted
                     h.own.sending.granted;
+                spans = spans_for m.end.sending.granted h.out.acked h.out.granted h.waiting 0 (sym none_granted) nothing_waits h.own.sending.spans;
                 bytes = λ some. absurd (omega (arith, some));
                 end = subst (λ (x : ℕ). x ≤ h.out.clear) (sym (max_none h.out.data_fin_sent)) h.own.sending.end;
                 acked_end = λ more. subst (λ (x : ℕ). 1 ≤ x) (sym (max_none h.out.data_fin_sent)) (h.own.sending.acked_end more);
@@ -356,13 +359,13 @@ module _ {keys : Keys} {k j : Setting} {c : Profile} {begun begun_back : Lane} {
               notices = h.own.notices;
             }
 
-            pub way_after : WayIs c keys j A out_after.sender out_after.receiver out_after.datas back_after.acks h.hand_back n.end.tcp.send.una
+            pub way_after : WayIs c keys j k A out_after.sender out_after.receiver out_after.datas back_after.acks h.hand_back n.end.tcp.send.una
                 end_after.tcp.recv.edge fs
-            way_after = subst (λ (flying : List (Flight Carried)). WayIs c keys j A out_after.sender out_after.receiver out_after.datas
+            way_after = subst (λ (flying : List (Flight Carried)). WayIs c keys j k A out_after.sender out_after.receiver out_after.datas
                 back_after.acks h.hand_back n.end.tcp.send.una end_after.tcp.recv.edge flying) (sym more)
-                (way_more c keys j A h.out.sender out_after.sender h.out.receiver h.hand_back n.end.tcp.send.una m.end.tcp.recv.edge
+                (way_more c keys j k A h.out.sender out_after.sender h.out.receiver h.hand_back n.end.tcp.send.una m.end.tcp.recv.edge
                 m.end.tcp.recv.edge f syn h.out.datas h.back.acks m.flying h.way flies
-                (record { some = omega arith; bytes = omega arith; most = omega arith; end = λ e. absurd (omega (arith, e)) }, λ is e. absurd (both_ways true e refl))
+                (record { some = omega arith; bytes = omega arith; most = omega arith; end = λ e. absurd (omega (arith, e)) }, λ is e. absurd (both_ways true e refl), tt)
                 (refl, refl, refl, refl, least_told buffer_is j_is.least) (sym none_granted) (unsent, refl, refl)
                 (edge_low h.own.subflow.come.edge none.received (none.syn refl).0) (edge_high h.back.received h.back.control_came h.own.subflow.come.edge) refl
                 (control_is unsent) (keys_are h.own.modes.shown none.ready))
@@ -389,7 +392,7 @@ module _ {keys : Keys} {k j : Setting} {c : Profile} {begun begun_back : Lane} {
               own = own_after;
               other = h.other;
               way = way_after;
-              way_back = subst (λ (flying : List (Flight Carried)). WayIs c keys k B back_after.sender back_after.receiver back_after.datas out_after.acks h.hand
+              way_back = subst (λ (flying : List (Flight Carried)). WayIs c keys k j B back_after.sender back_after.receiver back_after.datas out_after.acks h.hand
                   m.end.tcp.send.una n.end.tcp.recv.edge flying) (sym same) (record {
                     sent = h.way_back.sent;
                     flights = h.way_back.flights;
@@ -413,6 +416,8 @@ module _ {keys : Keys} {k j : Setting} {c : Profile} {begun begun_back : Lane} {
                 };
                 book = record { edge = h.apps.book.edge; owner = h.apps.book.owner; marks = h.apps.book.marks; taken = subst (λ (n : ℕ). AreTaken n m.send.marks) (none_yet none_granted nothing_waits) h.apps.book.taken };
                 room = omega arith;
+                whole = h.apps.whole;
+                fin = h.apps.fin;
               };
               apps_back = record {
                 writes = record { numbers = h.apps_back.writes.numbers; over = h.apps_back.writes.over };
@@ -425,6 +430,8 @@ module _ {keys : Keys} {k j : Setting} {c : Profile} {begun begun_back : Lane} {
                 };
                 book = record { edge = h.apps_back.book.edge; owner = h.apps_back.book.owner; marks = h.apps_back.book.marks; taken = h.apps_back.book.taken };
                 room = h.apps_back.room;
+                whole = h.apps_back.whole;
+                fin = h.apps_back.fin;
               };
               stages = stage_waits A B ds n.end.treated.asked h.owes_back h.stage events
                   (stage_drops A B (duties.Send (send_duties.Syn A)) ds n.end.treated.asked h.owes_back h.stage others h.stages);

@@ -86,6 +86,7 @@ module _ {s : Side} {keys : Keys} {k j : Setting} {c : Profile} {begun begun_bac
             bytes = h.own.subflow.ahead.bytes;
             opened = h.own.subflow.ahead.opened;
             finished = h.own.subflow.ahead.finished;
+            seen = h.own.subflow.ahead.seen;
           };
           congestion = record {
             window = up h.own.subflow.congestion.window grows.grows.window;
@@ -104,6 +105,7 @@ module _ {s : Side} {keys : Keys} {k j : Setting} {c : Profile} {begun begun_bac
             most = h.own.subflow.heard.most;
             end = h.own.subflow.heard.end;
             few = h.own.subflow.heard.few;
+            some = h.own.subflow.heard.some;
           };
           quiet = h.own.subflow.quiet;
           begun = h.own.subflow.begun;
@@ -119,6 +121,7 @@ module _ {s : Side} {keys : Keys} {k j : Setting} {c : Profile} {begun begun_bac
           came = h.own.sending.came;
           shut = h.own.sending.shut;
           granted = h.own.sending.granted;
+          spans = h.own.sending.spans;
           bytes = h.own.sending.bytes;
           end = h.own.sending.end;
           acked_end = h.own.sending.acked_end;

@@ -122,6 +122,7 @@ module _ {s : Side} {keys : Keys} {k j : Setting} {c : Profile} {begun begun_bac
                 bytes = h.own.subflow.ahead.bytes;
                 opened = h.own.subflow.ahead.opened;
                 finished = h.own.subflow.ahead.finished;
+                seen = h.own.subflow.ahead.seen;
               };
               congestion = record {
                 window = h.own.subflow.congestion.window;
@@ -138,6 +139,7 @@ module _ {s : Side} {keys : Keys} {k j : Setting} {c : Profile} {begun begun_bac
                 most = h.own.subflow.heard.most;
                 end = h.own.subflow.heard.end;
                 few = h.own.subflow.heard.few;
+                some = h.own.subflow.heard.some;
               };
               quiet = h.own.subflow.quiet;
               begun = h.own.subflow.begun;
@@ -154,6 +156,7 @@ module _ {s : Side} {keys : Keys} {k j : Setting} {c : Profile} {begun begun_bac
               shut = (λ e. refl, λ some. absurd (not_both nothing_waits some));
               granted = All-weaker (IsGranted h.out.sender h.waiting) (IsGranted out_after.sender h.waiting)
                   (λ piece is. record { waits = is.waits; within = is.within }) m.end.sending.granted h.own.sending.granted;
+              spans = h.own.sending.spans;
               bytes = h.own.sending.bytes;
               end = h.own.sending.end;
               acked_end = h.own.sending.acked_end;
@@ -278,6 +281,8 @@ module _ {s : Side} {keys : Keys} {k j : Setting} {c : Profile} {begun begun_bac
                 taken = h.apps.book.taken;
               };
               room = h.apps.room;
+              whole = h.apps.whole;
+              fin = h.apps.fin;
             };
             apps_back = h.apps_back;
             stages = stage_after;

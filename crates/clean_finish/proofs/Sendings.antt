@@ -13,7 +13,7 @@ use Rattle.pace.specs.Lane.{Setting, Lane}
 use Rattle.pace.specs.Rules.{sends, said_by}
 use Rattle.pace.specs.Moves.{Move, MaySay}
 use Rattle.pace.specs.Moves.Move.{goes_back, says}
-use Rattle.clean_finish.specs.Segments.{Sent, Keys, copy_in, FliesAs, CountsAs, TellsAs, AcknowledgesAs, ShowsFirst}
+use Rattle.clean_finish.specs.Segments.{Sent, Keys, copy_in, FliesAs, CountsAs, TellsAs, AcknowledgesAs, ShowsFirst, BringsAs}
 use Rattle.clean_finish.specs.Shows.{Hand, brings_still, AreTaken, EndIs, WayIs}
 use Rattle.clean_finish.specs.Running.{Has, StageIs, IsSettledSoon, HasNotBegun, Half, Facing}
 use Rattle.clean_finish.proofs.Opened.{waiting_on, before_waiting, stage_waits}
@@ -42,11 +42,11 @@ module _ {s : Side} {keys : Keys} {k j : Setting} {c : Profile} {begun begun_bac
         -- the link after it
         (fs gs : List (Flight Carried)) (f : Flight Carried) (flies : FliesAs c keys s f x) (more : fs ≡ m.flying ++ f ∷ []) (same : gs ≡ n.flying)
         -- it stands where the others end
-        (acknowledges : AcknowledgesAs j.total x × ShowsFirst s x) (tells : TellsAs j.least s x.window x.telling x.brings) (low : x.low ≡ h.out.granted)
+        (acknowledges : AcknowledgesAs j.total x × ShowsFirst s x × BringsAs k.total x.low x.edge x.brings) (tells : TellsAs j.least s x.window x.telling x.brings) (low : x.low ≡ h.out.granted)
         (counts : CountsAs h.out.control_sent h.out.keys_sent x.control x.keys x.brings)
         (edge : m.end.tcp.recv.edge ≤ x.edge) (most : x.edge ≤ e.tcp.recv.edge)
         (control : x.control ≡ out_after.control_sent) (shown : x.keys ≡ out_after.keys_sent)
-        (other : WayIs c keys k (peer s) h.back.sender h.back.receiver h.back.datas h.out.acks hand e.tcp.send.una n.end.tcp.recv.edge n.flying)
+        (other : WayIs c keys k j (peer s) h.back.sender h.back.receiver h.back.datas h.out.acks hand e.tcp.send.una n.end.tcp.recv.edge n.flying)
         -- what is left to be done
         (room : out_after.granted + waiting ≤ h.out.written) (bytes : out_after.granted + waiting ≡ h.out.granted + h.waiting) (events : Has (duties.Step step_duties.Events) ds)
         (stages : StageIs s (peer s) ds n.end.treated.asked h.owes_back h.stage)
@@ -56,15 +56,15 @@ module _ {s : Side} {keys : Keys} {k j : Setting} {c : Profile} {begun begun_bac
         (begins_back : (1 ≤ h.back.control_sent) ⊎ HasNotBegun (peer s) k h.back.sender h.out.receiver n.end ds)
         (owed : owes ≡ true → brings_still hand ≡ false → tell ≡ true)
       where
-        pub way_after : WayIs c keys j s out_after.sender out_after.receiver out_after.datas back_after.acks h.hand_back n.end.tcp.send.una e.tcp.recv.edge fs
-        way_after = subst (λ (flying : List (Flight Carried)). WayIs c keys j s out_after.sender out_after.receiver out_after.datas
+        pub way_after : WayIs c keys j k s out_after.sender out_after.receiver out_after.datas back_after.acks h.hand_back n.end.tcp.send.una e.tcp.recv.edge fs
+        way_after = subst (λ (flying : List (Flight Carried)). WayIs c keys j k s out_after.sender out_after.receiver out_after.datas
             back_after.acks h.hand_back n.end.tcp.send.una e.tcp.recv.edge flying) (sym more)
-            (way_more c keys j s h.out.sender out_after.sender h.out.receiver h.hand_back n.end.tcp.send.una m.end.tcp.recv.edge
+            (way_more c keys j k s h.out.sender out_after.sender h.out.receiver h.hand_back n.end.tcp.send.una m.end.tcp.recv.edge
             e.tcp.recv.edge f x h.out.datas h.back.acks m.flying h.way flies acknowledges tells low counts edge most refl control shown)
 
-        pub way_back_after : WayIs c keys k (peer s) h.back.sender back_after.receiver h.back.datas out_after.acks hand e.tcp.send.una
+        pub way_back_after : WayIs c keys k j (peer s) h.back.sender back_after.receiver h.back.datas out_after.acks hand e.tcp.send.una
             n.end.tcp.recv.edge gs
-        way_back_after = subst (λ (flying : List (Flight Carried)). WayIs c keys k (peer s) h.back.sender back_after.receiver h.back.datas out_after.acks
+        way_back_after = subst (λ (flying : List (Flight Carried)). WayIs c keys k j (peer s) h.back.sender back_after.receiver h.back.datas out_after.acks
             hand e.tcp.send.una n.end.tcp.recv.edge flying) (sym same) record {
               sent = other.sent;
               flights = other.flights;
@@ -124,6 +124,8 @@ module _ {s : Side} {keys : Keys} {k j : Setting} {c : Profile} {begun begun_bac
               taken = subst (λ (n : ℕ). AreTaken n m.send.marks) (sym bytes) h.apps.book.taken;
             };
             room = room;
+            whole = h.apps.whole;
+            fin = h.apps.fin;
           };
           apps_back = record {
             writes = record {
@@ -148,6 +150,8 @@ module _ {s : Side} {keys : Keys} {k j : Setting} {c : Profile} {begun begun_bac
               taken = h.apps_back.book.taken;
             };
             room = h.apps_back.room;
+            whole = h.apps_back.whole;
+            fin = h.apps_back.fin;
           };
           stages = stage_waits s (peer s) ds n.end.treated.asked h.owes_back h.stage events stages;
           stages_back = stages_back;

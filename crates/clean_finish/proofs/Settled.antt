@@ -292,6 +292,7 @@ module _ {s : Side} {keys : Keys} {k j : Setting} {c : Profile} {begun begun_bac
               bytes = h.own.subflow.ahead.bytes;
               opened = h.own.subflow.ahead.opened;
               finished = h.own.subflow.ahead.finished;
+              seen = h.own.subflow.ahead.seen;
             };
             congestion = record {
               window = h.own.subflow.congestion.window;
@@ -308,6 +309,7 @@ module _ {s : Side} {keys : Keys} {k j : Setting} {c : Profile} {begun begun_bac
               most = h.own.subflow.heard.most;
               end = h.own.subflow.heard.end;
               few = h.own.subflow.heard.few;
+              some = h.own.subflow.heard.some;
             };
             quiet = h.own.subflow.quiet;
             begun = h.own.subflow.begun;
@@ -324,6 +326,7 @@ module _ {s : Side} {keys : Keys} {k j : Setting} {c : Profile} {begun begun_bac
             shut = h.own.sending.shut;
             granted = All-weaker (IsGranted h.out.sender h.waiting) (IsGranted out_after.sender h.waiting)
                 (λ span is. record { waits = is.waits; within = is.within }) m.end.sending.granted h.own.sending.granted;
+            spans = h.own.sending.spans;
             bytes = h.own.sending.bytes;
             end = h.own.sending.end;
             acked_end = h.own.sending.acked_end;
@@ -415,6 +418,8 @@ module _ {s : Side} {keys : Keys} {k j : Setting} {c : Profile} {begun begun_bac
               taken = h.apps.book.taken;
             };
             room = h.apps.room;
+            whole = h.apps.whole;
+            fin = h.apps.fin;
           };
           apps_back = h.apps_back;
           stages = stage_drops s (peer s) (duties.Silent (silent_duties.Timer s)) ds n.end.treated.asked h.owes_back h.stage others h.stages;

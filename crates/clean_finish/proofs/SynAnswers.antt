@@ -110,6 +110,9 @@ module _ (start : Start) (plan : PathPlan) (k j : Setting) (s v : Lane) (t0 u0 :
                   edge = t.0.edge;
                   seen = t.0.seen;
                   idle = t.0.idle;
+                  mapped = t.0.mapped;
+                  full = t.0.full;
+                  least = λ e. told_more h.back.edge t.0.full;
                   owes = t.0.owes;
                   came = t.0.came;
                   unsent = t.0.unsent;
@@ -121,6 +124,9 @@ module _ (start : Start) (plan : PathPlan) (k j : Setting) (s v : Lane) (t0 u0 :
               );
             }
           where
+            told_more : {low told : ℕ} (edge : ℕ) → low ≤ told → low ≤ max edge told
+            told_more edge less = omega (arith, less)
+
             none_future : (n : ℕ) → nat_lt n 0 ≡ false
             none_future n = le-ltb n 0 (omega arith)
 
@@ -213,6 +219,8 @@ module _ (start : Start) (plan : PathPlan) (k j : Setting) (s v : Lane) (t0 u0 :
                 record {
                   none = refl;
                   idle = record { places = t.0.idle.places; incoming = t.0.idle.incoming; fin = t.0.idle.fin };
+                  mapped = t.0.mapped;
+                  least = λ is some. t.0.least refl;
                   owes = t.0.owes;
                   answered = one_sent back.out.control_sent t.0.came;
                   ready = λ is. absurd (not_a is);

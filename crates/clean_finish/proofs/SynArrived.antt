@@ -52,7 +52,7 @@ module _ {keys : Keys} {k j : Setting} {c : Profile} {begun begun_back : Lane} {
     (none : h.hand ≡ None) (none_came : h.back.control_came ≡ 0)
     (low : m.end.tcp.send.una ≡ 0) (listens : m.end.tcp.state ≡ Listen) (unsent : h.out.control_sent ≡ 0) (unrowed : h.out.row ≡ 0)
     (tick window edge : ℕ) (f : Flight Carried) (fs : List (Flight Carried)) (xs : List Sent)
-    (w : WayIs c keys k A h.back.sender h.back.receiver h.back.datas h.out.acks None m.end.tcp.send.una n.end.tcp.recv.edge (f ∷ fs))
+    (w : WayIs c keys k j A h.back.sender h.back.receiver h.back.datas h.out.acks None m.end.tcp.send.una n.end.tcp.recv.edge (f ∷ fs))
     (sent : w.sent ≡ syn_at tick h.back.received window edge k.least ∷ xs) (turn : h.stage_back.wait ≡ true)
     (told : List KeptMapping) (answer : Outgoing)
   where
@@ -183,9 +183,9 @@ module _ {keys : Keys} {k j : Setting} {c : Profile} {begun begun_back : Lane} {
     came_same {now} {book} is =
         subst (λ (y : ℕ). ReaderIs j h.back.read y h.back.got h.back.told_end now book) (sym (max_none h.back.data_fin_came)) is
 
-    pub way_after : WayIs c keys k A h.back.sender back_after.receiver back_after.datas h.out.acks hand_after m.end.tcp.send.una n.end.tcp.recv.edge fs
-    way_after = way_brought c keys k A h.back.sender h.back.receiver h.back.datas h.out.acks m.end.tcp.send.una n.end.tcp.recv.edge true fs x
-        back_after.receiver (way_arrives c keys k A h.back.sender h.back.receiver h.back.datas h.out.acks m.end.tcp.send.una n.end.tcp.recv.edge
+    pub way_after : WayIs c keys k j A h.back.sender back_after.receiver back_after.datas h.out.acks hand_after m.end.tcp.send.una n.end.tcp.recv.edge fs
+    way_after = way_brought c keys k j A h.back.sender h.back.receiver h.back.datas h.out.acks m.end.tcp.send.una n.end.tcp.recv.edge true fs x
+        back_after.receiver (way_arrives c keys k j A h.back.sender h.back.receiver h.back.datas h.out.acks m.end.tcp.send.una n.end.tcp.recv.edge
         m.end.tcp.send.una f fs x xs w sent (zero_low edge low)) refl (came_one none_came)
         (keys_low (h.own.modes.both refl).1 (h.own.subflow.quiet (ap is_connected listens)).1)
 
@@ -235,6 +235,8 @@ module _ {keys : Keys} {k j : Setting} {c : Profile} {begun begun_back : Lane} {
           taken = h.apps_back.book.taken;
         };
         room = h.apps_back.room;
+        whole = h.apps_back.whole;
+        fin = h.apps_back.fin;
       };
       stages = stages_after;
       stages_back = stages_back_after;

@@ -36,6 +36,7 @@ use Rattle.clean_finish.proofs.Quiet.{now_out}
 use Rattle.clean_finish.proofs.SynArrived.{syn_arrived}
 use Rattle.clean_finish.proofs.SynHeard.{syn_at}
 use Rattle.clean_finish.proofs.Turned.{from_b}
+use Rattle.std.proofs.lemmas.Bool.{both_ways}
 
 -- before the SYN comes B listens
 listens : (came una : ℕ) (finished : Bool) (state : State) → IsPhase B came una finished state → came ≡ 0 → (una ≡ 0) × (state ≡ Listen)
@@ -156,6 +157,12 @@ module _ (start : Start) (plan : PathPlan) (k j : Setting) (s v : Lane) (t0 u0 :
             least : min 65535 x.window ≡ j.least
             least = (subst (λ (y : Brings). TellsAs j.least A x.window x.telling y) brings follow.tells).4
 
+            full_told : min 65535 p.profile.buffer ≤ j.least
+            full_told = at_most j_is.least j_is.buffer
+              where
+                at_most : {low own buffer : ℕ} → low ≡ min 65535 buffer → own ≡ buffer → min 65535 own ≤ low
+                at_most is same = omega (arith, is, same)
+
             meaning : meaning_of (copy_of (meant (said p.profile keys A x))) p.b.tcp ≡ means.Opens
             meaning = subst (λ (y : Sent). meaning_of (copy_of (meant (said p.profile keys A y))) p.b.tcp ≡ means.Opens) (sym shape)
                 (listening_opens _ p.b.tcp state.1 refl)
@@ -168,7 +175,7 @@ module _ (start : Start) (plan : PathPlan) (k j : Setting) (s v : Lane) (t0 u0 :
                 (syn_arrived face h.treats.0.1.none none state.0 state.1 unsent (unrowed plan.delay u0 t0 j_is k_is going_back going face none)
                 x.at x.window x.edge (copy start plan k j s v t0 u0 going going_back a b books p f others k_is j_is) (going_to B others)
                 (first start plan k j s v t0 u0 going going_back a b books p f others k_is j_is h early).xs
-                (way_none p.profile keys j A face.back.sender face.back.receiver face.back.datas face.out.acks p.b.tcp.send.una p.a.tcp.recv.edge h.hand_back
+                (way_none p.profile keys j k A face.back.sender face.back.receiver face.back.datas face.out.acks p.b.tcp.send.una p.a.tcp.recv.edge h.hand_back
                 h.treats.0.1.none (copy start plan k j s v t0 u0 going going_back a b books p f others k_is j_is ∷ going_to B others) face.way_back)
                 ((first start plan k j s v t0 u0 going going_back a b books p f others k_is j_is h early).is
                 ∙ ap (λ (y : Sent). y ∷ (first start plan k j s v t0 u0 going going_back a b books p f others k_is j_is h early).xs) shape)
@@ -193,6 +200,9 @@ module _ (start : Start) (plan : PathPlan) (k j : Setting) (s v : Lane) (t0 u0 :
                       edge = sym least;
                       seen = refl;
                       idle = idle_on h.treats.0.1.idle none (came_one none) refl refl;
+                      mapped = record { live = h.treats.0.1.mapped.live; tail = h.treats.0.1.mapped.tail; beyond = h.treats.0.1.mapped.beyond; no_fin = h.treats.0.1.mapped.no_fin; forgotten = h.treats.0.1.mapped.forgotten };
+                      full = full_told;
+                      least = λ e. absurd (both_ways true e refl);
                       owes = h.treats.0.1.owes;
                       came = came_one none;
                       unsent = unsent;

@@ -151,6 +151,8 @@ module _ (start : Start) (plan : PathPlan) (k j : Setting) (s v : Lane) (t0 u0 :
                 record {
                   none = t.0.0.none;
                   idle = record { places = t.0.0.idle.places; incoming = t.0.0.idle.incoming; fin = t.0.0.idle.fin };
+                  mapped = t.0.0.mapped;
+                  least = t.0.0.least;
                   owes = t.0.0.owes;
                   answered = up t.0.0.answered;
                   ready = t.0.0.ready;

@@ -114,6 +114,7 @@ module _ {keys : Keys} {k j : Setting} {c : Profile} {begun begun_back : Lane} {
           bytes = h.own.subflow.ahead.bytes;
           opened = h.own.subflow.ahead.opened;
           finished = h.own.subflow.ahead.finished;
+          seen = h.own.subflow.ahead.seen;
         };
         congestion = record {
           window = h.own.subflow.congestion.window;
@@ -122,7 +123,7 @@ module _ {keys : Keys} {k j : Setting} {c : Profile} {begun begun_back : Lane} {
           row = row_on (repeats h.out.heard (copy_in x)) (subst (λ (o : Option Hand). m.end.tcp.congestion.duplicates ≤ row_seen h.out.sender o) none h.own.subflow.congestion.row) unrowed;
         };
         come = record { edge = edge_on h.own.subflow.come.edge at none_came; window = h.own.subflow.come.window };
-        heard = record { told = tt; most = una_low k.total low; end = λ e. absurd (omega (arith, e)); few = omega arith };
+        heard = record { told = tt; most = una_low k.total low; end = λ e. absurd (omega (arith, e)); few = omega arith; some = λ some_una. absurd (none_acked some_una low) };
         quiet = λ e. (
           sum_is at (h.own.subflow.quiet (ap is_connected listens)).0,
           (h.own.subflow.quiet (ap is_connected listens)).1,
@@ -142,6 +143,7 @@ module _ {keys : Keys} {k j : Setting} {c : Profile} {begun begun_back : Lane} {
         came = max_none h.back.data_fin_came ∙ h.own.sending.came;
         shut = h.own.sending.shut;
         granted = h.own.sending.granted;
+        spans = h.own.sending.spans;
         bytes = h.own.sending.bytes;
         end = h.own.sending.end;
         acked_end = h.own.sending.acked_end;

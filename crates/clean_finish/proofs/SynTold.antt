@@ -1,5 +1,5 @@
 -- What a SYN tells is heard: a window, and whether it acknowledges the own SYN.
-use Rattle.std.proofs.Common.{◌≡◌, sym, subst, ap, ◌∙◌, ℕ, ◌-◌, ◌<◌, ◌≤◌, min, max, nat_lt, Bool, true, false, cond, Option, None, List, ◌∷◌, arith}
+use Rattle.std.proofs.Common.{◌≡◌, sym, subst, ap, ◌∙◌, ℕ, ◌+◌, ◌-◌, ◌<◌, ◌≤◌, min, max, nat_lt, Bool, true, false, cond, Option, None, List, ◌∷◌, arith}
 use Rattle.std.proofs.lemmas.Bool.{le-ltb}
 use Rattle.std.proofs.lemmas.List.Elements.{All-weaker}
 use Rattle.outside_kit.specs.declared.side.Side.{Side}
@@ -8,7 +8,7 @@ use Rattle.path_agenda.specs.declared.duty.Duty.{Duty}
 use Rattle.path_core.specs.State.{Profile}
 use Rattle.pace.specs.Lane.{Setting, Lane}
 use Rattle.clean_finish.specs.Segments.{Sent, Keys}
-use Rattle.clean_finish.specs.Shows.{Hand, EndIs, HeardIs, IsGranted, Waits, last_told, row_seen, brings_still}
+use Rattle.clean_finish.specs.Shows.{Hand, EndIs, HeardIs, IsGranted, Waits, last_told, row_seen, brings_still, AreSpans}
 use Rattle.clean_finish.specs.Shows.Waits.{WaitsSyn, WaitsNone, WaitsBytes}
 use Rattle.clean_finish.specs.Running.{Half, Facing}
 use Rattle.clean_finish.proofs.Acknowledged.{out_after as acknowledged}
@@ -38,6 +38,9 @@ module _ {s : Side} {keys : Keys} {k j : Setting} {c : Profile} {begun begun_bac
       where
         none : {y z : ℕ} → z ≡ 0 → z ≤ y
         none is = omega (arith, is)
+
+    told_seen : (a b : ℕ) → b ≤ max a b
+    told_seen a b = omega arith
 
     opened_on : {seen una : ℕ} (ca : ℕ) → seen ≤ 1 → seen ≤ una → min 1 ca ≤ una → min 1 (max ca seen) ≤ una
     opened_on ca a b e = omega (arith, a, b, e)
@@ -75,6 +78,7 @@ module _ {s : Side} {keys : Keys} {k j : Setting} {c : Profile} {begun begun_bac
           bytes = subst (λ (n : ℕ). min n k.total ≤ m.end.tcp.send.una - 1) (sym same_acked) h.own.subflow.ahead.bytes;
           opened = opened_on h.out.control_acked few low h.own.subflow.ahead.opened;
           finished = λ e. h.own.subflow.ahead.finished (two_before few e);
+          seen = told_seen h.out.control_acked x.telling.seen;
         };
         congestion = record {
           window = h.own.subflow.congestion.window;
@@ -102,6 +106,7 @@ module _ {s : Side} {keys : Keys} {k j : Setting} {c : Profile} {begun begun_bac
         shut = h.own.sending.shut;
         granted = All-weaker (IsGranted h.out.sender h.waiting) (IsGranted out_after.sender h.waiting)
             (λ span is. record { waits = subst (λ (n : ℕ). n < span.to) (sym same_acked) is.waits; within = is.within }) m.end.sending.granted h.own.sending.granted;
+        spans = subst (λ (n : ℕ). AreSpans n (h.out.granted + h.waiting) m.end.sending.granted) (sym same_acked) h.own.sending.spans;
         bytes = h.own.sending.bytes;
         end = subst (λ (n : ℕ). h.out.data_fin_sent ≤ n) (sym same_clear) h.own.sending.end;
         acked_end = λ more. h.own.sending.acked_end (subst (λ (n : ℕ). k.total < n) same_acked more);

@@ -35,6 +35,7 @@ use Rattle.clean_finish.specs.Shows.IsToldEdge.{Same, Before}
 use Rattle.clean_finish.specs.Running.{Half, Facing}
 use Rattle.clean_finish.proofs.CopyHeeded.{Heeds}
 use Rattle.clean_finish.proofs.Hands.{in_hand}
+use Rattle.clean_finish.proofs.Spans.{spans_for}
 
 -- the timer rests where something new is acknowledged
 abbrev pub rested_if : Bool → Lane → Lane
@@ -86,7 +87,7 @@ module _ {s : Side} {keys : Keys} {k j : Setting} {c : Profile} {begun begun_bac
 
     module _ (y : EndState) (heed : Heeds k h.out.sender out_after.sender x held y) (none : h.hand ≡ None) (unowed : h.owes ≡ false)
         (came : 1 ≤ h.back.control_came) (waiting : h.waiting ≡ 0) (some : 1 ≤ x.edge) (low : m.end.tcp.send.una ≤ x.edge) (high : x.edge ≤ m.end.tcp.send.nxt)
-        (acknowledges : AcknowledgesAs k.total x) (seen : x.telling.seen ≤ 2)
+        (acknowledges : AcknowledgesAs k.total x) (seen : x.telling.seen ≤ 2) (tells_some : 1 ≤ x.telling.seen)
         (tells : IfSome (place_in_first items)
         (λ n. (x.telling.next ≡ n) × (x.telling.edge ≡ n + copy.window) × (1 ≤ x.telling.seen) × (x.telling.dss ≡ dss_from (peer s))))
       where
@@ -166,6 +167,7 @@ module _ {s : Side} {keys : Keys} {k j : Setting} {c : Profile} {begun begun_bac
               bytes = subst (λ (n : ℕ). min h.out.acked k.total ≤ n - 1) (sym heed.una) (bytes_on h.own.subflow.ahead.bytes low);
               opened = subst (λ (n : ℕ). min 1 h.out.control_acked ≤ n) (sym heed.una) (up h.own.subflow.ahead.opened low);
               finished = λ e. heed.una ∙ (between low high (h.own.subflow.ahead.finished e) ∙ sym heed.next);
+              seen = h.own.subflow.ahead.seen;
             };
             congestion = record { window = heed.window; most = heed.most; steady = heed.steady; row = heed.row };
             come = record {
@@ -177,6 +179,7 @@ module _ {s : Side} {keys : Keys} {k j : Setting} {c : Profile} {begun begun_bac
               most = subst (λ (n : ℕ). n ≤ 1 + k.total + (x.telling.seen - 1)) (sym heed.una) acknowledges.most;
               end = λ e. subst (λ (n : ℕ). k.total + 2 ≤ n) (sym heed.una) (acknowledges.end e);
               few = seen;
+              some = λ e. tells_some;
             };
             quiet = λ e. absurd (both_ways _ e heed.stands.connected);
             begun = h.own.subflow.begun;
@@ -193,6 +196,7 @@ module _ {s : Side} {keys : Keys} {k j : Setting} {c : Profile} {begun begun_bac
             shut = (λ e. h.own.sending.shut.0 waiting, λ some. absurd (omega (arith, some)));
             granted = All-weaker (IsGranted h.out.sender h.waiting) (IsGranted out_after.sender 0)
                 (λ span is. record { waits = is.waits; within = within h.out.granted waiting is.within }) m.end.sending.granted h.own.sending.granted;
+            spans = spans_for m.end.sending.granted h.out.acked h.out.granted h.waiting h.out.granted refl waiting h.own.sending.spans;
             bytes = λ one. h.own.sending.bytes (bytes_some h.out.granted waiting one);
             end = h.own.sending.end;
             acked_end = h.own.sending.acked_end;

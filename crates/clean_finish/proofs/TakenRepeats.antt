@@ -17,7 +17,7 @@ use Rattle.path_core.specs.Arriving.{items_of, is_mapping}
 use Rattle.path_core.specs.State.{Profile}
 use Rattle.pace.specs.Lane.{Telling, Sender}
 use Rattle.pace.specs.Rules.{is_same}
-use Rattle.clean_finish.specs.Segments.{Sent, Keys, Brings, is_opening, is_solid, is_subflow_end, octets_of, dss_from, said, TellsAs}
+use Rattle.clean_finish.specs.Segments.{Sent, Keys, Brings, shows_keys, is_opening, is_solid, is_subflow_end, octets_of, dss_from, said, TellsAs}
 use Rattle.clean_finish.specs.Segments.Brings.{OpensSubflow, ShowsKeys, FirstPiece, Piece, Acknowledges, EndsStream, EndsSubflow}
 use Rattle.clean_finish.proofs.CopyHeeded.{Repeated}
 
@@ -35,12 +35,6 @@ not_solid (Piece octets) e f = rw (empty_nil octets e) refl
 not_solid Acknowledges e f = refl
 not_solid (EndsStream place) e f = refl
 not_solid EndsSubflow e f = absurd (both_ways false refl f)
-
--- without a Data ACK it shows the keys
-abbrev pub shows_keys : Brings → Bool
-shows_keys ShowsKeys = true
-shows_keys (FirstPiece octets) = true
-shows_keys _ = false
 
 -- ---- what it tells, where it has a Data ACK
 

@@ -231,9 +231,9 @@ module _ {keys : Keys} {k j : Setting} {c : Profile} {begun begun_back : Lane} {
         pub heard : HeardIs A k.total (last_told h.out.heard None) m.end.tcp
         heard = subst (λ (o : Option Hand). HeardIs A k.total (last_told h.out.heard o) m.end.tcp) hand h.own.subflow.heard
 
-        pub done : WayIs c keys k B h.back.sender h.back.receiver h.back.datas h.out.acks None m.end.tcp.send.una n.end.tcp.recv.edge n.flying
-        done = way_done c keys k B h.back.sender h.back.receiver h.back.datas h.out.acks m.end.tcp.send.una n.end.tcp.recv.edge n.flying x
-            (subst (λ (o : Option Hand). WayIs c keys k B h.back.sender h.back.receiver h.back.datas h.out.acks o m.end.tcp.send.una
+        pub done : WayIs c keys k j B h.back.sender h.back.receiver h.back.datas h.out.acks None m.end.tcp.send.una n.end.tcp.recv.edge n.flying
+        done = way_done c keys k j B h.back.sender h.back.receiver h.back.datas h.out.acks m.end.tcp.send.una n.end.tcp.recv.edge n.flying x
+            (subst (λ (o : Option Hand). WayIs c keys k j B h.back.sender h.back.receiver h.back.datas h.out.acks o m.end.tcp.send.una
             n.end.tcp.recv.edge n.flying) hand h.way_back)
 
         pub others : IsApart A B (duties.Send (send_duties.Acknowledge A))
@@ -255,7 +255,7 @@ module _ {keys : Keys} {k j : Setting} {c : Profile} {begun begun_back : Lane} {
             (own_said h third h.out.shut None (ap brings_still hand) nothing_waits (some_sent sent_one) refl refl refl refl (one_control sent_one) (one_key unshown ready)
             (Before refl (inl received) refl full_told) (under j.least) (λ is clear. (received, data_fin, λ one. full_told)) row heard)
             fs gs f flies more same
-            (record { some = some_edge edge_one; bytes = omega arith; most = most_edge j.total edge_one; end = λ e. absurd (omega (arith, e)) }, λ is e. omega arith)
+            (record { some = some_edge edge_one; bytes = omega arith; most = most_edge j.total edge_one; end = λ e. absurd (omega (arith, e)) }, λ is e. omega arith, edge_one)
             (refl, refl, refl, refl) refl (sent_one, refl, unshown, refl) (le_refl m.end.tcp.recv.edge) (le_refl m.end.tcp.recv.edge)
             (one_again sent_one) (key_is unshown) done (room lane.numbers.granted) (same_bytes h.out.granted nothing_waits) events
             (stage_drops A B (duties.Send (send_duties.Acknowledge A)) ds n.end.treated.asked h.owes_back h.stage others h.stages)
@@ -320,6 +320,8 @@ module _ (start : Start) (plan : PathPlan) (k j : Setting) (s v : Lane) (t0 u0 :
                 record {
                   none = refl;
                   idle = record { places = t.0.idle.places; incoming = t.0.idle.incoming; fin = t.0.idle.fin };
+                  mapped = t.0.mapped;
+                  least = λ is. cc;
                   owes = refl;
                   answered = answered h.out.control_sent t.0.came;
                   ready = λ is. one_ready h.back.control_came t.0.ready;

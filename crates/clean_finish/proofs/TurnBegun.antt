@@ -61,6 +61,8 @@ module _ (start : Start) (plan : PathPlan) (k j : Setting) (s v : Lane) (t0 u0 :
               treats = plain_on keys (own_bench faces) (other_bench faces) ds (
                 record {
                   none = t.0.0.none;
+                  mapped = t.0.0.mapped;
+                  least = t.0.0.least;
                   idle = record {
                     places = t.0.0.idle.places;
                     incoming = t.0.0.idle.incoming;
@@ -96,6 +98,8 @@ module _ (start : Start) (plan : PathPlan) (k j : Setting) (s v : Lane) (t0 u0 :
                 t.0.0,
                 record {
                   none = t.0.1.none;
+                  mapped = t.0.1.mapped;
+                  least = t.0.1.least;
                   idle = record {
                     places = t.0.1.idle.places;
                     incoming = t.0.1.idle.incoming;
@@ -127,6 +131,8 @@ module _ (start : Start) (plan : PathPlan) (k j : Setting) (s v : Lane) (t0 u0 :
               treats = plain_on keys (own_bench faces) (other_bench faces) ds (
                 record {
                   none = t.0.0.none;
+                  mapped = t.0.0.mapped;
+                  least = t.0.0.least;
                   idle = record {
                     places = t.0.0.idle.places;
                     incoming = t.0.0.idle.incoming;
@@ -160,6 +166,8 @@ module _ (start : Start) (plan : PathPlan) (k j : Setting) (s v : Lane) (t0 u0 :
                 t.0.0,
                 record {
                   none = t.0.1.none;
+                  mapped = t.0.1.mapped;
+                  least = t.0.1.least;
                   idle = record {
                     places = t.0.1.idle.places;
                     incoming = t.0.1.idle.incoming;

@@ -341,10 +341,10 @@ module _ {s : Side} {keys : Keys} {k j : Setting} {c : Profile} {begun begun_bac
                 (own_said h update h.out.shut None (ap brings_still none) nothing_waits sent_some refl refl refl refl same_control
                 (subst (λ (x : ℕ). x ≤ pick s h.out.ready 0) (sym same_keys) h.own.modes.shown) (Same refl) least_told
                 (λ is zero_is. absurd (clear_some zero_is)) row heard)
-                fs gs f flies more same (acks, λ is e. shows_some is)
+                fs gs f flies more same (acks, λ is e. shows_some is, tt)
                 (refl, came, refl) refl (sent_some, refl, refl) (le_refl m.end.tcp.recv.edge) (le_refl m.end.tcp.recv.edge)
                 (sym same_control) (sym same_keys)
-                (way_none c keys k (peer s) h.back.sender h.back.receiver h.back.datas h.out.acks m.end.tcp.send.una n.end.tcp.recv.edge h.hand none n.flying h.way_back)
+                (way_none c keys k j (peer s) h.back.sender h.back.receiver h.back.datas h.out.acks m.end.tcp.send.una n.end.tcp.recv.edge h.hand none n.flying h.way_back)
                 (room lane.numbers.granted) (same_bytes h.out.granted nothing_waits) events
                 (stage_drops s (peer s) (duties.Send (send_duties.Update s)) ds n.end.treated.asked h.owes_back h.stage others h.stages)
                 (updated_drops (peer s) s h.stages_back events)

@@ -88,10 +88,10 @@ copies_late c keys from until (f ∷ fs) (x ∷ xs) fly all = subst (λ (n : ℕ
 copies_late c keys from until [] (x ∷ xs) fly all = absurd fly
 copies_late c keys from until (f ∷ fs) [] fly all = absurd fly
 
-way_late : (c : Profile) (keys : Keys) (j : Setting) (from : Side) (out : Sender) (other : Receiver) (datas acks : List Copy) (hand : Option Hand)
-    (una edge until : ℕ) (flying : List (Flight Carried)) → WayIs c keys j from out other datas acks hand una edge flying → hand ≡ None
+way_late : (c : Profile) (keys : Keys) (j k : Setting) (from : Side) (out : Sender) (other : Receiver) (datas acks : List Copy) (hand : Option Hand)
+    (una edge until : ℕ) (flying : List (Flight Carried)) → WayIs c keys j k from out other datas acks hand una edge flying → hand ≡ None
     → AreLate until flying → (until ≤ first_at until datas) × (until ≤ first_at until acks)
-way_late c keys j from out other datas acks hand una edge until flying w none all = (
+way_late c keys j k from out other datas acks hand una edge until flying w none all = (
   subst (λ (xs : List Copy). until ≤ first_at until xs)
       (sym (w.datas_are ∙ ap (λ (o : Option Hand). map copy_in (brings_in o ++ w.sent)) none))
       (copies_late c keys from until flying w.sent w.flights all),
@@ -175,9 +175,9 @@ module _ (start : Start) (plan : PathPlan) (k j : Setting) (s v : Lane) (a b : A
     passes_events none h =
         let t = h.treats in
         let late_ones = all_late h none in
-        let there = way_late p.profile keys j A h.out.sender h.out.receiver h.out.datas h.back.acks h.hand_back p.b.tcp.send.una
+        let there = way_late p.profile keys j k A h.out.sender h.out.receiver h.out.datas h.back.acks h.hand_back p.b.tcp.send.una
         p.a.tcp.recv.edge p.until (going_to B p.link.under_way) h.way t.0.1.none (some_late p.until B p.link.under_way late_ones) in
-        let here = way_late p.profile keys k B h.back.sender h.back.receiver h.back.datas h.out.acks h.hand p.a.tcp.send.una
+        let here = way_late p.profile keys k j B h.back.sender h.back.receiver h.back.datas h.out.acks h.hand p.a.tcp.send.una
         p.b.tcp.recv.edge p.until (going_to A p.link.under_way) h.way_back t.0.0.none (some_late p.until A p.link.under_way late_ones) in
         record {
           path = h.path;

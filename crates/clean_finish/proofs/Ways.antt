@@ -5,7 +5,7 @@ use Rattle.link_model.specs.declared.flight.Flight.{Flight}
 use Rattle.path_core.specs.State.{Profile}
 use Rattle.path_core.specs.Values.{Carried}
 use Rattle.pace.specs.Lane.{Setting, Copy, Sender, Receiver}
-use Rattle.clean_finish.specs.Segments.{Sent, Keys, copy_in, octets_of, FliesAs, FlyAs, CountsAs, TellsAs, AcknowledgesAs, ShowsFirst, Follow, Rise, edge_after, low_after, control_after, keys_after}
+use Rattle.clean_finish.specs.Segments.{Sent, Keys, copy_in, octets_of, FliesAs, FlyAs, CountsAs, TellsAs, AcknowledgesAs, ShowsFirst, BringsAs, Follow, Rise, edge_after, low_after, control_after, keys_after}
 use Rattle.clean_finish.specs.Shows.{Hand, brings_in, tells_in, WayIs}
 
 pub flies_more : (c : Profile) (keys : Keys) (from : Side) (f : Flight Carried) (x : Sent) → FliesAs c keys from f x
@@ -16,13 +16,13 @@ flies_more c keys from f x one [] (y ∷ ys) all = absurd all
 flies_more c keys from f x one (g ∷ fs) [] all = absurd all
 
 -- it follows where the others end
-pub follow_more : (least total : ℕ) (s : Side) (x : Sent) → AcknowledgesAs total x × ShowsFirst s x → TellsAs least s x.window x.telling x.brings
+pub follow_more : (least total own : ℕ) (s : Side) (x : Sent) → AcknowledgesAs total x × ShowsFirst s x × BringsAs own x.low x.edge x.brings → TellsAs least s x.window x.telling x.brings
     → (low control keys : ℕ) (xs : List Sent) → x.low ≡ low_after low xs
     → CountsAs (control_after control xs) (keys_after keys xs) x.control x.keys x.brings
-    → Follow least total s low control keys xs → Follow least total s low control keys (xs ++ x ∷ [])
-follow_more least total s x acks tells low control keys [] at counts all = (at, counts, tells, acks, tt)
-follow_more least total s x acks tells low control keys (y ∷ ys) at counts all =
-    (all.0, all.1, all.2, all.3, follow_more least total s x acks tells (low + length (octets_of y.brings)) y.control y.keys ys at counts all.4)
+    → Follow least total own s low control keys xs → Follow least total own s low control keys (xs ++ x ∷ [])
+follow_more least total own s x acks tells low control keys [] at counts all = (at, counts, tells, acks, tt)
+follow_more least total own s x acks tells low control keys (y ∷ ys) at counts all =
+    (all.0, all.1, all.2, all.3, follow_more least total own s x acks tells (low + length (octets_of y.brings)) y.control y.keys ys at counts all.4)
 
 pub low_more : (x : Sent) (low : ℕ) (xs : List Sent) → low_after low (xs ++ x ∷ []) ≡ low_after low xs + length (octets_of x.brings)
 low_more x low [] = refl
@@ -53,7 +53,7 @@ end_assoc [] ys z = refl
 end_assoc (x ∷ xs) ys z = ap (λ (zs : List _). x ∷ zs) (end_assoc xs ys z)
 
 -- a segment more is sent
-module _ (c : Profile) (keys : Keys) (j : Setting) (from : Side) (out later : Sender) (other : Receiver) (hand : Option Hand) (una edge now : ℕ)
+module _ (c : Profile) (keys : Keys) (j k : Setting) (from : Side) (out later : Sender) (other : Receiver) (hand : Option Hand) (una edge now : ℕ)
     (f : Flight Carried) (x : Sent)
   where
     copies_more : (front sent : List Sent) (copies : List Copy) → copies ≡ map copy_in (front ++ sent)
@@ -62,11 +62,11 @@ module _ (c : Profile) (keys : Keys) (j : Setting) (from : Side) (out later : Se
         ap (λ (cs : List Copy). cs ++ copy_in x ∷ []) is
         ∙ (sym (map_end copy_in (front ++ sent) x) ∙ ap (λ (ys : List Sent). map copy_in ys) (end_assoc front sent x))
 
-    pub way_more : (datas acks : List Copy) (flying : List (Flight Carried)) → WayIs c keys j from out other datas acks hand una edge flying
-        → FliesAs c keys from f x → AcknowledgesAs j.total x × ShowsFirst from x → TellsAs j.least from x.window x.telling x.brings → x.low ≡ out.granted
+    pub way_more : (datas acks : List Copy) (flying : List (Flight Carried)) → WayIs c keys j k from out other datas acks hand una edge flying
+        → FliesAs c keys from f x → AcknowledgesAs j.total x × ShowsFirst from x × BringsAs k.total x.low x.edge x.brings → TellsAs j.least from x.window x.telling x.brings → x.low ≡ out.granted
         → CountsAs out.control_sent out.keys_sent x.control x.keys x.brings → edge ≤ x.edge → x.edge ≤ now
         → x.low + length (octets_of x.brings) ≡ later.granted → x.control ≡ later.control_sent → x.keys ≡ later.keys_sent
-        → WayIs c keys j from later other (datas ++ copy_in x ∷ []) (acks ++ copy_in x ∷ []) hand una now (flying ++ f ∷ [])
+        → WayIs c keys j k from later other (datas ++ copy_in x ∷ []) (acks ++ copy_in x ∷ []) hand una now (flying ++ f ∷ [])
     way_more datas acks flying h flies acknowledges tells at counts low high granted control shown =
         let front = brings_in hand in
         let assoc = end_assoc front h.sent x in
@@ -75,8 +75,8 @@ module _ (c : Profile) (keys : Keys) (j : Setting) (from : Side) (out later : Se
           flights = flies_more c keys from f x flies flying h.sent h.flights;
           datas_are = copies_more front h.sent datas h.datas_are;
           acks_are = copies_more (tells_in hand) h.sent acks h.acks_are;
-          follow = subst (λ (ys : List Sent). Follow j.least j.total from other.received other.control_came other.keys_came ys) assoc
-              (follow_more j.least j.total from x acknowledges tells other.received other.control_came other.keys_came (front ++ h.sent)
+          follow = subst (λ (ys : List Sent). Follow j.least j.total k.total from other.received other.control_came other.keys_came ys) assoc
+              (follow_more j.least j.total k.total from x acknowledges tells other.received other.control_came other.keys_came (front ++ h.sent)
               (at ∙ sym h.low)
               (subst (λ (n : ℕ). CountsAs n (keys_after other.keys_came (front ++ h.sent)) x.control x.keys x.brings) (sym h.control)
               (subst (λ (n : ℕ). CountsAs out.control_sent n x.control x.keys x.brings) (sym h.keys_shown) counts)) h.follow);

@@ -1,15 +1,17 @@
 -- The relation that a world of one clean path keeps with the two lanes at every moment of a round: both lanes came by moves
 -- from the round's start, and show in the path and the books.
-use Rattle.std.specs.Prelude.{ℕ, ◌≡◌, ◌+◌, ◌-◌, ◌*◌, ◌≤◌, ◌⊎◌, min, length, nat_lt, Bool, true, false, ◌||◌, Option, Some, None, List, [], ◌∷◌}
-use Rattle.std.specs.List.{list_any}
+use Rattle.std.specs.Prelude.{ℕ, zero, suc, ◌≡◌, ◌+◌, ◌-◌, ◌*◌, ◌≤◌, ◌⊎◌, min, length, nat_lt, if◌then◌else◌, not, Bool, true, false, ◌||◌, Option, Some, None, List, [], ◌∷◌, map, ◌<◌}
+use Rattle.std.specs.FinMap.{get as place_of}
+use Rattle.dss_mapping.specs.declared.kept.KeptMapping.{KeptMapping}
+use Rattle.dss_mapping.specs.Mappings.{Mappings}
 use Rattle.outside_kit.specs.declared.side.Side.{Side}
 use Rattle.outside_kit.specs.declared.side.Side.TheVariants.{A, B}
 use Rattle.link_script.specs.Places.{same_side}
-use Rattle.path_segments.specs.Laws.{meant}
+use Rattle.path_segments.specs.Laws.{window_told}
 use Rattle.send_book.specs.State.{Sending as SendBook}
 use Rattle.subflow_send.specs.Records.{Record}
-use Rattle.subflow_tcp.specs.Segments.{occupied}
-use Rattle.reassembly_book.specs.State.{Arriving as ArrivingBook}
+use Rattle.subflow_tcp.specs.Judging.{is_at}
+use Rattle.reassembly_book.specs.State.{Arriving as ArrivingBook, filled}
 use Rattle.link_model.specs.declared.flight.Flight.{Flight}
 use Rattle.link_model.specs.Laws.{going_to, WereSentBefore}
 use Rattle.link_model.specs.Order.{AreInOrder}
@@ -18,9 +20,11 @@ use Rattle.link_model.specs.Steps.{peer, next_number}
 use Rattle.control_book.specs.Control.{Control}
 use Rattle.actor_desk.specs.Books.{books_in}
 use Rattle.actor_desk.specs.Desk.{SixBooks, send_of, reassembly_of, control_of}
-use Rattle.actor_desk.specs.Words.{pick}
+use Rattle.actor_desk.specs.Words.{pick, is_nil}
 use Rattle.path_agenda.specs.Agenda.{emission, heard_and, payload_came}
-use Rattle.path_agenda.specs.Items.{key_heard, wants_ack}
+use Rattle.path_agenda.specs.declared.heard.Heard.{Heard}
+use Rattle.path_agenda.specs.declared.heard.Heard.TheVariants as says
+use Rattle.path_agenda.specs.Items.{key_heard}
 use Rattle.stream_apps.specs.declared.duty.AppDuty.{AppDuty}
 use Rattle.stream_apps.specs.declared.duty.AppDuty.TheVariants.{Write, Close, Read, End}
 use Rattle.stream_apps.specs.Apps.{AppState}
@@ -30,11 +34,13 @@ use Rattle.path_agenda.specs.declared.duty.AskDuty.TheVariants as ask_duties
 use Rattle.path_agenda.specs.declared.duty.SendDuty.TheVariants as send_duties
 use Rattle.path_agenda.specs.declared.duty.SilentDuty.TheVariants as silent_duties
 use Rattle.path_agenda.specs.declared.duty.StepDuty.TheVariants as step_duties
-use Rattle.path_core.specs.Arriving.{copy_of, items_of}
+use Rattle.path_core.specs.Deliver.{kept_of}
 use Rattle.path_core.specs.Starts.{PathStart}
 use Rattle.path_core.specs.Emission.{first_unsent}
 use Rattle.path_core.specs.Ends.{PathEnd}
-use Rattle.path_core.specs.OptionsOut.{mapping_of}
+use Rattle.path_core.specs.declared.mapped_data_fin.MappedDataFin.{MappedDataFin}
+use Rattle.path_core.specs.OptionsOut.{mapping_of, bare_mapping, checksum_in}
+use Rattle.path_core.specs.Words.{item_at}
 use Rattle.path_core.specs.State.{PathState, Profile, end_at}
 use Rattle.path_core.specs.Values.{Carried, values}
 use Rattle.world_laws.specs.Openings.{PathPlan, Start, path_begins, opened_world}
@@ -45,9 +51,9 @@ use Rattle.pace.specs.Laws.{HasRanges}
 use Rattle.pace.specs.Rounds.{Moves}
 use Rattle.clean_finish.specs.Books.{ReceiverIs}
 use Rattle.clean_finish.specs.Reading.{ReaderShows}
-use Rattle.clean_finish.specs.Segments.{Sent, Keys, is_opening, said}
-use Rattle.clean_finish.specs.Segments.Brings.{OpensSubflow, EndsSubflow}
-use Rattle.clean_finish.specs.Shows.{Hand, brings_still, IsIdle, EndIs, BookIs, ControlIs, WayIs}
+use Rattle.clean_finish.specs.Segments.{Sent, Keys, Brings, is_opening, is_subflow_end, shows_keys, is_third, is_piece, is_news, is_owed, octets_of}
+use Rattle.clean_finish.specs.Segments.Brings.{OpensSubflow, ShowsKeys, FirstPiece, Piece, Acknowledges, EndsStream, EndsSubflow}
+use Rattle.clean_finish.specs.Shows.{Hand, brings_still, IsIdle, NoneMapped, EndIs, BookIs, ControlIs, WayIs}
 use Rattle.clean_finish.specs.Writing.{WriterShows}
 
 -- ---- what is still to be done
@@ -88,6 +94,9 @@ pub record AppsShow (k : Setting) (lane : Lane) (waiting : ℕ) (writer : AppSta
   pub book : BookIs lane.sender waiting send
   -- what waits to be sent was written
   pub room : lane.granted + waiting ≤ lane.written
+  -- all that came is in order
+  pub whole : arrived.places ≡ map Some (filled arrived.places)
+  pub fin : send.fin ≡ true → k.total < lane.acked
 
 -- what is left of the turn of an application
 pub data IsAppTurn : List AppDuty → Type 0 where
@@ -133,6 +142,7 @@ pub record IsSetting (c : Profile) (ticks : ℕ) (k : Setting) : Type 0 where
   pub least : k.least ≡ min 65535 k.buffer
   pub rto : k.rto ≡ 1000
   pub small : k.total ≤ 16777216
+  pub most : k.buffer ≤ 1048576
   pub path : c.spelling.path ≡ 0
   pub ranges : HasRanges k
 
@@ -183,8 +193,8 @@ pub record Facing (s : Side) (keys : Keys) (k j : Setting) (c : Profile) (begun 
   pub waiting_back : ℕ
   pub own : EndIs s keys k j out.sender back.receiver hand owes waiting m.end
   pub other : EndIs (peer s) keys j k back.sender out.receiver hand_back owes_back waiting_back n.end
-  pub way : WayIs c keys j s out.sender out.receiver out.datas back.acks hand_back n.end.tcp.send.una m.end.tcp.recv.edge m.flying
-  pub way_back : WayIs c keys k (peer s) back.sender back.receiver back.datas out.acks hand m.end.tcp.send.una
+  pub way : WayIs c keys j k s out.sender out.receiver out.datas back.acks hand_back n.end.tcp.send.una m.end.tcp.recv.edge m.flying
+  pub way_back : WayIs c keys k j (peer s) back.sender back.receiver back.datas out.acks hand m.end.tcp.send.una
       n.end.tcp.recv.edge n.flying
   pub apps : AppsShow k out waiting m.app m.send n.app n.arrived
   pub apps_back : AppsShow j back waiting_back n.app n.send m.app m.arrived
@@ -232,6 +242,9 @@ pub record IsBetween (s : Side) (x : Bench) : Type 0 where
   pub answered : min 1 x.back.control_came ≤ x.out.control_sent
   pub ready : s ≡ A → min 1 x.back.control_came ≤ x.out.ready
   pub shown : s ≡ A → x.out.ready ≤ x.out.keys_sent
+  pub mapped : NoneMapped x.end.tcp.recv.edge x.end.receiving.mappings x.end.receiving.mapped_data_fin
+  -- B was told A's window by its SYN
+  pub least : s ≡ B → 1 ≤ x.back.control_came → min 65535 x.profile.buffer ≤ x.out.edge
 
 -- B has A's SYN in hand, and its own wasn't sent
 pub record TreatsSyn (q : Side) (tells : Bool) (x : Bench) : Type 0 where
@@ -246,6 +259,9 @@ pub record TreatsSyn (q : Side) (tells : Bool) (x : Bench) : Type 0 where
   pub came : x.back.control_came ≡ 1
   pub unsent : x.out.control_sent ≡ 0
   pub waiting : x.waiting ≡ 0
+  pub mapped : NoneMapped x.end.tcp.recv.edge x.end.receiving.mappings x.end.receiving.mapped_data_fin
+  pub full : min 65535 x.profile.buffer ≤ sent.telling.edge
+  pub least : tells ≡ false → min 65535 x.profile.buffer ≤ x.out.edge
 
 -- A has the SYN/ACK in hand, which its third segment answers; `keyed` is 1 once B's key is kept
 pub record TreatsSynAck (q : Side) (tells : Bool) (keyed : ℕ) (keys : Keys) (x : Bench) : Type 0 where
@@ -265,19 +281,133 @@ pub record TreatsSynAck (q : Side) (tells : Bool) (keyed : ℕ) (keys : Keys) (x
   pub unshown : x.out.keys_sent ≡ 0
   pub data_fin : x.back.data_fin_came ≡ 0
   pub key : keyed ≡ 0 → key_heard x.end.treated.items ≡ Some keys.b
+  pub opened : x.end.treated.opened ≡ true
   pub news : x.end.tcp.timing.news ≡ true
   pub waiting : x.waiting ≡ 0
+  pub mapped : NoneMapped x.end.tcp.recv.edge x.end.receiving.mappings x.end.receiving.mapped_data_fin
 
--- A copy that is no SYN is taken: its lane has still to take what it brings, or not, and the other one what it acknowledges.
-pub record TreatsCopy (q : Side) (keys : Keys) (brings tells : Bool) (x : Bench) : Type 0 where
+-- How far the treatment of a copy is: nothing that it says was heard, or the first thing, or two, or all; its payload is kept.
+pub data Treatment : Type 0 where
+  AtFirst : Treatment
+  AfterOne : Treatment
+  AfterTwo : Treatment
+  AfterAll : Treatment
+  AfterKeeping : Treatment
+
+abbrev pub is_begun : Treatment → Bool
+is_begun AtFirst = false
+is_begun AfterOne = true
+is_begun AfterTwo = true
+is_begun AfterAll = true
+is_begun AfterKeeping = true
+
+-- What a copy says that acknowledges this place with this window.
+abbrev pub heard_by : Keys → ℕ → ℕ → Brings → List Heard
+heard_by keys next window OpensSubflow = []
+heard_by keys next window ShowsKeys = says.Keys keys.b keys.a ∷ []
+heard_by keys next window (FirstPiece octets) = says.Keys keys.b keys.a ∷ says.Mapping false ∷ []
+heard_by keys next window (Piece octets) = says.Dss ∷ says.DataAck next window ∷ says.Mapping false ∷ []
+heard_by keys next window Acknowledges = says.Dss ∷ says.DataAck next window ∷ []
+heard_by keys next window (EndsStream place) = says.Dss ∷ says.DataAck next window ∷ says.DataFin place ∷ []
+heard_by keys next window EndsSubflow = says.Dss ∷ says.DataAck next window ∷ []
+
+-- its lane has still to take what it brings, and what it acknowledges
+abbrev pub brings_at : Treatment → Brings → Bool
+brings_at AtFirst b = true
+brings_at AfterOne b = not (is_third b)
+brings_at AfterTwo b = is_news b
+brings_at AfterAll b = is_news b
+brings_at AfterKeeping b = is_news b
+
+abbrev pub tells_at : Treatment → Brings → Bool
+tells_at AtFirst b = true
+tells_at AfterOne b = not (shows_keys b)
+tells_at AfterTwo b = false
+tells_at AfterAll b = false
+tells_at AfterKeeping b = false
+
+-- its mapping is learned
+abbrev pub is_learned : Treatment → Brings → Bool
+is_learned AtFirst b = false
+is_learned AfterOne b = false
+is_learned AfterTwo b = shows_keys b
+is_learned AfterAll b = true
+is_learned AfterKeeping b = true
+
+-- the ends of the stream that are to be told
+abbrev pub fin_in : Brings → List ℕ
+fin_in (EndsStream place) = place ∷ []
+fin_in _ = []
+
+abbrev pub fins_at : Treatment → Brings → List ℕ
+fins_at AtFirst b = []
+fins_at AfterOne b = []
+fins_at AfterTwo b = []
+fins_at AfterAll b = fin_in b
+fins_at AfterKeeping b = fin_in b
+
+-- the payload, where it is held and where it is kept
+abbrev pub places_at : Treatment → List ℕ → List (Option ℕ)
+places_at AfterKeeping octets = map Some octets
+places_at _ octets = []
+
+abbrev pub incoming_at : Treatment → List ℕ → Option (List (Option ℕ))
+incoming_at AfterKeeping octets = None
+incoming_at _ octets = if is_nil octets then None else Some (map Some octets)
+
+-- its mapping, as the end of this side learns it
+abbrev pub kept_piece : Profile → Side → Sent → List ℕ → KeptMapping
+kept_piece c q x octets = kept_of c q x.low (x.low + x.control) (length octets) false
+    (checksum_in c (bare_mapping c (peer q) x.low (x.low + x.control) (length octets)) octets)
+
+abbrev pub kept_in : Profile → Side → Sent → List ℕ → List KeptMapping
+kept_in c q x octets = if is_nil octets then [] else kept_piece c q x octets ∷ []
+
+-- the mappings of an end at this edge, of which the told ones are learned or held
+pub record MapsAs (edge : ℕ) (learned : Bool) (told : List KeptMapping) (count : ℕ) (v : Mappings) (fin : Option MappedDataFin) : Type 0 where
+  pub live : v.live ≡ (if learned then told else [])
+  pub held : v.held ≡ (if learned then [] else told)
+  pub tail : v.tail ≡ None
+  pub beyond : (p : ℕ) → (if learned then edge + count else edge) ≤ p → place_of v.places p ≡ None
+  pub no_fin : fin ≡ None
+  pub forgotten : v.forgotten ≤ edge
+
+-- A copy that is no SYN is treated. `told` says that its keys were told to the control book.
+pub record TreatsCopy (q : Side) (keys : Keys) (at : Treatment) (told : Bool) (b : Brings) (x : Bench) : Type 0 where
   pub sent : Sent
-  pub hand : x.hand ≡ Some (record { sent = sent; brings = brings; tells = tells })
-  pub kind : is_opening sent.brings ≡ false
-  pub items : x.end.treated.items ≡ items_of false q (meant (said x.profile keys (peer q) sent))
+  pub brings : sent.brings ≡ b
+  pub hand : x.hand ≡ Some (record { sent = sent; brings = brings_at at b; tells = tells_at at b })
+  pub kind : is_opening b ≡ false
+  pub some : is_piece b ≡ true → 1 ≤ length (octets_of b)
+  pub keyed : shows_keys b ≡ true → q ≡ B
+  pub items : x.end.treated.items ≡ heard_by keys sent.telling.next (window_told false sent.window) b
+  pub opened : x.end.treated.opened ≡ is_third b
+  pub keys_told : x.end.treated.keys_told ≡ told
+  pub has_option : x.end.treated.has_option ≡ true
+  pub fins : x.end.treated.fins ≡ fins_at at b
   pub asked : x.end.treated.asked ≡ false
+  pub plain_ack : x.end.treated.plain_ack ≡ false
+  pub held_edge : x.end.treated.held_edge ≡ (if is_nil (octets_of b) then None else Some x.end.tcp.recv.edge)
+  pub owes : x.owes ≡ is_owed b
+  pub came : 1 ≤ x.back.control_came
+  -- what it acknowledges is acknowledged by the subflow
+  pub una : x.end.tcp.send.una ≡ sent.edge
+  pub high : sent.edge ≤ x.end.tcp.send.nxt
+  pub rests : x.out.control_acked < sent.telling.seen → x.out.timer ≡ None
   pub waiting : x.waiting ≡ 0
-  -- what wants an acknowledgement, or occupies a position, is to be acknowledged
-  pub owes : x.owes ≡ (list_any wants_ack x.end.treated.items || nat_lt 0 (occupied (copy_of (meant (said x.profile keys (peer q) sent)))))
+  pub answered : min 1 x.back.control_came ≤ x.out.control_sent
+  pub ready : q ≡ A → min 1 x.back.control_came ≤ x.out.ready
+  pub shown : q ≡ A → x.out.ready ≤ x.out.keys_sent
+  pub least : q ≡ B → min 65535 x.profile.buffer ≤ x.out.edge
+  -- at B all but the third segment come behind the keys; it may use the DSS once a thing was heard, or the keys were told
+  pub clear : (q ≡ B → is_third b ≡ false → 1 ≤ x.out.clear) × (told ≡ true → 1 ≤ x.out.clear) × (is_begun at ≡ true → 1 ≤ x.out.clear)
+  pub unkeyed : is_third b ≡ true → told ≡ false → x.out.ready ≡ 0
+  pub places : x.end.tcp.recv.places ≡ places_at at (octets_of b)
+  pub incoming : x.end.tcp.recv.incoming ≡ incoming_at at (octets_of b)
+  pub fin : x.end.tcp.fin_at
+      ≡ (if is_subflow_end b then Some x.end.tcp.recv.edge else (if nat_lt 1 x.back.control_came then Some (x.back.received + 1) else None))
+  pub maps : MapsAs x.end.tcp.recv.edge (is_learned at b) (kept_in x.profile q sent (octets_of b)) (length (octets_of b)) x.end.receiving.mappings
+      x.end.receiving.mapped_data_fin
 
 -- What a copy brings and acknowledges is taken; it is perhaps still to be acknowledged.
 pub record TreatsLast (q : Side) (x : Bench) : Type 0 where
@@ -290,6 +420,8 @@ pub record TreatsLast (q : Side) (x : Bench) : Type 0 where
   pub shown : q ≡ A → x.out.ready ≤ x.out.keys_sent
   -- it may use the DSS
   pub clear : 1 ≤ x.out.clear
+  pub mapped : NoneMapped x.end.tcp.recv.edge x.end.receiving.mappings x.end.receiving.mapped_data_fin
+  pub least : q ≡ B → min 65535 x.profile.buffer ≤ x.out.edge
 
 -- a FIN that its lane has still to take: the receive edge is there
 pub record TreatsFin (q : Side) (x : Bench) : Type 0 where
@@ -304,6 +436,37 @@ pub record TreatsFin (q : Side) (x : Bench) : Type 0 where
   pub ready : q ≡ A → min 1 x.back.control_came ≤ x.out.ready
   pub shown : q ≡ A → x.out.ready ≤ x.out.keys_sent
   pub clear : 1 ≤ x.out.clear
+  pub mapped : NoneMapped x.end.tcp.recv.edge x.end.receiving.mappings x.end.receiving.mapped_data_fin
+  pub least : q ≡ B → min 65535 x.profile.buffer ≤ x.out.edge
+
+-- a DATA_FIN that its lane has still to take
+pub record TreatsDataFin (q : Side) (x : Bench) : Type 0 where
+  pub sent : Sent
+  pub hand : x.hand ≡ Some (record { sent = sent; brings = true; tells = false })
+  pub place : ℕ
+  pub brings : sent.brings ≡ EndsStream place
+  pub fins : x.end.treated.fins ≡ place ∷ []
+  pub idle : IsIdle x.back x.end.tcp
+  pub owes : x.owes ≡ true
+  pub waiting : x.waiting ≡ 0
+  pub answered : min 1 x.back.control_came ≤ x.out.control_sent
+  pub ready : q ≡ A → min 1 x.back.control_came ≤ x.out.ready
+  pub shown : q ≡ A → x.out.ready ≤ x.out.keys_sent
+  pub clear : 1 ≤ x.out.clear
+  pub mapped : NoneMapped x.end.tcp.recv.edge x.end.receiving.mappings x.end.receiving.mapped_data_fin
+  pub least : q ≡ B → min 65535 x.profile.buffer ≤ x.out.edge
+
+-- All bytes of a copy are taken, but perhaps not its DATA_FIN or its FIN.
+abbrev pub TreatsEnd : Side → Bench → Type 0
+TreatsEnd q x = ((TreatsLast q x ⊎ TreatsFin q x) × (x.end.treated.fins ≡ [])) ⊎ TreatsDataFin q x
+
+-- the byte at the receive edge isn't one of the copy
+abbrev pub IsLanded : Bench → Type 0
+IsLanded x = is_at x.end.tcp.recv.edge x.end.treated.held_edge ≡ false
+
+-- bytes of a copy that are kept, and are to be placed
+abbrev pub TreatsBytes : Side → Keys → Bench → Type 0
+TreatsBytes q keys x = (b : Brings) × (told : Bool) × TreatsCopy q keys AfterKeeping told b x × (1 ≤ length (octets_of b))
 
 -- the duties of a turn that treat no copy
 abbrev pub is_plain : Duty → Bool
@@ -375,8 +538,46 @@ abbrev pub last_duties : Side → List Duty
 last_duties q =
     duties.Ask (ask_duties.AckOut q) ∷ duties.Ask (ask_duties.Rate q) ∷ duties.Send (send_duties.Acknowledge q) ∷ duties.Send (send_duties.Again q) ∷ emission q
 
--- What is treated, by the duty that comes first. Bytes wait for nothing else but their sending. Of copies that are taken
--- it is said at their first duty, and from the peer's FIN on.
+-- from the peer's FIN on, and from its DATA_FIN on
+abbrev pub fin_duties : Side → List Duty
+fin_duties q = duties.Silent (silent_duties.PassFin q) ∷ duties.Ask (ask_duties.SubflowFin q) ∷ last_duties q
+
+abbrev pub end_duties : Side → List Duty
+end_duties q =
+    duties.Ask (ask_duties.HeardFin q 0) ∷ duties.Ask (ask_duties.HeardFin q 1) ∷ duties.Ask (ask_duties.HeardFin q 2) ∷ fin_duties q
+
+-- the other end, which treats nothing, and what is left
+abbrev pub Beside : Side → Bench → Bench → List Duty → List Duty → Type 0
+Beside q a b ds es = IsBetween (peer q) (pick q b a) × ((pick q b a).waiting ≡ 0) × (ds ≡ es)
+
+-- from the placing of bytes on
+abbrev pub place_duties : Side → List Duty
+place_duties q = duties.Ask (ask_duties.Edge q) ∷ duties.Step (step_duties.Unmapped q) ∷ end_duties q
+
+-- no second end of the stream is to be told
+abbrev pub AreFew : Bench → Type 0
+AreFew x = (n : ℕ) → item_at (suc n) x.end.treated.fins ≡ None
+
+-- how many things a copy says
+abbrev pub count_in : Brings → ℕ
+count_in OpensSubflow = 0
+count_in ShowsKeys = 1
+count_in (FirstPiece octets) = 2
+count_in (Piece octets) = 3
+count_in Acknowledges = 2
+count_in (EndsStream place) = 3
+count_in EndsSubflow = 2
+
+-- the path lives: for A, which has B's key, or by a copy
+abbrev pub TreatsAnswered : Side → Keys → Bench → Bench → List Duty → Type 0
+TreatsAnswered q keys a b ds =
+    TreatsSynAck q false 1 keys a × IsBetween B b × (b.waiting ≡ 0) × (ds ≡ duties.Send (send_duties.Acknowledge q) ∷ emission q)
+
+abbrev pub TreatsKeyed : Side → Keys → Bench → Bench → List Duty → Type 0
+TreatsKeyed q keys a b ds =
+    (k : Brings) × TreatsCopy q keys AtFirst (is_third k) k (pick q a b) × Beside q a b ds (heard_and q 0 (count_in k) (payload_came q))
+
+-- What is treated, by the duty that comes first. Bytes wait for nothing else but their sending.
 abbrev pub Treats : Keys → Bench → Bench → List Duty → Type 0
 Treats keys a b [] = AreBetween a b × (a.waiting ≡ 0) × (b.waiting ≡ 0)
 Treats keys a b (duties.Step (step_duties.Data q) ∷ ds) =
@@ -392,7 +593,34 @@ Treats keys a b (duties.Ask (ask_duties.SynAnswered q) ∷ ds) =
 Treats keys a b (duties.Ask (ask_duties.PeerKey q) ∷ ds) =
     TreatsSynAck q false 0 keys a × IsBetween B b × (b.waiting ≡ 0) × (ds ≡ duties.Ask (ask_duties.Live q) ∷ duties.Send (send_duties.Acknowledge q) ∷ emission q)
 Treats keys a b (duties.Ask (ask_duties.Live q) ∷ ds) =
-    TreatsSynAck q false 1 keys a × IsBetween B b × (b.waiting ≡ 0) × (ds ≡ duties.Send (send_duties.Acknowledge q) ∷ emission q)
+    TreatsAnswered q keys a b ds ⊎ TreatsKeyed q keys a b ds
+Treats keys a b (duties.Step (step_duties.Heard q zero) ∷ ds) =
+    (k : Brings) × TreatsCopy q keys AtFirst (is_third k) k (pick q a b) × Beside q a b ds (heard_and q 1 (count_in k - 1) (payload_came q))
+Treats keys a b (duties.Step (step_duties.Heard q (suc zero)) ∷ ds) =
+    (k : Brings) × TreatsCopy q keys AfterOne (shows_keys k) k (pick q a b) × (2 ≤ count_in k) × Beside q a b ds (heard_and q 2 (count_in k - 2) (payload_came q))
+Treats keys a b (duties.Step (step_duties.Heard q (suc (suc i))) ∷ ds) =
+    (k : Brings) × TreatsCopy q keys AfterTwo (shows_keys k) k (pick q a b) × (count_in k ≡ 3) × Beside q a b ds (payload_came q)
+Treats keys a b (duties.Ask (ask_duties.AckHeard q) ∷ ds) =
+    (k : Brings) × TreatsCopy q keys AfterTwo (shows_keys k) k (pick q a b) × (shows_keys k ≡ false) × Beside q a b ds (heard_and q 2 (count_in k - 2) (payload_came q))
+Treats keys a b (duties.Step (step_duties.PlainAck q) ∷ ds) =
+    (k : Brings) × TreatsCopy q keys AfterAll (shows_keys k) k (pick q a b)
+    × Beside q a b ds (duties.Ask (ask_duties.SubflowAck q) ∷ duties.Ask (ask_duties.PlainData q) ∷ duties.Silent (silent_duties.Keep q) ∷ place_duties q)
+Treats keys a b (duties.Ask (ask_duties.SubflowAck q) ∷ ds) =
+    (k : Brings) × TreatsCopy q keys AfterAll (shows_keys k) k (pick q a b)
+    × Beside q a b ds (duties.Ask (ask_duties.PlainData q) ∷ duties.Silent (silent_duties.Keep q) ∷ place_duties q)
+Treats keys a b (duties.Ask (ask_duties.PlainData q) ∷ ds) =
+    (k : Brings) × TreatsCopy q keys AfterAll (shows_keys k) k (pick q a b) × Beside q a b ds (duties.Silent (silent_duties.Keep q) ∷ place_duties q)
+Treats keys a b (duties.Silent (silent_duties.Keep q) ∷ ds) =
+    (k : Brings) × TreatsCopy q keys AfterAll (shows_keys k) k (pick q a b) × Beside q a b ds (place_duties q)
+Treats keys a b (duties.Ask (ask_duties.Edge q) ∷ ds) =
+    (TreatsBytes q keys (pick q a b) ⊎ (TreatsEnd q (pick q a b) × IsLanded (pick q a b))) × Beside q a b ds (duties.Step (step_duties.Unmapped q) ∷ end_duties q)
+Treats keys a b (duties.Step (step_duties.Unmapped q) ∷ ds) = (TreatsEnd q (pick q a b) × IsLanded (pick q a b)) × Beside q a b ds (end_duties q)
+Treats keys a b (duties.Ask (ask_duties.HeardFin q zero) ∷ ds) =
+    TreatsEnd q (pick q a b) × Beside q a b ds (duties.Ask (ask_duties.HeardFin q 1) ∷ duties.Ask (ask_duties.HeardFin q 2) ∷ fin_duties q)
+Treats keys a b (duties.Ask (ask_duties.HeardFin q (suc zero)) ∷ ds) =
+    ((TreatsLast q (pick q a b) ⊎ TreatsFin q (pick q a b)) × AreFew (pick q a b)) × Beside q a b ds (duties.Ask (ask_duties.HeardFin q 2) ∷ fin_duties q)
+Treats keys a b (duties.Ask (ask_duties.HeardFin q (suc (suc i))) ∷ ds) =
+    ((TreatsLast q (pick q a b) ⊎ TreatsFin q (pick q a b)) × AreFew (pick q a b)) × Beside q a b ds (fin_duties q)
 Treats keys a b (duties.Silent (silent_duties.PassFin q) ∷ ds) =
     (TreatsLast q (pick q a b) ⊎ TreatsFin q (pick q a b)) × IsBetween (peer q) (pick q b a) × ((pick q b a).waiting ≡ 0)
     × (ds ≡ duties.Ask (ask_duties.SubflowFin q) ∷ last_duties q)
@@ -403,8 +631,7 @@ Treats keys a b (duties.Ask (ask_duties.Rate q) ∷ ds) =
     TreatsTaken q a b ds (duties.Send (send_duties.Acknowledge q) ∷ duties.Send (send_duties.Again q) ∷ emission q)
 Treats keys a b (duties.Send (send_duties.Acknowledge q) ∷ ds) = TreatsThird q keys a b ds ⊎ TreatsTaken q a b ds (duties.Send (send_duties.Again q) ∷ emission q)
 Treats keys a b (duties.Ask (ask_duties.Opened q) ∷ ds) =
-    TreatsCopy q keys true true (pick q a b) × IsBetween (peer q) (pick q b a) × ((pick q b a).waiting ≡ 0)
-    × (ds ≡ duties.Ask (ask_duties.Live q) ∷ heard_and q 0 (length (pick q a b).end.treated.items) (payload_came q))
+    (k : Brings) × TreatsCopy q keys AtFirst false k (pick q a b) × Beside q a b ds (duties.Ask (ask_duties.Live q) ∷ heard_and q 0 (count_in k) (payload_came q))
 Treats keys a b (d ∷ ds) = AreBetween a b × (a.waiting ≡ 0) × (b.waiting ≡ 0) × (is_plain d ≡ true) × IsBefore d ds × ArePlain ds
 
 -- ---- all

@@ -57,6 +57,33 @@ abbrev pub is_opening : Brings → Bool
 is_opening OpensSubflow = true
 is_opening _ = false
 
+-- it shows the keys, so that it has no Data ACK; it is the third segment
+abbrev pub shows_keys : Brings → Bool
+shows_keys ShowsKeys = true
+shows_keys (FirstPiece octets) = true
+shows_keys _ = false
+
+abbrev pub is_third : Brings → Bool
+is_third ShowsKeys = true
+is_third _ = false
+
+-- what it brings is taken after all that it says: bytes, a DATA_FIN, a FIN
+abbrev pub is_news : Brings → Bool
+is_news ShowsKeys = false
+is_news Acknowledges = false
+is_news _ = true
+
+-- it brings bytes
+abbrev pub is_piece : Brings → Bool
+is_piece (FirstPiece octets) = true
+is_piece (Piece octets) = true
+is_piece _ = false
+
+-- it is to be acknowledged
+abbrev pub is_owed : Brings → Bool
+is_owed Acknowledges = false
+is_owed _ = true
+
 abbrev pub data_fin_of : Brings → ℕ
 data_fin_of (EndsStream place) = 1
 data_fin_of _ = 0
@@ -168,7 +195,8 @@ TellsAs least s window t _ = (t.edge ≡ t.next + window_told false window) × (
 abbrev pub CountsAs : ℕ → ℕ → ℕ → ℕ → Brings → Type 0
 CountsAs control keys control_then keys_then OpensSubflow = (control ≡ 0) × (control_then ≡ 1) × (keys_then ≡ 0)
 CountsAs control keys control_then keys_then ShowsKeys = (control ≡ 1) × (control_then ≡ 1) × (keys ≡ 0) × (keys_then ≡ 1)
-CountsAs control keys control_then keys_then (FirstPiece octets) = (control ≡ 1) × (control_then ≡ 1) × (keys_then ≡ 1) × (1 ≤ length octets)
+CountsAs control keys control_then keys_then (FirstPiece octets) =
+    (control ≡ 1) × (control_then ≡ 1) × (keys_then ≡ 1) × (1 ≤ length octets) × (keys ≡ 1)
 CountsAs control keys control_then keys_then (Piece octets) =
     (1 ≤ control) × (control_then ≡ control) × (keys_then ≡ keys) × (1 ≤ length octets)
 CountsAs control keys control_then keys_then EndsSubflow = (control ≡ 1) × (control_then ≡ 2) × (keys_then ≡ keys)
@@ -195,12 +223,21 @@ edge_after edge (x ∷ xs) = edge_after x.edge xs
 abbrev pub ShowsFirst : Side → Sent → Type 0
 ShowsFirst s x = s ≡ A → is_opening x.brings ≡ false → 1 ≤ x.keys
 
--- They follow one another, after so many octets, SYN and FIN, and keys.
-abbrev pub Follow : ℕ → ℕ → Side → ℕ → ℕ → ℕ → List Sent → Type 0
-Follow least total s low control keys [] = Unit {0}
-Follow least total s low control keys (x ∷ xs) =
+-- What shows the keys acknowledges the SYN alone, the first octets are shown with them, and a DATA_FIN has the place behind
+-- all octets of the stream.
+abbrev pub BringsAs : ℕ → ℕ → ℕ → Brings → Type 0
+BringsAs own low edge ShowsKeys = edge ≡ 1
+BringsAs own low edge (FirstPiece octets) = (edge ≡ 1) × (low ≡ 0)
+BringsAs own low edge (EndsStream place) = place ≡ own
+BringsAs own low edge _ = Unit {0}
+
+-- They follow one another, after so many octets, SYN and FIN, and keys. They acknowledge a stream of `total` octets, and are
+-- of one of `own`.
+abbrev pub Follow : ℕ → ℕ → ℕ → Side → ℕ → ℕ → ℕ → List Sent → Type 0
+Follow least total own s low control keys [] = Unit {0}
+Follow least total own s low control keys (x ∷ xs) =
     (x.low ≡ low) × CountsAs control keys x.control x.keys x.brings × TellsAs least s x.window x.telling x.brings
-    × (AcknowledgesAs total x × ShowsFirst s x) × Follow least total s (low + length (octets_of x.brings)) x.control x.keys xs
+    × (AcknowledgesAs total x × ShowsFirst s x × BringsAs own x.low x.edge x.brings) × Follow least total own s (low + length (octets_of x.brings)) x.control x.keys xs
 
 -- after all of them so many octets, SYN and FIN, and keys were sent
 abbrev pub low_after : ℕ → List Sent → ℕ

@@ -14,6 +14,8 @@ use Rattle.send_book.specs.declared.mark.ByteMark.{ByteMark}
 use Rattle.send_book.specs.Marks.{is_free_for}
 use Rattle.send_book.specs.State.{Sending as SendBook}
 use Rattle.path_segments.specs.Laws.{window_told}
+use Rattle.std.specs.FinMap.{get as place_of}
+use Rattle.dss_mapping.specs.Mappings.{Mappings}
 use Rattle.subflow_send.specs.declared.record.RecordKind.TheVariants.{Data}
 use Rattle.subflow_send.specs.Records.{Record, Tile, span_of}
 use Rattle.subflow_send.specs.Rules.{is_unsent, syn_record}
@@ -26,6 +28,7 @@ use Rattle.subflow_tcp.specs.State.{EndState}
 use Rattle.subflow_tcp.specs.States.{may_finish, is_closed_to_segments, is_half_open, is_opening}
 use Rattle.actor_desk.specs.Words.{pick, tail_of}
 use Rattle.path_core.specs.declared.granted_piece.GrantedPiece.{GrantedPiece}
+use Rattle.path_core.specs.declared.mapped_data_fin.MappedDataFin.{MappedDataFin}
 use Rattle.path_core.specs.declared.modes.Modes.{Modes}
 use Rattle.path_core.specs.Ends.{PathEnd, Sending, Receiving, Notices}
 use Rattle.path_core.specs.Standing.{is_connected}
@@ -117,6 +120,8 @@ pub record IsAhead (k : Setting) (out : Sender) (tcp : EndState) : Type 0 where
   pub bytes : min out.acked k.total ≤ tcp.send.una - 1
   pub opened : min 1 out.control_acked ≤ tcp.send.una
   pub finished : out.control_acked ≡ 2 → tcp.send.una ≡ tcp.send.nxt
+  -- the lane heard of SYN and FIN what the last segment told
+  pub seen : out.heard.seen ≤ out.control_acked
 
 -- the congestion window is that of the lane or larger, and the row of duplicates that of the lane or shorter
 pub record CongestionIs (k : Setting) (out : Sender) (hand : Option Hand) (tcp : EndState) : Type 0 where
@@ -136,6 +141,14 @@ pub record IsIdle (back : Receiver) (tcp : EndState) : Type 0 where
   pub incoming : tcp.recv.incoming ≡ None
   pub fin : tcp.fin_at ≡ (if nat_lt 1 back.control_came then Some (back.received + 1) else None)
 
+-- No mapping is known of a position from the receive edge on, and no DATA_FIN waits behind bytes.
+pub record NoneMapped (edge : ℕ) (v : Mappings) (fin : Option MappedDataFin) : Type 0 where
+  pub live : v.live ≡ []
+  pub tail : v.tail ≡ None
+  pub beyond : (p : ℕ) → edge ≤ p → place_of v.places p ≡ None
+  pub no_fin : fin ≡ None
+  pub forgotten : v.forgotten ≤ edge
+
 -- What the last segment that arrived told of the own stream, as far as it is compared with the next one, and the position
 -- that it acknowledged.
 pub record HeardIs (s : Side) (total : ℕ) (t : Telling) (tcp : EndState) : Type 0 where
@@ -144,6 +157,7 @@ pub record HeardIs (s : Side) (total : ℕ) (t : Telling) (tcp : EndState) : Typ
   pub most : tcp.send.una ≤ 1 + total + (t.seen - 1)
   pub end : t.seen ≡ 2 → total + 2 ≤ tcp.send.una
   pub few : t.seen ≤ 2
+  pub some : 1 ≤ tcp.send.una → 1 ≤ t.seen
 
 pub record SubflowIs (s : Side) (k : Setting) (out : Sender) (back : Receiver) (hand : Option Hand) (owes : Bool) (waiting : ℕ) (tcp : EndState) : Type 0 where
   pub phase : IsPhase s back.control_came tcp.send.una tcp.send.finished tcp.state
@@ -173,6 +187,11 @@ pub record IsGranted (out : Sender) (waiting : ℕ) (span : GrantedPiece) : Type
   pub waits : out.acked < span.to
   pub within : span.to ≤ out.granted + waiting
 
+-- the spans of what isn't acknowledged, one behind the other
+abbrev pub AreSpans : ℕ → ℕ → List GrantedPiece → Type 0
+AreSpans from to [] = to ≤ from
+AreSpans from to (span ∷ spans) = (span.from ≤ from) × AreSpans span.to to spans
+
 pub record SendingIs (k : Setting) (out : Sender) (back : Receiver) (waiting : ℕ) (v : Sending) : Type 0 where
   pub heard : v.heard ≡ out.acked
   pub known : v.known_end ≡ known_by out.known k.total
@@ -182,6 +201,7 @@ pub record SendingIs (k : Setting) (out : Sender) (back : Receiver) (waiting : �
   -- the grant of bytes that wait opened it again
   pub shut : (waiting ≡ 0 → v.shut ≡ out.shut) × (1 ≤ waiting → v.shut ≡ false)
   pub granted : All (IsGranted out waiting) v.granted
+  pub spans : AreSpans out.acked (out.granted + waiting) v.granted
   -- bytes go where they may, the DATA_FIN where there is a DSS, the FIN once that was acknowledged
   pub bytes : 1 ≤ out.granted + waiting → 1 ≤ out.ready
   pub end : out.data_fin_sent ≤ out.clear
@@ -281,13 +301,13 @@ pub record ControlIs (s : Side) (keys : Keys) (b : Control) : Type 0 where
 
 -- What is in hand at the other end and what is under way are the copies of both lanes. They follow what came, and the last
 -- of them is the last that was sent. They acknowledge from `una` on, up to the position that the sender hasn't passed.
-pub record WayIs (c : Profile) (keys : Keys) (j : Setting) (from : Side) (out : Sender) (other : Receiver) (datas acks : List Copy) (hand : Option Hand)
+pub record WayIs (c : Profile) (keys : Keys) (j k : Setting) (from : Side) (out : Sender) (other : Receiver) (datas acks : List Copy) (hand : Option Hand)
     (una edge : ℕ) (flying : List (Flight Carried)) : Type 0 where
   pub sent : List Sent
   pub flights : FlyAs c keys from flying sent
   pub datas_are : datas ≡ map copy_in (brings_in hand ++ sent)
   pub acks_are : acks ≡ map copy_in (tells_in hand ++ sent)
-  pub follow : Follow j.least j.total from other.received other.control_came other.keys_came (brings_in hand ++ sent)
+  pub follow : Follow j.least j.total k.total from other.received other.control_came other.keys_came (brings_in hand ++ sent)
   pub low : low_after other.received (brings_in hand ++ sent) ≡ out.granted
   pub control : control_after other.control_came (brings_in hand ++ sent) ≡ out.control_sent
   pub keys_shown : keys_after other.keys_came (brings_in hand ++ sent) ≡ out.keys_sent
