@@ -79,7 +79,7 @@ going_from tick to flights all = some_late tick to flights all
 
 -- ---- the link without it
 
-later : (number low high : ℕ) (flights : List (Flight Carried)) → low ≤ high → WereSentBefore number low flights → WereSentBefore number high flights
+pub later : (number low high : ℕ) (flights : List (Flight Carried)) → low ≤ high → WereSentBefore number low flights → WereSentBefore number high flights
 later number low high [] less all = tt
 later number low high (f ∷ flights) less all = ((up all.0.0 less, all.0.1), later number low high flights less all.1)
   where

@@ -35,8 +35,8 @@ pub keys_noted : (s : Side) (keys : Keys) (own other : ℕ) (c : Control) → Co
 keys_noted s keys own other c is = by (own == c.keys.own) (is_identity c.fall.mode)
   where
     by : (same none : Bool) → ControlIs s keys (if same then record c { keys = record c.keys { peer = Some other }; fall = (if none then stays c.fall else (record c.fall { confirmed = true }, Stay)).0 } else c)
-    by true true = record { mode = is.mode; joined = is.joined; own_key = is.own_key; first = is.first; alone = is.alone; carrier = is.carrier; stays = is.stays }
-    by true false = record { mode = is.mode; joined = is.joined; own_key = is.own_key; first = is.first; alone = is.alone; carrier = is.carrier; stays = is.stays }
+    by true true = record { mode = is.mode; joined = is.joined; own_key = is.own_key; first = is.first; alone = is.alone; carrier = is.carrier; stays = is.stays; announces = is.announces; withdraws = is.withdraws }
+    by true false = record { mode = is.mode; joined = is.joined; own_key = is.own_key; first = is.first; alone = is.alone; carrier = is.carrier; stays = is.stays; announces = is.announces; withdraws = is.withdraws }
     by false none = is
 
 module _ {keys : Keys} {k j : Setting} {c : Profile} {begun begun_back : Lane} {m n : Half} {clock until : ℕ} (ticks t u : ℕ)

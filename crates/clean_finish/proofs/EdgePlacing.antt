@@ -60,7 +60,7 @@ of_bytes EndsSubflow some = absurd (omega (arith, some))
 one_of : {x : ℕ} → x ≡ 1 → 1 ≤ x
 one_of is = omega (arith, is)
 
-same_counts : (control keys control_then keys_then : ℕ) (b : Brings) → 1 ≤ length (octets_of b) → CountsAs control keys control_then keys_then b
+pub same_counts : (control keys control_then keys_then : ℕ) (b : Brings) → 1 ≤ length (octets_of b) → CountsAs control keys control_then keys_then b
     → (1 ≤ control) × (control_then ≡ control) × (keys_then ≡ keys)
 same_counts control keys control_then keys_then OpensSubflow some is = absurd (omega (arith, some))
 same_counts control keys control_then keys_then ShowsKeys some is = absurd (omega (arith, some))
@@ -70,7 +70,7 @@ same_counts control keys control_then keys_then Acknowledges some is = absurd (o
 same_counts control keys control_then keys_then (EndsStream place) some is = absurd (omega (arith, some))
 same_counts control keys control_then keys_then EndsSubflow some is = absurd (omega (arith, some))
 
-kept_some : {X : Type 0} (octets : List ℕ) (y : X) → 1 ≤ length octets → (if is_nil octets then [] else y ∷ []) ≡ y ∷ []
+pub kept_some : {X : Type 0} (octets : List ℕ) (y : X) → 1 ≤ length octets → (if is_nil octets then [] else y ∷ []) ≡ y ∷ []
 kept_some octets y some = ap (λ (b : Bool). if b then [] else y ∷ []) (some_nil octets some)
 
 held_some : (octets : List ℕ) (edge : ℕ) → 1 ≤ length octets → (if is_nil octets then None else Some edge) ≡ Some edge
@@ -102,13 +102,13 @@ check_same c e mptcp live =
     ap (λ (b : Bool). forgotten_by c.spelling.checksums (if b then None else mapping_at e.receiving.mappings e.tcp.recv.edge) e) mptcp
     ∙ ap (λ (o : Option KeptMapping). forgotten_by c.spelling.checksums o e) (none_here e.receiving.mappings e.tcp.recv.edge live)
 
-at_position : {e w d x l : ℕ} → e ≡ 1 + w + (d - 1) → l ≡ w → x ≡ d → 1 ≤ d → d ≤ 1 → l + x ≡ e
+pub at_position : {e w d x l : ℕ} → e ≡ 1 + w + (d - 1) → l ≡ w → x ≡ d → 1 ≤ d → d ≤ 1 → l + x ≡ e
 at_position a b c one few = omega (arith, a, b, c, one, few)
 
-all_few : {a g v total : ℕ} → a ≤ g → g ≤ v → v ≤ total → total ≤ 16777216 → a ≤ 16777216
+pub all_few : {a g v total : ℕ} → a ≤ g → g ≤ v → v ≤ total → total ≤ 16777216 → a ≤ 16777216
 all_few p q r z = omega (arith, p, q, r, z)
 
-near_position : {d x : ℕ} (l n : ℕ) → l + n ≤ 16777216 → x ≡ d → d ≤ 1 → l + x ≤ 16777218
+pub near_position : {d x : ℕ} (l n : ℕ) → l + n ≤ 16777216 → x ≡ d → d ≤ 1 → l + x ≤ 16777218
 near_position l n p is few = omega (arith, p, is, few)
 
 module _ (start : Start) (plan : PathPlan) (k j : Setting) (s v : Lane) (t0 u0 : ℕ)

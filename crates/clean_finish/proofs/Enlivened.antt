@@ -25,6 +25,8 @@ lives_on s keys path backup c first is = record {
       ∙ ap (λ (ps : List RegistryPath). with_phase 0 Living ps) is.alone;
   carrier = is.carrier;
   stays = is.stays;
+  announces = is.announces;
+  withdraws = is.withdraws;
 }
 
 module _ {s : Side} {keys : Keys} {k j : Setting} {c : Profile} {begun begun_back : Lane} {m n : Half} {clock until : ℕ} where

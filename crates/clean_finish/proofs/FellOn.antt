@@ -38,6 +38,8 @@ fell_control s keys c is = by (is_starting c.fall.mode)
       alone = is.alone;
       carrier = is.carrier;
       stays = is.stays;
+      announces = is.announces;
+      withdraws = is.withdraws;
     }
     by false = is
 

@@ -17,7 +17,8 @@ use Rattle.subflow_tcp.specs.Opening.{new_end}
 use Rattle.reassembly_book.specs.State as reassembly_books
 use Rattle.actor_desk.specs.Words.{pick, tail_of}
 use Rattle.control_book.specs.declared.registry.Phase.TheVariants.{Opening}
-use Rattle.control_book.specs.Control.{new_control}
+use Rattle.address_manager.specs.IdSet.{lowest, no_ids}
+use Rattle.control_book.specs.Control.{new_control, no_withdrawals, withdrawals_on}
 use Rattle.control_book.specs.Registry.{opening_paths}
 use Rattle.path_agenda.specs.Agenda.{start_of_turn}
 use Rattle.stream_apps.specs.Apps.{AppState}
@@ -46,7 +47,7 @@ use Rattle.clean_finish.proofs.Moving.{more_than, moves_then}
 use Rattle.clean_finish.proofs.Writing.{turn_begins}
 use Rattle.clean_finish.proofs.Reading.{reading_begins}
 
-first_plain : ArePlain (tail_of (tail_of (tail_of start_of_turn)))
+pub first_plain : ArePlain (tail_of (tail_of (tail_of start_of_turn)))
 first_plain = (refl, tt, (refl, (refl, inr (inr (inr (inr (inr (inr (inr (inr (inr (inr (inr (inr (inr (inr (inr (inr (inr (inr (inr (inr (inl refl))))))))))))))))))))), (refl, tt, (refl, (refl, inr (inr (inr (inr (inr (inr (inr (inr (inr (inr (inr (inr (inr (inr (inr (inr (inr (inr (inl refl))))))))))))))))))), (refl, tt, (refl, tt, (refl, (refl, inr (inr (inr (inr (inr (inr (inr (inr (inr (inr (inr (inr (inr (inr (inr (inl refl)))))))))))))))), (refl, tt, (refl, tt, (refl, (refl, inl refl, inr (inr (inr (inr (inr (inr (inr (inr (inr (inr (inr (inr (inl refl))))))))))))), (refl, (refl, inr (inr (inr (inr (inr (inr (inr (inr (inr (inr (inr (inl refl)))))))))))), (refl, (refl, inr (inr (inr (inr (inr (inr (inr (inr (inr (inr (inl refl))))))))))), (refl, refl, (refl, tt, (refl, tt, (refl, (refl, inr (inr (inr (inr (inr (inr (inl refl))))))), (refl, tt, (refl, tt, (refl, (refl, inl refl, inr (inr (inr (inl refl)))), (refl, (refl, inr (inr (inl refl))), (refl, (refl, inr (inl refl)), (refl, refl, (refl, refl, (refl, refl, tt))))))))))))))))))))))))
 
 no : {X : Type 0} → false ≡ true → X
@@ -194,7 +195,7 @@ module _ (k j : Setting) (window window_back : ℕ) (writer writer_back : Writer
       shown = shown;
     };
     timer = refl;
-    notices = record { reset = refl; carrier = refl; fast_closed = refl };
+    notices = record { queue = refl; reset = refl; carrier = refl; fast_closed = refl };
   }
 
 -- ---- the world
@@ -229,6 +230,14 @@ module _ (start : Start) (plan : PathPlan) (k j : Setting) (a b t t' : ℕ)
     unfolding opening_paths
     opening_first = refl
 
+    none_due : lowest no_ids ≡ None
+    unfolding no_ids
+    none_due = refl
+
+    none_withdrawn : lowest (withdrawals_on no_withdrawals 0) ≡ None
+    unfolding no_withdrawals no_ids
+    none_withdrawn = refl
+
     first_control : (q : Side) (key : ℕ) → key ≡ pick q keys.a keys.b → ControlIs q keys (new_control q key)
     first_control q key is = record {
       mode = Starts refl;
@@ -238,6 +247,8 @@ module _ (start : Start) (plan : PathPlan) (k j : Setting) (a b t t' : ℕ)
       alone = opening_first;
       carrier = refl;
       stays = refl;
+      announces = none_due;
+      withdraws = none_withdrawn;
     }
 
     pub first_running : Running one_path plan k j (first_lane a) (first_lane b) (first_cast one_path)

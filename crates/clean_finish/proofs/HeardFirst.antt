@@ -44,17 +44,17 @@ not_a : B ≡ A → ⊥
 not_a e = cc
 
 -- A hears no keys with a copy
-no_keys : (k : Brings) → (shows_keys k ≡ true → A ≡ B) → shows_keys k ≡ false
+pub no_keys : (k : Brings) → (shows_keys k ≡ true → A ≡ B) → shows_keys k ≡ false
 no_keys k key = not_true (shows_keys k) (λ e. not_b (key e))
 
-no_third : (k : Brings) → shows_keys k ≡ false → is_third k ≡ false
+pub no_third : (k : Brings) → shows_keys k ≡ false → is_third k ≡ false
 no_third k none = not_true (is_third k) (λ e. both_ways _ none (third_shows k e))
 
 -- a DSS is told to no book
 dss_passes : (o : Option Heard) (e : PathEnd) → o ≡ Some says.Dss → item_stands o e ≡ false
 dss_passes o e is = ap (λ (y : Option Heard). item_stands y e) is
 
-third_only : (k : Brings) → is_third k ≡ true → k ≡ ShowsKeys
+pub third_only : (k : Brings) → is_third k ≡ true → k ≡ ShowsKeys
 third_only OpensSubflow e = absurd (both_ways false refl e)
 third_only ShowsKeys e = refl
 third_only (FirstPiece octets) e = absurd (both_ways false refl e)
@@ -74,7 +74,7 @@ opened_third keys next window e on items =
     ∙ ap (λ (xs : List Heard). is_some (keys_heard xs) || (not e.treated.has_option && is_starting e.modes.mode)) items
 
 -- the keys weren't told, and need not be
-told_on : (q : Side) (keys : Keys) (k : Brings) (x : Bench) → is_third k ≡ false → TreatsCopy q keys AtFirst false k x → TreatsCopy q keys AtFirst (is_third k) k x
+pub told_on : (q : Side) (keys : Keys) (k : Brings) (x : Bench) → is_third k ≡ false → TreatsCopy q keys AtFirst false k x → TreatsCopy q keys AtFirst (is_third k) k x
 told_on q keys k x none f = subst (λ (b : Bool). TreatsCopy q keys AtFirst b k x) (sym none) f
 
 one_clear : 1 ≤ 1

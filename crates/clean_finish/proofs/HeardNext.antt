@@ -62,7 +62,7 @@ ack_second keys next window EndsSubflow e f = refl
 
 -- ---- without bytes no mapping is learned
 
-maps_on : {edge : ℕ} {v : Mappings} {fin : Option MappedDataFin} → MapsAs edge false [] 0 v fin → MapsAs edge true [] 0 v fin
+pub maps_on : {edge : ℕ} {v : Mappings} {fin : Option MappedDataFin} → MapsAs edge false [] 0 v fin → MapsAs edge true [] 0 v fin
 maps_on {edge} is = record {
   live = is.live;
   held = is.held;

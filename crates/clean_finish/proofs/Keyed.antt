@@ -241,6 +241,8 @@ module _ {keys : Keys} {k j : Setting} {c : Profile} {begun begun_back : Lane} {
         alone = h.control.alone;
         carrier = h.control.carrier;
         stays = h.control.stays;
+        announces = h.control.announces;
+        withdraws = h.control.withdraws;
       };
       control_back = h.control_back;
       turn = h.turn;

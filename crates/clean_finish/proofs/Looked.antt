@@ -1,6 +1,5 @@
 -- The control book tells how the side stands: with Multipath TCP, and no path beside this one.
-use Rattle.std.proofs.Common.{◌≡◌, refl, sym, subst, ap, ◌∙◌, ℕ, ◌≤◌, Bool, true, false, not, if◌then◌else◌, ◌&&◌, ◌||◌, ◌⊎◌, inl, inr, Option, Some, None, List, ◌∷◌}
-use Rattle.std.proofs.lemmas.Bool.{both_ways}
+use Rattle.std.proofs.Common.{◌≡◌, refl, sym, subst, ap, ◌∙◌, ℕ, ◌≤◌, Bool, true, false, not, if◌then◌else◌, ◌&&◌, ◌||◌, ◌⊎◌, inl, inr, Option, None, List, ◌∷◌}
 use Rattle.std.specs.List.{list_any}
 use Rattle.outside_kit.specs.declared.side.Side.{Side}
 use Rattle.link_model.specs.Steps.{peer}
@@ -9,7 +8,7 @@ use Rattle.control_book.specs.declared.call.Notice.{Notice}
 use Rattle.control_book.specs.declared.call.Notice.TheVariants as notices
 use Rattle.control_book.specs.declared.registry.PathState.{PathState as RegistryPath}
 use Rattle.control_book.specs.Control.{Control, peer_or_zero, is_path, withdrawals_on}
-use Rattle.control_book.specs.Registry.{every_path, opening_paths, serves_beside, standby, state_of}
+use Rattle.control_book.specs.Registry.{every_path, lowest_living, opening_paths, serves_beside, standby, state_of}
 use Rattle.control_book.specs.Replies.{address_notice, announcement, carries, is_aborted, notice_on, look_reply, resets}
 use Rattle.control_book.specs.Steps.{after_notice, after_look as book_looked}
 use Rattle.actor_desk.specs.declared.ask.Reply.TheVariants as replies
@@ -20,7 +19,7 @@ use Rattle.path_agenda.specs.declared.duty.AskDuty.TheVariants as ask_duties
 use Rattle.path_agenda.specs.declared.duty.StepDuty.TheVariants as step_duties
 use Rattle.fallback_state.specs.declared.fall.Mode.{Mode}
 use Rattle.subflow_tcp.specs.States.{is_dead}
-use Rattle.path_core.specs.Ends.{PathEnd, Notices}
+use Rattle.path_core.specs.Ends.{PathEnd}
 use Rattle.path_core.specs.Noticing.{after_notice as after_noted}
 use Rattle.path_core.specs.Standing.{after_look, may_note}
 use Rattle.path_core.specs.State.{Profile}
@@ -46,45 +45,17 @@ never_standby first paths backups is =
     subst (λ (ps : List RegistryPath). standby ps backups 0 ≡ false) (sym is)
     (and_false (is_member backups 0) _ (none_serves first backups))
 
--- a notice is told, or isn't
-notice_keeps : (s : Side) (keys : Keys) (path : ℕ) (n : Notice) (c : Control) → ControlIs s keys c → ControlIs s keys (after_notice n path c)
-notice_keeps s keys path (notices.Withdraw id) c is =
-    record {
-      mode = is.mode;
-      joined = is.joined;
-      own_key = is.own_key;
-      first = is.first;
-      alone = is.alone;
-      carrier = is.carrier;
-      stays = is.stays;
-    }
-notice_keeps s keys path notices.Nothing c is = is
-notice_keeps s keys path (notices.Announce id) c is = is
-notice_keeps s keys path (notices.Carrier key) c is = is
-notice_keeps s keys path notices.Reset c is = is
-
-abbrev is_of_address : Notice → Bool
-is_of_address notices.Nothing = true
-is_of_address (notices.Announce id) = true
-is_of_address (notices.Withdraw id) = true
-is_of_address (notices.Carrier key) = false
-is_of_address notices.Reset = false
-
-of_addresses : (announced withdrawn : Option ℕ) → is_of_address (address_notice announced withdrawn) ≡ true
-of_addresses (Some id) withdrawn = refl
-of_addresses None (Some id) = refl
-of_addresses None None = refl
-
 plain_aborts : (mode : Mode) → IsPlainMode mode → is_aborted mode ≡ false
 plain_aborts mode (Starts is) = ap is_aborted is
 plain_aborts mode (IsSure is) = ap is_aborted is
 
--- a book that nothing stops tells addresses at most
-pub only_addresses : (s : Side) (keys : Keys) (c : Control) → ControlIs s keys c → is_of_address (notice_on c 0) ≡ true
-only_addresses s keys c is =
-    subst (λ (b : Bool). is_of_address (if b then notices.Reset else (if carries c 0 then notices.Carrier (peer_or_zero c.keys.peer) else others)) ≡ true)
-    (sym stays) (subst (λ (b : Bool). is_of_address (if b then notices.Carrier (peer_or_zero c.keys.peer) else others) ≡ true) (sym carried)
-    (of_addresses (announcement c 0) (lowest (withdrawals_on c.notices.withdrawals 0))))
+-- a book that nothing stops, and that has no address to tell, tells nothing
+pub nothing_noted : (s : Side) (keys : Keys) (c : Control) → ControlIs s keys c → notice_on c 0 ≡ notices.Nothing
+nothing_noted s keys c is =
+    ap (λ (b : Bool). if b then notices.Reset else (if carries c 0 then notices.Carrier (peer_or_zero c.keys.peer) else others)) stays
+    ∙ (ap (λ (b : Bool). if b then notices.Carrier (peer_or_zero c.keys.peer) else others) carried
+    ∙ (ap (λ (o : Option ℕ). address_notice o (lowest (withdrawals_on c.notices.withdrawals 0))) announced
+    ∙ ap (λ (o : Option ℕ). address_notice None o) is.withdraws))
   where
     others : Notice
     others = address_notice (announcement c 0) (lowest (withdrawals_on c.notices.withdrawals 0))
@@ -98,13 +69,12 @@ only_addresses s keys c is =
     stays : resets c 0 ≡ false
     stays = ap (λ (b : Bool). b && not (carries c 0) || (state_of c.paths 0).removed) (plain_aborts c.fall.mode is.mode) ∙ kept
 
-pub noted_on : (n : Notice) (may : Bool) (v : Notices) → is_of_address n ≡ true → NoticesAre v → NoticesAre (after_noted n may v)
-noted_on notices.Nothing may v of is = is
-noted_on (notices.Announce id) true v of is = record { reset = is.reset; carrier = is.carrier; fast_closed = is.fast_closed }
-noted_on (notices.Announce id) false v of is = is
-noted_on (notices.Withdraw id) may v of is = record { reset = is.reset; carrier = is.carrier; fast_closed = is.fast_closed }
-noted_on (notices.Carrier key) may v of is = absurd (both_ways _ refl of)
-noted_on notices.Reset may v of is = absurd (both_ways _ refl of)
+    announced : announcement c 0 ≡ None
+    announced = by (c.fall.confirmed && is_path (lowest_living c.paths) 0)
+      where
+        by : (b : Bool) → (if b then lowest c.addresses.due else None) ≡ None
+        by true = is.announces
+        by false = refl
 
 module _ {s : Side} {keys : Keys} {k j : Setting} {c : Profile} {begun begun_back : Lane} {m n : Half} {clock until : ℕ} where
   module _ {ds : List Duty} (h : Facing s keys k j c begun begun_back m n clock until (duties.Step (step_duties.Look s) ∷ ds)) where
@@ -112,7 +82,7 @@ module _ {s : Side} {keys : Keys} {k j : Setting} {c : Profile} {begun begun_bac
     end_after = after_look (replies.Control (look_reply 0 m.control)) m.end
 
     pub control_after : (b : Control) → ControlIs s keys b → ControlIs s keys (book_looked 0 b)
-    control_after b is = notice_keeps s keys 0 (notice_on b 0) b is
+    control_after b is = subst (λ (n : Notice). ControlIs s keys (after_notice n 0 b)) (sym (nothing_noted s keys b is)) is
 
     pub begun_after : (1 ≤ h.out.control_sent) ⊎ HasNotBegun s j h.out.sender h.back.receiver m.end (duties.Step (step_duties.Look s) ∷ ds)
         → (1 ≤ h.out.control_sent) ⊎ HasNotBegun s j h.out.sender h.back.receiver end_after ds
@@ -132,10 +102,10 @@ module _ {s : Side} {keys : Keys} {k j : Setting} {c : Profile} {begun begun_bac
         window_on (inl is) = inl is
         window_on (inr there) = inr (behind ds (differ refl) there)
 
-    -- nothing but addresses is noted
+    -- nothing is noted
     pub notices_after : (dead : Bool) → NoticesAre (if dead then m.end.notices else after_noted (notice_on m.control 0) (may_note m.end) m.end.notices)
     notices_after true = h.own.notices
-    notices_after false = noted_on (notice_on m.control 0) (may_note m.end) m.end.notices (only_addresses s keys m.control h.control) h.own.notices
+    notices_after false = subst (λ (n : Notice). NoticesAre (after_noted n (may_note m.end) m.end.notices)) (sym (nothing_noted s keys m.control h.control)) h.own.notices
 
     pub own_after : EndIs s keys k j h.out.sender h.back.receiver h.hand h.owes h.waiting end_after
     own_after = record {

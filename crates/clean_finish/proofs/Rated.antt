@@ -33,6 +33,8 @@ rated_on s keys path window rtt c first is = record {
       ∙ ap (λ (ps : List RegistryPath). with_row 0 (row_of path window rtt) ps) is.alone;
   carrier = is.carrier;
   stays = is.stays;
+  announces = is.announces;
+  withdraws = is.withdraws;
 }
 
 -- a growth leaves the row and what was told

@@ -42,7 +42,7 @@ module _ (start : Start) (plan : PathPlan) (k j : Setting) (s v : Lane) where
       → let ask = ask_for values d (with_agenda (d ∷ ds) p) in
       Relation a b (after_ask ask books) (answered values d (reply_of books ask) (with_agenda (d ∷ ds) p))
 
-  settles : Passes → (a b : AppState) (books : SixBooks) (ds : List Duty) (p : PathState Carried)
+  pub settles : Passes → (a b : AppState) (books : SixBooks) (ds : List Duty) (p : PathState Carried)
       → Relation a b books (with_agenda ds p) → Relation a b books (settled ds p)
   settles passes a b books [] p h = h
   settles passes a b books (d ∷ ds) p h = by (λ rest. settles passes a b books ds (passed d p) rest) (stands d p) refl

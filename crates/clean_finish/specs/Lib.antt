@@ -1,6 +1,7 @@
 pub mod Applications
 pub mod Books
 pub mod Bound
+pub mod Finish
 pub mod Laws
 pub mod Machine
 pub mod Reading

@@ -598,7 +598,8 @@ Treats keys a b (duties.Step (step_duties.Heard q zero) ∷ ds) =
     (k : Brings) × TreatsCopy q keys AtFirst (is_third k) k (pick q a b) × Beside q a b ds (heard_and q 1 (count_in k - 1) (payload_came q))
 Treats keys a b (duties.Step (step_duties.Heard q (suc zero)) ∷ ds) =
     (k : Brings) × TreatsCopy q keys AfterOne (shows_keys k) k (pick q a b) × (2 ≤ count_in k) × Beside q a b ds (heard_and q 2 (count_in k - 2) (payload_came q))
-Treats keys a b (duties.Step (step_duties.Heard q (suc (suc i))) ∷ ds) =
+Treats keys a b (duties.Step (step_duties.Heard q (suc (suc (suc i)))) ∷ ds) = ⊥
+Treats keys a b (duties.Step (step_duties.Heard q (suc (suc zero))) ∷ ds) =
     (k : Brings) × TreatsCopy q keys AfterTwo (shows_keys k) k (pick q a b) × (count_in k ≡ 3) × Beside q a b ds (payload_came q)
 Treats keys a b (duties.Ask (ask_duties.AckHeard q) ∷ ds) =
     (k : Brings) × TreatsCopy q keys AfterTwo (shows_keys k) k (pick q a b) × (shows_keys k ≡ false) × Beside q a b ds (heard_and q 2 (count_in k - 2) (payload_came q))

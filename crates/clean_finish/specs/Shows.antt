@@ -6,7 +6,8 @@ use Rattle.outside_kit.specs.declared.side.Side.TheVariants.{A, B}
 use Rattle.link_model.specs.declared.flight.Flight.{Flight}
 use Rattle.link_model.specs.Steps.{peer}
 use Rattle.control_book.specs.declared.registry.PathState.{PathState as RegistryPath}
-use Rattle.control_book.specs.Control.{Control}
+use Rattle.address_manager.specs.IdSet.{lowest}
+use Rattle.control_book.specs.Control.{Control, withdrawals_on}
 use Rattle.control_book.specs.Registry.{opening_paths}
 use Rattle.fallback_state.specs.declared.fall.Mode.{Mode}
 use Rattle.fallback_state.specs.declared.fall.Mode.TheVariants.{Starting, Sure}
@@ -252,8 +253,9 @@ pub record ModesAre (s : Side) (keys : Keys) (out : Sender) (back : Receiver) (m
   -- the keys are shown by A alone
   pub shown : out.keys_sent ≤ pick s out.ready 0
 
--- the end neither sends a fast close nor was told to be reset
+-- the end has no address to note, neither sends a fast close nor was told to be reset
 pub record NoticesAre (n : Notices) : Type 0 where
+  pub queue : n.queue ≡ []
   pub reset : n.reset ≡ false
   pub carrier : n.carrier ≡ None
   pub fast_closed : n.fast_closed ≡ false
@@ -296,6 +298,9 @@ pub record ControlIs (s : Side) (keys : Keys) (b : Control) : Type 0 where
   -- nothing stops it
   pub carrier : b.notices.carrier ≡ None
   pub stays : first.removed ≡ false
+  -- no address is to be announced or taken back
+  pub announces : lowest b.addresses.due ≡ None
+  pub withdraws : lowest (withdrawals_on b.notices.withdrawals 0) ≡ None
 
 -- ---- the way from one side
 

@@ -6,9 +6,8 @@ ghost use Rattle.clean_finish.specs.Bound.{segments, bound_of, enough};
 
 use link_script::{PathLine, Script};
 
-/// How many rounds are enough for both readers to be told the end, where the script is clean, which means that it has one
-/// path and no line, and both directions go on as lanes (`clean_lanes_finish`); none where it isn't. Lengths of the files
-/// are in octets.
+/// How many rounds are enough for both files to be delivered (`clean_scripts_finish`), where the script is clean, which means that it
+/// has one path and no line; none where it isn't. Lengths of the files are in octets.
 pub fn rounds_enough(script: &Script, length_a: u64, length_b: u64) -> Option<u64>
     requires a { length_a ≤ 16777216 }
     requires b { length_b ≤ 16777216 }

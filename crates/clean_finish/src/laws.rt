@@ -4,7 +4,16 @@ ghost use Rattle.clean_finish.specs.Bound.{enough};
 ghost use Rattle.clean_finish.specs.Applications.{WritesAsALane, ClosesAsALane, BeginsToWriteAsALane, ReadsAsALane, FollowsAsALane, BeginsToReadAsALane};
 ghost use Rattle.clean_finish.specs.Books.{AckOutAsksAsLanes, AckInHearsAsLanes};
 ghost use Rattle.clean_finish.specs.Machine.{SettlesAsALane, StaysLong, FlightsAreSmall, HeadsArrive, SegmentsGoPlainly, OthersStay};
+ghost use Rattle.clean_finish.specs.Finish.{CleanScriptsFinish, CleanScriptsGoOn};
 ghost use Rattle.clean_finish.specs.Laws.{CleanLanesFinish, EmptyFilesRun, one_path, two_paths, one_drop};
+
+/// A law: of every lawful list of turns of a connection by a clean script, which has one path and no line, with files of 16 MiB at
+/// most: once as many rounds have ended as are enough both files are delivered (`finish`), and until then the connection goes on, as
+/// no reader is told of an abort and the path lives (`go_on`). The list is any order of steps within the rounds, and links carry octets.
+pub fn clean_scripts_finish()
+    ensures finish { CleanScriptsFinish }
+    ensures go_on { CleanScriptsGoOn }
+{}
 
 /// A law: where both directions of a connection go on as lanes of `pace`, by the numbers of a clean script, and both
 /// congestion windows begin with two segments and a payload or more, both readers are told the end within the rounds that

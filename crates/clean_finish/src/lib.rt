@@ -1,9 +1,8 @@
 //! After how many rounds the run of a clean script has finished: one path, on which nothing happens.
 //!
-//! The bound, and what it rests on: `pace` says after how many rounds both ends of a connection are told where its two
-//! directions go on as lanes, and a clean script's numbers meet what `pace` assumes. Of the machine the applications,
-//! the timer of an end, its flight, the link, and what books answer to AckOut and AckIn are shown to go on so; paths aren't
-//! yet. Nothing here takes memory.
+//! The bound, and that it is one: `pace` says after how many rounds both ends of a connection are told where its two
+//! directions go on as lanes. A clean script's numbers meet what `pace` assumes, and each step of a connection by it, in whatever
+//! order, is moves of two lanes. Nothing here takes memory.
 #![tactic(auto)]
 
 mod bound;
@@ -12,6 +11,6 @@ mod laws;
 pub use bound::rounds_enough;
 pub use laws::{
     applications_read_as_lanes_do, applications_write_as_lanes_do, books_answer_as_lanes_do,
-    clean_lanes_finish, clean_links_are_lists, empty_files_go_on_as_lanes, examples_of_bounds,
-    flights_are_small, timeouts_stay_long, timers_settle_as_in_lanes,
+    clean_lanes_finish, clean_links_are_lists, clean_scripts_finish, empty_files_go_on_as_lanes,
+    examples_of_bounds, flights_are_small, timeouts_stay_long, timers_settle_as_in_lanes,
 };

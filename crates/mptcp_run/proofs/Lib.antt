@@ -27,3 +27,4 @@ mod RoundsWoven
 mod ThreadsMade
 mod TurnsTimely
 mod Taken
+mod CleanRuns

@@ -1,6 +1,7 @@
 pub mod Adding
 pub mod Answers
 pub mod Asked
+pub mod Clean
 pub mod Courses
 pub mod Ends
 pub mod Logged

@@ -1,6 +1,7 @@
 //! What holds of every run, as clauses of functions that do nothing.
 ghost use Rattle.mptcp_run.specs.Logged.{WholeRunsAgree, WholeRunsAreTold};
 ghost use Rattle.mptcp_run.specs.Answers.{ValidInputsAreRun};
+ghost use Rattle.mptcp_run.specs.Clean.{CleanRunsDeliver};
 ghost use Rattle.mptcp_run.specs.Promised.{LoadedTasksArePlain, PlainTasksAreKept, WholeRunsGivePrefixes, DeliveredRunsGiveFiles, StoppedRunsGivePrefixes, CutRunsGivePrefixes, LinesCutGivePrefixes};
 
 /// A law: where the script alters no payload, each reader has a prefix of what the other side writes, at whichever end of a run,
@@ -18,6 +19,13 @@ pub fn plain_runs_keep_their_word()
 /// its own end, or memory is wanting, or in `replay` a turn of the log can't be made.
 pub fn valid_inputs_are_run()
     ensures { ValidInputsAreRun }
+{}
+
+/// A law: where the inputs of a command line in mode `run` or `serial` are told, within their limits and valid, its script has one
+/// path and no line, and its rounds are at least 80 and 16 for each full segment of either file, its run delivers both files,
+/// or memory is wanting, as long as no count of faults rises.
+pub fn clean_runs_deliver()
+    ensures { CleanRunsDeliver }
 {}
 
 /// A law: where the inputs of a command line are within their limits, the script of its task alters no payload, both files are

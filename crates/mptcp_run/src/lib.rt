@@ -13,7 +13,8 @@ mod top_call;
 mod turns;
 
 pub use laws::{
-    loaded_tasks_are_plain, logs_tell_their_runs, plain_runs_keep_their_word, valid_inputs_are_run,
+    clean_runs_deliver, loaded_tasks_are_plain, logs_tell_their_runs, plain_runs_keep_their_word,
+    valid_inputs_are_run,
 };
 pub use messages::run_messages;
 pub use run_outside::{Named, ScriptKind, Status, fault_text};

@@ -70,7 +70,8 @@ fn again(
     requires ranges { HasRanges input.now.script }
     requires orders { AreOrders (map (λ order. order.items) orders.now)
         (opened_world (start_of input.now.script input.now.file_a input.now.file_b)) }
-    ensures { OnOk result (world.new ≡ standing (after_orders (map (λ order. order.items) orders.now)
+    ensures { OnOk result (world.new ≡
+        standing (after_orders (map (λ order. order.items) orders.now)
         (opened_world (start_of input.now.script input.now.file_a input.now.file_b)))) }
 {
     mem::replace(world, World::open(alloc, input)?).close();

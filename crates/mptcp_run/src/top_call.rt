@@ -11,6 +11,7 @@ ghost use Rattle.world_laws.specs.Outcomes.{outcome_of};
 ghost use Rattle.run_outside.specs.Calling.{Puts};
 ghost use Rattle.mptcp_run.specs.Answers.{IsAnswer, IsMadeAnswer, NothingWasRun};
 ghost use Rattle.mptcp_run.specs.Asked.{AsksInRange, asked_in, if_run};
+ghost use Rattle.mptcp_run.specs.Clean.{DeliversIfClean};
 ghost use Rattle.mptcp_run.specs.Ends.{CameToEnd, IsCut, ReplayEnds};
 ghost use Rattle.mptcp_run.specs.Made.{Bench, bench_of, bench_in};
 ghost use Rattle.run_outside.specs.Plan.{AddsShort};
@@ -424,6 +425,12 @@ pub fn run<O: Outside, G: Gate + Sync, R: Threads + Wait + Sync>(
         (O.port_faults outside.old) (O.port_faults outside.new)
         (O.holds outside.old) (O.holds outside.new)
         (O.calls outside.old) (O.calls outside.new) result) }
+    // A clean script, one path and no line, in `run` or `serial`, with rounds that are enough for its files: both are delivered,
+    // or memory is wanting, as long as the inputs are valid and no count of faults rises.
+    ensures clean { IfSome (asked_in (map string_bytes words.now)) (λ line. DeliversIfClean
+        (O.content outside.old) line
+        (O.load_faults outside.old) (O.load_faults outside.new)
+        (O.port_faults outside.old) (O.port_faults outside.new) result) }
     // Words that ask for `bench`: its row.
     ensures bench { IfSome (bench_in (map string_bytes words.now)) (λ made. IsMadeAnswer made
         (O.load_faults outside.old) (O.load_faults outside.new)

@@ -8,13 +8,14 @@
 //! and the calls that were made on the outside: the name and the limit of a load, the port and the name of a bind, the port and the number
 //! of octets of a put. A line that begins with `meet` is a run by threads, as `meeting.rt` tells; one that begins with `round` is the
 //! first round of a run by threads at locks, as `opening.rt` tells; and one that begins with `tables` is rounds by threads over six
-//! books alone, as `tables.rt` tells.
+//! books alone, as `tables.rt` tells; and one that begins with `enough` asks within how many rounds a clean script ends, as `enough.rt` tells.
 #![tactic(auto)]
 
 mod books_shown;
 mod caller;
 mod case;
 mod content;
+mod enough;
 mod meeting;
 mod opening;
 mod order;
@@ -24,6 +25,7 @@ mod tables;
 
 use case::Case;
 use case_fields::CaseFault;
+use enough::bound;
 use meeting::meeting;
 use mptcp_run::{Status, run, run_messages};
 use opening::first_round;
@@ -83,6 +85,7 @@ fn respond<R: Threads + Wait + Sync>(
         Some(("meet", fields)) => meeting(rt, alloc, line, fields),
         Some(("tables", _)) => at_tables(rt, alloc, line),
         Some(("round", _)) => first_round(rt, alloc, line),
+        Some(("enough", _)) => bound(alloc, line),
         _ => answer(rt, alloc, line, log),
     }
 }

@@ -4,6 +4,7 @@ use Rattle.mptcp_run.specs.Answers.{IsAnswer, IsMadeAnswer}
 use Rattle.mptcp_run.specs.Asked.{asked_in}
 use Rattle.mptcp_run.specs.Made.{Bench}
 use Rattle.mptcp_run.proofs.AskedRounds.{line_asked}
+use Rattle.mptcp_run.proofs.CleanRuns.{clean_if_asked}
 use Rattle.mptcp_run.proofs.Asking.{asked_is, bench_is, delivered_files, unread_answer, unread_bench, unread}
 use Rattle.mptcp_run.proofs.top_call.run.Goals as goal
 
@@ -25,6 +26,13 @@ returns-in-Ok-clause-delivered g c is =
     (g.O.Outside.port_faults c.args.outside.now) (g.O.Outside.port_faults c.run_line.new.outside) (g.O.Outside.holds c.args.outside.now) (g.O.Outside.holds c.run_line.new.outside)
     (g.O.Outside.calls c.args.outside.now) (g.O.Outside.calls c.run_line.new.outside) (asked_in (map string_bytes c.args.words.now)) c.run_line.result
     (returns-in-Ok-clause-answer g c) is
+
+pub returns-in-Ok-clause-clean : goal.returns-in-Ok-clause-clean
+returns-in-Ok-clause-clean g c =
+    clean_if_asked (g.O.Outside.content c.args.outside.now) (g.O.Outside.load_faults c.args.outside.now) (g.O.Outside.load_faults c.run_line.new.outside)
+    (g.O.Outside.port_faults c.args.outside.now) (g.O.Outside.port_faults c.run_line.new.outside) (g.O.Outside.holds c.args.outside.now) (g.O.Outside.holds c.run_line.new.outside)
+    (g.O.Outside.calls c.args.outside.now) (g.O.Outside.calls c.run_line.new.outside) (asked_in (map string_bytes c.args.words.now)) c.run_line.result
+    (returns-in-Ok-clause-answer g c)
 
 pub returns-in-Ok-clause-bench : goal.returns-in-Ok-clause-bench
 returns-in-Ok-clause-bench g c =
@@ -51,6 +59,13 @@ returns-in-Err-clause-delivered g c is =
     (g.O.Outside.port_faults c.args.outside.now) (g.O.Outside.port_faults c.args.outside.now) (g.O.Outside.holds c.args.outside.now) (g.O.Outside.holds c.args.outside.now)
     (g.O.Outside.calls c.args.outside.now) (g.O.Outside.calls c.args.outside.now) (asked_in (map string_bytes c.args.words.now)) c.in-Err.status
     (returns-in-Err-clause-answer g c) is
+
+pub returns-in-Err-clause-clean : goal.returns-in-Err-clause-clean
+returns-in-Err-clause-clean g c =
+    clean_if_asked (g.O.Outside.content c.args.outside.now) (g.O.Outside.load_faults c.args.outside.now) (g.O.Outside.load_faults c.args.outside.now)
+    (g.O.Outside.port_faults c.args.outside.now) (g.O.Outside.port_faults c.args.outside.now) (g.O.Outside.holds c.args.outside.now) (g.O.Outside.holds c.args.outside.now)
+    (g.O.Outside.calls c.args.outside.now) (g.O.Outside.calls c.args.outside.now) (asked_in (map string_bytes c.args.words.now)) c.in-Err.status
+    (returns-in-Err-clause-answer g c)
 
 pub returns-in-Err-clause-bench : goal.returns-in-Err-clause-bench
 returns-in-Err-clause-bench g c =

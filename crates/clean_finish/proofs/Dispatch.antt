@@ -1,0 +1,20 @@
+-- All duties of a path over a clean link go on.
+use Rattle.std.proofs.Common.{sym, subst}
+use Rattle.path_core.specs.State.{Profile}
+use Rattle.world_laws.specs.Openings.{PathPlan, Start, path_begins}
+use Rattle.pace.specs.Lane.{Setting}
+use Rattle.clean_finish.specs.Running.{IsSetting}
+use Rattle.clean_finish.proofs.AnswersDuties.{duty_answered}
+use Rattle.clean_finish.proofs.Onward.{DutiesGoOn}
+use Rattle.clean_finish.proofs.PassesDuties.{duty_passes}
+
+pub duties_go_on : (start : Start) (plan : PathPlan) (k j : Setting) → IsSetting (path_begins start 0 plan).profile plan.delay k
+    → IsSetting (path_begins start 0 plan).profile plan.delay j → DutiesGoOn start plan k j
+duties_go_on start plan k j k_is j_is = record {
+  passes = λ s v t u going going_back a b books p d ds off h. duty_passes start plan k j s v t u going going_back a b books p
+      (subst (λ (c : Profile). IsSetting c plan.delay k) (sym h.path.profile) k_is)
+      (subst (λ (c : Profile). IsSetting c plan.delay j) (sym h.path.profile) j_is) d ds off h;
+  answering = λ s v t u going going_back a b books p d ds on h. duty_answered start plan k j s v t u going going_back a b books p
+      (subst (λ (c : Profile). IsSetting c plan.delay k) (sym h.path.profile) k_is)
+      (subst (λ (c : Profile). IsSetting c plan.delay j) (sym h.path.profile) j_is) d ds on h;
+}

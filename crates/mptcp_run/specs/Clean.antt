@@ -1,0 +1,41 @@
+-- What is promised of a clean script: one path, and no line on which something happens.
+use Rattle.std.specs.Prelude.{◌≡◌, ℕ, ◌≤◌, ◌⊎◌, List, length, Option, IsSomeAnd}
+use Rattle.outside_kit.specs.declared.port.Port.{Port}
+use Rattle.outside_kit.specs.Calls.{Made}
+use Rattle.outside_kit.specs.Outside.{HasRisen}
+use Rattle.clean_finish.specs.Bound.{enough}
+use Rattle.run_words.specs.Lines.{Line}
+use Rattle.run_outside.specs.declared.status.Status.{Status}
+use Rattle.run_outside.specs.declared.status.Status.TheVariants.{Delivered, Memory}
+use Rattle.run_outside.specs.Inputs.{IsValid}
+use Rattle.mptcp_run.specs.Answers.{IsAnswer}
+use Rattle.mptcp_run.specs.Task.{Task, Course, rounds, threads, told, task_of}
+
+-- so many rounds may be made, where they aren't told by a log
+abbrev pub AsksRounds : ℕ → Course → Type 0
+AsksRounds least (rounds most) = least ≤ most
+AsksRounds least (threads most) = least ≤ most
+AsksRounds least (told order) = ⊥
+
+-- the script is clean, and so many rounds may be made as are enough for its files
+abbrev pub HasEnoughRounds : Task → Type 0
+HasEnoughRounds task = IsSomeAnd (enough task.script (length task.file_a) (length task.file_b)) (λ least. AsksRounds least task.course)
+
+-- Where the inputs of a command line are told, within their limits and valid, its script is clean, and its rounds are enough,
+-- its run delivers both files, or memory is wanting, as long as no count of faults rises.
+abbrev pub DeliversIfClean : (List ℕ → Option (List ℕ)) → Line → ℕ → ℕ → (Port → ℕ) → (Port → ℕ) → Status → Type 0
+DeliversIfClean content line loads_before loads faults_before faults status =
+    IsValid content line → IsSomeAnd (task_of content line) HasEnoughRounds → (HasRisen loads_before loads → ⊥)
+    → ((port : Port) → HasRisen (faults_before port) (faults port) → ⊥)
+    → (status ≡ Delivered) ⊎ (status ≡ Memory)
+
+abbrev Ports : Type 0
+Ports = Port → Option (List ℕ)
+
+-- so it is of each answer
+abbrev pub CleanRunsDeliver : Type 0
+CleanRunsDeliver =
+    (content : List ℕ → Option (List ℕ)) (line : Line) (loads_before loads : ℕ) (faults_before faults : Port → ℕ) (held holds : Ports)
+    (told_before tells : Option (List Made)) (status : Status)
+    → IsAnswer content line loads_before loads faults_before faults held holds told_before tells status
+    → DeliversIfClean content line loads_before loads faults_before faults status
