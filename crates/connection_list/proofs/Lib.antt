@@ -1,4 +1,3 @@
-pub mod Numerals
 pub mod Names
 pub mod Cuts
 pub mod ReadOn

@@ -1,9 +1,7 @@
 -- The words that name a list of connections.
-use Rattle.std.specs.Prelude.{ℕ, Bool, ◌&&◌, nat_lt, nat_le, if◌then◌else◌, codes, length, List, [], ◌∷◌, Option, Some, None, option_and_then}
-use Rattle.std.specs.List.{list_all}
-use Rattle.std.specs.Char.{is_ascii_digit}
+use Rattle.std.specs.Prelude.{ℕ, nat_lt, if◌then◌else◌, codes, length, List, [], ◌∷◌, Option, Some, None, option_and_then}
 use Rattle.std.specs.Str.{bytes_eq}
-use Rattle.std.specs.Str.Parse.{digits_value}
+use Rattle.run_words.specs.Numbers.{number_within}
 use Rattle.connection_list.specs.declared.words.ListWords.{ListWords}
 
 -- the name of the list, and the most rounds
@@ -13,16 +11,6 @@ pub record NamedList : Type 0 where
 
 abbrev pub as_words : ListWords → NamedList
 as_words words = record { list = words.list.now; rounds = words.rounds }
-
--- one to seven digits, leading zeros among them
-abbrev pub is_numeral : List ℕ → Bool
-is_numeral word = nat_lt 0 (length word) && nat_le (length word) 7 && list_all is_ascii_digit word
-
--- the number that a word writes, where it lies within these ends
-unfoldable pub number_within : ℕ → ℕ → List ℕ → Option ℕ
-number_within least most word =
-    let n = digits_value 10 word in
-    if is_numeral word && nat_le least n && nat_le n most then Some n else None
 
 -- a name isn't empty
 abbrev pub named : List ℕ → ℕ → Option NamedList

@@ -5,7 +5,6 @@
 #![tactic(auto)]
 
 mod list;
-mod number;
 mod words;
 
 pub use list::{ListFault, Listed, MOST_CONNECTIONS, read_list};

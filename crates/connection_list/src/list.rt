@@ -78,14 +78,16 @@ fn text_of(name: &[u8]) -> &str
 
 /// The words of a line: its parts between spaces.
 fn words_of(alloc: Global, line: &[u8]) -> Result<Vec<&[u8]>, AllocError>
-    ensures { IfOk result (λ words. map (λ w. w.now) words.items ≡ slice_split (λ octet. octet == 32) line.entry.now) }
+    ensures { IfOk result (λ words. map (λ w. w.now) words.items ≡
+        slice_split (λ octet. octet == 32) line.entry.now) }
 {
     line.split(|octet| *octet == b' ').collect(alloc)
 }
 
 /// A connection by three words, where they are names.
 fn connection_of<'a>(script: &'a [u8], file_a: &'a [u8], file_b: &'a [u8]) -> Option<Listed<'a>>
-    ensures { option_map as_names result ≡ names_by (script.entry.now ∷ file_a.entry.now ∷ file_b.entry.now ∷ []) }
+    ensures { option_map as_names result ≡
+        names_by (script.entry.now ∷ file_a.entry.now ∷ file_b.entry.now ∷ []) }
 {
     if !(is_name(script) && is_name(file_a) && is_name(file_b)) {
         return None;
@@ -150,7 +152,8 @@ fn listed_at(alloc: Global, line: &[u8], number: u64) -> Result<Listed<'_>, List
 
 /// The connections of the lines of a list that isn't empty.
 fn read_lines(alloc: Global, list: &[u8]) -> Result<Vec<Listed<'_>>, ListFault>
-    ensures exact { IsReading (λ connections. map as_names connections.items) result (read_on 1 [] (list_lines list.entry.now)) }
+    ensures exact { IsReading (λ connections. map as_names connections.items) result
+        (read_on 1 [] (list_lines list.entry.now)) }
     ensures few { IfOk result (λ connections. length connections.items ≤ 64) }
 {
     let mut connections = Vec::new(alloc);
@@ -172,7 +175,8 @@ fn read_lines(alloc: Global, list: &[u8]) -> Result<Vec<Listed<'_>>, ListFault>
 /// `Line` exactly where a line is out of form, or there are none or more than 64, with the first such line. Else only
 /// `Memory`.
 pub fn read_list(alloc: Global, list: &[u8]) -> Result<Vec<Listed<'_>>, ListFault>
-    ensures exact { IsReading (λ connections. map as_names connections.items) result (list_reading list.entry.now) }
+    ensures exact { IsReading (λ connections. map as_names connections.items) result
+        (list_reading list.entry.now) }
     ensures few { IfOk result (λ connections. length connections.items ≤ 64) }
 {
     if list.is_empty() {

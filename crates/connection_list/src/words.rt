@@ -3,7 +3,7 @@
 ghost use Rattle.std.specs.Prelude.{◌≡◌, ◌<◌, ◌≤◌, IfSome, map, option_map, string_bytes};
 ghost use Rattle.connection_list.specs.Words.{as_words, named, rounds_in, words_in};
 
-use crate::number::read_number;
+use run_words::read_number;
 
 /// The most rounds, and how many are made where the words say nothing of them.
 const MOST_ROUNDS: u32 = 1_024;

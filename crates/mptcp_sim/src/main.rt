@@ -1,7 +1,9 @@
 //! Sends a file through a Multipath TCP connection over simulated links: `mptcp_sim --mode serial SCRIPT FILE_A FILE_B
-//! READ_BY_B READ_BY_A`. Behind a first word `messages` each line of a file goes as one message.
+//! READ_BY_B READ_BY_A`. Behind a first word `messages` each line of a file goes as one message; behind `many` a list names up to 64
+//! connections that share one listener.
 #![tactic(auto)]
 
+use connection_table::run_many;
 use file_outside::FileOutside;
 use mptcp_run::{Status, fault_text, run, run_messages};
 use outside_kit::OpenGate;
@@ -12,6 +14,39 @@ use std::os::fd::AsFd;
 use std::process::ExitCode;
 use std::sync::Wait;
 use std::thread::Threads;
+
+/// How the program ends: its exit status, and the line for standard error, empty where nothing is said or there is no memory for it.
+#[derive(Drop)]
+struct End {
+    code: u8,
+    line: String,
+}
+
+/// A line, or none where there is no memory for it.
+fn said(alloc: Global, line: Result<String, AllocError>) -> String {
+    match line {
+        Ok(line) => line,
+        Err(_) => String::new(alloc),
+    }
+}
+
+/// The end of a run of one connection.
+fn end_of(alloc: Global, status: &Status) -> End {
+    End {
+        code: status.code(),
+        line: said(alloc, fault_text(alloc, status)),
+    }
+}
+
+/// The end of a run of the connections of a list.
+fn end_of_many(rt: &HostRuntime, words: &[String]) -> End {
+    let mut outside = FileOutside::new(rt, has_output(rt));
+    let many = run_many(rt.alloc(), words, &mut outside);
+    End {
+        code: many.code(),
+        line: said(rt.alloc(), many.fault_text(rt.alloc())),
+    }
+}
 
 /// The words after the program's name, or the status where there are none to be had.
 fn words_of(rt: &(impl Env + Alloc<A = Global>)) -> Result<Vec<String>, Status> {
@@ -47,15 +82,21 @@ fn status_of<R: Threads + Wait + Sync>(rt: &HostRuntime, threads: &R, words: &[S
     }
 }
 
-fn main(rt: HostRuntime) -> ExitCode {
-    let status = match words_of(&rt) {
-        Ok(words) => status_of(&rt, &rt, &words),
-        Err(status) => status,
-    };
-    if let Ok(line) = fault_text(rt.alloc(), &status) {
-        if !line.is_empty() {
-            let _ = eprintln!(rt; "{line}");
-        }
+/// Runs what the words ask for.
+fn run_words<R: Threads + Wait + Sync>(rt: &HostRuntime, threads: &R, words: &[String]) -> End {
+    match words {
+        [first, others @ ..] if first.as_str() == "many" => end_of_many(rt, others),
+        _ => end_of(rt.alloc(), &status_of(rt, threads, words)),
     }
-    ExitCode::from(status.code())
+}
+
+fn main(rt: HostRuntime) -> ExitCode {
+    let end = match words_of(&rt) {
+        Ok(words) => run_words(&rt, &rt, &words),
+        Err(status) => end_of(rt.alloc(), &status),
+    };
+    if !end.line.is_empty() {
+        let _ = eprintln!(rt; "{}", end.line);
+    }
+    ExitCode::from(end.code)
 }

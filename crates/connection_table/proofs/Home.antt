@@ -1,0 +1,79 @@
+-- Each join is routed to its own connection.
+use Rattle.std.proofs.Common.{◌≡◌, refl, sym, ◌∙◌, ap, subst, ℕ, Bool, true, false, if◌then◌else◌, Option, Some, None, option_and_then, List}
+use Rattle.std.specs.Prelude.{IsSomeAnd}
+use Rattle.std.specs.List.{slice_get}
+use Rattle.outside_kit.specs.declared.side.Side.{Side}
+use Rattle.outside_kit.specs.declared.side.Side.TheVariants.{A, B}
+use Rattle.path_core.specs.Looking.{Arrived, next_arrival}
+use Rattle.world_core.specs.Looking.{crew_path, member_path}
+use Rattle.world_laws.specs.declared.member.Member.TheVariants.{App, Path}
+use Rattle.world_laws.specs.Actors.{Actor, ActorCrew}
+use Rattle.world_laws.specs.Openings.{start_of}
+use Rattle.world_laws.proofs.PromisesOfScripts.{plain_scripts_start_plainly}
+use Rattle.join_route.specs.Routing.{join_token}
+use Rattle.join_tokens.specs.JoinTokens.{AsksByTokenNext, JoinsAskByToken}
+use Rattle.join_tokens.proofs.JoinsAsked.{joins_ask}
+use Rattle.connection_table.specs.Routes.{EachIsRoutedHome, arriving_at_b, arriving_in, home_by, home_of, if_at_b, only_at_b, route_by, routed, to_holder}
+use Rattle.connection_table.specs.Tables.{Entry, IsPlainEntry, IsTable, StandsAlone, entry_at, holder_of, key_token}
+use Rattle.connection_table.specs.Turns.{turns_of}
+
+-- what comes to B arrives there
+at_b : (o : Option Arrived) (a : Arrived) → option_and_then only_at_b o ≡ Some a → (o ≡ Some a) × (a.to ≡ B)
+at_b None a is = cc
+at_b (Some x) a is = by x.to refl is
+  where
+    by : (s : Side) → x.to ≡ s → if_at_b s x ≡ Some a → (Some x ≡ Some a) × (a.to ≡ B)
+    by A to is = cc
+    by B to is = (is, cc)
+
+-- the copy that comes to B by an actor's step asks by this token, where it asks
+crew_asks : (key actor : ℕ) (crew : List (ActorCrew (List ℕ))) (a : Arrived) (token : ℕ)
+    → ((c : ActorCrew (List ℕ)) → slice_get crew actor ≡ Some c → AsksByTokenNext key c.member)
+    → arriving_at_b actor crew ≡ Some a → join_token a.addresses a.octets ≡ Some token → token ≡ key
+crew_asks key actor crew a token asks is by_token = by (slice_get crew actor) refl (at_b (option_and_then next_arrival (crew_path (slice_get crew actor))) a is)
+  where
+    member : (m : Actor (List ℕ)) → AsksByTokenNext key m → option_and_then next_arrival (member_path m) ≡ Some a → a.to ≡ B → token ≡ key
+    member (App app) asks is to = cc
+    member (Path p) asks is to = asks a token is to by_token
+
+    by : (o : Option (ActorCrew (List ℕ))) → slice_get crew actor ≡ o → (option_and_then next_arrival (crew_path o) ≡ Some a) × (a.to ≡ B) → token ≡ key
+    by None there is = cc
+    by (Some c) there is = member c.member (asks c there) is.0 is.1
+
+pub each_is_routed_home : EachIsRoutedHome
+each_is_routed_home table connection actor e sound there alone plain =
+    ap (λ (o : Option Entry). home_by connection (routed (option_and_then (arriving_in actor) o) table)) there ∙ by e.world.failed refl
+  where
+    key : ℕ
+    key = key_token e.input.script
+
+    asks : e.world.failed ≡ false → JoinsAskByToken key e.world.state
+    asks stands =
+        let starts = plain_scripts_start_plainly e.input.script e.input.file_a e.input.file_b plain in
+        let same = alone.is stands in
+        subst (JoinsAskByToken key) (sym same) (joins_ask (start_of e.input.script e.input.file_a e.input.file_b) (turns_of e.turns) starts.0 starts.1)
+
+    to : (a : Arrived) (o : Option ℕ) → join_token a.addresses a.octets ≡ o → e.world.failed ≡ false → arriving_at_b actor e.world.state.crew ≡ Some a
+        → home_by connection (route_by o table) ≡ connection
+    to a None none stands is = refl
+    to a (Some token) by_token stands is =
+        ap (λ t. home_by connection (to_holder t (holder_of t table)))
+        (crew_asks key actor e.world.state.crew a token (λ c at. (asks stands).each actor c at) is by_token)
+        ∙ ap (λ h. home_by connection (to_holder key h)) (sound.named connection e there)
+
+    arriving_is : (o : Option Arrived) → arriving_at_b actor e.world.state.crew ≡ o → e.world.failed ≡ false → home_by connection (routed o table) ≡ connection
+    arriving_is None is stands = refl
+    arriving_is (Some a) is stands = to a (join_token a.addresses a.octets) refl stands is
+
+    by : (b : Bool) → e.world.failed ≡ b → home_by connection (routed (if b then None else arriving_at_b actor e.world.state.crew) table) ≡ connection
+    by true stands = refl
+    by false stands = arriving_is (arriving_at_b actor e.world.state.crew) refl stands
+
+-- of a connection that is there
+pub plain_stays_home : (table : List Entry) (connection actor : ℕ) → IsTable table → IsSomeAnd (entry_at connection table) StandsAlone
+    → IsSomeAnd (entry_at connection table) (λ entry. IsPlainEntry entry → home_of connection actor table ≡ connection)
+plain_stays_home table connection actor is alone = by (entry_at connection table) refl alone
+  where
+    by : (o : Option Entry) → entry_at connection table ≡ o → IsSomeAnd o StandsAlone → IsSomeAnd o (λ entry. IsPlainEntry entry → home_of connection actor table ≡ connection)
+    by None there alone = alone
+    by (Some e) there alone = λ plain. each_is_routed_home table connection actor e is there alone plain

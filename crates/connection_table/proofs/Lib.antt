@@ -1,0 +1,13 @@
+mod Held
+mod Turned
+mod Home
+mod Holders
+mod Placed
+mod Changing
+mod Isolation
+mod RoundMore
+mod EachMade
+mod LinesPut
+mod Admitted
+mod RunEnds
+mod ValidLists

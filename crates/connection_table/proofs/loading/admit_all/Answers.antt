@@ -1,0 +1,40 @@
+use Rattle.std.proofs.Common.{◌∙◌, arith}
+use Rattle.std.proofs.lemmas.Result.{err_from_is_err_and}
+use Rattle.connection_table.specs.Tables.{opened_entry}
+use Rattle.connection_table.proofs.Admitted.{count_more, entry_admitted, entry_refused, entry_unloaded}
+use Rattle.connection_table.proofs.loading.admit_all.Goals as goal
+
+pub returns-in_err-input-clause-fault : goal.returns-in_err-input-clause-fault
+returns-in_err-input-clause-fault g c =
+    let p = err_from_is_err_and c.from_residual.result c.from_residual.ensures.1 in
+    let inv = c.loop-entry.invariant in
+    rw (p.1, p.2) (entry_unloaded (g.O.Outside.content c.loop-entry.outside) (g.O.Outside.content c.args.outside.now) inv.same_contents c.args.listed.now c.loop-entry.entry-index _
+    c.loop-entry-test.true c.loop-entry.table inv.admitted _ _ _ inv.only.counted c.len-number.result c.len-number.ensures.count c.in_err-input.field-0.0 c.in_err-input.ensures.fault)
+
+pub admit-requires-clause-few : goal.admit-requires-clause-few
+admit-requires-clause-few g c = omega (arith, c.loop-entry.invariant.count, c.loop-entry-test.true, c.requires.few)
+
+pub returns-in_err-admit-clause-fault : goal.returns-in_err-admit-clause-fault
+returns-in_err-admit-clause-fault g c =
+    let p = err_from_is_err_and c.from_residual-in_err-admit.result c.from_residual-in_err-admit.ensures.1 in
+    let inv = c.loop-entry.invariant in
+    rw (p.1, p.2) (entry_refused (g.O.Outside.content c.loop-entry.outside) (g.O.Outside.content c.args.outside.now) inv.same_contents c.args.listed.now c.loop-entry.entry-index _
+    c.loop-entry-test.true c.loop-entry.table inv.admitted (g.O.Outside.load_faults c.args.outside.now) (g.O.Outside.load_faults c.loop-entry.outside)
+    (g.O.Outside.load_faults c.load_input.new.outside) inv.only.counted c.len-number.result c.len-number.ensures.count c.in_err-admit.field-0.0 c.in_ok-input.input
+    c.in_ok-input.ensures.input c.in_err-admit.ensures.fault)
+
+pub loop-entry-preserved : goal.loop-entry-preserved
+loop-entry-preserved g c =
+    let inv = c.loop-entry.invariant in
+    let made = c.load_input.ensures.only in
+    record {
+      count = count_more c.loop-entry.table c.admit.new.table (opened_entry c.in_ok-input.input) c.loop-entry.entry-index inv.count c.in_ok-admit.ensures.ok;
+      admitted = entry_admitted (g.O.Outside.content c.loop-entry.outside) (g.O.Outside.content c.args.outside.now) inv.same_contents c.args.listed.now c.loop-entry.entry-index _
+          c.loop-entry-test.true c.loop-entry.table inv.admitted c.in_ok-input.input c.admit.new.table c.in_ok-input.ensures.input c.in_ok-admit.ensures.ok;
+      only = record {
+        counted = (let first = inv.only.counted in let second = made.counted in omega (arith, first, second));
+        counts = λ port. made.counts port ∙ inv.only.counts port;
+        held = λ port. made.held port ∙ inv.only.held port;
+      };
+      same_contents = λ other. c.load_input.ensures.same_contents other ∙ inv.same_contents other;
+    }

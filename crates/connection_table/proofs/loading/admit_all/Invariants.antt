@@ -1,0 +1,16 @@
+use Rattle.std.proofs.Common.{◌≡◌, ℕ, List, length, map, take}
+use Rattle.connection_list.specs.Lists.{as_names}
+use Rattle.listed_inputs.specs.Causes.{OnlyLoads}
+use Rattle.connection_table.specs.ManyEnds.{AreAdmitted}
+use Rattle.connection_table.proofs.loading.admit_all.Given as goal
+
+-- the first connections were loaded and admitted
+abbrev pub invariant-loop-entry : goal.invariant-loop-entry
+invariant-loop-entry g l = record {
+  count : length l.table ≡ l.entry-index;
+  admitted : AreAdmitted (g.O.Outside.content l.initial.outside) (map as_names (take l.entry-index l.listed)) l.table;
+  only : OnlyLoads (g.O.Outside.load_faults l.initial.outside) (g.O.Outside.load_faults l.outside)
+      (g.O.Outside.port_faults l.initial.outside) (g.O.Outside.port_faults l.outside)
+      (g.O.Outside.holds l.initial.outside) (g.O.Outside.holds l.outside);
+  same_contents : (other : List ℕ) → g.O.Outside.content l.outside other ≡ g.O.Outside.content l.initial.outside other;
+}

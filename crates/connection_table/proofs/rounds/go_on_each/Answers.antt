@@ -1,0 +1,28 @@
+use Rattle.std.proofs.Common.{◌<◌, ◌≤◌, ◌∙◌, length, arith}
+use Rattle.connection_table.specs.ManyRounds.{RoundIfGoing}
+use Rattle.connection_table.proofs.EachMade.{inputs_kept, so_far_all, so_far_more, so_far_stands}
+use Rattle.connection_table.proofs.rounds.go_on_each.Goals as goal
+
+pub go_on-requires : goal.go_on-requires
+go_on-requires c =
+    let within : c.loop-slot.slot-index < length c.loop-slot.slots = omega (arith, c.loop-slot.auto.slots, c.loop-slot-test.true) in
+    so_far_stands RoundIfGoing c.loop-slot.slot-index c.args.slots.now c.loop-slot.slots c.slot-item.result within c.loop-slot.invariant.made c.requires
+
+pub returns-in_err-go_on-clause-inputs : goal.returns-in_err-go_on-clause-inputs
+returns-in_err-go_on-clause-inputs c =
+    let within : c.loop-slot.slot-index < length c.loop-slot.slots = omega (arith, c.loop-slot.auto.slots, c.loop-slot-test.true) in
+    inputs_kept c.loop-slot.slot-index c.loop-slot.slots c.slot-item.result c.go_on.new.slot within c.go_on.ensures.input ∙ c.loop-slot.invariant.inputs
+
+pub loop-slot-preserved : goal.loop-slot-preserved
+loop-slot-preserved c =
+    let within : c.loop-slot.slot-index < length c.loop-slot.slots = omega (arith, c.loop-slot.auto.slots, c.loop-slot-test.true) in
+    record {
+      made = so_far_more RoundIfGoing c.loop-slot.slot-index c.args.slots.now c.loop-slot.slots c.slot-item.result c.go_on.new.slot within
+          c.loop-slot.invariant.made c.in_ok-go_on.ensures.made;
+      inputs = inputs_kept c.loop-slot.slot-index c.loop-slot.slots c.slot-item.result c.go_on.new.slot within c.go_on.ensures.input ∙ c.loop-slot.invariant.inputs;
+    }
+
+pub returns-clause-made : goal.returns-clause-made
+returns-clause-made c =
+    let past : length c.loop-slot.slots ≤ c.loop-slot.slot-index = omega (arith, c.loop-slot.auto.slots, c.loop-slot-test.false) in
+    so_far_all RoundIfGoing c.loop-slot.slot-index c.args.slots.now c.loop-slot.slots past c.loop-slot.invariant.made

@@ -1,0 +1,151 @@
+-- How a run of many connections ends, and why.
+use Rattle.std.specs.Prelude.{ℕ, ◌≡◌, ◌≢◌, ◌⊎◌, ◌+◌, ◌<◌, ◌≤◌, List, [], ◌∷◌, ◌++◌, length, map, Option, Some, Ok, Err, IfSome}
+use Rattle.std.specs.List.{AllZip}
+use Rattle.outside_kit.specs.Outside.{HasRisen, HoldsAfter, HoldsPrefix}
+use Rattle.run_outside.specs.declared.input.Input.{Input}
+use Rattle.run_outside.specs.Script.{script_meaning}
+use Rattle.stream_lanes.specs.Words.{Every}
+use Rattle.connection_list.specs.Words.{NamedList}
+use Rattle.connection_list.specs.Lists.{Names, list_reading}
+use Rattle.listed_inputs.specs.declared.many.Many.{Many}
+use Rattle.listed_inputs.specs.declared.many.Many.TheVariants as ends
+use Rattle.listed_inputs.specs.Causes.{IsInputFault}
+use Rattle.listed_inputs.specs.Inputs.{Contents, IsInput, IsShort}
+use Rattle.connection_table.specs.ManyLines.{lines_from}
+use Rattle.connection_table.specs.ManyRounds.{IsSerialEnd}
+use Rattle.connection_table.specs.Tables.{Connection, Entry, first_of, holder_of, key_token, opened_entry}
+
+-- ---- a connection of the list
+
+abbrev pub AreInputs : Contents → List Names → List Input → Type 0
+AreInputs content [] [] = Unit {0}
+AreInputs content [] (input ∷ inputs) = ⊥
+AreInputs content (names ∷ more) [] = ⊥
+AreInputs content (names ∷ more) (input ∷ inputs) = IsInput content names input × AreInputs content more inputs
+
+-- the connections of these names, before their first steps
+pub record AreAdmitted (content : Contents) (names : List Names) (table : List Entry) : Type 0 where
+  pub inputs : List Input
+  pub are : AreInputs content names inputs
+  pub table_is : table ≡ map opened_entry inputs
+
+-- the list, where it is told, names these
+abbrev pub AreListed : Contents → NamedList → List Input → Type 0
+AreListed content words inputs =
+    IfSome (content words.list) (λ list. (names : List Names) × ((list_reading list ≡ Ok names) × AreInputs content names inputs))
+
+-- the table of a list, before the first step of any connection
+pub record IsTableOf (content : Contents) (words : NamedList) (table : List Entry) : Type 0 where
+  pub inputs : List Input
+  pub are : AreListed content words inputs
+  pub table_is : table ≡ map opened_entry inputs
+
+-- ---- causes
+
+-- its token, which one that is there may have
+abbrev pub IsAdmitFault : ℕ → Option ℕ → Many → Type 0
+IsAdmitFault entry holder (ends.SameToken line named) = (line ≡ entry + 1) × (holder ≡ Some named)
+IsAdmitFault entry holder ends.Memory = Unit {0}
+IsAdmitFault entry holder _ = ⊥
+
+-- the connection of these names, behind those of these inputs: what it begins with, or its token
+abbrev pub AtFault : Contents → List Input → Names → ℕ → ℕ → Many → Type 0
+AtFault content inputs names old new (ends.SameToken line holder) =
+    (line ≡ length inputs + 1) × ((input : Input) × (IsInput content names input × (holder_of (key_token input.script) (map opened_entry inputs) ≡ Some holder)))
+AtFault content inputs names old new many = IsInputFault (length inputs) content names old new many
+
+-- the first connection of a list that can't be loaded, read or admitted: those before it can
+pub record IsListedFault (content : Contents) (names : List Names) (old new : ℕ) (many : Many) : Type 0 where
+  pub before : List Names
+  pub inputs : List Input
+  pub admitted : AreInputs content before inputs
+  pub cause : (many ≡ ends.Memory) ⊎ ((at : Names) × ((behind : List Names) × ((names ≡ before ++ at ∷ behind) × AtFault content inputs at old new many)))
+
+-- ---- the lines
+
+-- these are the connections after at most so many serial rounds of each by itself
+abbrev pub AreSerial : ℕ → List Input → List Connection → Type 0
+AreSerial most inputs ws = AllZip (λ (input : Input) (w : Connection). IsSerialEnd most (first_of input) w) inputs ws
+
+-- the connections of a list as they end, each by itself
+pub record AreOfList (content : Contents) (words : NamedList) (worlds : List Connection) : Type 0 where
+  pub inputs : List Input
+  pub are : AreListed content words inputs
+  pub serial : AreSerial words.rounds inputs worlds
+
+-- of each connection the line of its own serial run was put
+abbrev pub AllPut : Contents → NamedList → Option (List ℕ) → Option (List ℕ) → Type 0
+AllPut content words old new =
+    (worlds : List Connection) × (AreOfList content words worlds × HoldsAfter old new (λ held. held ++ lines_from 0 worlds))
+
+-- a prefix of these lines
+abbrev pub SomePut : Contents → NamedList → Option (List ℕ) → Option (List ℕ) → Type 0
+SomePut content words old new = (worlds : List Connection) × (AreOfList content words worlds × HoldsPrefix old new (lines_from 0 worlds))
+
+-- ---- how a run of such a list ends
+
+-- where the list is told and read, what comes of its connections
+abbrev pub IsOfListed : Contents → NamedList → ℕ → ℕ → Many → Type 0
+IsOfListed content words old new many =
+    IfSome (content words.list) (λ list. (names : List Names) × ((list_reading list ≡ Ok names) × IsListedFault content names old new many))
+
+-- the list, or one of its connections, ends a run before any line is put
+abbrev pub IsLoadingFault : Contents → NamedList → ℕ → ℕ → Many → Type 0
+-- a load failed, and was counted: that of the list, or of what a connection begins with
+IsLoadingFault content words old new (ends.Load line) = HasRisen old new × ((line ≡ 0) ⊎ IsOfListed content words old new (ends.Load line))
+IsLoadingFault content words old new (ends.TooLong line) =
+    ((line ≡ 0) × IfSome (content words.list) (λ told. 65536 < length told)) ⊎ IsOfListed content words old new (ends.TooLong line)
+IsLoadingFault content words old new (ends.List line) = IfSome (content words.list) (λ list. list_reading list ≡ Err line)
+IsLoadingFault content words old new (ends.Script entry line kind) = IsOfListed content words old new (ends.Script entry line kind)
+IsLoadingFault content words old new (ends.SameToken line holder) = IsOfListed content words old new (ends.SameToken line holder)
+IsLoadingFault content words old new ends.Memory = Unit {0}
+IsLoadingFault content words old new _ = ⊥
+
+-- a put ends it
+abbrev pub IsPutFault : ℕ → ℕ → Many → Type 0
+IsPutFault old new ends.Put = HasRisen old new
+IsPutFault old new ends.Memory = Unit {0}
+IsPutFault old new _ = ⊥
+
+-- each answer has its cause: `loads` and `puts` are counts of faults before and after, and `log` is what the log held
+abbrev pub IsEnd : Contents → NamedList → ℕ × ℕ → ℕ × ℕ → Option (List ℕ) × Option (List ℕ) → Many → Type 0
+IsEnd content words loads puts log ends.Done = AllPut content words log.0 log.1
+IsEnd content words loads puts log ends.Usage = ⊥
+IsEnd content words loads puts log ends.Put = HasRisen puts.0 puts.1 × SomePut content words log.0 log.1
+-- before any line was put, or behind some
+IsEnd content words loads puts log ends.Memory = (log.1 ≡ log.0) ⊎ SomePut content words log.0 log.1
+IsEnd content words loads puts log many = IsLoadingFault content words loads.0 loads.1 many × (log.1 ≡ log.0)
+
+-- ---- a valid list
+
+-- each content of a connection is told and within its limit, and the script is one
+pub record IsValidInput (content : Contents) (names : Names) (input : Input) : Type 0 where
+  pub text : List ℕ
+  pub script_told : content names.script ≡ Some text
+  pub script : script_meaning text ≡ Ok input.script
+  pub script_short : length text ≤ 65536
+  pub file_a : content names.file_a ≡ Some input.file_a
+  pub file_b : content names.file_b ≡ Some input.file_b
+  pub short : IsShort input
+
+abbrev pub AreValidInputs : Contents → List Names → List Input → Type 0
+AreValidInputs content [] [] = Unit {0}
+AreValidInputs content [] (input ∷ inputs) = ⊥
+AreValidInputs content (names ∷ more) [] = ⊥
+AreValidInputs content (names ∷ more) (input ∷ inputs) = IsValidInput content names input × AreValidInputs content more inputs
+
+-- no two of these tokens are equal
+abbrev pub AreApart : List ℕ → Type 0
+AreApart [] = Unit {0}
+AreApart (token ∷ tokens) = Every (λ other. token ≢ other) tokens × AreApart tokens
+
+-- the list is told, within its limit and in form; so is all that it names, and the tokens differ
+pub record IsValid (content : Contents) (words : NamedList) : Type 0 where
+  pub list : List ℕ
+  pub told : content words.list ≡ Some list
+  pub short : length list ≤ 65536
+  pub names : List Names
+  pub read : list_reading list ≡ Ok names
+  pub inputs : List Input
+  pub valid : AreValidInputs content names inputs
+  pub apart : AreApart (map (λ (input : Input). key_token input.script) inputs)

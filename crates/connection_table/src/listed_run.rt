@@ -1,0 +1,141 @@
+//! A run of many connections.
+
+ghost use Rattle.std.specs.Prelude.{◌≡◌, ◌≢◌, ◌⊎◌, ◌<◌, ◌≤◌, ◌++◌, ◌↔◌, ℕ, List, [], None, length, map, string_bytes, IfErr, IfSome, OnErr, OnOk};
+ghost use Rattle.outside_kit.specs.declared.port.Port.{Port};
+ghost use Rattle.outside_kit.specs.Outside.{HasRisen, HoldsAfter, HoldsPrefix};
+ghost use Rattle.connection_list.specs.Words.{as_words, words_in};
+ghost use Rattle.listed_inputs.specs.Causes.{OnlyLoads};
+ghost use Rattle.connection_table.specs.ManyEnds.{IsEnd, IsLoadingFault, IsPutFault, IsTableOf, IsValid};
+ghost use Rattle.connection_table.specs.ManyLines.{line_at, lines_of};
+
+use crate::lines::line;
+use crate::loading::admit_all;
+use crate::table::ConnectionTable;
+use connection_list::{ListWords, read_list_words};
+use listed_inputs::{Many, connections_of, load};
+use outside_kit::{Outside, Port, PutFault};
+use std::alloc::Global;
+
+/// Puts the line of a connection.
+fn put_line<O: Outside>(
+    alloc: Global,
+    outside: &mut O,
+    table: &ConnectionTable,
+    connection: u8,
+) -> Result<(), Many>
+    requires { connection < length table.now }
+    ensures ok { OnOk result (HoldsAfter (O.holds outside.old Port.Log)
+        (O.holds outside.new Port.Log) (λ held. held ++ line_at connection table.now)) }
+    ensures err { OnErr result (HoldsPrefix (O.holds outside.old Port.Log)
+        (O.holds outside.new Port.Log) (line_at connection table.now)) }
+    ensures fault { IfErr result
+        (IsPutFault (O.port_faults outside.old Port.Log) (O.port_faults outside.new Port.Log)) }
+    ensures counted { O.port_faults outside.old Port.Log ≤ O.port_faults outside.new Port.Log }
+    ensures loads { O.load_faults outside.new ≡ O.load_faults outside.old }
+    ensures other_ports { (other : Port) → other ≢ Port.Log →
+        O.holds outside.new other ≡ O.holds outside.old other }
+{
+    let line = line(alloc, table, connection)?;
+    match outside.put(Port::Log, line.as_bytes()) {
+        Ok(()) => Ok(()),
+        Err(PutFault::Failed) => Err(Many::Put),
+        Err(PutFault::Memory) => Err(Many::Memory),
+    }
+}
+
+/// Puts the line of each connection, numbers rising.
+fn put_lines<O: Outside>(
+    alloc: Global,
+    outside: &mut O,
+    table: &ConnectionTable,
+) -> Result<(), Many>
+    ensures ok { OnOk result (HoldsAfter (O.holds outside.old Port.Log)
+        (O.holds outside.new Port.Log) (λ held. held ++ lines_of table.now)) }
+    ensures err { OnErr result (HoldsPrefix (O.holds outside.old Port.Log)
+        (O.holds outside.new Port.Log) (lines_of table.now)) }
+    ensures fault { IfErr result
+        (IsPutFault (O.port_faults outside.old Port.Log) (O.port_faults outside.new Port.Log)) }
+    ensures loads { O.load_faults outside.new ≡ O.load_faults outside.old }
+    ensures other_ports { (other : Port) → other ≢ Port.Log →
+        O.holds outside.new other ≡ O.holds outside.old other }
+{
+    for connection in 0..table.len() {
+        put_line(alloc, outside, table, connection)?;
+    }
+    Ok(())
+}
+
+/// Loads the list and all that it names, and admits its connections.
+fn admit_listed<O: Outside>(
+    alloc: Global,
+    outside: &mut O,
+    words: &ListWords<'_>,
+    table: &mut ConnectionTable,
+) -> Result<(), Many>
+    requires { table.old ≡ [] }
+    ensures ok { OnOk result (IsTableOf (O.content outside.old) (as_words words.now) table.new) }
+    ensures fault { IfErr result (IsLoadingFault (O.content outside.old) (as_words words.now)
+        (O.load_faults outside.old) (O.load_faults outside.new)) }
+    ensures only { OnlyLoads (O.load_faults outside.old) (O.load_faults outside.new)
+        (O.port_faults outside.old) (O.port_faults outside.new)
+        (O.holds outside.old) (O.holds outside.new) }
+{
+    let list = load(alloc, outside, 0, words.list)?;
+    let listed = connections_of(alloc, &list)?;
+    admit_all(alloc, outside, table, &listed)
+}
+
+/// Runs the connections of a list.
+fn run<O: Outside>(alloc: Global, outside: &mut O, words: &ListWords<'_>) -> Result<(), Many>
+    requires { 1 ≤ words.now.rounds }
+    ensures done { OnOk result (IsEnd (O.content outside.old) (as_words words.now)
+        (O.load_faults outside.old, O.load_faults outside.new)
+        (O.port_faults outside.old Port.Log, O.port_faults outside.new Port.Log)
+        (O.holds outside.old Port.Log, O.holds outside.new Port.Log) Many.Done) }
+    ensures ends { IfErr result (IsEnd (O.content outside.old) (as_words words.now)
+        (O.load_faults outside.old, O.load_faults outside.new)
+        (O.port_faults outside.old Port.Log, O.port_faults outside.new Port.Log)
+        (O.holds outside.old Port.Log, O.holds outside.new Port.Log)) }
+    ensures other_ports { (other : Port) → other ≢ Port.Log →
+        O.holds outside.new other ≡ O.holds outside.old other }
+{
+    let mut table = ConnectionTable::new(alloc);
+    admit_listed(alloc, outside, words, &mut table)?;
+    table.make_rounds(words.rounds)?;
+    put_lines(alloc, outside, &table)
+}
+
+/// Runs the connections that a list names, `LIST [--rounds N]` being the words: serial rounds of those that go on, numbers rising,
+/// until none does or N rounds were made. Then it puts a line to the log for each, `connection K WORD HEX HEX`: its number counted
+/// from 0, its outcome, what B read and what A read in hexadecimal digits, or `-` for nothing.
+///
+/// The list and each file have at most 65,536 octets. The list is loaded and read before what it names; then of each line the script,
+/// FILE_A and FILE_B are loaded, the script is read, and the connection is admitted. The first refusal of all these decides.
+pub fn run_many<O: Outside>(alloc: Global, words: &[String], outside: &mut O) -> Many
+    // The words are refused exactly where they break the form.
+    ensures usage { (result ≡ Many.Usage) ↔ (words_in (map string_bytes words.now) ≡ None) }
+    // Where each connection has its line, it is that of the serial run of the connection alone. After a fault at a line, or want
+    // of memory, the log has a prefix of these lines; at every other answer nothing was put, and each answer has its cause.
+    ensures ends { IfSome (words_in (map string_bytes words.now)) (λ named. IsEnd
+        (O.content outside.old) named
+        (O.load_faults outside.old, O.load_faults outside.new)
+        (O.port_faults outside.old Port.Log, O.port_faults outside.new Port.Log)
+        (O.holds outside.old Port.Log, O.holds outside.new Port.Log) result) }
+    ensures refused { result ≡ Many.Usage →
+        O.holds outside.new Port.Log ≡ O.holds outside.old Port.Log }
+    // Of a valid list each connection has its line, unless the outside fails or memory runs out.
+    ensures valid { IfSome (words_in (map string_bytes words.now)) (λ named.
+        IsValid (O.content outside.old) named → (result ≡ Many.Done) ⊎ ((result ≡ Many.Memory)
+        ⊎ (HasRisen (O.load_faults outside.old) (O.load_faults outside.new)
+        ⊎ HasRisen (O.port_faults outside.old Port.Log) (O.port_faults outside.new Port.Log)))) }
+    ensures other_ports { (other : Port) → other ≢ Port.Log →
+        O.holds outside.new other ≡ O.holds outside.old other }
+{
+    let Some(words) = read_list_words(words) else {
+        return Many::Usage;
+    };
+    match run(alloc, outside, &words) {
+        Ok(()) => Many::Done,
+        Err(many) => many,
+    }
+}

@@ -1,0 +1,62 @@
+//! The connections of a list, loaded and admitted.
+
+ghost use Rattle.std.specs.Prelude.{◌≡◌, ◌<◌, ◌≤◌, ◌++◌, ◌∷◌, ℕ, List, [], IfErr, OnOk, length, map};
+ghost use Rattle.link_script.specs.Scripts.{HasRanges};
+ghost use Rattle.connection_list.specs.Lists.{as_names};
+ghost use Rattle.listed_inputs.specs.Causes.{OnlyLoads};
+ghost use Rattle.connection_table.specs.ManyEnds.{AreAdmitted, IsAdmitFault, IsListedFault};
+ghost use Rattle.connection_table.specs.Tables.{holder_of, key_token, opened_entry};
+
+use crate::admitting::AdmitFault;
+use crate::table::ConnectionTable;
+use connection_list::Listed;
+use listed_inputs::{Many, load_input};
+use outside_kit::Outside;
+use run_outside::Input;
+use std::alloc::Global;
+
+/// Admits the connection of a line of the list.
+fn admit(table: &mut ConnectionTable, entry: u8, input: &Input) -> Result<(), Many>
+    requires ranges { HasRanges input.now.script }
+    requires few { length table.old < 64 }
+    ensures ok { OnOk result (table.new ≡ table.old ++ opened_entry input.now ∷ []) }
+    ensures fault { IfErr result
+        (IsAdmitFault entry (holder_of (key_token input.now.script) table.old)) }
+{
+    match table.admit(input) {
+        Ok(_) => Ok(()),
+        Err(AdmitFault::SameToken { holder }) => Err(Many::SameToken {
+            line: u64::from(entry) + 1,
+            holder,
+        }),
+        Err(AdmitFault::Memory) => Err(Many::Memory),
+        Err(AdmitFault::Full) => unreachable!(),
+    }
+}
+
+/// Loads the connections of a list, and admits each: their numbers are the places of their lines, counted from 0.
+pub(crate) fn admit_all<O: Outside>(
+    alloc: Global,
+    outside: &mut O,
+    table: &mut ConnectionTable,
+    listed: &[Listed<'_>],
+) -> Result<(), Many>
+    requires empty { table.old ≡ [] }
+    requires few { length listed.now ≤ 64 }
+    ensures ok { OnOk result
+        (AreAdmitted (O.content outside.old) (map as_names listed.now) table.new) }
+    ensures fault { IfErr result (IsListedFault (O.content outside.old) (map as_names listed.now)
+        (O.load_faults outside.old) (O.load_faults outside.new)) }
+    ensures only { OnlyLoads (O.load_faults outside.old) (O.load_faults outside.new)
+        (O.port_faults outside.old) (O.port_faults outside.new)
+        (O.holds outside.old) (O.holds outside.new) }
+    ensures same_contents { (other : List ℕ) →
+        O.content outside.new other ≡ O.content outside.old other }
+{
+    for entry in listed {
+        let number = table.len();
+        let input = load_input(alloc, outside, number, entry)?;
+        admit(table, number, &input)?;
+    }
+    Ok(())
+}

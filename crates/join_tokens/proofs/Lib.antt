@@ -1,0 +1,3 @@
+mod TokensShown
+mod PathsNamed
+pub mod JoinsAsked

@@ -1,0 +1,26 @@
+-- What a connection of a list begins with.
+use Rattle.std.specs.Prelude.{ℕ, ◌≡◌, ◌⊎◌, ◌<◌, ◌≤◌, List, length, Option, Ok, IfSome}
+use Rattle.run_outside.specs.declared.input.Input.{Input}
+use Rattle.run_outside.specs.Script.{script_meaning}
+use Rattle.connection_list.specs.Lists.{Names}
+
+-- the content of a name, where it is told
+abbrev pub Contents : Type 0
+Contents = List ℕ → Option (List ℕ)
+
+-- this is what a connection of these names begins with, as far as the contents are told
+pub record IsInput (content : Contents) (names : Names) (input : Input) : Type 0 where
+  pub script : IfSome (content names.script) (λ told. script_meaning told ≡ Ok input.script)
+  pub file_a : IfSome (content names.file_a) (λ told. input.file_a ≡ told)
+  pub file_b : IfSome (content names.file_b) (λ told. input.file_b ≡ told)
+
+-- its files have 65,536 octets at most
+pub record IsShort (input : Input) : Type 0 where
+  pub file_a : length input.file_a ≤ 65536
+  pub file_b : length input.file_b ≤ 65536
+
+-- one of its contents is longer than that
+pub record IsLong (content : Contents) (names : Names) : Type 0 where
+  pub name : List ℕ
+  pub among : (name ≡ names.script) ⊎ ((name ≡ names.file_a) ⊎ (name ≡ names.file_b))
+  pub long : IfSome (content name) (λ told. 65536 < length told)
