@@ -79,7 +79,8 @@ pub fn packet(
 ) -> Result<Vec<u8>, AllocError>
     requires octets { length octets.now < 2 ^ 31 }
     requires comment { length comment.now < 2 ^ 16 }
-    ensures { IfOk result (λ block. block.items ≡ block_text (Packet seen.now octets.now comment.now)) }
+    ensures { IfOk result (λ block. block.items ≡
+        block_text (Packet seen.now octets.now comment.now)) }
 {
     let body = packet_body(alloc, seen, octets, comment)?;
     block_with(alloc, ENHANCED_PACKET, &body)

@@ -15,7 +15,8 @@ fn word_if(flag: bool, word: &'static str) -> &'static str
 }
 
 fn put_checksum(text: &mut String, checksum: Option<u16>) -> Result<(), AllocError>
-    ensures { OnOk result (string_bytes text.new ≡ string_bytes text.old ++ optional_checksum checksum) }
+    ensures { OnOk result (string_bytes text.new ≡
+        string_bytes text.old ++ optional_checksum checksum) }
 {
     match checksum {
         Some(checksum) => write!(text, " csum 0x{checksum:x}"),
@@ -43,7 +44,8 @@ fn put_keys(text: &mut String, keys: &CapableKeys) -> Result<(), AllocError>
 }
 
 fn put_capable(text: &mut String, required: bool, keys: &CapableKeys) -> Result<(), AllocError>
-    ensures { OnOk result (string_bytes text.new ≡ string_bytes text.old ++ capable_words required keys.now) }
+    ensures { OnOk result (string_bytes text.new ≡
+        string_bytes text.old ++ capable_words required keys.now) }
 {
     write!(text, "capable v1{}", word_if(required, " csum"))?;
     put_keys(text, keys)
@@ -116,7 +118,8 @@ fn put_dss(
     mapping: Option<DssMap>,
     fin: bool,
 ) -> Result<(), AllocError>
-    ensures { OnOk result (string_bytes text.new ≡ string_bytes text.old ++ dss_words ack mapping fin) }
+    ensures { OnOk result (string_bytes text.new ≡
+        string_bytes text.old ++ dss_words ack mapping fin) }
 {
     write!(text, "dss{}", word_if(fin, " fin"))?;
     put_ack(text, ack)?;
@@ -139,7 +142,8 @@ fn put_v6(alloc: Global, text: &mut String, address: &[u8; 16]) -> Result<(), Al
 
 /// An address of four octets in decimal, one of sixteen in hexadecimal.
 fn put_address(alloc: Global, text: &mut String, address: &Address) -> Result<(), AllocError>
-    ensures { OnOk result (string_bytes text.new ≡ string_bytes text.old ++ address_words address.now) }
+    ensures { OnOk result (string_bytes text.new ≡
+        string_bytes text.old ++ address_words address.now) }
 {
     match address {
         Address::V4(octets) => put_v4(text, *octets),
@@ -189,7 +193,8 @@ fn put_announced(
     port: Option<u16>,
     hmac: Option<u64>,
 ) -> Result<(), AllocError>
-    ensures { OnOk result (string_bytes text.new ≡ string_bytes text.old ++ announced_words address.now port hmac) }
+    ensures { OnOk result (string_bytes text.new ≡
+        string_bytes text.old ++ announced_words address.now port hmac) }
 {
     put_address(alloc, text, address)?;
     put_port(text, port)?;
@@ -222,7 +227,8 @@ pub fn put_multipath(
     text: &mut String,
     option: &MpOption<'_>,
 ) -> Result<(), AllocError>
-    ensures { OnOk result (string_bytes text.new ≡ string_bytes text.old ++ value_words (value_of option.now)) }
+    ensures { OnOk result (string_bytes text.new ≡
+        string_bytes text.old ++ value_words (value_of option.now)) }
 {
     match option {
         MpOption::Capable { flag_a, keys, .. } => put_capable(text, *flag_a, keys),

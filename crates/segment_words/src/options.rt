@@ -28,7 +28,8 @@ fn put_other(
     option: &[u8],
     checksums: bool,
 ) -> Result<(), AllocError>
-    ensures { OnOk result (string_bytes text.new ≡ string_bytes text.old ++ multipath_words option.now checksums) }
+    ensures { OnOk result (string_bytes text.new ≡
+        string_bytes text.old ++ multipath_words option.now checksums) }
 {
     match read(option, checksums) {
         Read::Known(option) => {
@@ -46,7 +47,8 @@ fn put_option(
     option: &[u8],
     checksums: bool,
 ) -> Result<(), AllocError>
-    ensures { OnOk result (string_bytes text.new ≡ string_bytes text.old ++ option_words checksums option.now) }
+    ensures { OnOk result (string_bytes text.new ≡
+        string_bytes text.old ++ option_words checksums option.now) }
 {
     if let Some(size) = mss(option) {
         return write!(text, "mss {size}");
@@ -75,7 +77,9 @@ pub fn put_options(
     segment: &SegmentRef<'_>,
     checksums: bool,
 ) -> Result<(), AllocError>
-    ensures { OnOk result (string_bytes text.new ≡ string_bytes text.old ++ list_words checksums true (option_octets (segment_of segment.now).options)) }
+    ensures { OnOk result (string_bytes text.new ≡
+        string_bytes text.old ++ list_words checksums true
+        (option_octets (segment_of segment.now).options)) }
 {
     let mut is_first = true;
     for option in segment.options() {

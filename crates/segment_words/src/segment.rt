@@ -53,7 +53,8 @@ fn put_seq(
     initial: Option<u32>,
     len: usize,
 ) -> Result<(), AllocError>
-    ensures { OnOk result (string_bytes text.new ≡ string_bytes text.old ++ seq_words head.now initial len) }
+    ensures { OnOk result (string_bytes text.new ≡
+        string_bytes text.old ++ seq_words head.now initial len) }
 {
     if !is_numbered(head, len) {
         return Ok(());
@@ -68,7 +69,8 @@ fn put_seq(
 }
 
 fn put_ack(text: &mut String, head: &Head, initial: Option<u32>) -> Result<(), AllocError>
-    ensures { OnOk result (string_bytes text.new ≡ string_bytes text.old ++ ack_words head.now initial) }
+    ensures { OnOk result (string_bytes text.new ≡
+        string_bytes text.old ++ ack_words head.now initial) }
 {
     if head.ack_set {
         let next = relative(head.ack, initial);
@@ -85,7 +87,8 @@ fn put_segment(
     initials: &Initials,
     checksums: bool,
 ) -> Result<(), AllocError>
-    ensures { OnOk result (string_bytes text.new ≡ string_bytes text.old ++ segment_words initials.now checksums (segment_of segment.now)) }
+    ensures { OnOk result (string_bytes text.new ≡
+        string_bytes text.old ++ segment_words initials.now checksums (segment_of segment.now)) }
 {
     let head = segment.head;
     let len = segment.payload().len();
@@ -105,7 +108,8 @@ pub fn words(
     initials: &Initials,
     checksums: bool,
 ) -> Result<String, AllocError>
-    ensures { IfOk result (λ text. string_bytes text ≡ words_of initials.now checksums (segment_meaning addresses.now octets.now)) }
+    ensures { IfOk result (λ text. string_bytes text ≡
+        words_of initials.now checksums (segment_meaning addresses.now octets.now)) }
 {
     let mut text = String::new(alloc);
     match parse(octets, addresses) {

@@ -1,0 +1,3 @@
+mod Short
+mod Parts
+mod Sums

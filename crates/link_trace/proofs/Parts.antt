@@ -1,0 +1,40 @@
+-- A capture of blocks in two parts, and put block by block.
+use Rattle.std.proofs.Common.{◌≡◌, ℕ, suc, ◌+◌, ◌-◌, ◌<◌, refl, sym, ◌∙◌, List, [], ◌∷◌, ◌++◌, drop, length, get_or, subst, arith}
+use mathlib.Core.List.{append_assoc}
+use Rattle.std.proofs.Common.{ap, map, codes}
+use Rattle.std.proofs.lemmas.List.{at_drop_more}
+use Rattle.std.specs.Fmt.{decimal}
+use Rattle.std.specs.List.{flat_map}
+use Rattle.link_trace.specs.declared.sent.Sent.{Sent}
+use Rattle.link_trace.specs.Captures.{interfaces, packet_of}
+use Rattle.pcap_text.specs.Blocks.{Block, Interface, block_text, capture_text}
+
+pub captured_then : (xs ys : List Block) → capture_text (xs ++ ys) ≡ capture_text xs ++ capture_text ys
+captured_then [] ys = refl
+captured_then (b ∷ xs) ys = rw (captured_then xs ys) (sym (append_assoc (block_text b) (capture_text xs) (capture_text ys)))
+
+pub captured_each : (xs : List Sent) → capture_text (map packet_of xs) ≡ flat_map (λ s. block_text (packet_of s)) xs
+captured_each [] = refl
+captured_each (s ∷ xs) = ap (λ rest. block_text (packet_of s) ++ rest) (captured_each xs)
+
+-- what is put part by part: the old text, the next part, all that is left
+parts_more : (old part rest left whole new : List ℕ) → left ≡ part ++ rest → old ++ left ≡ whole → new ≡ old ++ part → new ++ rest ≡ whole
+parts_more old part rest left whole new splits before put =
+    subst (λ (t : List ℕ). t ++ rest ≡ whole) (sym put) (append_assoc old part rest ∙ ap (λ (t : List ℕ). old ++ t) (sym splits) ∙ before)
+
+-- a segment more
+pub segment_more : (f : Sent → List ℕ) (trace : List Sent) (i : ℕ) (s d : Sent) (old new whole : List ℕ) → i < length trace → s ≡ get_or trace i d
+    → old ++ flat_map f (drop i trace) ≡ whole → new ≡ old ++ f s → new ++ flat_map f (drop (i + 1) trace) ≡ whole
+segment_more f trace i s d old new whole within is before put =
+    parts_more old (f s) (flat_map f (drop (i + 1) trace)) (flat_map f (drop i trace)) whole new
+    (at_drop_more (flat_map f) trace i d within ∙ ap (λ (t : Sent). f t ++ flat_map f (drop (i + 1) trace)) (sym is)) before put
+
+-- a path more
+pub interface_more : (paths path left : ℕ) (old new whole : List ℕ) → path < paths → left ≡ paths - (path + 1)
+    → old ++ capture_text (interfaces (paths - path) path) ≡ whole
+    → new ≡ old ++ block_text (Interface (codes "path " ++ decimal path))
+    → new ++ capture_text (interfaces left (path + 1)) ≡ whole
+interface_more paths path left old new whole within is before put =
+    let e : paths - path ≡ suc left = omega (arith, within, is) in
+    parts_more old (block_text (Interface (codes "path " ++ decimal path))) (capture_text (interfaces left (path + 1)))
+    (capture_text (interfaces (paths - path) path)) whole new (ap (λ (n : ℕ). capture_text (interfaces n path)) e) before put

@@ -1,0 +1,38 @@
+-- A capture of a trace: an interface for each path, a packet for each segment.
+use Rattle.std.specs.Prelude.{ℕ, zero, suc, ◌+◌, min, List, [], ◌∷◌, ◌++◌, map, length, take, codes}
+use Rattle.std.specs.Fmt.{decimal}
+use Rattle.outside_kit.specs.declared.side.Side.{Side}
+use Rattle.outside_kit.specs.declared.side.Side.TheVariants.{A, B}
+use Rattle.link_model.specs.Octets.{addresses_from}
+use Rattle.pcap_text.specs.declared.blocks.Direction.{Direction}
+use Rattle.pcap_text.specs.declared.blocks.Direction.TheVariants.{Outbound, Inbound}
+use Rattle.pcap_text.specs.Blocks.{Block, Section, Interface, Packet}
+use Rattle.pcap_text.specs.Ipv4.{header_text}
+use Rattle.link_trace.specs.declared.sent.Sent.{Sent}
+use Rattle.link_trace.specs.Fates.{fate_words}
+
+-- seen from A
+abbrev pub direction_of : Side → Direction
+direction_of A = Outbound
+direction_of B = Inbound
+
+-- a segment has at most 65,515 octets
+abbrev pub segment_len : Sent → ℕ
+segment_len s = min (length s.octets) 65515
+
+abbrev pub ipv4_packet : Sent → List ℕ
+ipv4_packet s =
+    let addresses = addresses_from s.path s.from in
+    header_text addresses.source addresses.destination (segment_len s) ++ take (segment_len s) s.octets
+
+abbrev pub packet_of : Sent → Block
+packet_of s =
+    Packet (record { interface = s.path; millisecond = s.tick; direction = direction_of s.from }) (ipv4_packet s) (fate_words s.fate)
+
+-- so many paths, the first of this number
+abbrev pub interfaces : ℕ → ℕ → List Block
+interfaces zero path = []
+interfaces (suc more) path = Interface (codes "path " ++ decimal path) ∷ interfaces more (path + 1)
+
+abbrev pub blocks_of : ℕ → List Sent → List Block
+blocks_of paths trace = Section ∷ (interfaces paths 0 ++ map packet_of trace)

@@ -1,0 +1,131 @@
+-- What a segment carries, counted from the beginnings of its subflow and of the streams (RFC 9293, section 3.4; RFC 8684,
+-- section 3.3).
+use Rattle.std.specs.Prelude.{ℕ, ◌+◌, ◌-◌, ◌%◌, ◌^◌, ◌==◌, min, Bool, true, false, if◌then◌else◌, Option, Some, None, unwrap_or, option_map, Result, Ok, Err, List, [], ◌∷◌, map, length}
+use Rattle.std.specs.Option.{option_or}
+use Rattle.outside_kit.specs.declared.side.Side.{Side}
+use Rattle.outside_kit.specs.declared.side.Side.TheVariants.{A, B}
+use Rattle.key_material.specs.KeyDigest.{idsn_of}
+use Rattle.mptcp_options.specs.declared.dss.DataNumber.{DataNumber}
+use Rattle.mptcp_options.specs.declared.dss.DataNumber.TheVariants.{Whole, Low}
+use Rattle.mptcp_options.specs.declared.dss.DssMap.{DssMap}
+use Rattle.mptcp_options.specs.Meaning.{option_meaning}
+use Rattle.mptcp_options.specs.Value as wire
+use Rattle.link_model.specs.Steps.{peer}
+use Rattle.segment_wire.specs.declared.reading.SegmentFault.{SegmentFault}
+use Rattle.segment_wire.specs.Options.{option_octets}
+use Rattle.segment_wire.specs.Segment.{Segment}
+use Rattle.link_trace.specs.declared.carried.Base.{Base}
+use Rattle.link_trace.specs.declared.carried.Carried.{Carried}
+use Rattle.link_trace.specs.declared.carried.Dss.{Dss}
+use Rattle.link_trace.specs.declared.sent.Sent.{Sent}
+use Rattle.link_trace.specs.Fates.{is_lost}
+use Rattle.link_trace.specs.Meanings.{meaning_in, initial_of}
+
+-- how far a number of 32 bits stands behind another one
+abbrev pub behind : ℕ → ℕ → ℕ
+behind number base = (number + (2 ^ 32 - base)) % 2 ^ 32
+
+abbrev pub low_half : ℕ → ℕ
+low_half number = number % 2 ^ 32
+
+abbrev pub low_number : DataNumber → ℕ
+low_number (Whole number) = low_half number
+low_number (Low low) = low
+
+-- ---- the numbers of a run
+
+-- the low half of the number of the first byte of the stream of a side with this key: one above its initial data sequence
+-- number (RFC 8684, section 3.1)
+abbrev pub first_number : ℕ → ℕ
+first_number key = (low_half (idsn_of key) + 1) % 2 ^ 32
+
+abbrev pub base_of : ℕ → ℕ → Bool → Base
+base_of key_a key_b checksums = record { first_a = first_number key_a; first_b = first_number key_b; checksums = checksums }
+
+abbrev pub first_byte : Base → Side → ℕ
+first_byte base A = base.first_a
+first_byte base B = base.first_b
+
+-- ---- the DSS
+
+abbrev pub no_dss : Dss
+no_dss = record { ack = None; mapping = None }
+
+abbrev pub value_dss : wire.OptionValue → Option Dss
+value_dss (wire.Dss ack mapping fin) = Some (record { ack = ack; mapping = mapping })
+value_dss _ = None
+
+abbrev pub dss_read : wire.Meaning → Option Dss
+dss_read (wire.Known value) = value_dss value
+dss_read _ = None
+
+-- the first one among these options
+abbrev pub dss_in : Bool → List (List ℕ) → Dss
+dss_in checksums [] = no_dss
+dss_in checksums (option ∷ options) = unwrap_or (dss_read (option_meaning option checksums)) (dss_in checksums options)
+
+-- ---- the place of a payload
+
+-- the place that a mapping gives to a position; an infinite one gives none
+abbrev pub mapped : DssMap → ℕ → ℕ → Option ℕ
+mapped map first position =
+    if map.length == 0 then None else Some ((behind (low_number map.number) first + behind position map.relative) % 2 ^ 32)
+
+abbrev pub place_mapped : Option DssMap → ℕ → ℕ → Option ℕ
+place_mapped None first position = None
+place_mapped (Some map) first position = mapped map first position
+
+-- on path 0 a position tells a place, with the first payload and after a fallback
+abbrev pub place_plain : ℕ → ℕ → Option ℕ
+place_plain path position = if path == 0 then Some (behind position 1) else None
+
+abbrev pub place_of : ℕ → Option DssMap → ℕ → ℕ → Option ℕ
+place_of path mapping first position = option_or (place_mapped mapping first position) (place_plain path position)
+
+-- ---- a segment
+
+-- how many bytes of the other side's stream a Data ACK acknowledges, the DATA_FIN among them
+abbrev pub acknowledged_by : Base → Side → Option DataNumber → Option ℕ
+acknowledged_by base from ack = option_map (λ number. behind (low_number number) (first_byte base (peer from))) ack
+
+-- a segment has less than 2^16 octets
+abbrev pub payload_len : Segment → ℕ
+payload_len segment = min (length segment.payload) 65535
+
+-- of the segment of a side whose SYN has this number
+abbrev pub carries : Base → Sent → ℕ → Segment → Carried
+carries base s initial segment =
+    let dss = dss_in base.checksums (option_octets segment.options) in let position = behind segment.head.seq initial in record {
+      tick = s.tick;
+      path = s.path;
+      from = s.from;
+      lost = is_lost s.fate.arrival;
+      position = position;
+      len = payload_len segment;
+      place = place_of s.path dss.mapping (first_byte base s.from) position;
+      acknowledged = acknowledged_by base s.from dss.ack;
+    }
+
+abbrev pub carries_nothing : Sent → Carried
+carries_nothing s = record {
+  tick = s.tick;
+  path = s.path;
+  from = s.from;
+  lost = is_lost s.fate.arrival;
+  position = 0;
+  len = 0;
+  place = None;
+  acknowledged = None;
+}
+
+-- octets that are no segment carry nothing
+abbrev pub carried_in : Base → Sent → ℕ → Result Segment SegmentFault → Carried
+carried_in base s initial (Ok segment) = carries base s initial segment
+carried_in base s initial (Err fault) = carries_nothing s
+
+abbrev pub carried_of : Base → List Sent → Sent → Carried
+carried_of base trace s = carried_in base s (unwrap_or (initial_of s.path s.from trace) 0) (meaning_in s)
+
+-- what each segment of a trace carries
+abbrev pub all_carried : Base → List Sent → List Carried
+all_carried base trace = map (carried_of base trace) trace

@@ -1,0 +1,9 @@
+pub mod Fates
+pub mod Meanings
+pub mod Lines
+pub mod Captures
+pub mod Carrying
+pub mod Rows
+pub mod Tables
+pub mod Strokes
+pub mod Pictures

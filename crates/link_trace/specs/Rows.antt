@@ -1,0 +1,116 @@
+-- The table by path and direction: counts and sums over what the segments carry.
+use Rattle.std.specs.Prelude.{ℕ, ◌+◌, ◌-◌, ◌*◌, ◌/◌, ◌^◌, ◌==◌, ◌&&◌, min, max, Bool, if◌then◌else◌, Option, Some, None, option_map, List, [], ◌∷◌, count_by, filter, length, slice_get}
+use Rattle.outside_kit.specs.declared.side.Side.{Side}
+use Rattle.outside_kit.specs.declared.side.Side.TheVariants.{A, B}
+use Rattle.link_script.specs.Places.{same_side}
+use Rattle.link_trace.specs.declared.carried.Carried.{Carried}
+use Rattle.link_trace.specs.declared.rows.Rate.{Rate}
+use Rattle.link_trace.specs.declared.rows.Rates.{Rates}
+use Rattle.link_trace.specs.declared.rows.Row.{Row}
+
+-- a sum as a number of 64 bits, which stands still at its end
+abbrev pub capped : ℕ → ℕ
+capped sum = min sum (2 ^ 64 - 1)
+
+abbrev pub is_from : Side → Carried → Bool
+is_from side c = same_side c.from side
+
+abbrev pub is_on : ℕ → Side → Carried → Bool
+is_on path side c = c.path == path && same_side c.from side
+
+-- the octets of the payloads
+abbrev pub octets_of : List Carried → ℕ
+octets_of [] = 0
+octets_of (c ∷ cs) = c.len + octets_of cs
+
+-- how many of so many octets from here on lie below an edge
+abbrev pub below : ℕ → ℕ → ℕ → ℕ
+below from len edge = min (edge - from) len
+
+-- the position behind a segment's payload
+abbrev pub end_of : Carried → ℕ
+end_of c = c.position + c.len
+
+-- octets at positions that were sent before, where those below this edge were
+abbrev pub again_behind : ℕ → List Carried → ℕ
+again_behind edge [] = 0
+again_behind edge (c ∷ cs) = below c.position c.len edge + again_behind (max edge (end_of c)) cs
+
+-- the place behind a segment's payload
+abbrev pub reach : Option ℕ → ℕ → ℕ
+reach None len = 0
+reach (Some place) len = if len == 0 then 0 else place + len
+
+-- octets at places below this one
+abbrev pub places_below : Option ℕ → ℕ → ℕ → ℕ
+places_below None len top = 0
+places_below (Some place) len top = below place len top
+
+-- octets of a segment of this path at new positions, at places that the direction had reached before
+abbrev pub moved_by : ℕ → ℕ → ℕ → Carried → ℕ
+moved_by path edge top c =
+    if c.path == path then places_below c.place c.len top - below c.position c.len edge else 0
+
+abbrev pub edge_behind : ℕ → ℕ → Carried → ℕ
+edge_behind path edge c = if c.path == path then max edge (end_of c) else edge
+
+abbrev pub moved_behind : ℕ → ℕ → ℕ → List Carried → ℕ
+moved_behind path edge top [] = 0
+moved_behind path edge top (c ∷ cs) =
+    moved_by path edge top c + moved_behind path (edge_behind path edge c) (max top (reach c.place c.len)) cs
+
+-- how many segments a line of the script lets go lost
+abbrev pub lost_of : List Carried → ℕ
+lost_of cs = count_by (λ c. c.lost) cs
+
+abbrev pub tick_at : ℕ → List Carried → Option ℕ
+tick_at place cs = option_map (λ (c : Carried). c.tick) (slice_get cs place)
+
+abbrev pub row_of : ℕ → Side → Option Rate → List Carried → Row
+row_of path side rate cs = let row = filter (is_on path side) cs in record {
+  path = path;
+  from = side;
+  first = tick_at 0 row;
+  last = tick_at (length row - 1) row;
+  segments = length row;
+  octets = capped (octets_of row);
+  again = capped (again_behind 0 row);
+  moved = capped (moved_behind path 0 0 (filter (is_from side) cs));
+  lost = lost_of row;
+  rate = rate;
+}
+
+-- two rows for each path, the first of which has this number
+abbrev pub rows_behind : ℕ → List Rates → List Carried → List Row
+rows_behind path [] cs = []
+rows_behind path (r ∷ rates) cs = row_of path A r.a cs ∷ row_of path B r.b cs ∷ rows_behind (path + 1) rates cs
+
+abbrev pub rows_of : List Rates → List Carried → List Row
+rows_of rates cs = rows_behind 0 rates cs
+
+-- ---- totals
+
+-- octets that were sent for the first time
+abbrev pub first_octets : Row → ℕ
+first_octets row = row.octets - row.again - row.moved
+
+-- of the rows of a direction
+abbrev pub if_from : Side → Row → ℕ → ℕ
+if_from side row octets = if same_side row.from side then octets else 0
+
+abbrev pub octets_from : Side → List Row → ℕ
+octets_from side [] = 0
+octets_from side (row ∷ rows) = if_from side row row.octets + octets_from side rows
+
+abbrev pub first_octets_from : Side → List Row → ℕ
+first_octets_from side [] = 0
+first_octets_from side (row ∷ rows) = if_from side row (first_octets row) + first_octets_from side rows
+
+-- the greatest tick
+abbrev pub last_tick : List Carried → ℕ
+last_tick [] = 0
+last_tick (c ∷ cs) = max c.tick (last_tick cs)
+
+-- octets in a second, of so many in so many ticks
+abbrev pub goodput : ℕ → ℕ → ℕ
+goodput octets ticks = if ticks == 0 then 0 else capped (octets * 1000) / ticks

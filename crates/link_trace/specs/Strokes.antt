@@ -1,0 +1,40 @@
+-- What a picture shows of a stream: a stroke for each payload whose place is told, a dot for each Data ACK.
+use Rattle.std.specs.Prelude.{ℕ, ◌+◌, ◌==◌, nat_lt, max, if◌then◌else◌, Option, Some, None, option_map, List, [], ◌∷◌, ◌++◌, filter}
+use Rattle.std.specs.List.{filter_map}
+use Rattle.std.specs.Option.{option_to_list}
+use Rattle.outside_kit.specs.declared.side.Side.{Side}
+use Rattle.link_model.specs.Steps.{peer}
+use Rattle.link_trace.specs.declared.carried.Carried.{Carried}
+use Rattle.link_trace.specs.declared.strokes.Dot.{Dot}
+use Rattle.link_trace.specs.declared.strokes.Stroke.{Stroke}
+use Rattle.link_trace.specs.Rows.{is_from, reach}
+
+-- below this place all was carried before
+abbrev pub stroke_at : ℕ → Carried → ℕ → Stroke
+stroke_at top c place = record {
+  path = c.path;
+  again = nat_lt place top;
+  lost = c.lost;
+  tick = c.tick;
+  from = place;
+  to = place + c.len;
+}
+
+abbrev pub stroke_of : ℕ → Carried → Option ℕ → Option Stroke
+stroke_of top c None = None
+stroke_of top c (Some place) = if c.len == 0 then None else Some (stroke_at top c place)
+
+abbrev pub strokes_behind : ℕ → List Carried → List Stroke
+strokes_behind top [] = []
+strokes_behind top (c ∷ cs) = option_to_list (stroke_of top c c.place) ++ strokes_behind (max top (reach c.place c.len)) cs
+
+-- the payloads of a side's stream
+abbrev pub strokes_of : Side → List Carried → List Stroke
+strokes_of side cs = strokes_behind 0 (filter (is_from side) cs)
+
+abbrev pub dot_of : Carried → Option ℕ → Option Dot
+dot_of c acknowledged = option_map (λ place. record { tick = c.tick; place = place }) acknowledged
+
+-- what the other side acknowledges of it
+abbrev pub dots_of : Side → List Carried → List Dot
+dots_of side cs = filter_map (λ c. dot_of c c.acknowledged) (filter (is_from (peer side)) cs)

@@ -1,0 +1,256 @@
+//! What a segment of a trace carries: its position, its payload, the place of that in the stream, and its Data ACK.
+
+ghost use Rattle.std.specs.Prelude.{◌≡◌, ◌^◌, ◌%◌, IfOk, unwrap_or};
+ghost use Rattle.segment_wire.specs.Options.{option_octets};
+ghost use Rattle.segment_wire.specs.Reading.{segment_of};
+ghost use Rattle.mptcp_options.specs.Meaning.{option_meaning};
+ghost use Rattle.link_trace.specs.Carrying.{acknowledged_by, all_carried, base_of, behind, carried_of, carries, carries_nothing, dss_in, dss_read, first_byte, first_number, low_half, low_number, mapped, payload_len, place_mapped, place_of, place_plain};
+ghost use Rattle.link_trace.specs.Meanings.{initial_of};
+
+use crate::fate::is_lost;
+use crate::meanings::{initial_of, peer};
+use crate::sent::Sent;
+use key_material::idsn;
+use link_model::addresses_from;
+use mptcp_options::{DataNumber, DssMap, MpOption, Read, read};
+use outside_kit::Side;
+use segment_wire::{SegmentRef, parse};
+use std::alloc::{AllocError, Global};
+
+/// What a segment carries. Positions and places are counted from the SYN, which has position 0, and from the first byte of the
+/// side's stream, modulo 2^32.
+#[derive(Clone, Copy, Debug)]
+pub struct Carried {
+    /// When it was sent, in ticks of a millisecond.
+    pub tick: u64,
+    /// The number of the path.
+    pub path: u8,
+    /// The side that sent it.
+    pub from: Side,
+    /// A line of the script lets it go lost.
+    pub lost: bool,
+    /// The position of the first octet of the payload, or where it would stand.
+    pub position: u32,
+    /// Octets of the payload.
+    pub len: u32,
+    /// The place of the first octet, where the segment tells it.
+    pub place: Option<u32>,
+    /// How many bytes of the other side's stream it acknowledges, the DATA_FIN among them.
+    pub acknowledged: Option<u32>,
+}
+
+/// The numbers from which those of a run count.
+#[derive(Clone, Copy, Debug)]
+pub struct Base {
+    /// The low half of the number of the first byte of A's stream.
+    pub first_a: u32,
+    /// That of B's stream.
+    pub first_b: u32,
+    /// Whether checksums of data are used.
+    pub checksums: bool,
+}
+
+/// The fields of a DSS that a trace is read for.
+#[derive(Clone, Copy)]
+pub(crate) struct Dss {
+    pub ack: Option<DataNumber>,
+    pub mapping: Option<DssMap>,
+}
+
+fn low_half(number: u64) -> u32
+    ensures { result ≡ low_half number }
+{
+    (number % 0x1_0000_0000) as u32
+}
+
+fn low_number(number: DataNumber) -> u32
+    ensures { result ≡ low_number number }
+{
+    match number {
+        DataNumber::Whole(number) => low_half(number),
+        DataNumber::Low(low) => low,
+    }
+}
+
+fn behind(number: u32, base: u32) -> u32
+    ensures { result ≡ behind number base }
+{
+    number.wrapping_sub(base)
+}
+
+/// The low half of the number of the first byte of the stream of a side with this key (RFC 8684, section 3.1).
+fn first_number(key: u64) -> u32
+    ensures { result ≡ first_number key }
+{
+    low_half(idsn(key)).wrapping_add(1)
+}
+
+impl Base {
+    /// That of a run with these keys of A and B, which uses checksums of data or doesn't.
+    pub fn of(key_a: u64, key_b: u64, checksums: bool) -> Base
+        ensures { result ≡ base_of key_a key_b checksums }
+    {
+        Base {
+            first_a: first_number(key_a),
+            first_b: first_number(key_b),
+            checksums,
+        }
+    }
+
+    fn first_byte(&self, side: Side) -> u32
+        ensures { result ≡ first_byte self.now side }
+    {
+        match side {
+            Side::A => self.first_a,
+            Side::B => self.first_b,
+        }
+    }
+}
+
+/// What an option says, where it is a DSS.
+fn dss_read(option: &[u8], checksums: bool) -> Option<Dss>
+    ensures { result ≡ dss_read (option_meaning option.now checksums) }
+{
+    match read(option, checksums) {
+        Read::Known(MpOption::Dss { ack, mapping, .. }) => Some(Dss { ack, mapping }),
+        _ => None,
+    }
+}
+
+/// What the first DSS of a segment says.
+fn dss_of(segment: &SegmentRef<'_>, checksums: bool) -> Dss
+    ensures { result ≡ dss_in checksums (option_octets (segment_of segment.now).options) }
+{
+    for option in segment.options() {
+        if let Some(dss) = dss_read(option, checksums) {
+            return dss;
+        }
+    }
+    Dss {
+        ack: None,
+        mapping: None,
+    }
+}
+
+/// The place that a mapping gives to a position; an infinite one gives none.
+fn mapped(map: &DssMap, first: u32, position: u32) -> Option<u32>
+    ensures { result ≡ mapped map.now first position }
+{
+    if map.length == 0 {
+        return None;
+    }
+    let start = behind(low_number(map.number), first);
+    let offset = behind(position, map.relative);
+    Some(start.wrapping_add(offset))
+}
+
+fn place_mapped(map: Option<DssMap>, first: u32, position: u32) -> Option<u32>
+    ensures { result ≡ place_mapped map first position }
+{
+    match map {
+        None => None,
+        Some(map) => mapped(&map, first, position),
+    }
+}
+
+fn place_plain(path: u8, position: u32) -> Option<u32>
+    ensures { result ≡ place_plain path position }
+{
+    if path == 0 {
+        Some(behind(position, 1))
+    } else {
+        None
+    }
+}
+
+/// The place of a payload: by its mapping, or on path 0 by its position, as with the first payload and after a fallback.
+fn place_of(path: u8, map: Option<DssMap>, first: u32, position: u32) -> Option<u32>
+    ensures { result ≡ place_of path map first position }
+{
+    match place_mapped(map, first, position) {
+        None => place_plain(path, position),
+        Some(place) => Some(place),
+    }
+}
+
+fn acknowledged_by(base: &Base, from: Side, ack: Option<DataNumber>) -> Option<u32>
+    ensures { result ≡ acknowledged_by base.now from ack }
+{
+    match ack {
+        None => None,
+        Some(number) => Some(behind(low_number(number), base.first_byte(peer(from)))),
+    }
+}
+
+/// The octets of the payload, of which a segment has less than 2^16.
+fn payload_len(segment: &SegmentRef<'_>) -> u32
+    ensures { result ≡ payload_len (segment_of segment.now) }
+{
+    segment.payload().len().min(65_535) as u32
+}
+
+/// What a segment carries, of the side whose SYN has this number.
+fn carries(base: &Base, sent: &Sent, initial: u32, segment: &SegmentRef<'_>) -> Carried
+    ensures { result ≡ carries base.now sent.now initial (segment_of segment.now) }
+{
+    let dss = dss_of(segment, base.checksums);
+    let position = behind(segment.head.seq, initial);
+    Carried {
+        tick: sent.tick,
+        path: sent.path,
+        from: sent.from,
+        lost: is_lost(sent.fate.arrival),
+        position,
+        len: payload_len(segment),
+        place: place_of(sent.path, dss.mapping, base.first_byte(sent.from), position),
+        acknowledged: acknowledged_by(base, sent.from, dss.ack),
+    }
+}
+
+/// Octets that are no segment carry nothing.
+fn carries_nothing(sent: &Sent) -> Carried
+    ensures { result ≡ carries_nothing sent.now }
+{
+    Carried {
+        tick: sent.tick,
+        path: sent.path,
+        from: sent.from,
+        lost: is_lost(sent.fate.arrival),
+        position: 0,
+        len: 0,
+        place: None,
+        acknowledged: None,
+    }
+}
+
+/// The number of the SYN of the segment's side on its path, or 0 where it sent none.
+fn initial_or_zero(trace: &[Sent], sent: &Sent) -> u32
+    ensures { result ≡ unwrap_or (initial_of sent.now.path sent.now.from trace.now) 0 }
+{
+    match initial_of(trace, sent.path, sent.from) {
+        None => 0,
+        Some(initial) => initial,
+    }
+}
+
+/// What a segment of the trace carries.
+fn carried_of(base: &Base, trace: &[Sent], sent: &Sent) -> Carried
+    ensures { result ≡ carried_of base.now trace.now sent.now }
+{
+    let initial = initial_or_zero(trace, sent);
+    let addresses = addresses_from(sent.path, sent.from);
+    match parse(sent.octets.as_bytes(), &addresses) {
+        Ok(segment) => carries(base, sent, initial, &segment),
+        Err(_) => carries_nothing(sent),
+    }
+}
+
+/// What each segment of a trace carries.
+pub fn all_carried(alloc: Global, base: &Base, trace: &[Sent]) -> Result<Vec<Carried>, AllocError>
+    ensures { IfOk result (λ carried. carried.items ≡ all_carried base.now trace.now) }
+{
+    trace
+        .iter()
+        .map(|sent| carried_of(base, trace, sent))
+        .collect(alloc)
+}

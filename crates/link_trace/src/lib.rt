@@ -1,0 +1,24 @@
+//! What was sent on the links of a run, and four views of it: a line for each segment, a capture, a table by path and direction, a
+//! picture.
+#![tactic(auto)]
+
+mod carried;
+mod drawing;
+mod fate;
+mod marks;
+mod meanings;
+mod packets;
+mod rows;
+mod sent;
+mod strokes;
+mod table;
+mod text;
+
+pub use carried::{Base, Carried, all_carried};
+pub use drawing::picture;
+pub use packets::capture;
+pub use rows::{Rate, Rates, Row, rows_of};
+pub use sent::Sent;
+pub use strokes::{Dot, Stroke, dots_of, strokes_of};
+pub use table::summary;
+pub use text::lines;

@@ -1,0 +1,328 @@
+//! The table by path and direction: counts and sums over what the segments carry.
+
+ghost use Rattle.std.specs.Prelude.{◌≡◌, ◌-◌, ◌++◌, ◌∷◌, [], filter, length, IfOk, OnOk};
+ghost use Rattle.outside_kit.specs.declared.side.Side.TheVariants.{A, B};
+ghost use Rattle.link_trace.specs.Rows.{again_behind, below, capped, edge_behind, end_of, first_octets, first_octets_from, goodput, if_from, is_from, is_on, last_tick, lost_of, moved_behind, moved_by, octets_from, octets_of, places_below, reach, row_of, rows_of, tick_at};
+
+use crate::carried::Carried;
+use outside_kit::Side;
+use std::alloc::{AllocError, Global};
+
+/// The congestion window and the smoothed round-trip time that an end told last, in octets and ticks.
+#[derive(Clone, Copy, Debug)]
+pub struct Rate {
+    pub window: u32,
+    pub rtt: u32,
+}
+
+/// Those of both ends of a path.
+#[derive(Clone, Copy, Debug)]
+pub struct Rates {
+    pub a: Option<Rate>,
+    pub b: Option<Rate>,
+}
+
+/// The sums of one direction of a path. Sums of octets stand still at 2^64 - 1.
+#[derive(Clone, Copy, Debug)]
+pub struct Row {
+    /// The number of the path.
+    pub path: usize,
+    /// The side that sends.
+    pub from: Side,
+    /// The tick of the first segment.
+    pub first: Option<u64>,
+    /// The tick of the last one.
+    pub last: Option<u64>,
+    pub segments: usize,
+    /// Octets of payload, each as often as it was sent.
+    pub octets: u64,
+    /// Those of them at positions that were sent before on this path.
+    pub again: u64,
+    /// Those at new positions, at places that the direction had reached before on any path.
+    pub moved: u64,
+    /// Segments that a line of the script lets go lost.
+    pub lost: usize,
+    /// What the end of this side told last.
+    pub rate: Option<Rate>,
+}
+
+fn is_from(side: Side, carried: &Carried) -> bool
+    ensures { result ≡ is_from side carried.now }
+{
+    carried.from == side
+}
+
+fn is_on(path: usize, side: Side, carried: &Carried) -> bool
+    ensures { result ≡ is_on path side carried.now }
+{
+    usize::from(carried.path) == path && carried.from == side
+}
+
+/// What a side's segments carry.
+pub fn side_of(alloc: Global, carried: &[Carried], side: Side) -> Result<Vec<Carried>, AllocError>
+    ensures { IfOk result (λ row. row.items ≡ filter (is_from side) carried.now) }
+{
+    carried
+        .iter()
+        .copied()
+        .filter(|carried| is_from(side, carried))
+        .collect(alloc)
+}
+
+/// What those of a path carry.
+fn path_of(
+    alloc: Global,
+    carried: &[Carried],
+    path: usize,
+    side: Side,
+) -> Result<Vec<Carried>, AllocError>
+    ensures { IfOk result (λ row. row.items ≡ filter (is_on path side) carried.now) }
+{
+    carried
+        .iter()
+        .copied()
+        .filter(|carried| is_on(path, side, carried))
+        .collect(alloc)
+}
+
+/// The octets of the payloads.
+#[tactic(auto, using(crate::proofs::Sums::capped_more))]
+fn octets_of(row: &[Carried]) -> u64
+    ensures { result ≡ capped (octets_of row.now) }
+{
+    let mut octets = 0_u64;
+    for segment in row {
+        octets = octets.saturating_add(u64::from(segment.len));
+    }
+    octets
+}
+
+/// How many of so many octets from a number on lie below an edge.
+fn below(from: u32, len: u32, edge: u64) -> u64
+    ensures { result ≡ below from len edge }
+{
+    edge.saturating_sub(u64::from(from)).min(u64::from(len))
+}
+
+/// The position behind a segment's payload.
+fn end_of(carried: &Carried) -> u64
+    ensures { result ≡ end_of carried.now }
+{
+    u64::from(carried.position) + u64::from(carried.len)
+}
+
+/// Octets at positions that were sent before.
+#[tactic(auto, using(crate::proofs::Sums::capped_more))]
+fn again_of(row: &[Carried]) -> u64
+    ensures { result ≡ capped (again_behind 0 row.now) }
+{
+    let (mut again, mut edge) = (0_u64, 0_u64);
+    for segment in row {
+        again = again.saturating_add(below(segment.position, segment.len, edge));
+        edge = edge.max(end_of(segment));
+    }
+    again
+}
+
+/// The place behind a segment's payload.
+pub fn reach(place: Option<u32>, len: u32) -> u64
+    ensures { result ≡ reach place len }
+{
+    match place {
+        None => 0,
+        Some(place) => {
+            if len == 0 {
+                0
+            } else {
+                u64::from(place) + u64::from(len)
+            }
+        }
+    }
+}
+
+/// Octets at places below this one.
+fn places_below(place: Option<u32>, len: u32, top: u64) -> u64
+    ensures { result ≡ places_below place len top }
+{
+    match place {
+        None => 0,
+        Some(place) => below(place, len, top),
+    }
+}
+
+/// Octets of a segment of this path at new positions, at places that the direction had reached before.
+fn moved_by(path: usize, edge: u64, top: u64, carried: &Carried) -> u64
+    ensures { result ≡ moved_by path edge top carried.now }
+{
+    if usize::from(carried.path) != path {
+        return 0;
+    }
+    let moved = places_below(carried.place, carried.len, top);
+    moved.saturating_sub(below(carried.position, carried.len, edge))
+}
+
+fn edge_behind(path: usize, edge: u64, carried: &Carried) -> u64
+    ensures { result ≡ edge_behind path edge carried.now }
+{
+    if usize::from(carried.path) == path {
+        edge.max(end_of(carried))
+    } else {
+        edge
+    }
+}
+
+/// Octets at new positions, at places that the direction had reached before.
+#[tactic(auto, using(crate::proofs::Sums::capped_more))]
+fn moved_of(path: usize, direction: &[Carried]) -> u64
+    ensures { result ≡ capped (moved_behind path 0 0 direction.now) }
+{
+    let (mut moved, mut edge, mut top) = (0_u64, 0_u64, 0_u64);
+    for segment in direction {
+        moved = moved.saturating_add(moved_by(path, edge, top, segment));
+        edge = edge_behind(path, edge, segment);
+        top = top.max(reach(segment.place, segment.len));
+    }
+    moved
+}
+
+/// Segments that a line of the script lets go lost.
+fn lost_of(row: &[Carried]) -> usize
+    ensures { result ≡ lost_of row.now }
+{
+    row.iter().filter(|carried| carried.lost).count()
+}
+
+fn first_tick(row: &[Carried]) -> Option<u64>
+    ensures { result ≡ tick_at 0 row.now }
+{
+    match row.first() {
+        None => None,
+        Some(carried) => Some(carried.tick),
+    }
+}
+
+fn final_tick(row: &[Carried]) -> Option<u64>
+    ensures { result ≡ tick_at (length row.now - 1) row.now }
+{
+    match row.last() {
+        None => None,
+        Some(carried) => Some(carried.tick),
+    }
+}
+
+/// The row of a path and a direction.
+fn row_of(
+    alloc: Global,
+    path: usize,
+    side: Side,
+    rate: Option<Rate>,
+    carried: &[Carried],
+) -> Result<Row, AllocError>
+    ensures { IfOk result (λ row. row ≡ row_of path side rate carried.now) }
+{
+    let row = path_of(alloc, carried, path, side)?;
+    let direction = side_of(alloc, carried, side)?;
+    Ok(Row {
+        path,
+        from: side,
+        first: first_tick(&row),
+        last: final_tick(&row),
+        segments: row.as_slice().len(),
+        octets: octets_of(&row),
+        again: again_of(&row),
+        moved: moved_of(path, &direction),
+        lost: lost_of(&row),
+        rate,
+    })
+}
+
+/// Puts the rows of both directions of a path.
+fn put_rows(
+    alloc: Global,
+    rows: &mut Vec<Row>,
+    path: usize,
+    rates: Rates,
+    carried: &[Carried],
+) -> Result<(), AllocError>
+    ensures { OnOk result (rows.new.items ≡
+        rows.old.items ++
+        (row_of path A rates.a carried.now ∷ row_of path B rates.b carried.now ∷ [])) }
+{
+    let from_a = row_of(alloc, path, Side::A, rates.a, carried)?;
+    let from_b = row_of(alloc, path, Side::B, rates.b, carried)?;
+    rows.push(from_a)?;
+    rows.push(from_b)?;
+    Ok(())
+}
+
+/// The rows of both directions of each path, with what their ends told last.
+pub fn rows_of(alloc: Global, rates: &[Rates], carried: &[Carried]) -> Result<Vec<Row>, AllocError>
+    ensures { IfOk result (λ rows. rows.items ≡ rows_of rates.now carried.now) }
+{
+    let mut rows = Vec::new(alloc);
+    for (path, told) in rates.iter().enumerate() {
+        put_rows(alloc, &mut rows, path, *told, carried)?;
+    }
+    Ok(rows)
+}
+
+/// Octets that were sent for the first time.
+fn first_octets(row: &Row) -> u64
+    ensures { result ≡ first_octets row.now }
+{
+    row.octets
+        .saturating_sub(row.again)
+        .saturating_sub(row.moved)
+}
+
+/// So many octets where the row is of this direction.
+fn if_from(side: Side, row: &Row, octets: u64) -> u64
+    ensures { result ≡ if_from side row.now octets }
+{
+    if row.from == side { octets } else { 0 }
+}
+
+/// The octets of a direction.
+#[tactic(auto, using(crate::proofs::Sums::capped_more))]
+pub fn octets_from(side: Side, rows: &[Row]) -> u64
+    ensures { result ≡ capped (octets_from side rows.now) }
+{
+    let mut octets = 0_u64;
+    for row in rows {
+        octets = octets.saturating_add(if_from(side, row, row.octets));
+    }
+    octets
+}
+
+/// Those that were sent for the first time.
+#[tactic(auto, using(crate::proofs::Sums::capped_more))]
+pub fn first_octets_from(side: Side, rows: &[Row]) -> u64
+    ensures { result ≡ capped (first_octets_from side rows.now) }
+{
+    let mut octets = 0_u64;
+    for row in rows {
+        octets = octets.saturating_add(if_from(side, row, first_octets(row)));
+    }
+    octets
+}
+
+/// The greatest tick of a segment.
+pub fn last_tick(carried: &[Carried]) -> u64
+    ensures { result ≡ last_tick carried.now }
+{
+    let mut last = 0;
+    for segment in carried {
+        last = last.max(segment.tick);
+    }
+    last
+}
+
+/// Octets in a second.
+pub fn goodput(octets: u64, ticks: u64) -> u64
+    ensures { result ≡ goodput octets ticks }
+{
+    if ticks == 0 {
+        return 0;
+    }
+    octets.saturating_mul(1_000) / ticks
+}

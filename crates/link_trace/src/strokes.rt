@@ -1,0 +1,115 @@
+//! What a picture shows of a stream: a stroke for each payload whose place is told, a dot for each Data ACK.
+
+ghost use Rattle.std.specs.Prelude.{◌≡◌, ◌++◌, IfOk, OnOk};
+ghost use Rattle.std.specs.Option.{option_to_list};
+ghost use Rattle.link_trace.specs.Strokes.{dot_of, dots_of, stroke_at, stroke_of, strokes_behind, strokes_of};
+
+use crate::carried::Carried;
+use crate::meanings::peer;
+use crate::rows::{reach, side_of};
+use outside_kit::Side;
+use std::alloc::{AllocError, Global};
+
+/// A payload that was sent: its places at its tick.
+#[derive(Clone, Copy, Debug)]
+pub struct Stroke {
+    /// The number of the path.
+    pub path: u8,
+    /// Its first place was reached before, on this path or another one.
+    pub again: bool,
+    /// A line of the script lets it go lost.
+    pub lost: bool,
+    pub tick: u64,
+    /// Its first place.
+    pub from: u64,
+    /// The place behind its last one.
+    pub to: u64,
+}
+
+/// A Data ACK that was sent: how many bytes it acknowledges.
+#[derive(Clone, Copy, Debug)]
+pub struct Dot {
+    pub tick: u64,
+    pub place: u32,
+}
+
+fn stroke_at(top: u64, carried: &Carried, place: u32) -> Stroke
+    ensures { result ≡ stroke_at top carried.now place }
+{
+    let from = u64::from(place);
+    Stroke {
+        path: carried.path,
+        again: from < top,
+        lost: carried.lost,
+        tick: carried.tick,
+        from,
+        to: from + u64::from(carried.len),
+    }
+}
+
+fn stroke_of(top: u64, carried: &Carried) -> Option<Stroke>
+    ensures { result ≡ stroke_of top carried.now carried.now.place }
+{
+    match carried.place {
+        None => None,
+        Some(place) => {
+            if carried.len == 0 {
+                None
+            } else {
+                Some(stroke_at(top, carried, place))
+            }
+        }
+    }
+}
+
+fn put_stroke(strokes: &mut Vec<Stroke>, stroke: Option<Stroke>) -> Result<(), AllocError>
+    ensures { OnOk result (strokes.new.items ≡ strokes.old.items ++ option_to_list stroke) }
+{
+    if let Some(stroke) = stroke {
+        strokes.push(stroke)?;
+    }
+    Ok(())
+}
+
+/// The payloads of what a side's segments carry.
+fn strokes_behind(alloc: Global, direction: &[Carried]) -> Result<Vec<Stroke>, AllocError>
+    ensures { IfOk result (λ strokes. strokes.items ≡ strokes_behind 0 direction.now) }
+{
+    let (mut strokes, mut top) = (Vec::new(alloc), 0_u64);
+    for segment in direction {
+        put_stroke(&mut strokes, stroke_of(top, segment))?;
+        top = top.max(reach(segment.place, segment.len));
+    }
+    Ok(strokes)
+}
+
+/// The payloads of a side's stream.
+pub fn strokes_of(alloc: Global, side: Side, carried: &[Carried]) -> Result<Vec<Stroke>, AllocError>
+    ensures { IfOk result (λ strokes. strokes.items ≡ strokes_of side carried.now) }
+{
+    let direction = side_of(alloc, carried, side)?;
+    strokes_behind(alloc, &direction)
+}
+
+fn dot_of(carried: &Carried) -> Option<Dot>
+    ensures { result ≡ dot_of carried.now carried.now.acknowledged }
+{
+    match carried.acknowledged {
+        None => None,
+        Some(place) => Some(Dot {
+            tick: carried.tick,
+            place,
+        }),
+    }
+}
+
+/// What the other side acknowledges of a side's stream.
+pub fn dots_of(alloc: Global, side: Side, carried: &[Carried]) -> Result<Vec<Dot>, AllocError>
+    ensures { IfOk result (λ dots. dots.items ≡ dots_of side carried.now) }
+{
+    let direction = side_of(alloc, carried, peer(side))?;
+    direction
+        .iter()
+        .filter_map(|segment| dot_of(segment))
+        .collect(alloc)
+}

@@ -1,0 +1,136 @@
+-- What the words ask for, what OUT then shows, and why it doesn't.
+use Rattle.std.specs.Prelude.{◌≡◌, ◌⊎◌, Ok, ℕ, ◌+◌, ◌^◌, ◌≤◌, if◌then◌else◌, Option, Some, None, option_map, IfSome, List, [], ◌∷◌, length, codes}
+use Rattle.std.specs.Str.{bytes_eq}
+use Rattle.outside_kit.specs.declared.port.Port.TheVariants as port
+use Rattle.outside_kit.specs.Outside.{HasRisen}
+use Rattle.link_script.specs.declared.script.Script.{Script}
+use Rattle.link_trace.specs.Captures.{blocks_of}
+use Rattle.link_trace.specs.Carrying.{all_carried, base_of}
+use Rattle.link_trace.specs.Lines.{lines_of}
+use Rattle.link_trace.specs.Tables.{summary_of}
+use Rattle.link_trace.specs.declared.carried.Base.{Base}
+use Rattle.link_trace.specs.declared.sent.Sent.{Sent}
+use Rattle.path_core.specs.Octets.{octets}
+use Rattle.path_core.specs.Starts.{key_of}
+use Rattle.pcap_text.specs.Blocks.{capture_text}
+use Rattle.run_log.specs.declared.turn.Turn as logged
+use Rattle.run_outside.specs.Inputs.{IsReplayInputFault, content_of, opening_count}
+use Rattle.run_outside.specs.Reading.{log_reading}
+use Rattle.run_outside.specs.Script.{script_meaning}
+use Rattle.run_outside.specs.declared.input.Input.{Input}
+use Rattle.run_outside.specs.declared.status.Named.TheVariants as named
+use Rattle.run_outside.specs.declared.status.Status.{Status}
+use Rattle.run_outside.specs.declared.status.Status.TheVariants as status
+use Rattle.run_trace.specs.Rates.{rates_of}
+use Rattle.run_trace.specs.Trace.{StopsAt, all_turns, trace_of}
+use Rattle.run_trace.specs.declared.making.TraceFault.{TraceFault}
+use Rattle.run_trace.specs.declared.making.TraceFault.TheVariants as fault
+use Rattle.run_words.specs.Lines.{Line, as_line, replay}
+use Rattle.world_laws.specs.Openings.{opened_world, start_of}
+use Rattle.world_laws.specs.Worlds.{AreLawful, Turn, WorldState, world_run}
+use Rattle.mptcp_view.specs.declared.showing.Asked.{Asked}
+use Rattle.mptcp_view.specs.declared.showing.View.{View}
+use Rattle.mptcp_view.specs.declared.showing.View.TheVariants.{Capture, Summary, Picture, Text}
+
+-- ---- the words
+
+abbrev pub view_named : List ℕ → Option View
+view_named word =
+    if bytes_eq word (codes "capture") then Some Capture
+    else (if bytes_eq word (codes "summary") then Some Summary
+    else (if bytes_eq word (codes "picture") then Some Picture
+    else (if bytes_eq word (codes "text") then Some Text else None)))
+
+-- what is asked for: a view of a replay
+pub record Asking : Type 0 where
+  pub view : View
+  pub line : Line
+
+abbrev pub as_asked : Asked → Asking
+as_asked asked = record { view = asked.view; line = as_line asked.line }
+
+-- the inputs of a replay of this log
+abbrev pub line_with : List ℕ → List ℕ → List ℕ → List ℕ → List ℕ → Line
+line_with script file_a file_b log out = record {
+  work = replay log;
+  names = record { script = script; file_a = file_a; file_b = file_b; read_by_b = out; read_by_a = out };
+}
+
+-- six words, of which the first names a view
+abbrev pub asked_in : List (List ℕ) → Option Asking
+asked_in (word ∷ script ∷ file_a ∷ file_b ∷ log ∷ out ∷ []) =
+    option_map (λ view. record { view = view; line = line_with script file_a file_b log out }) (view_named word)
+asked_in words = None
+
+-- ---- the view
+
+-- the connection before its first step
+abbrev pub first_world : Input → WorldState (List ℕ)
+first_world input = opened_world (start_of input.script input.file_a input.file_b)
+
+-- the numbers from which those of a run of this script count
+abbrev pub base_in : Script → Base
+base_in script = base_of (key_of script.seed 0) (key_of script.seed 2) script.checksum
+
+-- a view of what was sent in a run of this script, which ended with this world
+abbrev pub IsViewFrom : View → Script → WorldState (List ℕ) → List Sent → List ℕ → Type 0
+IsViewFrom Capture script w trace shown = shown ≡ capture_text (blocks_of (length script.paths) trace)
+IsViewFrom Summary script w trace shown = shown ≡ summary_of (rates_of w.crew) (all_carried (base_in script) trace)
+IsViewFrom Text script w trace shown = shown ≡ lines_of script.checksum trace
+-- 2 MiB at most
+IsViewFrom Picture script w trace shown = length shown ≤ 2 ^ 21
+
+-- a view of what these turns send
+abbrev pub IsViewOf : View → Input → List Turn → List ℕ → Type 0
+IsViewOf view input turns shown =
+    IsViewFrom view input.script (world_run octets turns (first_world input)) (trace_of turns (first_world input)) shown
+
+-- where a port told what it held, it holds such a text instead
+abbrev pub HoldsOne : Option (List ℕ) → Option (List ℕ) → (List ℕ → Type 0) → Type 0
+HoldsOne old new P = IfSome old (λ held. (shown : List ℕ) × ((new ≡ Some shown) × P shown))
+
+-- ---- the inputs
+
+-- these are the inputs of the line, as far as they are told: the turns of the log stand behind so many lines
+pub record AreInputs (content : List ℕ → Option (List ℕ)) (line : Line) (input : Input) (turns : List logged.Turn) (lines : ℕ) : Type 0 where
+  pub script : IfSome (content line.names.script) (λ told. script_meaning told ≡ Ok input.script)
+  pub file_a : IfSome (content line.names.file_a) (λ told. input.file_a ≡ told)
+  pub file_b : IfSome (content line.names.file_b) (λ told. input.file_b ≡ told)
+  pub order : IfSome (content_of content line named.Order) (λ told. log_reading input.script told ≡ Ok turns)
+  pub opening : IfSome (content_of content line named.Order) (λ told. lines ≡ opening_count told)
+
+-- some inputs of this line, of which this holds
+abbrev pub WithInputs : (List ℕ → Option (List ℕ)) → Line → (Input → List Turn → ℕ → Type 0) → Type 0
+WithInputs content line P =
+    (input : Input) × ((turns : List logged.Turn) × ((lines : ℕ) × (AreInputs content line input turns lines × P input (all_turns turns) lines)))
+
+-- the turns of the log can be made, and OUT holds the view of what they send
+abbrev pub Shows : (List ℕ → Option (List ℕ)) → View → Line → Option (List ℕ) → Option (List ℕ) → Type 0
+Shows content view line old new =
+    WithInputs content line (λ input turns lines. AreLawful octets turns (first_world input) × HoldsOne old new (IsViewOf view input turns))
+
+-- ---- why nothing is shown
+
+-- the turn at this line of the log, of which so many stand before the first turn, can't be made
+abbrev pub IsTurnsFault : List Turn → Input → ℕ → Status → Type 0
+IsTurnsFault turns input lines (status.Log line) = (place : ℕ) × ((line ≡ lines + place + 1) × StopsAt place turns (first_world input))
+IsTurnsFault turns input lines status.Memory = Unit {0}
+IsTurnsFault turns input lines _ = ⊥
+
+abbrev pub stopped_at : ℕ → TraceFault → Status
+stopped_at lines (fault.Turn place) = status.Log (lines + place + 1)
+stopped_at lines fault.Memory = status.Memory
+
+-- OUT can't be written
+abbrev pub IsOutFault : ℕ → ℕ → Status → Type 0
+IsOutFault old new (status.Put at) = (at ≡ port.ReadByB) × HasRisen old new
+IsOutFault old new status.Memory = Unit {0}
+IsOutFault old new _ = ⊥
+
+-- what replay refuses, or OUT; what is refused of a log is its form or the first turn that can't be made
+abbrev pub IsViewFault : (List ℕ → Option (List ℕ)) → Line → ℕ → ℕ → ℕ → ℕ → Status → Type 0
+IsViewFault content line loads_old loads_new old new (status.Put at) = IsOutFault old new (status.Put at)
+IsViewFault content line loads_old loads_new old new (status.Log at) =
+    IsReplayInputFault content line loads_old loads_new (status.Log at)
+    ⊎ WithInputs content line (λ input turns lines. IsTurnsFault turns input lines (status.Log at))
+IsViewFault content line loads_old loads_new old new status = IsReplayInputFault content line loads_old loads_new status

@@ -1,0 +1,264 @@
+//! What the words of a command line ask for: the log's steps made again, and one view of what was sent.
+
+ghost use Rattle.std.specs.Prelude.{◌≡◌, ◌++◌, ◌↔◌, ◌<◌, ◌≤◌, ◌^◌, Err, None, map, option_map, IfOk, IfErr, IfSome, OnOk, string_bytes};
+ghost use Rattle.outside_kit.specs.Outside.{HoldsAfter};
+ghost use Rattle.link_script.specs.Scripts.{HasRanges};
+ghost use Rattle.path_core.specs.Octets.{octets};
+ghost use Rattle.run_trace.specs.Trace.{all_turns, place_of};
+ghost use Rattle.run_words.specs.Lines.{as_line, replay};
+ghost use Rattle.run_outside.specs.declared.status.Status.TheVariants.{Usage};
+ghost use Rattle.world_core.specs.Kept.{standing};
+ghost use Rattle.world_laws.specs.Worlds.{AreLawful};
+ghost use Rattle.mptcp_view.specs.Views.{IsOutFault, IsTurnsFault, IsViewFault, IsViewFrom, IsViewOf, Shows, as_asked, asked_in, base_in, first_world, stopped_at, view_named};
+
+use link_script::Script;
+use link_trace::{Base, Sent, all_carried, capture, lines, picture, summary};
+use outside_kit::{Outside, Port, PutFault};
+use path_core::key_of;
+use run_outside::{Replay, Status, load_replay};
+use run_trace::{Progress, TraceFault, gather, rates_of};
+use run_words::{CommandLine, Mode};
+use std::alloc::{AllocError, Global};
+use world_core::World;
+
+/// What is shown of a run.
+#[derive(Clone, Copy, Debug, PartialEq, Eq)]
+pub enum View {
+    /// A capture in the pcapng format.
+    Capture,
+    /// A table by path and direction.
+    Summary,
+    /// A drawing in SVG.
+    Picture,
+    /// A line for each segment.
+    Text,
+}
+
+/// The view of this name.
+fn view_named(word: &str) -> Option<View>
+    ensures { result ≡ view_named word.now }
+{
+    match word {
+        "capture" => Some(View::Capture),
+        "summary" => Some(View::Summary),
+        "picture" => Some(View::Picture),
+        "text" => Some(View::Text),
+        _ => None,
+    }
+}
+
+/// The numbers from which those of a run count.
+fn base_in(script: &Script) -> Base
+    ensures { result ≡ base_in script.now }
+{
+    let (key_a, key_b) = (key_of(script.seed, 0), key_of(script.seed, 2));
+    Base::of(key_a, key_b, script.checksum)
+}
+
+/// A view of what was sent in a run of this script, which ended with this world.
+fn shown(
+    alloc: Global,
+    view: View,
+    script: &Script,
+    world: &World,
+    trace: &[Sent],
+) -> Result<Vec<u8>, AllocError>
+    ensures { IfOk result (λ shown.
+        IsViewFrom view script.now world.now.state trace.now shown.items) }
+{
+    let paths = script.paths.as_slice().len();
+    match view {
+        View::Capture => capture(alloc, paths, trace),
+        View::Summary => {
+            let carried = all_carried(alloc, &base_in(script), trace)?;
+            summary(alloc, &rates_of(alloc, world)?, &carried)
+        }
+        View::Picture => {
+            let carried = all_carried(alloc, &base_in(script), trace)?;
+            picture(alloc, paths, script.lines.as_slice(), &carried)
+        }
+        View::Text => lines(alloc, script.checksum, trace),
+    }
+}
+
+/// The status of turns that weren't all made, behind so many lines of the log.
+fn stopped(fault: TraceFault, lines: u64) -> Status
+    requires few { lines ≤ 3 }
+    requires within { place_of fault < 2 ^ 63 }
+    ensures { result ≡ stopped_at lines fault }
+{
+    match fault {
+        TraceFault::Turn { place } => Status::Log {
+            line: lines + place + 1,
+        },
+        TraceFault::Memory => Status::Memory,
+    }
+}
+
+/// Writes all of it at the end of OUT.
+fn put_out<O: Outside>(outside: &mut O, shown: &[u8]) -> Result<(), Status>
+    ensures ok { OnOk result (HoldsAfter (O.holds outside.old Port.ReadByB)
+        (O.holds outside.new Port.ReadByB) (λ held. held ++ shown.now)) }
+    ensures fault { IfErr result (IsOutFault
+        (O.port_faults outside.old Port.ReadByB) (O.port_faults outside.new Port.ReadByB)) }
+{
+    match outside.put(Port::ReadByB, shown) {
+        Ok(()) => Ok(()),
+        Err(PutFault::Failed) => Err(Status::Put {
+            port: Port::ReadByB,
+        }),
+        Err(PutFault::Memory) => Err(Status::Memory),
+    }
+}
+
+/// Makes OUT anew, and writes it.
+fn write_out<O: Outside>(outside: &mut O, out: &str, shown: &[u8]) -> Result<(), Status>
+    ensures ok { OnOk result (HoldsAfter (O.holds outside.old Port.ReadByB)
+        (O.holds outside.new Port.ReadByB) (λ _. shown.now)) }
+    ensures fault { IfErr result (IsOutFault
+        (O.port_faults outside.old Port.ReadByB) (O.port_faults outside.new Port.ReadByB)) }
+{
+    match outside.bind(Port::ReadByB, out) {
+        Ok(()) => put_out(outside, shown),
+        Err(PutFault::Failed) => Err(Status::Put {
+            port: Port::ReadByB,
+        }),
+        Err(PutFault::Memory) => Err(Status::Memory),
+    }
+}
+
+/// The octets of a view of these turns, made from the connection before its first step.
+fn view_from<P: Progress>(
+    alloc: Global,
+    view: View,
+    replay: &Replay,
+    world: &mut World,
+    progress: &mut P,
+) -> Result<Vec<u8>, Status>
+    requires opened { world.old ≡ standing (first_world replay.now.input) }
+    requires few { replay.now.lines ≤ 3 }
+    ensures shown { IfOk result
+        (λ shown. IsViewOf view replay.now.input (all_turns replay.now.turns.items) shown.items) }
+    ensures lawful { OnOk result
+        (AreLawful octets (all_turns replay.now.turns.items) (first_world replay.now.input)) }
+    ensures fault { IfErr result
+        (IsTurnsFault (all_turns replay.now.turns.items) replay.now.input replay.now.lines) }
+{
+    let trace = match gather(alloc, world, &replay.turns, progress) {
+        Ok(trace) => trace,
+        Err(fault) => return Err(stopped(fault, replay.lines)),
+    };
+    match shown(alloc, view, &replay.input.script, world, &trace) {
+        Ok(shown) => Ok(shown),
+        Err(_) => Err(Status::Memory),
+    }
+}
+
+/// The octets of a view of these turns, made over the inputs.
+fn view_of<P: Progress>(
+    alloc: Global,
+    view: View,
+    replay: &Replay,
+    progress: &mut P,
+) -> Result<Vec<u8>, Status>
+    requires ranges { HasRanges replay.now.input.script }
+    requires few { replay.now.lines ≤ 3 }
+    ensures shown { IfOk result
+        (λ shown. IsViewOf view replay.now.input (all_turns replay.now.turns.items) shown.items) }
+    ensures lawful { OnOk result
+        (AreLawful octets (all_turns replay.now.turns.items) (first_world replay.now.input)) }
+    ensures fault { IfErr result
+        (IsTurnsFault (all_turns replay.now.turns.items) replay.now.input replay.now.lines) }
+{
+    let Ok(mut world) = World::open(alloc, &replay.input) else {
+        return Err(Status::Memory);
+    };
+    let shown = view_from(alloc, view, replay, &mut world, progress);
+    // What drops a world stands in its crate alone.
+    world.close();
+    shown
+}
+
+/// What the words ask for: a view, and the inputs of a replay.
+#[derive(Clone, Copy, Debug)]
+struct Asked<'a> {
+    view: View,
+    line: CommandLine<'a>,
+    log: &'a str,
+}
+
+/// Six words, of which the first names a view.
+fn asked_by(words: &[String]) -> Option<Asked<'_>>
+    ensures asked { option_map as_asked result ≡ asked_in (map string_bytes words.now) }
+    ensures log { IfSome result (λ asked. (as_line asked.line).work ≡ replay asked.log.now) }
+{
+    let [word, script, file_a, file_b, log, out] = words else {
+        return None;
+    };
+    match view_named(word.as_str()) {
+        None => None,
+        Some(view) => Some(Asked {
+            view,
+            line: CommandLine {
+                mode: Mode::Replay {
+                    order: log.as_str(),
+                },
+                script: script.as_str(),
+                file_a: file_a.as_str(),
+                file_b: file_b.as_str(),
+                read_by_b: out.as_str(),
+                read_by_a: out.as_str(),
+            },
+            log: log.as_str(),
+        }),
+    }
+}
+
+/// Makes the turns of the log again, and writes the view of what they send.
+fn show<O: Outside, P: Progress>(
+    alloc: Global,
+    outside: &mut O,
+    progress: &mut P,
+    asked: &Asked<'_>,
+) -> Result<(), Status>
+    requires { (as_line asked.now.line).work ≡ replay asked.now.log.now }
+    ensures shown { OnOk result
+        (Shows (O.content outside.old) asked.now.view (as_line asked.now.line)
+        (O.holds outside.old Port.ReadByB) (O.holds outside.new Port.ReadByB)) }
+    ensures fault { IfErr result
+        (IsViewFault (O.content outside.old) (as_line asked.now.line)
+        (O.load_faults outside.old) (O.load_faults outside.new)
+        (O.port_faults outside.old Port.ReadByB) (O.port_faults outside.new Port.ReadByB)) }
+{
+    let replay = load_replay(alloc, outside, &asked.line, asked.log)?;
+    let shown = view_of(alloc, asked.view, &replay, progress)?;
+    write_out(outside, asked.line.read_by_b, &shown)
+}
+
+/// Writes the view that the words ask for: six words, of which the first is `capture`, `summary`, `picture` or `text`. It tells how far
+/// the turns of the log are made.
+///
+/// # Errors
+///
+/// `Usage` exactly where the words break this form; else what a replay of the log is refused by, where OUT isn't touched; and what
+/// a write of OUT is refused by, whose port is `ReadByB`.
+pub fn view_words<O: Outside, P: Progress>(
+    alloc: Global,
+    words: &[String],
+    outside: &mut O,
+    progress: &mut P,
+) -> Result<(), Status>
+    ensures usage { (result ≡ Err Usage) ↔ (asked_in (map string_bytes words.now) ≡ None) }
+    ensures shown { OnOk result (IfSome (asked_in (map string_bytes words.now)) (λ asked.
+        Shows (O.content outside.old) asked.view asked.line
+        (O.holds outside.old Port.ReadByB) (O.holds outside.new Port.ReadByB))) }
+    ensures fault { IfErr result (λ status. IfSome (asked_in (map string_bytes words.now)) (λ asked.
+        IsViewFault (O.content outside.old) asked.line
+        (O.load_faults outside.old) (O.load_faults outside.new)
+        (O.port_faults outside.old Port.ReadByB) (O.port_faults outside.new Port.ReadByB) status)) }
+{
+    match asked_by(words) {
+        None => Err(Status::Usage),
+        Some(asked) => show(alloc, outside, progress, &asked),
+    }
+}

@@ -1,0 +1,69 @@
+-- Turns that are made one after the other, with what they hand to the links.
+use Rattle.std.proofs.Common.{◌≡◌, ◌∙◌, ℕ, zero, suc, ◌+◌, Bool, true, false, List, [], ◌∷◌, ◌++◌, refl, sym, subst, ap, add-zero, add-suc, arith, Option, Some, None, IfSome, All, option_to_list}
+use Rattle.std.proofs.lemmas.List.{append-nil}
+use Rattle.std.proofs.lemmas.List.Elements.{All-append, All-cons, All-nil}
+use mathlib.Core.List.{append_assoc}
+use Rattle.path_core.specs.Octets.{octets}
+use Rattle.link_trace.specs.declared.sent.Sent.{Sent}
+use Rattle.world_laws.specs.Worlds.{AreLawful, IsLawfulTurn, Turn, WorldState, after_turn, world_run}
+use Rattle.run_trace.specs.Trace.{IsWhole, StopsAt, can_be_made, sent_at, trace_of}
+
+lawful_turn : (t : Turn) (w : WorldState (List ℕ)) → can_be_made t w ≡ true → IsLawfulTurn t w
+lawful_turn (Turn.Step actor) w h = h
+lawful_turn Turn.Round w h = h
+
+-- Of the order, these turns are left in this world, so many were made, and this was gathered.
+pub record Gathers (order left : List Turn) (start w : WorldState (List ℕ)) (trace : List Sent) (place : ℕ) : Type 0 where
+  pub told : trace ++ trace_of left w ≡ trace_of order start
+  pub run : world_run octets left w ≡ world_run octets order start
+  pub lawful : AreLawful octets left w → AreLawful octets order start
+  pub stops : (n : ℕ) → StopsAt n left w → StopsAt (place + n) order start
+  pub whole : All IsWhole trace
+
+pub nothing_gathered : (order : List Turn) (start : WorldState (List ℕ)) → Gathers order order start start [] 0
+nothing_gathered order start = record {
+  told = refl;
+  run = refl;
+  lawful = λ lawful. lawful;
+  stops = λ n stops. let P : ℕ → Type 0 = λ m. StopsAt m order start in let e : n ≡ 0 + n = omega arith in subst P e stops;
+  whole = All-nil IsWhole;
+}
+
+pub all_whole : (o : Option Sent) → IfSome o IsWhole → All IsWhole (option_to_list o)
+all_whole None one = All-nil IsWhole
+all_whole (Some s) one = All-cons IsWhole s [] one (All-nil IsWhole)
+
+module _ (order rest : List Turn) (start w : WorldState (List ℕ)) (trace : List Sent) (place : ℕ) (t : Turn) where
+  -- a turn more
+  one_more : Gathers order (t ∷ rest) start w trace place → can_be_made t w ≡ true → All IsWhole (sent_at t w)
+      → Gathers order rest start (after_turn octets t w) (trace ++ sent_at t w) (place + 1)
+  one_more g made whole = record {
+    told = append_assoc trace (sent_at t w) (trace_of rest (after_turn octets t w)) ∙ g.told;
+    run = g.run;
+    lawful = λ lawful. g.lawful (lawful_turn t w made, lawful);
+    stops = λ n stops. let P : ℕ → Type 0 = λ m. StopsAt m order start in let e : place + suc n ≡ place + 1 + n = omega arith in
+        subst P e (g.stops (suc n) (made, stops));
+    whole = All-append IsWhole trace (sent_at t w) g.whole whole;
+  }
+
+  pub gathers_more : (left : List Turn) (v : WorldState (List ℕ)) (new : List Sent) → left ≡ t ∷ rest → v ≡ after_turn octets t w → new ≡ trace ++ sent_at t w
+      → Gathers order left start w trace place → can_be_made t w ≡ true → All IsWhole (sent_at t w)
+      → Gathers order rest start v new (place + 1)
+  gathers_more left v new left_is v_is new_is g made whole =
+      rw (v_is, new_is) (one_more (subst (λ (ts : List Turn). Gathers order ts start w trace place) left_is g) made whole)
+
+  pub stops_here : (left : List Turn) → left ≡ t ∷ rest → Gathers order left start w trace place → can_be_made t w ≡ false → StopsAt place order start
+  stops_here left left_is g not_made =
+      let P : ℕ → Type 0 = λ m. StopsAt m order start in let e : place + 0 ≡ place = omega arith in
+      subst P e ((subst (λ (ts : List Turn). Gathers order ts start w trace place) left_is g).stops 0 not_made)
+
+module _ (order left : List Turn) (start w : WorldState (List ℕ)) (trace : List Sent) (place : ℕ) where
+  -- all turns were made
+  pub all_gathered : left ≡ [] → Gathers order left start w trace place → trace ≡ trace_of order start
+  all_gathered is g = let h = subst (λ (ts : List Turn). Gathers order ts start w trace place) is g in sym (append-nil trace) ∙ h.told
+
+  pub all_lawful : left ≡ [] → Gathers order left start w trace place → AreLawful octets order start
+  all_lawful is g = let h = subst (λ (ts : List Turn). Gathers order ts start w trace place) is g in h.lawful tt
+
+  pub all_made : left ≡ [] → Gathers order left start w trace place → w ≡ world_run octets order start
+  all_made is g = let h = subst (λ (ts : List Turn). Gathers order ts start w trace place) is g in h.run

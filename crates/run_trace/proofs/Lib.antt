@@ -1,0 +1,6 @@
+mod Clocks
+mod Gathering
+mod Numbered
+mod RateRows
+mod Rising
+mod Telling

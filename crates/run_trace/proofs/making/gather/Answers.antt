@@ -1,0 +1,26 @@
+use Rattle.std.proofs.Common.{◌∙◌, sym, ap, map, drop, ◌+◌, arith}
+use Rattle.std.proofs.lemmas.List.{drop_more}
+use Rattle.world_core.specs.Kept.{Kept}
+use Rattle.run_trace.specs.Trace.{all_turns, turn_of}
+use Rattle.run_trace.proofs.Gathering.{gathers_more, stops_here}
+use Rattle.run_trace.proofs.making.gather.Goals as goal
+
+pub returns-then-not-made-clause-fault : goal.returns-then-not-made-clause-fault
+returns-then-not-made-clause-fault g c =
+    let i = c.loop-turn.turn-index in let within = c.loop-turn-test.true in
+    stops_here (all_turns c.args.order.now) (all_turns (drop (i + 1) c.args.order.now)) c.args.world.now.state c.loop-turn.world.state
+    c.loop-turn.trace.items c.loop-turn.place _ (all_turns (drop i c.args.order.now)) (ap (map turn_of) (drop_more c.args.order.now i _ within))
+    c.loop-turn.invariant.gathers (sym c.in-Ok.ensures.made ∙ c.if-not-made.true)
+
+pub loop-turn-preserved : goal.loop-turn-preserved
+loop-turn-preserved g c =
+    let i = c.loop-turn.turn-index in let within = c.loop-turn-test.true in let inv = c.loop-turn.invariant in
+    let made = c.in-Ok.ensures in let same = inv.place in
+    record {
+      stands = ap (λ (k : Kept). k.failed) made.world;
+      place = omega (arith, same);
+      gathers = gathers_more (all_turns c.args.order.now) (all_turns (drop (i + 1) c.args.order.now)) c.args.world.now.state c.loop-turn.world.state
+          c.loop-turn.trace.items c.loop-turn.place _ (all_turns (drop i c.args.order.now)) c.make_turn.new.world.state c.make_turn.new.trace.items
+          (ap (map turn_of) (drop_more c.args.order.now i _ within)) (ap (λ (k : Kept). k.state) made.world) (made.trace c.if-not-made.false)
+          inv.gathers (sym made.made ∙ c.if-not-made.false) made.whole;
+    }

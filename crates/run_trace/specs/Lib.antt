@@ -1,0 +1,3 @@
+pub mod Rates
+pub mod Telling
+pub mod Trace

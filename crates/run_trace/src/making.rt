@@ -1,0 +1,105 @@
+//! The turns of a log, made again, and what they hand to the links.
+
+ghost use Rattle.std.specs.Prelude.{◌≡◌, ◌<◌, ◌^◌, ◌++◌, true, false, OnOk, IfOk, IfErr, All};
+ghost use Rattle.std.specs.Option.{option_to_list};
+ghost use Rattle.path_core.specs.Octets.{octets};
+ghost use Rattle.world_core.specs.Kept.{standing};
+ghost use Rattle.world_laws.specs.Worlds.{AreLawful, after_turn, is_going, world_run, world_step};
+ghost use Rattle.run_trace.specs.Trace.{IsTraceFault, IsWhole, all_turns, can_be_made, place_of, sent_at, sent_next, trace_of, turn_of};
+
+use crate::next::sent_next;
+use crate::progress::Progress;
+use link_trace::Sent;
+use run_log::Turn;
+use std::alloc::{AllocError, Global};
+use world_core::World;
+
+/// Why the turns weren't all made.
+#[derive(Clone, Copy, Debug, PartialEq, Eq)]
+pub enum TraceFault {
+    /// The turn of this place, the first being 0, can't be made: its actor's turn has ended, or the round ends while an actor's
+    /// hasn't.
+    Turn { place: u64 },
+    /// Out of memory.
+    Memory,
+}
+
+/// Keeps a segment, if there is one.
+fn keep(trace: &mut Vec<Sent>, sent: Option<Sent>) -> Result<(), AllocError>
+    ensures { OnOk result (trace.new.items ≡ trace.old.items ++ option_to_list sent) }
+{
+    if let Some(sent) = sent {
+        trace.push(sent)?;
+    }
+    Ok(())
+}
+
+/// Makes the step of an actor, and keeps the segment that it hands to a link. Answers whether the actor's turn hadn't ended.
+fn make_step(world: &mut World, actor: u8, trace: &mut Vec<Sent>) -> Result<bool, AllocError>
+    ensures made { IfOk result (λ made. made ≡ is_going actor world.old.state) }
+    ensures world { OnOk result (world.new ≡ standing (world_step octets actor world.old.state)) }
+    ensures trace { IfOk result (λ made. made ≡ true →
+        trace.new.items ≡ trace.old.items ++ option_to_list (sent_next actor world.old.state)) }
+    ensures whole { IfOk result (λ made.
+        All IsWhole (option_to_list (sent_next actor world.old.state))) }
+{
+    let sent = sent_next(world, actor)?;
+    if !world.go(actor)? {
+        return Ok(false);
+    }
+    keep(trace, sent)?;
+    Ok(true)
+}
+
+/// Makes a turn, and keeps the segment that it hands to a link. Answers whether it could be made.
+fn make_turn(world: &mut World, turn: Turn, trace: &mut Vec<Sent>) -> Result<bool, AllocError>
+    requires { world.old.failed ≡ false }
+    ensures made { IfOk result (λ made. made ≡ can_be_made (turn_of turn) world.old.state) }
+    ensures world { OnOk result (world.new ≡
+        standing (after_turn octets (turn_of turn) world.old.state)) }
+    ensures trace { IfOk result (λ made. made ≡ true →
+        trace.new.items ≡ trace.old.items ++ sent_at (turn_of turn) world.old.state) }
+    ensures whole { IfOk result (λ made. All IsWhole (sent_at (turn_of turn) world.old.state)) }
+{
+    match turn {
+        Turn::Step(actor) => make_step(world, actor, trace),
+        Turn::Round => Ok(world.end_round()),
+    }
+}
+
+/// Makes these turns of a connection that hasn't failed, one after the other, and gathers the segments that they hand to the
+/// links, in order: the octets of each are a segment (RFC 9293, section 3.1). Behind each turn it tells how many are made.
+///
+/// # Errors
+///
+/// The first turn that can't be made, or that memory ran out.
+pub fn gather<P: Progress>(
+    alloc: Global,
+    world: &mut World,
+    order: &[Turn],
+    progress: &mut P,
+) -> Result<Vec<Sent>, TraceFault>
+    requires { world.old.failed ≡ false }
+    ensures trace { IfOk result (λ trace. trace.items ≡
+        trace_of (all_turns order.now) world.old.state) }
+    ensures whole { IfOk result (λ trace. All IsWhole trace.items) }
+    ensures lawful { OnOk result (AreLawful octets (all_turns order.now) world.old.state) }
+    ensures world { OnOk result
+        (world.new ≡ standing (world_run octets (all_turns order.now) world.old.state)) }
+    ensures fault { IfErr result (IsTraceFault (all_turns order.now) world.old.state) }
+    ensures within { IfErr result (λ fault. place_of fault < 2 ^ 63) }
+{
+    let mut trace = Vec::new(alloc);
+    let mut place = 0;
+    for turn in order {
+        let Ok(made) = make_turn(world, *turn, &mut trace) else {
+            return Err(TraceFault::Memory);
+        };
+        if !made {
+            return Err(TraceFault::Turn { place });
+        }
+        place += 1;
+        progress.made(place, order.len());
+    }
+    Ok(trace)
+}

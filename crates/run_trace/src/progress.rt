@@ -1,0 +1,7 @@
+//! Who is told how far the turns of a log are made.
+
+/// Who is told how far the turns of a log are made.
+pub trait Progress {
+    /// So many of so many turns are made.
+    fn made(&mut self, turns: u64, of: usize);
+}

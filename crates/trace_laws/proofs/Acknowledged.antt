@@ -1,0 +1,670 @@
+-- An end whose FIN may be sent has its SYN acknowledged, whatever its path is answered.
+use Rattle.std.proofs.Common.{◌≡◌, refl, sym, ◌∙◌, ap, subst, ℕ, zero, suc, ◌==◌, ◌≤◌, ◌⊎◌, inl, inr, ⊎_elim, Bool, true, false, ◌&&◌, if◌then◌else◌, nat_le, nat_lt, Option, Some, None, is_some, List, [], ◌∷◌, arith}
+use Rattle.std.proofs.lemmas.Bool.{and_parts, both_ways, false≢true, eqb-false, le-leb, leb-true, ltb-false, ltb-true}
+use Rattle.outside_kit.specs.declared.side.Side.{Side}
+use Rattle.outside_kit.specs.declared.side.Side.TheVariants.{A, B}
+use Rattle.dss_mapping.specs.declared.kept.KeptMapping.{KeptMapping}
+use Rattle.link_model.specs.Steps.{arriving, after_delivery}
+use Rattle.path_segments.specs.Spelled.{PlainSegment}
+use Rattle.join_handshake.specs.declared.hearing.JoinSyn.{JoinSyn}
+use Rattle.subflow_recv.specs.Receiving.{after_forget_from}
+use Rattle.subflow_send.specs.Records.{Record, SendState}
+use Rattle.subflow_send.specs.Rules.{ack_kind, after_acknowledge, after_resent, sample_of, uncovered}
+use Rattle.subflow_send.specs.declared.record.AckKind.{AckKind}
+use Rattle.subflow_send.specs.declared.record.AckKind.TheVariants as acks
+use Rattle.subflow_tcp.specs.declared.handshake.State.{State as EndPhase}
+use Rattle.subflow_tcp.specs.declared.handshake.State.TheVariants as phase
+use Rattle.loss_recovery.specs.declared.windows.Told.{Told}
+use Rattle.subflow_tcp.specs.Segments.{Copy, occupied}
+use Rattle.subflow_tcp.specs.declared.segments.Hint.{Hint}
+use Rattle.subflow_tcp.specs.declared.verdicts.Meaning.{Meaning}
+use Rattle.subflow_tcp.specs.declared.verdicts.Meaning.TheVariants as means
+use Rattle.subflow_tcp.specs.declared.segments.Occasion.{Occasion}
+use Rattle.subflow_tcp.specs.declared.segments.Occasion.TheVariants as to_send
+use Rattle.subflow_tcp.specs.Emitting.{after_sending}
+use Rattle.subflow_tcp.specs.Expiring.{is_sixth, after_expiry}
+use Rattle.subflow_tcp.specs.Opening.{after_begin}
+use Rattle.subflow_tcp.specs.State.{EndState, is_at_limit}
+use Rattle.subflow_tcp.specs.States as states
+use Rattle.subflow_tcp.specs.States.{is_dead, is_half_open, is_waiting}
+use Rattle.subflow_tcp.specs.Judging.{is_acceptable, is_repeated_syn, is_syn_alone, meaning_acknowledging, meaning_answer, meaning_answering, meaning_at, meaning_connected, meaning_of, meaning_outside, meaning_placed, meaning_within}
+use Rattle.subflow_tcp.specs.Taking.{after_ack_kind, after_acknowledgement, after_arrival, after_death, after_dropping_held, after_duplicate, after_established, after_hearing, after_holding, after_interruption, after_keeping_held, after_payload, after_row, after_syn, is_duplicate, is_fin_acked, unkept}
+use Rattle.subflow_tcp.specs.Closing.{is_fin_next, after_passing_fin}
+use Rattle.fallback_state.specs.declared.fall.Event.{Event as FallEvent}
+use Rattle.fallback_state.specs.declared.fall.Event.TheVariants as fall
+use Rattle.actor_desk.specs.declared.ask.Reply.{Reply}
+use Rattle.actor_desk.specs.Words.{is_nil, tail_of}
+use Rattle.path_agenda.specs.Agenda.{breaks, emission, leaves, resets, rest_of_turn, start_of_turn, stops, announces, withdraws}
+use Rattle.path_agenda.specs.Items.{key_heard, keys_heard}
+use Rattle.path_agenda.specs.Words.{replaced}
+use Rattle.path_agenda.specs.declared.duty.Duty.{Duty}
+use Rattle.path_agenda.specs.declared.duty.Duty.TheVariants as duties
+use Rattle.path_agenda.specs.declared.duty.AskDuty.TheVariants as ask_duties
+use Rattle.path_agenda.specs.declared.duty.SendDuty.TheVariants as send_duties
+use Rattle.path_agenda.specs.declared.duty.SilentDuty.TheVariants as silent_duties
+use Rattle.path_agenda.specs.declared.duty.StepDuty.TheVariants as step_duties
+use Rattle.path_agenda.specs.declared.heard.Heard.{Heard}
+use Rattle.path_agenda.specs.declared.heard.Heard.TheVariants as says
+use Rattle.path_agenda.specs.declared.keys.KeyPair.{KeyPair}
+use Rattle.path_core.specs.FastClosing.{is_stopped_by}
+use Rattle.path_core.specs.declared.event.Event.{Event}
+use Rattle.path_core.specs.declared.event.Event.TheVariants as happenings
+use Rattle.path_core.specs.declared.judged.Judged.{Judged}
+use Rattle.path_core.specs.declared.judged.Judged.TheVariants as judged
+use Rattle.path_core.specs.Arriving.{after_judged, copy_judged, copy_of, held_of, hint_of, is_forged, is_passed_over, items_of, judged_in, judged_of, options_heard, owes_by, owing_if, reset_for, taken_as, template_of, with_payload}
+use Rattle.path_core.specs.Breaking.{reset_of, reset_on, answered_break}
+use Rattle.path_core.specs.Codec.{Codec, HeardSegment}
+use Rattle.path_core.specs.Duties.{stands, passed, answered}
+use Rattle.path_core.specs.Emission.{Grant, after_timer, fin_segment_of, grant_in, answered_grant, answered_data, first_unsent, having_sent_fin}
+use Rattle.path_core.specs.Ends.{PathEnd}
+use Rattle.path_core.specs.Events.{next_event, heard_in, at_tick, died, died_unless_dead, after_line, copy_heard, happens_if, join_begun, timer_fired, template_fired, never_joined, with_priority}
+use Rattle.path_core.specs.declared.lines.LineAction.{LineAction}
+use Rattle.path_core.specs.declared.lines.LineAction.TheVariants as actions
+use Rattle.path_core.specs.Fallback.{after_fell, fell_duties, answered_fell}
+use Rattle.path_core.specs.Joining.{asked_at, is_listening, is_never, join_taken, joined_by, keys_begun, opened_by, refusal_of, syn_alone, with_mode_refused}
+use Rattle.path_core.specs.Joins.{is_joined, join_answer, join_asked}
+use Rattle.path_core.specs.Opening.{after_keys, answered_opened, answered_peer_key, with_peer_key}
+use Rattle.path_core.specs.Passing.{after_pass_fin, answer_occasion, answer_of, resend_occasion, answered_fin_heard, answered_plain_fin, answered_piece, dead_answer, is_fin_set, is_placed, piece_of, resend_of}
+use Rattle.path_core.specs.Deliver.{Piece, after_check, after_pieces, mapping_here, is_wrong, with_learned, with_skipped, forgotten_by}
+use Rattle.path_core.specs.OptionsOut.{syn_ack_said}
+use Rattle.path_core.specs.Handover.{having_sent, sent_on}
+use Rattle.path_core.specs.Standing.{after_ack_out, answered_ack_out}
+use Rattle.path_core.specs.State.{PathState, end_at, goes_on, left, with_agenda, with_end}
+use Rattle.path_core.specs.Steps.{settled, answers, takes, begins_turn}
+use Rattle.path_core.specs.Treating.{after_keep, answered_heard, answered_item, answered_plain_ack, breaks_by_ack, counts, is_clash, is_dropped, item_of, item_passed, with_acked, with_data_fin, with_plain_ack}
+use Rattle.path_core.specs.Addressing.{after_peer_notice}
+
+-- ---- an end of a subflow
+
+-- where its FIN may be sent its SYN is acknowledged
+abbrev pub Acks : EndState → Type 0
+Acks t = states.may_finish t.state ≡ true → 1 ≤ t.send.una
+
+same_acks : (t u : EndState) → u.state ≡ t.state → u.send.una ≡ t.send.una → Acks t → Acks u
+same_acks t u state una h may = let was = h (ap states.may_finish (sym state) ∙ may) in omega (arith, una, was)
+
+finish_never : (x : EndPhase) → states.may_finish (states.after_finish x) ≡ false
+finish_never phase.Established = refl
+finish_never phase.CloseWait = refl
+finish_never phase.Waiting = refl
+finish_never _ = refl
+
+passed_may : (x : EndPhase) → states.may_finish (states.after_fin_passed x) ≡ true → states.may_finish x ≡ true
+passed_may phase.Established is = refl
+passed_may phase.FinWait1 is = is
+passed_may phase.FinWait2 is = is
+passed_may phase.Waiting is = is
+passed_may _ is = is
+
+acked_may : (x : EndPhase) → states.may_finish (states.after_fin_acked x) ≡ true → states.may_finish x ≡ true
+acked_may phase.FinWait1 is = is
+acked_may phase.Closing is = is
+acked_may phase.Waiting is = is
+acked_may _ is = is
+
+handshake_may : (x : EndPhase) → states.may_finish (states.after_handshake x) ≡ true → (states.may_finish x ≡ true) ⊎ (is_half_open x ≡ true)
+handshake_may phase.SynReceived is = inr refl
+handshake_may phase.Waiting is = inl is
+handshake_may _ is = inl is
+
+-- ---- an acknowledgement
+
+una_more : (pos : ℕ) (v : SendState) → v.una ≤ (after_acknowledge pos v).una
+una_more pos v = by (nat_lt v.una pos && nat_le pos v.nxt) refl
+  where
+    by : (b : Bool) → (nat_lt v.una pos && nat_le pos v.nxt) ≡ b → v.una ≤ (if b then record v { una = pos; records = uncovered pos v.records } else v).una
+    by true is = let l = ltb-true v.una pos (and_parts (nat_lt v.una pos) (nat_le pos v.nxt) is).0 in omega (arith, l)
+    by false is = omega arith
+
+una_some : (pos : ℕ) (v : SendState) → 1 ≤ pos → pos ≤ v.nxt → 1 ≤ (after_acknowledge pos v).una
+una_some pos v some within = by (nat_lt v.una pos) refl
+  where
+    by : (x : Bool) → nat_lt v.una pos ≡ x → 1 ≤ (if x && nat_le pos v.nxt then record v { una = pos; records = uncovered pos v.records } else v).una
+    by true is = subst (λ (b : Bool). 1 ≤ (if b then record v { una = pos; records = uncovered pos v.records } else v).una) (sym (le-leb pos v.nxt within)) some
+    by false is = let l = ltb-false v.una pos is in omega (arith, some, l)
+
+ack_send : (pos now : ℕ) (t : EndState) → (after_acknowledgement pos now t).send ≡ after_acknowledge pos t.send
+ack_send pos now t = by (ack_kind pos t.send)
+  where
+    by : (kind : AckKind) → (after_ack_kind kind (sample_of pos t.send) now (record t { send = after_acknowledge pos t.send })).send ≡ after_acknowledge pos t.send
+    by (acks.New octets) = refl
+    by acks.Duplicate = refl
+    by acks.Old = refl
+    by acks.Future = refl
+
+ack_may : (pos now : ℕ) (t : EndState) → states.may_finish (after_acknowledgement pos now t).state ≡ true → states.may_finish t.state ≡ true
+ack_may pos now t = by (ack_kind pos t.send)
+  where
+    u : EndState
+    u = record t { send = after_acknowledge pos t.send }
+
+    fin : (b : Bool) → states.may_finish (if b then states.after_fin_acked t.state else t.state) ≡ true → states.may_finish t.state ≡ true
+    fin true is = acked_may t.state is
+    fin false is = is
+
+    by : (kind : AckKind) → states.may_finish (after_ack_kind kind (sample_of pos t.send) now u).state ≡ true → states.may_finish t.state ≡ true
+    by (acks.New octets) is = fin (is_fin_acked u.send) is
+    by acks.Duplicate is = is
+    by acks.Old is = is
+    by acks.Future is = is
+
+-- it is one of the SYN, or the SYN was acknowledged before
+acknowledgement_acks : (pos now : ℕ) (t : EndState) → (states.may_finish t.state ≡ true → (1 ≤ t.send.una) ⊎ ((1 ≤ pos) × (pos ≤ t.send.nxt))) → Acks (after_acknowledgement pos now t)
+acknowledgement_acks pos now t h may =
+    let same = ap (λ (v : SendState). v.una) (ack_send pos now t) in
+    ⊎_elim (λ was. let more = una_more pos t.send in omega (arith, same, more, was))
+    (λ new. let some = una_some pos t.send new.0 new.1 in omega (arith, same, some)) (h (ack_may pos now t may))
+
+-- ---- a segment
+
+-- a segment that completes the handshake acknowledges the SYN
+abbrev Fits : Meaning → EndState → Type 0
+Fits (means.Accepts acknowledged) t = (1 ≤ acknowledged) × (acknowledged ≤ t.send.nxt)
+Fits (means.Taken pos acknowledged) t = is_half_open t.state ≡ true → (1 ≤ acknowledged) × (acknowledged ≤ t.send.nxt)
+Fits _ t = Unit {0}
+
+not_zero : (n : ℕ) → (n ≡ 0 → ⊥) → 1 ≤ n
+not_zero zero apart = absurd (apart refl)
+not_zero (suc n) apart = omega arith
+
+module _ (c : Copy) (t : EndState) where
+  outside_fits : Fits (meaning_outside c) t
+  outside_fits = by c.rst
+    where
+      by : (b : Bool) → Fits (if b then means.Ignored else means.Outside) t
+      by true = tt
+      by false = tt
+
+  answer_fits : (acknowledged : ℕ) → 1 ≤ acknowledged → acknowledged ≤ t.send.nxt → Fits (meaning_answer c acknowledged) t
+  answer_fits acknowledged some within = by c.rst c.syn
+    where
+      by : (r s : Bool) → Fits (if r then means.Kills else (if s then means.Accepts acknowledged else means.Ignored)) t
+      by true s = tt
+      by false true = (some, within)
+      by false false = tt
+
+  answering_fits : (o : Option ℕ) → Fits (meaning_answering o c t) t
+  answering_fits None = tt
+  answering_fits (Some acknowledged) = by (nat_lt 0 acknowledged && nat_le acknowledged t.send.nxt) refl
+    where
+      by : (b : Bool) → (nat_lt 0 acknowledged && nat_le acknowledged t.send.nxt) ≡ b → Fits (if b then meaning_answer c acknowledged else means.Ignored) t
+      by true is = let parts = and_parts (nat_lt 0 acknowledged) (nat_le acknowledged t.send.nxt) is in
+          let some = ltb-true 0 acknowledged parts.0 in answer_fits acknowledged (omega (arith, some)) (leb-true acknowledged t.send.nxt parts.1)
+      by false is = tt
+
+  acknowledging_fits : (o : Option ℕ) (pos : ℕ) → Fits (meaning_acknowledging o pos t) t
+  acknowledging_fits None pos = tt
+  acknowledging_fits (Some acknowledged) pos = by (nat_lt t.send.nxt acknowledged) refl
+    where
+      zero_not : (half b : Bool) → half ≡ true → (acknowledged == 0) ≡ b → (half && b) ≡ false → 1 ≤ acknowledged
+      zero_not true true half is none = absurd (false≢true (sym none))
+      zero_not true false half is none = not_zero acknowledged (eqb-false acknowledged 0 is)
+      zero_not false b half is none = absurd (false≢true half)
+
+      half : (b : Bool) → (is_half_open t.state && (acknowledged == 0)) ≡ b → acknowledged ≤ t.send.nxt → Fits (if b then means.Unacknowledging else means.Taken pos acknowledged) t
+      half true is within = tt
+      half false is within = λ halved. (zero_not (is_half_open t.state) (acknowledged == 0) halved refl is, within)
+
+      by : (b : Bool) → nat_lt t.send.nxt acknowledged ≡ b
+          → Fits (if b then means.Ahead else (if is_half_open t.state && (acknowledged == 0) then means.Unacknowledging else means.Taken pos acknowledged)) t
+      by true is = tt
+      by false is = half (is_half_open t.state && (acknowledged == 0)) refl (ltb-false t.send.nxt acknowledged is)
+
+  within_fits : (pos : ℕ) → Fits (meaning_within pos c t) t
+  within_fits pos = by c.rst (pos == t.recv.edge) c.syn
+    where
+      by : (r e s : Bool) → Fits (if r then (if e then means.Kills else means.Challenged) else (if s then means.Challenged else meaning_acknowledging c.acknowledged pos t)) t
+      by true true s = tt
+      by true false s = tt
+      by false e true = tt
+      by false e false = acknowledging_fits c.acknowledged pos
+
+  placed_fits : (o : Option ℕ) → Fits (meaning_placed o c t) t
+  placed_fits None = outside_fits
+  placed_fits (Some pos) = by (is_acceptable t.recv.edge pos (occupied c))
+    where
+      by : (b : Bool) → Fits (if b then meaning_within pos c t else meaning_outside c) t
+      by true = within_fits pos
+      by false = outside_fits
+
+  connected_fits : Fits (meaning_connected c t) t
+  connected_fits = by (is_at_limit t) (is_repeated_syn c t)
+    where
+      by : (l r : Bool) → Fits (if l then means.Ignored else (if r then means.RepeatedSyn else meaning_placed c.position c t)) t
+      by true r = tt
+      by false true = tt
+      by false false = placed_fits c.position
+
+  meaning_fits : Fits (meaning_of c t) t
+  meaning_fits = at t.state
+    where
+      dead : (b : Bool) → Fits (if b then means.Ignored else means.Unwanted) t
+      dead true = tt
+      dead false = tt
+
+      listens : (b : Bool) → Fits (if b then means.Opens else means.Ignored) t
+      listens true = tt
+      listens false = tt
+
+      opens : (b : Bool) → Fits (if b then means.Ignored else meaning_answering c.acknowledged c t) t
+      opens true = tt
+      opens false = answering_fits c.acknowledged
+
+      at : (x : EndPhase) → Fits (meaning_at x c t) t
+      at phase.Dead = dead c.rst
+      at phase.Waiting = tt
+      at phase.Listen = listens (is_syn_alone c)
+      at phase.SynSent = opens (is_at_limit t)
+      at _ = connected_fits
+
+over_fits : (m : Meaning) (over : Bool) (t : EndState) → Fits m t → Fits (taken_as (if over then judged.As means.Ignored else judged.As m)) t
+over_fits m true t h = tt
+over_fits m false t h = h
+
+-- a path that joins takes it as what it means, or not at all
+judged_fits : (joined rst : Bool) (items : List Heard) (m : Meaning) (e : PathEnd) (t : EndState) → Fits m t → Fits (taken_as (judged_of joined rst items m e)) t
+judged_fits false rst items m e t h = h
+judged_fits true rst items means.Opens e t h = by (is_some (join_asked items))
+  where
+    by : (b : Bool) → Fits (taken_as (if b then judged.Asks else judged.Lacks)) t
+    by true = tt
+    by false = tt
+judged_fits true rst items (means.Accepts acknowledged) e t h = by (is_some (join_answer items e.modes))
+  where
+    by : (b : Bool) → Fits (taken_as (if b then judged.As (means.Accepts acknowledged) else judged.Forged)) t
+    by true = h
+    by false = tt
+judged_fits true rst items means.RepeatedSyn e t h = tt
+judged_fits true rst items (means.Taken pos acknowledged) e t h = by (is_passed_over rst items e) (is_forged items e)
+  where
+    by : (o f : Bool) → Fits (taken_as (if o then judged.As means.Ignored else (if f then judged.Forged else judged.As (means.Taken pos acknowledged)))) t
+    by true f = tt
+    by false true = tt
+    by false false = h
+judged_fits true rst items means.Ignored e t h = over_fits means.Ignored (is_passed_over rst items e) t h
+judged_fits true rst items means.Unwanted e t h = over_fits means.Unwanted (is_passed_over rst items e) t h
+judged_fits true rst items means.Outside e t h = over_fits means.Outside (is_passed_over rst items e) t h
+judged_fits true rst items means.Kills e t h = over_fits means.Kills (is_passed_over rst items e) t h
+judged_fits true rst items means.Challenged e t h = over_fits means.Challenged (is_passed_over rst items e) t h
+judged_fits true rst items means.Unacknowledging e t h = over_fits means.Unacknowledging (is_passed_over rst items e) t h
+judged_fits true rst items means.Ahead e t h = over_fits means.Ahead (is_passed_over rst items e) t h
+
+row_acks : (kind : AckKind) (told : Told) (c : Copy) (t : EndState) → Acks t → Acks (after_row kind told c t)
+row_acks kind told c t h = by (is_duplicate kind told c t)
+  where
+    by : (b : Bool) → Acks (if b then after_duplicate t else after_interruption t)
+    by true = h
+    by false = h
+
+arrival_acks : (m : Meaning) (hint : Hint) (now : ℕ) (c : Copy) (t : EndState) → Fits m t → Acks t → Acks (after_arrival m hint now c t)
+arrival_acks means.Ignored hint now c t fits h = h
+arrival_acks means.Unwanted hint now c t fits h = h
+arrival_acks means.Opens hint now c t fits h = λ may. absurd (false≢true may)
+arrival_acks (means.Accepts acknowledged) hint now c t fits h =
+    acknowledgement_acks acknowledged now (record (after_hearing (after_payload 1 hint c t)) { state = phase.Established }) (λ may. inr fits)
+arrival_acks means.RepeatedSyn hint now c t fits h = h
+arrival_acks means.Outside hint now c t fits h = h
+arrival_acks means.Kills hint now c t fits h = λ may. absurd (false≢true may)
+arrival_acks means.Challenged hint now c t fits h = h
+arrival_acks means.Unacknowledging hint now c t fits h = h
+arrival_acks means.Ahead hint now c t fits h = h
+arrival_acks (means.Taken pos acknowledged) hint now c t fits h =
+    let u : EndState = after_established (after_hearing (after_payload pos hint c t)) in
+    row_acks _ _ c (after_acknowledgement acknowledged now u)
+    (acknowledgement_acks acknowledged now u (λ may. ⊎_elim (λ was. inl (h was)) (λ half. inr (fits half)) (handshake_may t.state may)))
+
+payload_acks : (m : Meaning) (octets : List ℕ) (t : EndState) → Acks t → Acks (with_payload m octets t)
+payload_acks (means.Taken pos acknowledged) octets t h = by (is_nil octets)
+  where
+    by : (b : Bool) → Acks (if b then t else after_holding pos octets t)
+    by true = h
+    by false = h
+payload_acks means.Ignored octets t h = h
+payload_acks _ octets t h = h
+
+payload_fits : (m : Meaning) (octets : List ℕ) (t : EndState) → Fits m t → Fits m (with_payload m octets t)
+payload_fits (means.Taken pos acknowledged) octets t h = by (is_nil octets)
+  where
+    by : (b : Bool) → Fits (means.Taken pos acknowledged) (if b then t else after_holding pos octets t)
+    by true = h
+    by false = h
+payload_fits (means.Accepts acknowledged) octets t h = h
+payload_fits _ octets t h = tt
+
+owing_acks : (b : Bool) (t : EndState) → Acks t → Acks (owing_if b t)
+owing_acks true t h = h
+owing_acks false t h = h
+
+heard_acks : (joined : Bool) (told : List KeptMapping) (answer : _) (s : Side) (now : ℕ) (heard : HeardSegment) (e : PathEnd) → Acks e.tcp
+    → Acks (copy_judged joined told answer s now heard (taken_as (judged_in joined s heard e)) e).tcp
+heard_acks joined told answer s now heard e h =
+    let items = items_of joined s heard in
+    let m : Meaning = taken_as (judged_in joined s heard e) in
+    let fits : Fits m e.tcp = judged_fits joined heard.rst items (meaning_of (copy_of heard) e.tcp) e e.tcp (meaning_fits (copy_of heard) e.tcp) in
+    owing_acks (owes_by m items) _
+    (arrival_acks m (hint_of items) now (copy_of heard) (with_payload m heard.payload e.tcp) (payload_fits m heard.payload e.tcp fits) (payload_acks m heard.payload e.tcp h))
+
+-- ---- a death
+
+dead_acks : (e : PathEnd) → Acks (died e).tcp
+dead_acks e may = absurd (false≢true may)
+
+unless_dead : (e : PathEnd) → Acks e.tcp → Acks (died_unless_dead e).tcp
+unless_dead e h = by (is_dead e.tcp.state)
+  where
+    by : (b : Bool) → Acks (if b then e else died e).tcp
+    by true = h
+    by false = dead_acks e
+
+-- ---- a path
+
+module _ {C : Type 0} where
+  pub record BothAck (p : PathState C) : Type 0 where
+    pub a : Acks p.a.tcp
+    pub b : Acks p.b.tcp
+
+  pub ack_at : (s : Side) (p : PathState C) → BothAck p → Acks (end_at s p).tcp
+  ack_at A p h = h.a
+  ack_at B p h = h.b
+
+  goes_acks : (s : Side) (e : PathEnd) (ds : List Duty) (p : PathState C) → Acks e.tcp → BothAck p → BothAck (goes_on s e ds p)
+  goes_acks A e ds p g h = record { a = g; b = h.b }
+  goes_acks B e ds p g h = record { a = h.a; b = g }
+
+  with_acks : (s : Side) (e : PathEnd) (p : PathState C) → Acks e.tcp → BothAck p → BothAck (with_end s e p)
+  with_acks A e p g h = record { a = g; b = h.b }
+  with_acks B e p g h = record { a = h.a; b = g }
+
+  agenda_acks : (ds : List Duty) (p : PathState C) → BothAck p → BothAck (with_agenda ds p)
+  agenda_acks ds p h = record { a = h.a; b = h.b }
+
+  -- an end whose subflow is where it was
+  same_goes : (s : Side) (e : PathEnd) (p : PathState C) → e.tcp.state ≡ (end_at s p).tcp.state → e.tcp.send.una ≡ (end_at s p).tcp.send.una → BothAck p → Acks e.tcp
+  same_goes s e p state una h = same_acks (end_at s p).tcp e.tcp state una (ack_at s p h)
+
+  same_on : (s : Side) (e : PathEnd) (ds : List Duty) (p : PathState C) → e.tcp.state ≡ (end_at s p).tcp.state → e.tcp.send.una ≡ (end_at s p).tcp.send.una → BothAck p → BothAck (goes_on s e ds p)
+  same_on s e ds p state una h = goes_acks s e ds p (same_goes s e p state una h) h
+
+  -- ---- in silence
+
+  item_goes : (s : Side) (o : Option Heard) (p : PathState C) → BothAck p → Acks (item_passed s o (end_at s p)).tcp
+  item_goes s None p h = ack_at s p h
+  item_goes s (Some says.Dss) p h = same_goes s (item_passed s (Some says.Dss) (end_at s p)) p refl refl h
+  item_goes s (Some (says.DataAck next window)) p h = ack_at s p h
+  item_goes s (Some (says.Mapping fin)) p h = by (counts (end_at s p))
+    where
+      by : (b : Bool) → Acks (if b then with_learned (end_at s p) else with_skipped (end_at s p)).tcp
+      by true = same_goes s (with_learned (end_at s p)) p refl refl h
+      by false = same_goes s (with_skipped (end_at s p)) p refl refl h
+  item_goes s (Some (says.DataFin place)) p h = by (counts (end_at s p))
+    where
+      by : (b : Bool) → Acks (if b then with_data_fin place (end_at s p) else end_at s p).tcp
+      by true = same_goes s (with_data_fin place (end_at s p)) p refl refl h
+      by false = ack_at s p h
+  item_goes s (Some (says.InfiniteMapping place position)) p h = ack_at s p h
+  item_goes s (Some (says.PeerKey key)) p h = ack_at s p h
+  item_goes s (Some (says.Keys own other)) p h = ack_at s p h
+  item_goes s (Some (says.Join form)) p h = ack_at s p h
+  item_goes s (Some (says.Notice notice)) p h = ack_at s p h
+  item_goes s (Some says.Fail) p h = ack_at s p h
+  item_goes s (Some (says.FastClose key)) p h = ack_at s p h
+
+  edge_goes : (s : Side) (checksums : Bool) (o : Option KeptMapping) (p : PathState C) → BothAck p → Acks (forgotten_by checksums o (end_at s p)).tcp
+  edge_goes s checksums None p h = ack_at s p h
+  edge_goes s checksums (Some kept) p h = by (is_wrong checksums kept (end_at s p).tcp)
+    where
+      e : PathEnd
+      e = end_at s p
+
+      by : (b : Bool) → Acks (if b then record e { tcp = record e.tcp { recv = after_forget_from kept.pos e.tcp.recv } } else e).tcp
+      by true = same_goes s (record e { tcp = record e.tcp { recv = after_forget_from kept.pos e.tcp.recv } }) p refl refl h
+      by false = ack_at s p h
+
+  keep_goes : (s : Side) (b : Bool) (p : PathState C) → BothAck p → Acks (if b then after_dropping_held (end_at s p).tcp else after_keeping_held (end_at s p).tcp)
+  keep_goes s true p h = same_acks (end_at s p).tcp (after_dropping_held (end_at s p).tcp) refl refl (ack_at s p h)
+  keep_goes s false p h = same_acks (end_at s p).tcp (after_keeping_held (end_at s p).tcp) refl refl (ack_at s p h)
+
+  fin_goes : (s : Side) (b : Bool) (p : PathState C) → BothAck p → Acks (if b then after_passing_fin (end_at s p).tcp else (end_at s p).tcp)
+  fin_goes s true p h = λ may. ack_at s p h (passed_may (end_at s p).tcp.state may)
+  fin_goes s false p h = ack_at s p h
+
+  passed_acks : (d : Duty) (p : PathState C) → BothAck p → BothAck (passed d p)
+  passed_acks (duties.Silent (silent_duties.Timer s)) p h = with_acks s (after_timer p.clock (end_at s p)) p (same_goes s (after_timer p.clock (end_at s p)) p refl refl h) h
+  passed_acks (duties.Step (step_duties.Heard s index)) p h = with_acks s (item_passed s (item_of index (end_at s p)) (end_at s p)) p (item_goes s (item_of index (end_at s p)) p h) h
+  passed_acks (duties.Silent (silent_duties.Keep s)) p h = with_acks s (after_keep s (end_at s p)) p (keep_goes s (is_dropped s (end_at s p)) p h) h
+  passed_acks (duties.Step (step_duties.PlainAck s)) p h = with_acks s (with_plain_ack (end_at s p)) p (same_goes s (with_plain_ack (end_at s p)) p refl refl h) h
+  passed_acks (duties.Step (step_duties.Unmapped s)) p h = with_acks s (after_pieces (end_at s p)) p (same_goes s (after_pieces (end_at s p)) p refl refl h) h
+  passed_acks (duties.Ask (ask_duties.Edge s)) p h = with_acks s (after_check p.profile (end_at s p)) p (edge_goes s p.profile.spelling.checksums (mapping_here (end_at s p)) p h) h
+  passed_acks (duties.Silent (silent_duties.PassFin s)) p h = with_acks s (after_pass_fin (end_at s p)) p (fin_goes s (is_fin_next (end_at s p).tcp) p h) h
+  passed_acks (duties.Ask ask_duties.JoinAgain) p h = h
+  passed_acks _ p h = h
+
+  pub settled_acks : (ds : List Duty) (p : PathState C) → BothAck p → BothAck (settled ds p)
+  settled_acks [] p h = agenda_acks [] p h
+  settled_acks (d ∷ ds) p h = by (stands d p) (settled_acks ds (passed d p) (passed_acks d p h))
+    where
+      by : (b : Bool) → BothAck (settled ds (passed d p)) → BothAck (if b then with_agenda (d ∷ ds) p else settled ds (passed d p))
+      by true rest = agenda_acks (d ∷ ds) p h
+      by false rest = rest
+
+  -- ---- events
+
+  line_acks : (action : LineAction) (p : PathState C) → BothAck p → BothAck (after_line action p)
+  line_acks (actions.Prio s backup) p h = same_on s (with_priority backup (end_at s p)) (emission s) p refl refl h
+  line_acks (actions.Announce s id) p h = agenda_acks (announces s id) p h
+  line_acks (actions.Withdraw s id) p h = agenda_acks (withdraws s id) p h
+  line_acks actions.Die p h = record { a = unless_dead p.a h.a; b = unless_dead p.b h.b }
+
+  begun_acks : (r : Reply) (dead living : List Duty) (p : PathState C) → BothAck p → BothAck (join_begun r dead living p)
+  begun_acks r dead living p h = by (is_never r)
+    where
+      begun : (b : Bool) → Acks (if b then after_begin p.a.tcp else p.a.tcp)
+      begun true = λ may. absurd (false≢true may)
+      begun false = h.a
+
+      opens : (o : Option KeyPair) → BothAck (goes_on A (opened_by o p.a) living p)
+      opens None = same_on A p.a living p refl refl h
+      opens (Some keys) = goes_acks A (opened_by (Some keys) p.a) living p (begun (is_waiting p.a.tcp.state)) h
+
+      by : (b : Bool) → BothAck (if b then goes_on A (never_joined r p.a) dead p else goes_on A (opened_by (keys_begun r) p.a) living p)
+      by true = goes_acks A (never_joined r p.a) dead p (λ may. absurd (false≢true may)) h
+      by false = opens (keys_begun r)
+
+  fired_acks : (s : Side) (p : PathState C) → BothAck p → BothAck (timer_fired s p)
+  fired_acks s p h = by (is_sixth (end_at s p).tcp)
+    where
+      e : PathEnd
+      e = end_at s p
+
+      by : (b : Bool) → BothAck (goes_on s (record e { tcp = (if b then after_death true e.tcp else after_expiry p.clock e.tcp) }) (template_fired b s) p)
+      by true = goes_acks s (record e { tcp = after_death true e.tcp }) (template_fired true s) p (λ may. absurd (false≢true may)) h
+      by false = same_on s (record e { tcp = after_expiry p.clock e.tcp }) (template_fired false s) p refl refl h
+
+  copy_acks : (s : Side) (o : Option HeardSegment) (p : PathState C) → BothAck p → BothAck (copy_heard s o p)
+  copy_acks s None p h = agenda_acks (emission s) p h
+  copy_acks s (Some heard_first) p h =
+      let heard : HeardSegment = options_heard (end_at s p) heard_first in
+      let joined : Bool = is_joined p.profile in
+      let v : Judged = judged_in joined s heard (end_at s p) in
+      goes_acks s (after_judged p.profile s p.clock heard v (end_at s p)) (template_of joined s (items_of joined s heard) v) p
+      (heard_acks joined (held_of p.profile s heard) (reset_for p.profile s heard) s p.clock heard (end_at s p) (ack_at s p h)) h
+
+  module _ (k : Codec C) where
+    -- a segment is handed over
+    sent_acks : (s : Side) (sg : PlainSegment) (e : PathEnd) (ds : List Duty) (p : PathState C) → Acks e.tcp → BothAck p → BothAck (sent_on k s sg e ds p)
+    sent_acks A sg e ds p g h = record { a = g; b = h.b }
+    sent_acks B sg e ds p g h = record { a = h.a; b = g }
+
+    same_sent : (s : Side) (sg : PlainSegment) (e : PathEnd) (ds : List Duty) (p : PathState C) → e.tcp.state ≡ (end_at s p).tcp.state → e.tcp.send.una ≡ (end_at s p).tcp.send.una
+        → BothAck p → BothAck (sent_on k s sg e ds p)
+    same_sent s sg e ds p state una h = sent_acks s sg e ds p (same_goes s e p state una h) h
+
+    event_acks : (o : Option Event) (r : Reply) (p : PathState C) → BothAck p → BothAck (happens_if k o r p)
+    event_acks None r p h = agenda_acks rest_of_turn p h
+    event_acks (Some (happenings.Joins tick)) r p h =
+        begun_acks r (leaves A) (emission A) (record (at_tick tick p) { joined_at = None }) (record { a = h.a; b = h.b })
+    event_acks (Some (happenings.Takes line)) r p h =
+        line_acks line.action (record (at_tick line.tick p) { lines = tail_of p.lines }) (record { a = h.a; b = h.b })
+    event_acks (Some (happenings.Arrives due)) r p h =
+        copy_acks due.to (heard_in k due.to (arriving due p.link) p) (record (at_tick due.tick p) { link = after_delivery due p.link }) (record { a = h.a; b = h.b })
+    event_acks (Some (happenings.Fires s tick)) r p h = fired_acks s (at_tick tick p) (record { a = h.a; b = h.b })
+
+    -- ---- replies
+
+    reset_acks : (s : Side) (reason : Option ℕ) (ds : List Duty) (p : PathState C) → BothAck p → BothAck (reset_on k s reason ds p)
+    reset_acks s reason ds p h = sent_acks s (reset_of s reason p) (died (end_at s p)) ds p (dead_acks (end_at s p)) h
+
+    break_acks : (s : Side) (reason : ℕ) (r : Reply) (p : PathState C) → BothAck p → BothAck (answered_break k s reason r p)
+    break_acks s reason r p h = by (end_at s p).treated.asked
+      where
+        by : (b : Bool) → BothAck (if b then answered_ack_out s r (resets s reason) p else reset_on k s (Some reason) (leaves s) p)
+        by true = same_on s (after_ack_out r (end_at s p)) (resets s reason) p refl refl h
+        by false = reset_acks s (Some reason) (leaves s) p h
+
+    told_acks : (s : Side) (event : FallEvent) (r : Reply) (p : PathState C) → BothAck p → BothAck (answered_fell s event r p)
+    told_acks s event r p h = same_on s (after_fell event r (end_at s p)) (fell_duties s r p) p refl refl h
+
+    grant_acks : (s : Side) (o : Option Grant) (r : Reply) (p : PathState C) → BothAck p → BothAck (answered_grant s o r p)
+    grant_acks s None r p h = same_on s _ (left p) p refl refl h
+    grant_acks s (Some grant) r p h = same_on s _ p.agenda p refl refl h
+
+    data_acks : (s : Side) (o : Option Record) (r : Reply) (p : PathState C) → BothAck p → BothAck (answered_data k s o r p)
+    data_acks s (Some unsent) r p h = same_sent s _ _ p.agenda p refl refl h
+    data_acks s None r p h = grant_acks s (grant_in r) r p h
+
+    keys_acks : (s : Side) (r : Reply) (o : Option KeyPair) (p : PathState C) → BothAck p → BothAck (goes_on s (after_keys r o (end_at s p)) (left p) p)
+    keys_acks s r o p h = same_on s (after_keys r o (end_at s p)) (left p) p refl refl h
+
+    heard_answered : (s : Side) (item : Heard) (r : Reply) (p : PathState C) → BothAck p → BothAck (answered_heard k s item r p)
+    heard_answered s (says.DataAck next window) r p h = same_on s (with_acked next r (end_at s p)) _ p refl refl h
+    heard_answered s (says.Mapping fin) r p h = by (is_clash (end_at s p))
+      where
+        by : (b : Bool) → BothAck (if b then answered_break k s 1 r p else goes_on s (with_learned (after_fell fall.MappingHeard r (end_at s p))) (fell_duties s r p) p)
+        by true = break_acks s 1 r p h
+        by false = same_on s (with_learned (after_fell fall.MappingHeard r (end_at s p))) (fell_duties s r p) p refl refl h
+    heard_answered s (says.DataFin place) r p h = same_on s (with_data_fin place (after_fell fall.MappingHeard r (end_at s p))) (fell_duties s r p) p refl refl h
+    heard_answered s (says.InfiniteMapping place position) r p h = told_acks s fall.InfiniteHeard r p h
+    heard_answered s (says.Keys mine other) r p h = keys_acks s r (Some (record { own = mine; peer = other })) p h
+    heard_answered s says.Dss r p h = agenda_acks (left p) p h
+    heard_answered s (says.PeerKey key) r p h = agenda_acks (left p) p h
+    heard_answered s (says.Join form) r p h = agenda_acks (left p) p h
+    heard_answered s (says.Notice notice) r p h = same_on s (after_peer_notice notice r (end_at s p)) (left p) p refl refl h
+    heard_answered s says.Fail r p h = agenda_acks (left p) p h
+    heard_answered s (says.FastClose key) r p h = agenda_acks (if is_stopped_by r then stops s else left p) p h
+
+    item_answered : (s : Side) (o : Option Heard) (r : Reply) (p : PathState C) → BothAck p → BothAck (answered_item k s o r p)
+    item_answered s None r p h = agenda_acks (left p) p h
+    item_answered s (Some item) r p h = heard_answered s item r p h
+
+    plain_ack_acks : (s : Side) (r : Reply) (p : PathState C) → BothAck p → BothAck (answered_plain_ack k s r p)
+    plain_ack_acks s r p h = by (breaks_by_ack p.profile (end_at s p))
+      where
+        by : (b : Bool) → BothAck (if b then answered_break k s 6 r p else goes_on s (with_plain_ack (after_fell fall.PlainAck r (end_at s p))) (fell_duties s r p) p)
+        by true = break_acks s 6 r p h
+        by false = same_on s (with_plain_ack (after_fell fall.PlainAck r (end_at s p))) (fell_duties s r p) p refl refl h
+
+    key_acks : (s : Side) (o : Option ℕ) (r : Reply) (p : PathState C) → BothAck p → BothAck (answered_peer_key s o r p)
+    key_acks s None r p h = told_acks s fall.PlainHandshake r p h
+    key_acks s (Some key) r p h = same_on s (with_peer_key (Some key) (end_at s p)) (left p) p refl refl h
+
+    opened_acks : (s : Side) (o : Option KeyPair) (r : Reply) (p : PathState C) → BothAck p → BothAck (answered_opened s o r p)
+    opened_acks s None r p h = told_acks s fall.PlainHandshake r p h
+    opened_acks s (Some keys) r p h = keys_acks s r (Some keys) p h
+
+    piece_acks : (s : Side) (o : Option Piece) (taken : Bool) (p : PathState C) → BothAck p → BothAck (answered_piece s o taken p)
+    piece_acks s None taken p h = same_on s _ (breaks s 1) p refl refl h
+    piece_acks s (Some piece) true p h = same_on s _ p.agenda p refl refl h
+    piece_acks s (Some piece) false p h = same_on s _ (breaks s 1) p refl refl h
+
+    fin_set_acks : (s : Side) (set : Bool) (p : PathState C) → BothAck p → BothAck (answered_fin_heard s set p)
+    fin_set_acks s true p h = same_on s _ (left p) p refl refl h
+    fin_set_acks s false p h = same_on s _ (breaks s 1) p refl refl h
+
+    plain_fin_acks : (s : Side) (set : Bool) (p : PathState C) → BothAck p → BothAck (answered_plain_fin s set p)
+    plain_fin_acks s true p h = same_on s _ (left p) p refl refl h
+    plain_fin_acks s false p h = same_on s _ (breaks s 1) p refl refl h
+
+    joined_acks : (s : Side) (o : Option KeyPair) (asked : Option JoinSyn) (r : Reply) (p : PathState C) → BothAck p → BothAck (join_taken s o asked r p)
+    joined_acks s None None r p h = agenda_acks _ p h
+    joined_acks s None (Some asked) r p h = same_on s (with_mode_refused r (end_at s p)) (replaced (duties.Send (send_duties.Refuse s)) p.agenda) p refl refl h
+    joined_acks s (Some keys) None r p h = agenda_acks _ p h
+    joined_acks s (Some keys) (Some asked) r p h = goes_acks s (joined_by keys asked (end_at s p)) _ p (by (is_listening (end_at s p).tcp.state)) h
+      where
+        by : (b : Bool) → Acks (if b then after_syn (unkept None) (syn_alone (end_at s p).treated.window) (end_at s p).tcp else (end_at s p).tcp)
+        by true = λ may. absurd (false≢true may)
+        by false = ack_at s p h
+
+    occasion_acks : (s : Side) (o : Occasion) (sg : PlainSegment) (p : PathState C) → BothAck p → Acks (having_sent o p.clock sg (end_at s p)).tcp
+    occasion_acks s o sg p h = by o
+      where
+        tcp : EndState
+        tcp = (end_at s p).tcp
+
+        resent : (b : Bool) → Acks (record tcp { due = record tcp.due { syn_ack = false }; send = (if b then after_resent p.clock tcp.send else tcp.send) })
+        resent true = ack_at s p h
+        resent false = ack_at s p h
+
+        by : (o : Occasion) → Acks (after_sending o p.clock tcp)
+        by to_send.Reset = ack_at s p h
+        by to_send.Answer = ack_at s p h
+        by to_send.SynAck = resent (tcp.send.una == 0)
+        by to_send.Ack = ack_at s p h
+        by to_send.Probe = ack_at s p h
+        by to_send.First = ack_at s p h
+        by to_send.Unsent = ack_at s p h
+        by to_send.Fin = ack_at s p h
+
+    answered_acks : (d : Duty) (r : Reply) (p : PathState C) → BothAck p → BothAck (answered k d r p)
+    answered_acks (duties.Ask ask_duties.JoinAgain) r p h = begun_acks r (replaced (duties.Ask (ask_duties.Leave A)) p.agenda) (left p) p h
+    answered_acks (duties.Step (step_duties.Look s)) r p h = same_on s _ (left p) p refl refl h
+    answered_acks (duties.Ask (ask_duties.Window s)) r p h = same_on s (after_ack_out r (end_at s p)) (left p) p refl refl h
+    answered_acks (duties.Send (send_duties.Update s)) r p h = same_sent s _ _ (left p) p refl refl h
+    answered_acks (duties.Send (send_duties.FastClose s)) r p h = same_sent s _ _ (left p) p refl refl h
+    answered_acks (duties.Send (send_duties.Notice s)) r p h = same_sent s _ _ p.agenda p refl refl h
+    answered_acks (duties.Send (send_duties.Syn s)) r p h = same_sent s _ _ (left p) p refl refl h
+    answered_acks (duties.Step (step_duties.Data s)) r p h = data_acks s (first_unsent (end_at s p)) r p h
+    answered_acks (duties.Send (send_duties.DataFin s)) r p h = same_sent s _ _ (left p) p refl refl h
+    answered_acks (duties.Send (send_duties.Fin s)) r p h =
+        sent_acks s (fin_segment_of s p) (having_sent_fin s p) (left p) p (λ may. absurd (both_ways _ (finish_never (end_at s p).tcp.state) may)) h
+    answered_acks (duties.Step step_duties.Events) r p h = event_acks (next_event p) r p h
+    answered_acks (duties.Ask (ask_duties.PlainHandshake s)) r p h = told_acks s fall.PlainHandshake r p h
+    answered_acks (duties.Ask (ask_duties.PeerKey s)) r p h = key_acks s (key_heard (end_at s p).treated.items) r p h
+    answered_acks (duties.Send (send_duties.SynAck s)) r p h = sent_acks s _ _ (left p) p (occasion_acks s to_send.SynAck (syn_ack_said p.profile s (end_at s p)) p h) h
+    answered_acks (duties.Ask (ask_duties.JoinHeard s)) r p h = joined_acks s (keys_begun r) (asked_at s p) r p h
+    answered_acks (duties.Send (send_duties.Refuse s)) r p h = same_sent s (refusal_of s p) (end_at s p) (left p) p refl refl h
+    answered_acks (duties.Ask (ask_duties.Opened s)) r p h = opened_acks s (keys_heard (end_at s p).treated.items) r p h
+    answered_acks (duties.Step (step_duties.Heard s index)) r p h = item_answered s (item_of index (end_at s p)) r p h
+    answered_acks (duties.Ask (ask_duties.AckHeard s)) r p h = told_acks s fall.AckHeard r p h
+    answered_acks (duties.Step (step_duties.PlainAck s)) r p h = plain_ack_acks s r p h
+    answered_acks (duties.Ask (ask_duties.SubflowAck s)) r p h = same_on s _ (left p) p refl refl h
+    answered_acks (duties.Ask (ask_duties.PlainData s)) r p h = told_acks s fall.PlainData r p h
+    answered_acks (duties.Ask (ask_duties.GoIdentity s)) r p h = same_on s _ (left p) p refl refl h
+    answered_acks (duties.Step (step_duties.Unmapped s)) r p h = break_acks s 6 r p h
+    answered_acks (duties.Ask (ask_duties.SubflowFin s)) r p h = plain_fin_acks s (is_fin_set r) p h
+    answered_acks (duties.Ask (ask_duties.Edge s)) r p h = piece_acks s (piece_of s p) (is_placed r) p h
+    answered_acks (duties.Ask (ask_duties.HeardFin s index)) r p h = fin_set_acks s (is_fin_set r) p h
+    answered_acks (duties.Ask (ask_duties.AckOut s)) r p h = same_on s (after_ack_out r (end_at s p)) (left p) p refl refl h
+    answered_acks (duties.Ask (ask_duties.Rate s)) r p h = same_on s _ (left p) p refl refl h
+    answered_acks (duties.Send (send_duties.Acknowledge s)) r p h = same_sent s _ _ (left p) p refl refl h
+    answered_acks (duties.Send (send_duties.Again s)) r p h = same_sent s _ _ (left p) p refl refl h
+    answered_acks (duties.Send (send_duties.Answer s)) r p h = sent_acks s (answer_of s p) _ (left p) p (occasion_acks s (answer_occasion (end_at s p)) (answer_of s p) p h) h
+    answered_acks (duties.Send (send_duties.ResetAnswer s)) r p h = same_sent s (dead_answer s p) (end_at s p) (left p) p refl refl h
+    answered_acks (duties.Send (send_duties.Resend s)) r p h = sent_acks s (resend_of s p) _ (left p) p (occasion_acks s (resend_occasion (end_at s p)) (resend_of s p) p h) h
+    answered_acks (duties.Ask (ask_duties.BreakAck s reason)) r p h = same_on s (after_ack_out r (end_at s p)) (resets s reason) p refl refl h
+    answered_acks (duties.Send (send_duties.BreakReset s reason)) r p h = reset_acks s (Some reason) (leaves s) p h
+    answered_acks (duties.Send (send_duties.Reset s)) r p h = reset_acks s None (replaced (duties.Ask (ask_duties.Leave s)) p.agenda) p h
+    answered_acks (duties.Send (send_duties.ResetNoted s)) r p h = reset_acks s None (replaced (duties.Ask (ask_duties.Leave s)) p.agenda) p h
+    answered_acks (duties.Ask (ask_duties.Leave s)) r p h = agenda_acks _ p h
+    answered_acks (duties.Ask (ask_duties.LeaveNoted s)) r p h = goes_acks s (died (end_at s p)) _ p (dead_acks (end_at s p)) h
+    answered_acks duties.End r p h = agenda_acks [] p h
+    answered_acks _ r p h = agenda_acks (left p) p h
+
+    pub takes_acks : (r : Reply) (p : PathState C) → BothAck p → BothAck (takes k r p)
+    takes_acks r p h = by p.agenda
+      where
+        by : (ds : List Duty) → BothAck (settled (answers k ds r p).agenda (answers k ds r p))
+        by [] = settled_acks p.agenda p h
+        by (d ∷ ds) = settled_acks (answered k d r p).agenda (answered k d r p) (answered_acks d r p h)
+
+  pub begins_acks : (p : PathState C) → BothAck p → BothAck (begins_turn p)
+  begins_acks p h = settled_acks start_of_turn (with_agenda start_of_turn p) (agenda_acks start_of_turn p h)

@@ -1,0 +1,520 @@
+-- Once a run is delivered each octet of both files was in a segment that was handed to a link.
+use Rattle.std.proofs.Common.{◌≡◌, refl, sym, ◌∙◌, ap, subst, ℕ, zero, suc, ◌+◌, ◌-◌, ◌<◌, ◌≤◌, ◌⊎◌, inl, inr, ⊎_elim, Bool, true, false, if◌then◌else◌, nat_le, nat_lt, Result, Ok, Err, Option, Some, None, option_map, option_and_then, option_to_list, List, [], ◌∷◌, ◌++◌, length, length-take, length-drop, take, drop, map, fold, append_assoc, arith}
+use Rattle.std.specs.List.{count_by, slice_get}
+use Rattle.std.proofs.lemmas.Bool.{and_parts, cases_lt, eqb-true, false≢true, leb-true, ltb-true}
+use Rattle.std.proofs.lemmas.List.{drop-append-le, take-append-le}
+use Rattle.std.proofs.lemmas.Option.{same_Some}
+use Rattle.outside_kit.specs.declared.side.Side.{Side}
+use Rattle.outside_kit.specs.declared.side.Side.TheVariants.{A, B}
+use Rattle.pipe_model.specs.Prefix.{IsPrefix}
+use Rattle.send_book.specs.declared.call.SendCall.{SendCall}
+use Rattle.send_book.specs.declared.call.SendCall.TheVariants as send_calls
+use Rattle.send_book.specs.declared.call.Span.{Span}
+use Rattle.send_book.specs.declared.call.Why.{Why}
+use Rattle.send_book.specs.Laws.{covers, is_asked_by}
+use Rattle.send_book.specs.State.{Sending, Tile}
+use Rattle.send_book.specs.Steps.{decision, part_of, reply_by, reply_to as send_reply}
+use Rattle.send_book.proofs.Decisions.{decision-MayTake}
+use Rattle.stream_lanes.specs.Words.{Has}
+use Rattle.stream_lanes.proofs.Lists.{Has-more, in_append, in_map, in_one, in_set}
+use Rattle.stream_lanes.proofs.Promises.{records_fit}
+use Rattle.actor_desk.specs.declared.ask.Ask.{Ask}
+use Rattle.actor_desk.specs.declared.ask.Ask.TheVariants as desk
+use Rattle.actor_desk.specs.declared.ask.Note.{Note}
+use Rattle.actor_desk.specs.declared.ask.Reply.{Reply}
+use Rattle.actor_desk.specs.declared.ask.Reply.TheVariants as replies
+use Rattle.actor_desk.specs.Books.{books_in}
+use Rattle.actor_desk.specs.Desk.{send_of}
+use Rattle.actor_desk.specs.Words.{is_nil, pick}
+use Rattle.stream_apps.specs.declared.duty.AppDuty.{AppDuty}
+use Rattle.stream_apps.specs.declared.duty.AppDuty.TheVariants as app_duties
+use Rattle.stream_apps.specs.Apps.{AppState}
+use Rattle.stream_apps.specs.AppSteps.{app_ask, app_asks_first}
+use Rattle.path_agenda.specs.Agenda.{start_of_turn}
+use Rattle.path_agenda.specs.declared.duty.Duty.{Duty}
+use Rattle.path_agenda.specs.declared.duty.Duty.TheVariants as duties
+use Rattle.path_agenda.specs.declared.duty.AskDuty.TheVariants as ask_duties
+use Rattle.path_agenda.specs.declared.duty.StepDuty.TheVariants as step_duties
+use Rattle.path_core.specs.Duties.{ask_for, stands}
+use Rattle.path_core.specs.Emission.{data_ask, data_stands, first_unsent, may_ask, payload_size}
+use Rattle.path_core.specs.Looking.{departing_as, first_sends}
+use Rattle.path_core.specs.Octets.{octets}
+use Rattle.path_core.specs.Starts.{PathStart, first_state, first_turn, waiting_path}
+use Rattle.path_core.specs.State.{PathState, end_at, path_of, with_agenda}
+use Rattle.path_core.specs.Steps.{answers, asks_first, asks_of, takes}
+use Rattle.path_core.specs.Treating.{item_of}
+use Rattle.path_core.specs.Turns.{FirstStands, IsSettled}
+use Rattle.path_core.specs.Values.{Carried, values}
+use Rattle.subflow_send.specs.Records.{Record}
+use Rattle.subflow_tcp.specs.States.{may_finish}
+use Rattle.link_script.specs.declared.script.ScriptLine.{ScriptLine}
+use Rattle.link_trace.specs.declared.sent.Sent.{Sent}
+use Rattle.run_trace.specs.Trace.{sent_as, sent_at, sent_by, sent_next, trace_of}
+use Rattle.world_core.specs.Looking.{crew_path, member_path}
+use Rattle.world_laws.specs.declared.member.Member.TheVariants.{App, Path}
+use Rattle.world_laws.specs.Actors.{Actor, ActorCrew, is_over, member_asks, member_next, member_takes}
+use Rattle.world_laws.specs.Granted.{asks_for, gives, grants_byte}
+use Rattle.world_laws.specs.Openings.{PathPlan, Start, new_path, opened_world, path_begins, paths_from}
+use Rattle.world_laws.specs.Promises.{IsPlain, NumbersFit}
+use Rattle.world_laws.specs.StampedBooks.{answer_to}
+use Rattle.world_laws.specs.Worlds.{AreLawful, WorldState, Turn, after_turn, all_over, asked, begins, crew_after, end_round, greatest, note_of, stepped, world_run}
+use Rattle.world_laws.proofs.CastLifting.{writes_the_files}
+use Rattle.world_laws.proofs.Doing.{has_last}
+use Rattle.world_laws.proofs.Lanes.{plainly}
+use Rattle.world_laws.proofs.PathAsks.{IsHeardAsk, IsQuietAsk, IsQuietDuty, heard_asks, quiet_asks}
+use Rattle.world_laws.proofs.PromisesMade.{run_fresh}
+use Rattle.world_laws.proofs.Settled.{settled_settled}
+use Rattle.world_laws.proofs.WeavingRounds.{run_append}
+use Rattle.trace_laws.specs.Granting.{WasGranted}
+use Rattle.trace_laws.specs.Sending.{CarriesPlace, DeliveredFilesWereSent, ended}
+use Rattle.trace_laws.proofs.Acknowledged.{BothAck, ack_at, begins_acks, takes_acks}
+use Rattle.trace_laws.proofs.Grants.{all_noted, delivered_were_granted, same_books, same_from}
+use Rattle.trace_laws.proofs.Handing.{SendsNext, grants, granted_goes}
+
+-- ---- a note that grants
+
+-- the note asks for bytes of this side's stream for this path
+record AsksBytes (s : Side) (path : ℕ) (ask : Ask) : Type 0 where
+  pub most : ℕ
+  pub standby : Bool
+  pub is : ask ≡ desk.Send s (send_calls.Grant path most standby)
+
+call_asks : (s : Side) (path : ℕ) (c : SendCall) → is_asked_by path c ≡ true → AsksBytes s path (desk.Send s c)
+call_asks s path (send_calls.Grant asker most standby) is =
+    record { most = most; standby = standby; is = ap (λ (n : ℕ). desk.Send s (send_calls.Grant n most standby)) (eqb-true asker path is) }
+call_asks s path (send_calls.Write bytes) is = absurd (false≢true is)
+call_asks s path send_calls.Close is = absurd (false≢true is)
+call_asks s path (send_calls.AckIn next window) is = absurd (false≢true is)
+call_asks s path (send_calls.Return asker) is = absurd (false≢true is)
+call_asks s path send_calls.GoIdentity is = absurd (false≢true is)
+call_asks s path (send_calls.GoInfinite asker) is = absurd (false≢true is)
+call_asks s path send_calls.Abort is = absurd (false≢true is)
+
+ask_asks : (s : Side) (path : ℕ) (ask : Ask) → asks_for s path ask ≡ true → AsksBytes s path ask
+ask_asks A path (desk.Send A c) is = call_asks A path c is
+ask_asks B path (desk.Send B c) is = call_asks B path c is
+ask_asks A path (desk.Send B c) is = absurd (false≢true is)
+ask_asks B path (desk.Send A c) is = absurd (false≢true is)
+ask_asks A path (desk.Reassembly r c) is = absurd (false≢true is)
+ask_asks B path (desk.Reassembly r c) is = absurd (false≢true is)
+ask_asks A path (desk.Control r c) is = absurd (false≢true is)
+ask_asks B path (desk.Control r c) is = absurd (false≢true is)
+ask_asks A path (desk.Local step) is = absurd (false≢true is)
+ask_asks B path (desk.Local step) is = absurd (false≢true is)
+
+-- no application asks for bytes
+app_asks_none : (d : AppDuty) (a : AppState) (s : Side) (path most : ℕ) (standby : Bool) → app_ask d a ≡ desk.Send s (send_calls.Grant path most standby) → ⊥
+app_asks_none app_duties.FastClose a s path most standby is = cc
+app_asks_none app_duties.AbortSend a s path most standby is = cc
+app_asks_none app_duties.AbortReceive a s path most standby is = cc
+app_asks_none app_duties.Write a s path most standby is = cc
+app_asks_none app_duties.Close a s path most standby is = cc
+app_asks_none app_duties.Read a s path most standby is = cc
+app_asks_none app_duties.End a s path most standby is = cc
+
+-- ---- a path asks for bytes by one duty alone
+
+record AsksByData (s : Side) (most : ℕ) (d : Duty) (p : PathState (List ℕ)) : Type 0 where
+  pub duty : d ≡ duties.Step (step_duties.Data s)
+  pub none : first_unsent (end_at s p) ≡ None
+  pub most_is : most ≡ payload_size p.profile
+
+module _ (p : PathState (List ℕ)) (s : Side) (path most : ℕ) (standby : Bool) where
+  abbrev Grant : Ask
+  Grant = desk.Send s (send_calls.Grant path most standby)
+
+  data_asks : (t : Side) (o : Option Record) → first_unsent (end_at t p) ≡ o → data_ask octets t o p ≡ Grant → AsksByData s most (duties.Step (step_duties.Data t)) p
+  data_asks t (Some r) first is = cc
+  data_asks t None first is =
+      let same : t ≡ s = cc in let size : payload_size p.profile ≡ most = cc in
+      record { duty = ap (λ (r : Side). duties.Step (step_duties.Data r)) same; none = subst (λ (r : Side). first_unsent (end_at r p) ≡ None) same first; most_is = sym size }
+
+  quiet_never : (d : Duty) → IsQuietDuty d → ask_for octets d p ≡ Grant → ⊥
+  quiet_never d quiet is = subst (IsQuietAsk (path_of p)) is (quiet_asks octets p d quiet)
+
+  duty_asks : (d : Duty) → ask_for octets d p ≡ Grant → AsksByData s most d p
+  duty_asks (duties.Step (step_duties.Data t)) is = data_asks t (first_unsent (end_at t p)) refl is
+  duty_asks (duties.Step (step_duties.Heard t index)) is = absurd (subst (IsHeardAsk t) is (heard_asks octets p t (item_of index (end_at t p))))
+  duty_asks (duties.Ask (ask_duties.SynHeard t)) is = cc
+  duty_asks (duties.Ask (ask_duties.SynAnswered t)) is = cc
+  duty_asks (duties.Ask (ask_duties.SubflowAck t)) is = cc
+  duty_asks (duties.Step step_duties.Events) is = absurd (quiet_never (duties.Step step_duties.Events) tt is)
+  duty_asks (duties.Step (step_duties.Look t)) is = absurd (quiet_never (duties.Step (step_duties.Look t)) tt is)
+  duty_asks (duties.Step (step_duties.PlainAck t)) is = absurd (quiet_never (duties.Step (step_duties.PlainAck t)) tt is)
+  duty_asks (duties.Step (step_duties.Unmapped t)) is = absurd (quiet_never (duties.Step (step_duties.Unmapped t)) tt is)
+  duty_asks (duties.Ask ask_duties.JoinAgain) is = absurd (quiet_never (duties.Ask ask_duties.JoinAgain) tt is)
+  duty_asks (duties.Ask (ask_duties.Window t)) is = absurd (quiet_never (duties.Ask (ask_duties.Window t)) tt is)
+  duty_asks (duties.Ask (ask_duties.PlainHandshake t)) is = absurd (quiet_never (duties.Ask (ask_duties.PlainHandshake t)) tt is)
+  duty_asks (duties.Ask (ask_duties.PeerKey t)) is = absurd (quiet_never (duties.Ask (ask_duties.PeerKey t)) tt is)
+  duty_asks (duties.Ask (ask_duties.JoinHeard t)) is = absurd (quiet_never (duties.Ask (ask_duties.JoinHeard t)) tt is)
+  duty_asks (duties.Ask (ask_duties.Opened t)) is = absurd (quiet_never (duties.Ask (ask_duties.Opened t)) tt is)
+  duty_asks (duties.Ask (ask_duties.Live t)) is = absurd (quiet_never (duties.Ask (ask_duties.Live t)) tt is)
+  duty_asks (duties.Ask (ask_duties.AckHeard t)) is = absurd (quiet_never (duties.Ask (ask_duties.AckHeard t)) tt is)
+  duty_asks (duties.Ask (ask_duties.PlainData t)) is = absurd (quiet_never (duties.Ask (ask_duties.PlainData t)) tt is)
+  duty_asks (duties.Ask (ask_duties.GoIdentity t)) is = absurd (quiet_never (duties.Ask (ask_duties.GoIdentity t)) tt is)
+  duty_asks (duties.Ask (ask_duties.Edge t)) is = absurd (quiet_never (duties.Ask (ask_duties.Edge t)) tt is)
+  duty_asks (duties.Ask (ask_duties.HeardFin t index)) is = absurd (quiet_never (duties.Ask (ask_duties.HeardFin t index)) tt is)
+  duty_asks (duties.Ask (ask_duties.SubflowFin t)) is = absurd (quiet_never (duties.Ask (ask_duties.SubflowFin t)) tt is)
+  duty_asks (duties.Ask (ask_duties.AckOut t)) is = absurd (quiet_never (duties.Ask (ask_duties.AckOut t)) tt is)
+  duty_asks (duties.Ask (ask_duties.Rate t)) is = absurd (quiet_never (duties.Ask (ask_duties.Rate t)) tt is)
+  duty_asks (duties.Ask (ask_duties.Return t)) is = absurd (quiet_never (duties.Ask (ask_duties.Return t)) tt is)
+  duty_asks (duties.Ask (ask_duties.AbortSend t)) is = absurd (quiet_never (duties.Ask (ask_duties.AbortSend t)) tt is)
+  duty_asks (duties.Ask (ask_duties.AbortReceive t)) is = absurd (quiet_never (duties.Ask (ask_duties.AbortReceive t)) tt is)
+  duty_asks (duties.Ask (ask_duties.Announce t id)) is = absurd (quiet_never (duties.Ask (ask_duties.Announce t id)) tt is)
+  duty_asks (duties.Ask (ask_duties.Withdraw t id)) is = absurd (quiet_never (duties.Ask (ask_duties.Withdraw t id)) tt is)
+  duty_asks (duties.Ask (ask_duties.LeaveNoted t)) is = absurd (quiet_never (duties.Ask (ask_duties.LeaveNoted t)) tt is)
+  duty_asks (duties.Ask (ask_duties.BreakAck t reason)) is = absurd (quiet_never (duties.Ask (ask_duties.BreakAck t reason)) tt is)
+  duty_asks (duties.Ask (ask_duties.Leave t)) is = absurd (quiet_never (duties.Ask (ask_duties.Leave t)) tt is)
+  duty_asks (duties.Ask (ask_duties.Dead t)) is = absurd (quiet_never (duties.Ask (ask_duties.Dead t)) tt is)
+  duty_asks (duties.Send d) is = absurd (quiet_never (duties.Send d) tt is)
+  duty_asks (duties.Silent d) is = absurd (quiet_never (duties.Silent d) tt is)
+  duty_asks duties.End is = absurd (quiet_never duties.End tt is)
+
+-- ---- what was granted, and isn't sent yet
+
+-- the next step of a path sends it
+abbrev Pending : Side → List ℕ → ℕ → Actor (List ℕ) → Type 0
+Pending s file place (App a) = ⊥
+Pending s file place (Path p) = (x : Sent) × (sent_by p ≡ Some x) × CarriesPlace s file place x
+
+sends_pending : (s : Side) (file : List ℕ) (place from : ℕ) (piece : List ℕ) (p : PathState (List ℕ)) → SendsNext s piece p → from ≤ place → place < from + length piece
+    → piece ≡ take (length piece) (drop from file) → Pending s file place (Path p)
+sends_pending s file place from piece p n below above part =
+    let same = ap length n.payload in (
+      n.sent,
+      n.is,
+      record {
+        from = n.from;
+        first = from;
+        below = below;
+        above = omega (arith, above, same);
+        part = n.payload ∙ part ∙ ap (λ (len : ℕ). take len (drop from file)) (sym same);
+      },
+    )
+
+module _ (s : Side) (file : List ℕ) (b : Sending) (tile : Tile b) (begins_so : IsPrefix b.written file) (path most place : ℕ) (standby : Bool) where
+  -- a part of what was written is that part of the file
+  part_is : (from n : ℕ) → from + n ≤ length b.written → take n (drop from b.written) ≡ take n (drop from file)
+  part_is from n within =
+      sym (ap (λ (xs : List ℕ). take n (drop from xs)) begins_so.whole_is
+      ∙ ap (take n) (drop-append-le from b.written begins_so.rest (omega (arith, within)))
+      ∙ take-append-le n (drop from b.written) begins_so.rest (omega (arith, within, length-drop from b.written)))
+
+  module _ (p : PathState (List ℕ)) (settled_so : IsSettled p) (acked : BothAck p) where
+    reply_pending : (ds : List Duty) → p.agenda ≡ duties.Step (step_duties.Data s) ∷ ds → first_unsent (end_at s p) ≡ None → most ≡ payload_size p.profile
+        → (r : Result Span Why) → decision path most standby b ≡ r → covers place (reply_by r b) ≡ true
+        → Pending s file place (Path (takes octets (replies.Send (reply_by r b)) p))
+    reply_pending ds agenda none most_is (Err why) decided gives = absurd (false≢true gives)
+    reply_pending ds agenda none most_is (Ok span) decided gives =
+        let m = decision-MayTake path most standby b span decided in
+        let bounds = and_parts (nat_le span.from place) (nat_lt place span.to) gives in
+        let low = leb-true span.from place bounds.0 in let high = ltb-true place span.to bounds.1 in
+        let n = span.to - span.from in
+        let len : length (part_of span b.written) ≡ n = omega (arith, length-take n (drop span.from b.written), length-drop span.from b.written, m.within, m.whole, tile.whole) in
+        let stood : stands (duties.Step (step_duties.Data s)) p ≡ true = subst (λ (todo : List Duty). FirstStands todo p) agenda settled_so in
+        let may : may_ask p.profile s (end_at s p) ≡ true = subst (λ (o : Option Record). data_stands p.profile s (end_at s p) o ≡ true) none stood in
+        let goes = granted_goes s ds span (part_of span b.written) p agenda none may (ack_at s p acked) (omega (arith, len, m.whole, m.most, most_is)) in
+        let part = part_is span.from n (omega (arith, m.within, m.whole, tile.whole)) in
+        sends_pending s file place span.from (part_of span b.written) (takes octets (grants span (part_of span b.written)) p) goes low (omega (arith, high, len, m.whole))
+        (part ∙ ap (λ (k : ℕ). take k (drop span.from file)) (sym len))
+
+    -- a path that was granted a byte sends it next
+    path_pending : asks_of octets p ≡ Some (desk.Send s (send_calls.Grant path most standby)) → covers place (send_reply b (send_calls.Grant path most standby)) ≡ true
+        → Pending s file place (Path (takes octets (replies.Send (send_reply b (send_calls.Grant path most standby))) p))
+    path_pending asks gives = by p.agenda refl
+      where
+        first : (d : Duty) (ds : List Duty) → p.agenda ≡ d ∷ ds → AsksByData s most d p → Pending s file place (Path (takes octets (replies.Send (send_reply b (send_calls.Grant path most standby))) p))
+        first d ds agenda by_data =
+            reply_pending ds (agenda ∙ ap (λ (x : Duty). x ∷ ds) by_data.duty) by_data.none by_data.most_is (decision path most standby b) refl gives
+
+        by : (todo : List Duty) → p.agenda ≡ todo → Pending s file place (Path (takes octets (replies.Send (send_reply b (send_calls.Grant path most standby))) p))
+        by [] agenda = absurd (none_asks (sym (ap (λ (todo : List Duty). asks_first octets todo p) agenda) ∙ asks))
+          where
+            none_asks : None ≡ Some (desk.Send s (send_calls.Grant path most standby)) → ⊥
+            none_asks is = cc
+        by (d ∷ ds) agenda =
+            first d ds agenda (duty_asks p s path most standby d (same_Some (ask_for octets d p) _ (sym (ap (λ (todo : List Duty). asks_first octets todo p) agenda) ∙ asks)))
+
+-- ---- the actors
+
+abbrev IsReady : Actor (List ℕ) → Type 0
+IsReady (App a) = Unit {0}
+IsReady (Path p) = IsSettled p × BothAck p
+
+-- each actor is ready, and what its steps were granted was sent, or is sent next
+pub record Stands (start : Start) (trace : List Sent) (w : WorldState (List ℕ)) : Type 0 where
+  pub ready : (i : ℕ) (c : ActorCrew (List ℕ)) → slice_get w.crew i ≡ Some c → IsReady c.member
+  pub told : (i : ℕ) (c : ActorCrew (List ℕ)) → slice_get w.crew i ≡ Some c → (j : ℕ) (n : Note) → slice_get c.list j ≡ Some n → (s : Side) (path place : ℕ)
+      → grants_byte s path place n ≡ true
+      → Has (CarriesPlace s (pick s start.file_a start.file_b) place) trace ⊎ Pending s (pick s start.file_a start.file_b) place c.member
+
+-- what the books of a world are
+pub record BooksFit (start : Start) (w : WorldState (List ℕ)) : Type 0 where
+  pub tiles : (s : Side) → Tile (send_of s (books_in w.books))
+  pub prefixes : (s : Side) → IsPrefix (send_of s (books_in w.books)).written (pick s start.file_a start.file_b)
+
+more_stands : (start : Start) (trace more : List Sent) (w : WorldState (List ℕ)) → Stands start trace w → Stands start (trace ++ more) w
+more_stands start trace more w h = record {
+  ready = h.ready;
+  told = λ i c there j n at s path place is. ⊎_elim (λ has. inl (Has-more more has)) (λ pending. inr pending) (h.told i c there j n at s path place is);
+}
+
+-- a pending segment is handed over by the actor's next step
+handed_now : (start : Start) (s : Side) (place i : ℕ) (c : ActorCrew (List ℕ)) (w : WorldState (List ℕ)) (trace : List Sent) → slice_get w.crew i ≡ Some c
+    → Pending s (pick s start.file_a start.file_b) place c.member → Has (CarriesPlace s (pick s start.file_a start.file_b) place) (trace ++ option_to_list (sent_next i w))
+handed_now start s place i c w trace there pending = by c.member refl pending
+  where
+    last : (xs : List Sent) (x : Sent) → CarriesPlace s (pick s start.file_a start.file_b) place x → Has (CarriesPlace s (pick s start.file_a start.file_b) place) (xs ++ x ∷ [])
+    last xs x carries = has_last xs x carries
+
+    by : (m : Actor (List ℕ)) → c.member ≡ m → Pending s (pick s start.file_a start.file_b) place m
+        → Has (CarriesPlace s (pick s start.file_a start.file_b) place) (trace ++ option_to_list (sent_next i w))
+    by (App a) is pending = absurd pending
+    by (Path p) is pending =
+        let next : sent_next i w ≡ Some pending.0 =
+        ap (λ (o : Option (ActorCrew (List ℕ))). option_and_then sent_by (crew_path o)) there ∙ ap (λ (m : Actor (List ℕ)). option_and_then sent_by (member_path m)) is ∙ pending.1 in
+        subst (λ (o : Option Sent). Has (CarriesPlace s (pick s start.file_a start.file_b) place) (trace ++ option_to_list o)) (sym next) (last trace pending.0 pending.2)
+
+-- a step that grants a byte leaves it pending
+new_pending : (start : Start) (ask : Ask) (c : ActorCrew (List ℕ)) (w : WorldState (List ℕ)) → BooksFit start w → IsReady c.member → member_asks octets c.member ≡ Some ask
+    → (s : Side) (path place : ℕ) → grants_byte s path place (note_of w.books c.pass ask) ≡ true
+    → Pending s (pick s start.file_a start.file_b) place (member_takes octets (answer_to w.books ask) c.member)
+new_pending start ask c w fit ready asks s path place is = by c.member ready asks
+  where
+    parts : (asks_for s path ask ≡ true) × (gives place (answer_to w.books ask) ≡ true)
+    parts = and_parts (asks_for s path ask) (gives place (answer_to w.books ask)) is
+
+    bytes : AsksBytes s path ask
+    bytes = ask_asks s path ask parts.0
+
+    answer_is : (s : Side) (most : ℕ) (standby : Bool)
+        → answer_to w.books (desk.Send s (send_calls.Grant path most standby)) ≡ replies.Send (send_reply (send_of s (books_in w.books)) (send_calls.Grant path most standby))
+    answer_is A most standby = refl
+    answer_is B most standby = refl
+
+    gives_is : gives place (replies.Send (send_reply (send_of s (books_in w.books)) (send_calls.Grant path bytes.most bytes.standby))) ≡ true
+    gives_is = subst (λ (r : Reply). gives place r ≡ true) (ap (answer_to w.books) bytes.is ∙ answer_is s bytes.most bytes.standby) parts.1
+
+    none : (d : AppDuty) (ds : List AppDuty) (a : AppState) → Some (app_ask d a) ≡ Some ask → ⊥
+    none d ds a there = app_asks_none d a s path bytes.most bytes.standby (same_Some (app_ask d a) ask there ∙ bytes.is)
+
+    by : (m : Actor (List ℕ)) → IsReady m → member_asks octets m ≡ Some ask → Pending s (pick s start.file_a start.file_b) place (member_takes octets (answer_to w.books ask) m)
+    by (App a) ready there = app a.agenda there
+      where
+        app : (todo : List AppDuty) → app_asks_first todo a ≡ Some ask → Pending s (pick s start.file_a start.file_b) place (member_takes octets (answer_to w.books ask) (App a))
+        app [] there = cc
+        app (d ∷ ds) there = absurd (none d ds a there)
+    by (Path p) ready there =
+        subst (λ (r : Reply). Pending s (pick s start.file_a start.file_b) place (Path (takes octets r p))) (sym (ap (answer_to w.books) bytes.is ∙ answer_is s bytes.most bytes.standby))
+        (path_pending s (pick s start.file_a start.file_b) (send_of s (books_in w.books)) (fit.tiles s) (fit.prefixes s) path bytes.most place bytes.standby p ready.0 ready.1
+        (there ∙ ap Some bytes.is) gives_is)
+
+ready_next : (m : Actor (List ℕ)) (r : Reply) → IsReady m → IsReady (member_takes octets r m)
+ready_next (App a) r ready = tt
+ready_next (Path p) r ready = (settled_settled (answers octets p.agenda r p).agenda (answers octets p.agenda r p), takes_acks octets r p ready.1)
+
+ready_begins : (m : Actor (List ℕ)) → IsReady m → IsReady (member_next m)
+ready_begins (App a) ready = tt
+ready_begins (Path p) ready =
+    let q : PathState (List ℕ) = record p { clock = p.until; until = p.until + 100 } in
+    (settled_settled start_of_turn (with_agenda start_of_turn q), begins_acks q (record { a = ready.1.a; b = ready.1.b }))
+
+-- ---- a turn
+
+step_stands : (start : Start) (i : ℕ) (ask : Ask) (c : ActorCrew (List ℕ)) (w : WorldState (List ℕ)) (trace : List Sent) → BooksFit start w → slice_get w.crew i ≡ Some c
+    → member_asks octets c.member ≡ Some ask → Stands start trace w → Stands start (trace ++ option_to_list (sent_next i w)) (asked octets i (Some ask) c w)
+step_stands start i ask c w trace fit there asks h = record {
+  ready = λ k x at. ready_at k x (in_set w.crew i after_it k x at);
+  told = λ k x at j n at_note s path place is. told_at k x j n at_note s path place is (in_set w.crew i after_it k x at);
+}
+  where
+    after_it : ActorCrew (List ℕ)
+    after_it = crew_after octets ask w.books c
+
+    Told : Side → ℕ → ActorCrew (List ℕ) → Type 0
+    Told s place x = Has (CarriesPlace s (pick s start.file_a start.file_b) place) (trace ++ option_to_list (sent_next i w)) ⊎ Pending s (pick s start.file_a start.file_b) place x.member
+
+    ready_at : (k : ℕ) (x : ActorCrew (List ℕ)) → ((k ≡ i) × (after_it ≡ x)) ⊎ ((k ≡ i → ⊥) × (slice_get w.crew k ≡ Some x)) → IsReady x.member
+    ready_at k x (inl here) = subst (λ (y : ActorCrew (List ℕ)). IsReady y.member) here.1 (ready_next c.member (answer_to w.books ask) (h.ready i c there))
+    ready_at k x (inr other) = h.ready k x other.1
+
+    own : (j : ℕ) (n : Note) (s : Side) (path place : ℕ) → grants_byte s path place n ≡ true
+        → (slice_get c.list j ≡ Some n) ⊎ ((length c.list ≤ j) × (slice_get (note_of w.books c.pass ask ∷ []) (j - length c.list) ≡ Some n)) → Told s place after_it
+    own j n s path place is (inl old) = ⊎_elim (λ has. inl (Has-more (option_to_list (sent_next i w)) has))
+        (λ pending. inl (handed_now start s place i c w trace there pending)) (h.told i c there j n old s path place is)
+    own j n s path place is (inr new) =
+        let one = in_one (note_of w.books c.pass ask) n (j - length c.list) new.1 in
+        inr (new_pending start ask c w fit (h.ready i c there) asks s path place (subst (λ (m : Note). grants_byte s path place m ≡ true) (sym one.1) is))
+
+    told_at : (k : ℕ) (x : ActorCrew (List ℕ)) (j : ℕ) (n : Note) → slice_get x.list j ≡ Some n → (s : Side) (path place : ℕ) → grants_byte s path place n ≡ true
+        → ((k ≡ i) × (after_it ≡ x)) ⊎ ((k ≡ i → ⊥) × (slice_get w.crew k ≡ Some x)) → Told s place x
+    told_at k x j n at_note s path place is (inl here) =
+        subst (Told s place) here.1
+        (own j n s path place is (in_append c.list (note_of w.books c.pass ask ∷ []) j n (subst (λ (y : ActorCrew (List ℕ)). slice_get y.list j ≡ Some n) (sym here.1) at_note)))
+    told_at k x j n at_note s path place is (inr other) = ⊎_elim (λ has. inl (Has-more (option_to_list (sent_next i w)) has)) (λ pending. inr pending) (h.told k x other.1 j n at_note s path place is)
+
+-- an actor whose turn ended has nothing pending
+over_none : (s : Side) (file : List ℕ) (place : ℕ) (m : Actor (List ℕ)) → is_over m ≡ true → Pending s file place m → ⊥
+over_none s file place (App a) over pending = pending
+over_none s file place (Path p) over pending = by p.agenda refl over
+  where
+    nothing : None ≡ Some pending.0 → ⊥
+    nothing is = cc
+
+    by : (todo : List Duty) → p.agenda ≡ todo → is_nil todo ≡ true → ⊥
+    by [] agenda over = nothing (sym (ap (λ (todo : List Duty). option_map (sent_as p) (option_map (departing_as p) (first_sends todo p))) agenda) ∙ pending.1)
+    by (d ∷ ds) agenda over = false≢true over
+
+over_at : (crew : List (ActorCrew (List ℕ))) (i : ℕ) (c : ActorCrew (List ℕ)) → all_over crew ≡ true → slice_get crew i ≡ Some c → is_over c.member ≡ true
+over_at [] i c over there = cc
+over_at (x ∷ crew) zero c over there = subst (λ (y : ActorCrew (List ℕ)). is_over y.member ≡ true) (same_Some x c there) (and_parts (is_over x.member) (all_over crew) over).0
+over_at (x ∷ crew) (suc i) c over there = over_at crew i c (and_parts (is_over x.member) (all_over crew) over).1 there
+
+round_stands : (start : Start) (w : WorldState (List ℕ)) (trace : List Sent) → Stands start trace w → Stands start trace (end_round w)
+round_stands start w trace h = by (all_over w.crew) refl
+  where
+    next : all_over w.crew ≡ true → Stands start trace (record w { crew = map (begins (greatest 0 w.crew)) w.crew })
+    next over = record {
+      ready = λ i c at. let found = in_map (begins (greatest 0 w.crew)) w.crew i c at in
+          subst (λ (y : ActorCrew (List ℕ)). IsReady y.member) found.2 (ready_begins found.0.member (h.ready i found.0 found.1));
+      told = λ i c at j n at_note s path place is. let found = in_map (begins (greatest 0 w.crew)) w.crew i c at in
+          ⊎_elim (λ has. inl has) (λ pending. absurd (over_none s (pick s start.file_a start.file_b) place found.0.member (over_at w.crew i found.0 over found.1) pending))
+          (h.told i found.0 found.1 j n (subst (λ (y : ActorCrew (List ℕ)). slice_get y.list j ≡ Some n) (sym found.2) at_note) s path place is);
+    }
+
+    by : (b : Bool) → all_over w.crew ≡ b → Stands start trace (if b then record w { crew = map (begins (greatest 0 w.crew)) w.crew } else w)
+    by true over = next over
+    by false over = h
+
+turn_stands : (start : Start) (turn : Turn) (w : WorldState (List ℕ)) (trace : List Sent) → BooksFit start w → Stands start trace w
+    → Stands start (trace ++ sent_at turn w) (after_turn octets turn w)
+turn_stands start (Turn.Step i) w trace fit h = by (slice_get w.crew i) refl
+  where
+    at : (c : ActorCrew (List ℕ)) (o : Option Ask) → slice_get w.crew i ≡ Some c → member_asks octets c.member ≡ o
+        → Stands start (trace ++ option_to_list (sent_next i w)) (asked octets i o c w)
+    at c None there asks = more_stands start trace (option_to_list (sent_next i w)) w h
+    at c (Some ask) there asks = step_stands start i ask c w trace fit there asks h
+
+    by : (o : Option (ActorCrew (List ℕ))) → slice_get w.crew i ≡ o → Stands start (trace ++ option_to_list (sent_next i w)) (stepped octets i o w)
+    by None there = more_stands start trace (option_to_list (sent_next i w)) w h
+    by (Some c) there = at c (member_asks octets c.member) there refl
+turn_stands start Turn.Round w trace fit h = round_stands start w (trace ++ []) (more_stands start trace [] w h)
+
+run_stands : (start : Start) (turns : List Turn) (w : WorldState (List ℕ)) (trace : List Sent) → ((more : List Turn) → BooksFit start (world_run octets more w)) → Stands start trace w
+    → Stands start (trace ++ trace_of turns w) (world_run octets turns w)
+run_stands start [] w trace fit h = more_stands start trace [] w h
+run_stands start (turn ∷ turns) w trace fit h =
+    subst (λ (t : List Sent). Stands start t (world_run octets turns (after_turn octets turn w))) (append_assoc trace (sent_at turn w) (trace_of turns (after_turn octets turn w)))
+    (run_stands start turns (after_turn octets turn w) (trace ++ sent_at turn w) (λ more. fit (turn ∷ more)) (turn_stands start turn w trace (fit []) h))
+
+-- ---- the opening
+
+path_ready : (start : PathStart) (lines : List ScriptLine) → IsReady (Path (first_turn start lines))
+path_ready start lines = (settled_settled start_of_turn (with_agenda start_of_turn q), begins_acks q (record { a = waits start.joined_at; b = λ may. absurd (false≢true may) }))
+  where
+    q : PathState (List ℕ)
+    q = waiting_path start lines
+
+    waits : (o : Option ℕ) → may_finish (first_state o) ≡ true → 1 ≤ 0
+    waits None may = absurd (false≢true may)
+    waits (Some tick) may = absurd (false≢true may)
+
+-- an actor that made no step, and is ready
+record IsNew (c : ActorCrew (List ℕ)) : Type 0 where
+  pub ready : IsReady c.member
+  pub none : c.list ≡ []
+
+paths_new : (start : Start) (first : ℕ) (plans : List PathPlan) (i : ℕ) (c : ActorCrew (List ℕ)) → slice_get (paths_from {C = List ℕ} start first plans) i ≡ Some c → IsNew c
+paths_new start first [] i c there = cc
+paths_new start first (plan ∷ plans) zero c there =
+    subst IsNew (same_Some (new_path {C = List ℕ} start first plan) c there) (record { ready = path_ready (path_begins start first plan) start.lines; none = refl })
+paths_new start first (plan ∷ plans) (suc i) c there = paths_new start (suc first) plans i c there
+
+crew_new : (start : Start) (i : ℕ) (c : ActorCrew (List ℕ)) → slice_get (opened_world {C = List ℕ} start).crew i ≡ Some c → IsNew c
+crew_new start zero c there = subst IsNew (same_Some _ c there) (record { ready = tt; none = refl })
+crew_new start (suc zero) c there = subst IsNew (same_Some _ c there) (record { ready = tt; none = refl })
+crew_new start (suc (suc i)) c there = paths_new start 0 start.paths i c there
+
+opened_stands : (start : Start) → Stands start [] (opened_world start)
+opened_stands start = record {
+  ready = λ i c there. (crew_new start i c there).ready;
+  told = λ i c there j n at s path place is. absurd (empty j n (sym (ap (λ (list : List Note). slice_get list j) (crew_new start i c there).none) ∙ at));
+}
+  where
+    empty : (j : ℕ) (n : Note) → slice_get {X = Note} [] j ≡ Some n → ⊥
+    empty j n at = cc
+
+-- ---- the end
+
+-- the books at every moment
+books_fit : (start : Start) (turns : List Turn) → IsPlain start → NumbersFit start → BooksFit start (world_run octets turns (opened_world start))
+books_fit start turns plain fit = record {
+  tiles = λ s. subst (λ (w : WorldState (List ℕ)). Tile (send_of s (books_in w.books))) (sym (run_fresh start turns plain fit)) (tile s);
+  prefixes = prefix;
+}
+  where
+    v : WorldState Carried
+    v = world_run values turns (opened_world start)
+
+    tile : (s : Side) → Tile (send_of s (books_in v.books))
+    tile A = let can = plainly start plain in let n = all_noted start can turns in subst Tile (same_books can.links start n.0 v n.1.shows A) (records_fit _ n.0.ab n.1.holds.ab).tile
+    tile B = let can = plainly start plain in let n = all_noted start can turns in subst Tile (same_books can.links start n.0 v n.1.shows B) (records_fit _ n.0.ba n.1.holds.ba).tile
+
+    prefix : (s : Side) → IsPrefix (send_of s (books_in (world_run octets turns (opened_world start)).books)).written (pick s start.file_a start.file_b)
+    prefix A = (writes_the_files octets start turns).a.prefix
+    prefix B = (writes_the_files octets start turns).b.prefix
+
+-- an item whose number isn't 0
+abbrev ItemWith : {X : Type 0} → (X → ℕ) → List X → Type 0
+ItemWith {X} f xs = (i : ℕ) × ((x : X) × ((slice_get xs i ≡ Some x) × (1 ≤ f x)))
+
+-- where the sum isn't
+item_of_sum : {X : Type 0} (f : X → ℕ) (m : ℕ) (xs : List X) → m < fold (λ n x. n + f x) m xs → ItemWith f xs
+item_of_sum f m [] more = absurd (omega (arith, more))
+item_of_sum {X} f m (x ∷ xs) more = by (cases_lt 0 (f x)) (item_of_sum f (m + f x) xs)
+  where
+    by : (0 < f x) ⊎ (f x ≤ 0) → (m + f x < fold (λ (n : ℕ) (y : X). n + f y) (m + f x) xs → ItemWith f xs) → ItemWith f (x ∷ xs)
+    by (inl some) rest = (0, (x, (refl, omega (arith, some))))
+    by (inr none) rest = let found = rest (omega (arith, more, none)) in (suc found.0, (found.1.0, (found.1.1.0, found.1.1.1)))
+
+-- the turns of a lawful list end a round where all are over
+lawful_over : (turns : List Turn) (w : WorldState (List ℕ)) → AreLawful octets (ended turns) w → all_over (world_run octets turns w).crew ≡ true
+lawful_over [] w lawful = lawful.0
+lawful_over (turn ∷ turns) w lawful = lawful_over turns (after_turn octets turn w) lawful.1
+
+trace_append : (xs ys : List Turn) (w : WorldState (List ℕ)) → trace_of (xs ++ ys) w ≡ trace_of xs w ++ trace_of ys (world_run octets xs w)
+trace_append [] ys w = refl
+trace_append (x ∷ xs) ys w =
+    ap (λ (t : List Sent). sent_at x w ++ t) (trace_append xs ys (after_turn octets x w))
+    ∙ sym (append_assoc (sent_at x w) (trace_of xs (after_turn octets x w)) (trace_of ys (world_run octets xs (after_turn octets x w))))
+
+-- what was granted before a round's end was granted
+granted_before : (s : Side) (place : ℕ) (w : WorldState (List ℕ)) → WasGranted s place (end_round w).crew → WasGranted s place w.crew
+granted_before s place w h = by (all_over w.crew) h
+  where
+    by : (b : Bool) → WasGranted s place (if b then record w { crew = map (begins (greatest 0 w.crew)) w.crew } else w).crew → WasGranted s place w.crew
+    by true h = let same = same_from s h.path place (greatest 0 w.crew) 0 w.crew in let was = h.granted in record { path = h.path; granted = omega (arith, same, was) }
+    by false h = h
+
+-- what was granted by the end of a round was sent
+granted_sent : (start : Start) (trace : List Sent) (w : WorldState (List ℕ)) → Stands start trace w → all_over w.crew ≡ true → (s : Side) (place : ℕ) → WasGranted s place w.crew
+    → Has (CarriesPlace s (pick s start.file_a start.file_b) place) trace
+granted_sent start trace w h over s place granted =
+    let at = item_of_sum (λ (c : ActorCrew (List ℕ)). count_by (grants_byte s granted.path place) c.list) 0 w.crew granted.granted in
+    let note = item_of_sum (λ (n : Note). if grants_byte s granted.path place n then 1 else 0) 0 at.1.0.list at.1.1.1 in
+    ⊎_elim (λ has. has) (λ pending. absurd (over_none s (pick s start.file_a start.file_b) place at.1.0.member (over_at w.crew at.0 at.1.0 over at.1.1.0) pending))
+    (h.told at.0 at.1.0 at.1.1.0 note.0 note.1.0 note.1.1.0 s granted.path place (is_so (grants_byte s granted.path place note.1.0) note.1.1.1))
+  where
+    is_so : (b : Bool) → 1 ≤ (if b then 1 else 0) → b ≡ true
+    is_so true some = refl
+    is_so false some = absurd (omega (arith, some))
+
+pub delivered_were_sent : DeliveredFilesWereSent
+delivered_were_sent start turns plain fit lawful delivered s place below =
+    let w = world_run octets turns (opened_world start) in
+    let stood : Stands start (trace_of turns (opened_world start)) w =
+    run_stands start turns (opened_world start) [] (λ more. books_fit start more plain fit) (opened_stands start) in
+    let granted = delivered_were_granted start (ended turns) plain fit delivered s place below in
+    let before = granted_before s place w (subst (λ (x : WorldState (List ℕ)). WasGranted s place x.crew) (run_append octets turns (Turn.Round ∷ []) (opened_world start)) granted) in
+    subst (Has (CarriesPlace s (pick s start.file_a start.file_b) place)) (sym (trace_append turns (Turn.Round ∷ []) (opened_world start)))
+    (Has-more (trace_of (Turn.Round ∷ []) w) (granted_sent start (trace_of turns (opened_world start)) w stood (lawful_over turns (opened_world start) lawful) s place before))

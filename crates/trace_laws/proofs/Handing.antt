@@ -1,0 +1,184 @@
+-- What was granted to a path goes out by the path's next step.
+use Rattle.std.proofs.Common.{◌≡◌, refl, sym, ◌∙◌, ap, subst, ℕ, ◌+◌, ◌-◌, ◌%◌, ◌≤◌, Bool, true, false, not, ◌&&◌, if◌then◌else◌, nat_le, Option, Some, None, option_map, find, List, [], ◌∷◌, ◌++◌, length, length-append, drop, replicate, sum_by, arith}
+use Rattle.std.proofs.lemmas.Bool.{and_parts, and_from, false≢true, le-leb, leb-true}
+use Rattle.std.proofs.lemmas.List.{drop_at, drop-drop, length-replicate}
+use Rattle.std.proofs.lemmas.List.Sums.{sum_by_push}
+use Rattle.outside_kit.specs.declared.side.Side.{Side}
+use Rattle.outside_kit.specs.declared.side.Side.TheVariants.{A, B}
+use Rattle.segment_wire.specs.Reading.{header_len}
+use Rattle.segment_wire.specs.Segment.{Segment, fixed_header, octets_with, segment_text}
+use Rattle.path_segments.specs.declared.spelling.Spelling.{Spelling}
+use Rattle.path_segments.specs.Spelled.{PlainSegment, padding, padded, unpadded_options, spelled}
+use Rattle.send_book.specs.declared.call.Span.{Span}
+use Rattle.send_book.specs.declared.call.SendReply.TheVariants as send_replies
+use Rattle.subflow_send.specs.declared.record.RecordKind.TheVariants.{Data}
+use Rattle.subflow_send.specs.Records.{Record}
+use Rattle.subflow_send.specs.Rules.{is_unsent, octets_under_way}
+use Rattle.subflow_send.specs.Sendings.{never_sent}
+use Rattle.subflow_tcp.specs.declared.handshake.State.{State as EndPhase}
+use Rattle.subflow_tcp.specs.declared.handshake.State.TheVariants as phase
+use Rattle.subflow_tcp.specs.Sizes.{room}
+use Rattle.subflow_tcp.specs.State.{is_at_limit}
+use Rattle.subflow_tcp.specs.States.{is_closed_to_segments, may_finish}
+use Rattle.actor_desk.specs.declared.ask.Reply.{Reply}
+use Rattle.actor_desk.specs.declared.ask.Reply.TheVariants as replies
+use Rattle.path_agenda.specs.declared.duty.Duty.{Duty}
+use Rattle.path_agenda.specs.declared.duty.Duty.TheVariants as duties
+use Rattle.path_agenda.specs.declared.duty.StepDuty.TheVariants as step_duties
+use Rattle.path_core.specs.declared.looking.Departing.{Departing}
+use Rattle.path_core.specs.Duties.{passed, stands}
+use Rattle.path_core.specs.Emission.{answered_data, data_stands, first_unsent, fits, granted, may_ask, may_send_data, payload_size}
+use Rattle.path_core.specs.Ends.{PathEnd}
+use Rattle.path_core.specs.Looking.{departing, departing_as, first_sends, unsent_sends}
+use Rattle.path_core.specs.Octets.{made, octets, sum_of}
+use Rattle.path_core.specs.OptionsOut.{mapping_of, record_or_ack, spelled_by}
+use Rattle.path_core.specs.State.{PathState, Profile, end_at, goes_on, with_agenda}
+use Rattle.path_core.specs.Steps.{answers, settled, settles_down, takes}
+use Rattle.link_trace.specs.declared.sent.Sent.{Sent}
+use Rattle.run_trace.specs.Trace.{sent_as, sent_by}
+use Rattle.trace_laws.specs.Sending.{payload_in}
+use Rattle.trace_laws.proofs.Acknowledged.{Acks}
+
+-- ---- the payload of a segment that is made
+
+padded_len : (text : List ℕ) → length (padded text) % 4 ≡ 0
+padded_len text =
+    let zero : ℕ = 0 in
+    omega (arith, length-append text (replicate (padding (length text)) zero), length-replicate (padding (length text)) zero)
+
+header_is : (checksum : ℕ) (segment : Segment) → length segment.options % 4 ≡ 0 → header_len (octets_with checksum segment) ≡ 20 + length segment.options
+unfolding fixed_header
+header_is checksum segment whole = omega arith
+
+rest_is : (checksum : ℕ) (segment : Segment) → drop 20 (octets_with checksum segment) ≡ segment.options ++ segment.payload
+unfolding fixed_header
+rest_is checksum segment = refl
+
+payload_is : (checksum : ℕ) (segment : Segment) → length segment.options % 4 ≡ 0
+    → drop (header_len (octets_with checksum segment)) (octets_with checksum segment) ≡ segment.payload
+payload_is checksum segment whole =
+    ap (λ (n : ℕ). drop n (octets_with checksum segment)) (header_is checksum segment whole)
+    ∙ sym (drop-drop (length segment.options) 20 (octets_with checksum segment)) ∙ ap (drop (length segment.options)) (rest_is checksum segment)
+    ∙ drop_at segment.options segment.payload (length segment.options) refl
+
+made_payload : (spelling : Spelling) (s : Side) (segment : PlainSegment) → payload_in (made spelling s segment) ≡ segment.payload
+unfolding segment_text spelled
+made_payload spelling s segment = payload_is (sum_of spelling s segment) (spelled spelling (spelled_by s) segment)
+    (padded_len (unpadded_options spelling (spelled_by s) segment))
+
+-- ---- a record that is pushed
+
+find_pushed : (rs : List Record) (r : Record) → find is_unsent rs ≡ None → is_unsent r ≡ true → find is_unsent (rs ++ r ∷ []) ≡ Some r
+find_pushed [] r none unsent = ap (λ (b : Bool). if b then Some r else None) unsent
+find_pushed (x ∷ rs) r none unsent = by (is_unsent x) none (find_pushed rs r)
+  where
+    by : (b : Bool) → (if b then Some x else find is_unsent rs) ≡ None → (find is_unsent rs ≡ None → is_unsent r ≡ true → find is_unsent (rs ++ r ∷ []) ≡ Some r)
+        → (if b then Some x else find is_unsent (rs ++ r ∷ [])) ≡ Some r
+    by true none rest = cc
+    by false none rest = rest none unsent
+
+module _ (c : Profile) (s : Side) (span : Span) (piece : List ℕ) (e : PathEnd) where
+  -- the record of what was granted
+  abbrev pushed : Record
+  pushed = record {
+    pos = e.tcp.send.nxt;
+    kind = Data;
+    piece = piece;
+    mapping = mapping_of c s span.from e.tcp.send.nxt piece;
+    sending = never_sent;
+  }
+
+  abbrev then_granted : PathEnd
+  then_granted = granted c s span piece e
+
+  unsent_is : first_unsent e ≡ None → first_unsent then_granted ≡ Some pushed
+  unsent_is none = find_pushed e.tcp.send.records pushed none refl
+
+  same_room : room then_granted.tcp ≡ room e.tcp
+  same_room = ap (λ (n : ℕ). e.tcp.congestion.reno.window - n) (sum_by_push octets_under_way e.tcp.send.records pushed ∙ (let n = sum_by octets_under_way e.tcp.send.records in omega arith))
+
+  never_closed : (x : EndPhase) → may_finish x ≡ true → is_closed_to_segments x ≡ false
+  never_closed phase.Established may = refl
+  never_closed phase.CloseWait may = refl
+  never_closed phase.Waiting may = absurd (false≢true may)
+  never_closed phase.Listen may = absurd (false≢true may)
+  never_closed phase.Dead may = absurd (false≢true may)
+  never_closed _ may = refl
+
+  -- it may be sent at once
+  data_goes : may_ask c s e ≡ true → Acks e.tcp → length piece ≤ payload_size c → first_unsent e ≡ None → data_stands c s then_granted (first_unsent then_granted) ≡ true
+  data_goes asks acked short none =
+      let first = and_parts (may_finish e.tcp.state) (nat_le (payload_size c) (room e.tcp) && (not (is_at_limit e.tcp) && may_send_data c s e)) asks in
+      let second = and_parts (nat_le (payload_size c) (room e.tcp)) (not (is_at_limit e.tcp) && may_send_data c s e) first.1 in
+      let within = leb-true (payload_size c) (room e.tcp) second.0 in
+      let same = same_room in
+      subst (λ (o : Option Record). data_stands c s then_granted o ≡ true) (sym (unsent_is none))
+      (and_from (not (is_closed_to_segments e.tcp.state)) (fits then_granted.tcp pushed) (ap not (never_closed e.tcp.state first.0))
+      (and_from (nat_le 1 e.tcp.send.una) (nat_le (length piece) (room then_granted.tcp)) (le-leb 1 e.tcp.send.una (acked first.0))
+      (le-leb (length piece) (room then_granted.tcp) (omega (arith, short, within, same)))))
+
+-- ---- a path whose next step sends a piece
+
+pub record SendsNext (s : Side) (piece : List ℕ) (p : PathState (List ℕ)) : Type 0 where
+  pub sent : Sent
+  pub is : sent_by p ≡ Some sent
+  pub from : sent.from ≡ s
+  pub payload : payload_in sent.octets ≡ piece
+
+-- what departs is of this side, and has this payload
+abbrev DepartsWith : Side → List ℕ → Option Departing → Type 0
+DepartsWith s piece None = ⊥
+DepartsWith s piece (Some d) = (d.from ≡ s) × (payload_in d.octets ≡ piece)
+
+departs : (s : Side) (piece : List ℕ) (p : PathState (List ℕ)) (o : Option Departing) → departing p ≡ o → DepartsWith s piece o → SendsNext s piece p
+departs s piece p None is with_it = absurd with_it
+departs s piece p (Some d) is with_it =
+    record { sent = sent_as p d; is = ap (λ (o : Option Departing). option_map (sent_as p) o) is; from = with_it.0; payload = with_it.1 }
+
+-- with its record as the first unsent one
+sends_record : (s : Side) (piece : List ℕ) (ds : List Duty) (r : Record) (p : PathState (List ℕ)) → p.agenda ≡ duties.Step (step_duties.Data s) ∷ ds
+    → first_unsent (end_at s p) ≡ Some r → r.piece ≡ piece → SendsNext s piece p
+sends_record s piece ds r p agenda first piece_is =
+    departs s piece p (option_map (departing_as p) (unsent_sends s (Some r)))
+    (ap (λ (todo : List Duty). option_map (departing_as p) (first_sends todo p)) agenda
+    ∙ ap (λ (o : Option Record). option_map (departing_as p) (unsent_sends s o)) first) (
+      refl,
+      made_payload p.profile.spelling s (record_or_ack p.profile s (first_unsent (end_at s p)) (end_at s p))
+          ∙ ap (λ (o : Option Record). (record_or_ack p.profile s o (end_at s p)).payload) first ∙ piece_is,
+    )
+
+-- the reply to an ask for bytes
+abbrev pub grants : Span → List ℕ → Reply
+grants span piece = replies.Send (send_replies.Granted span piece)
+
+module _ (s : Side) (ds : List Duty) (span : Span) (piece : List ℕ) (p : PathState (List ℕ)) where
+  abbrev q : PathState (List ℕ)
+  q = goes_on s (granted p.profile s span piece (end_at s p)) (duties.Step (step_duties.Data s) ∷ ds) p
+
+  end_is : (s : Side) (e : PathEnd) (ds : List Duty) (p : PathState (List ℕ)) → end_at s (goes_on s e ds p) ≡ e
+  end_is A e ds p = refl
+  end_is B e ds p = refl
+
+  stands_so : may_ask p.profile s (end_at s p) ≡ true → Acks (end_at s p).tcp → length piece ≤ payload_size p.profile → first_unsent (end_at s p) ≡ None
+      → stands (duties.Step (step_duties.Data s)) q ≡ true
+  stands_so asks acked short none =
+      subst (λ (e : PathEnd). data_stands p.profile s e (first_unsent e) ≡ true) (sym (end_is s (granted p.profile s span piece (end_at s p)) (duties.Step (step_duties.Data s) ∷ ds) p))
+      (data_goes p.profile s span piece (end_at s p) asks acked short none)
+
+  settled_is : stands (duties.Step (step_duties.Data s)) q ≡ true → settled (duties.Step (step_duties.Data s) ∷ ds) q ≡ with_agenda (duties.Step (step_duties.Data s) ∷ ds) q
+  settled_is is = ap (λ (b : Bool). if b then with_agenda (duties.Step (step_duties.Data s) ∷ ds) q else settled ds (passed (duties.Step (step_duties.Data s)) q)) is
+
+  taken_is : p.agenda ≡ duties.Step (step_duties.Data s) ∷ ds → first_unsent (end_at s p) ≡ None → takes octets (grants span piece) p ≡ settled (duties.Step (step_duties.Data s) ∷ ds) q
+  taken_is agenda none =
+      ap (λ (todo : List Duty). settles_down (answers octets todo (grants span piece) p)) agenda
+      ∙ ap (λ (o : Option Record). settles_down (answered_data octets s o (grants span piece) p)) none
+      ∙ ap (λ (todo : List Duty). settled todo (goes_on s (granted p.profile s span piece (end_at s p)) todo p)) agenda
+
+  -- what was granted is sent next
+  pub granted_goes : p.agenda ≡ duties.Step (step_duties.Data s) ∷ ds → first_unsent (end_at s p) ≡ None → may_ask p.profile s (end_at s p) ≡ true → Acks (end_at s p).tcp
+      → length piece ≤ payload_size p.profile → SendsNext s piece (takes octets (grants span piece) p)
+  granted_goes agenda none asks acked short =
+      let is = taken_is agenda none ∙ settled_is (stands_so asks acked short none) in
+      subst (SendsNext s piece) (sym is)
+      (sends_record s piece ds (pushed p.profile s span piece (end_at s p)) (with_agenda (duties.Step (step_duties.Data s) ∷ ds) q) refl
+      (ap first_unsent (end_is s (granted p.profile s span piece (end_at s p)) (duties.Step (step_duties.Data s) ∷ ds) p) ∙ unsent_is p.profile s span piece (end_at s p) none) refl)

@@ -1,0 +1,5 @@
+mod Acknowledged
+mod Going
+mod Granting
+mod Grants
+mod Handing
