@@ -1,20 +1,20 @@
 -- After the end, or an abort, a reader's state stays; and nothing is written to a closed stream.
-use Rattle.std.proofs.Common.{◌≡◌, refl, ◌∙◌, ap, ℕ, Bool, true, false, ◌||◌, if◌then◌else◌, List, [], ◌∷◌, Option, Some, None, Result, Ok, Err}
+use Rattle.std.proofs.Common.{◌≡◌, refl, ◌∙◌, ap, ℕ, Bool, true, false, ◌||◌, if◌then◌else◌, List, [], ◌∷◌, Option, Some, None, Result, Ok, Err, set}
 use Rattle.std.proofs.lemmas.Bool.{both_ways}
 use Rattle.std.specs.List.{slice_get}
 use Rattle.send_book.specs.declared.call.Span.{Span}
 use Rattle.send_book.specs.declared.call.Why.{Why}
 use Rattle.send_book.specs.declared.call.SendCall.{SendCall}
 use Rattle.send_book.specs.declared.call.SendCall.TheVariants.{Write as WriteBytes, Close as CloseBook, Grant, AckIn, Return as ReturnBytes, GoIdentity as GoIdentityBook, GoInfinite as GoInfiniteBook, Abort as AbortBook}
-use Rattle.send_book.specs.State.{Sending}
+use Rattle.send_book.specs.State.{Sending, acked_len}
 use Rattle.send_book.specs.Steps.{after_call, decision, given_by, is_future, is_gathered}
 use Rattle.stream_lanes.specs.Lane.{Ask, Lane}
 use Rattle.stream_lanes.specs.Lane.Ask.{Nothing, AskGrant, AskAckIn, AskPlace, AskFin, AskAckOut}
 use Rattle.stream_lanes.specs.Moves.{Flags, Move}
-use Rattle.stream_lanes.specs.Streams.{Direction, StreamEvent, after, asks, asks_at, moves, reads, is_done}
+use Rattle.stream_lanes.specs.Streams.{Direction, StreamEvent, after, asks, asks_at, moves, reads, is_done, with_send, goes_infinite, may_go}
 use Rattle.stream_lanes.specs.Streams.StreamEvent.{Write, Close, Return, GoIdentity, GoInfinite, AbortSend, Read, AbortRead, Moves, Asks}
-use Rattle.stream_lanes.specs.Duo.{Duo, Event, after_event, after_events}
-use Rattle.stream_lanes.specs.Duo.Event.{ToB, ToA, FallA, FallB, BeginJoin, SendJoin, HearJoin}
+use Rattle.stream_lanes.specs.Duo.{Duo, Event, flags_ab, flags_ba, after_event, after_events}
+use Rattle.stream_lanes.specs.Duo.Event.{ToB, ToA, FallA, FallB, LoosenA, LoosenB, BeginJoin, SendJoin, HearJoin}
 
 -- what a closed book keeps
 record IsShut (s t : Sending) : Type 0 where
@@ -60,12 +60,27 @@ reads_shut : (max : ℕ) (done : Bool) (d : Direction) → d.send.closed ≡ tru
 reads_shut max true d closed = record { closed = closed; written = refl }
 reads_shut max false d closed = record { closed = closed; written = refl }
 
+identity_shut : (fell : Bool) (d : Direction) → d.send.closed ≡ true → IsShut d.send (if fell then with_send GoIdentityBook d else d).send
+identity_shut true d closed = record { closed = closed; written = refl }
+identity_shut false d closed = record { closed = closed; written = refl }
+
+infinite_shut : (path pos : ℕ) (o : Option Lane) (d : Direction) → d.send.closed ≡ true → IsShut d.send (goes_infinite path pos o d).send
+infinite_shut path pos None d closed = record { closed = closed; written = refl }
+infinite_shut path pos (Some p) d closed = by_may (may_go path pos d.send p)
+  where
+    by_may : (may : Bool) → IsShut d.send (if may then record d {
+      send = after_call d.send (GoInfiniteBook path);
+      lanes = set d.lanes path (record p { pair = Some (record { pos = pos; place = acked_len d.send.marks }) });
+    } else d).send
+    by_may true = call_shut (GoInfiniteBook path) d.send closed
+    by_may false = record { closed = closed; written = refl }
+
 after_shut : (f : Flags) (event : StreamEvent) (d : Direction) → d.send.closed ≡ true → IsShut d.send (after f event d).send
 after_shut f (Write bytes) d closed = call_shut (WriteBytes bytes) d.send closed
 after_shut f Close d closed = call_shut CloseBook d.send closed
 after_shut f (Return path) d closed = call_shut (ReturnBytes path) d.send closed
-after_shut f GoIdentity d closed = call_shut GoIdentityBook d.send closed
-after_shut f (GoInfinite path) d closed = call_shut (GoInfiniteBook path) d.send closed
+after_shut f GoIdentity d closed = identity_shut f.sender d closed
+after_shut f (GoInfinite path pos) d closed = infinite_shut path pos (slice_get d.lanes path) d closed
 after_shut f AbortSend d closed = call_shut AbortBook d.send closed
 after_shut f (Read max) d closed = reads_shut max (is_done d.reader) d closed
 after_shut f (AbortRead by_peer) d closed = record { closed = closed; written = refl }
@@ -89,12 +104,27 @@ moves_done : (f : Flags) (path : ℕ) (move : Move) (o : Option Lane) (d : Direc
 moves_done f path move None d = refl
 moves_done f path move (Some p) d = refl
 
+identity_done : (fell : Bool) (d : Direction) → (if fell then with_send GoIdentityBook d else d).reader ≡ d.reader
+identity_done true d = refl
+identity_done false d = refl
+
+infinite_done : (path pos : ℕ) (o : Option Lane) (d : Direction) → (goes_infinite path pos o d).reader ≡ d.reader
+infinite_done path pos None d = refl
+infinite_done path pos (Some p) d = by_may (may_go path pos d.send p)
+  where
+    by_may : (may : Bool) → (if may then record d {
+      send = after_call d.send (GoInfiniteBook path);
+      lanes = set d.lanes path (record p { pair = Some (record { pos = pos; place = acked_len d.send.marks }) });
+    } else d).reader ≡ d.reader
+    by_may true = refl
+    by_may false = refl
+
 after_done : (f : Flags) (event : StreamEvent) (d : Direction) → is_done d.reader ≡ true → (after f event d).reader ≡ d.reader
 after_done f (Write bytes) d done = refl
 after_done f Close d done = refl
 after_done f (Return path) d done = refl
-after_done f GoIdentity d done = refl
-after_done f (GoInfinite path) d done = refl
+after_done f GoIdentity d done = identity_done f.sender d
+after_done f (GoInfinite path pos) d done = infinite_done path pos (slice_get d.lanes path) d
 after_done f AbortSend d done = refl
 after_done f (Read max) d done = ap (λ (c : Bool). (if c then d else reads max d).reader) done
 after_done f (AbortRead by_peer) d done = refl
@@ -109,10 +139,12 @@ done_ab (event ∷ events) w done =
     done_ab events (after_event event w) (ap is_done one ∙ done) ∙ one
   where
     at : (event : Event) → (after_event event w).ab.reader ≡ w.ab.reader
-    at (ToB event) = after_done _ event w.ab done
+    at (ToB event) = after_done (flags_ab w.modes) event w.ab done
     at (ToA event) = refl
     at FallA = refl
     at FallB = refl
+    at LoosenA = refl
+    at LoosenB = refl
     at BeginJoin = refl
     at SendJoin = refl
     at HearJoin = refl
@@ -125,9 +157,11 @@ done_ba (event ∷ events) w done =
   where
     at : (event : Event) → (after_event event w).ba.reader ≡ w.ba.reader
     at (ToB event) = refl
-    at (ToA event) = after_done _ event w.ba done
+    at (ToA event) = after_done (flags_ba w.modes) event w.ba done
     at FallA = refl
     at FallB = refl
+    at LoosenA = refl
+    at LoosenB = refl
     at BeginJoin = refl
     at SendJoin = refl
     at HearJoin = refl
@@ -137,10 +171,12 @@ shut_ab [] w closed = refl
 shut_ab (event ∷ events) w closed = let one = at event in shut_ab events (after_event event w) one.closed ∙ one.written
   where
     at : (event : Event) → IsShut w.ab.send (after_event event w).ab.send
-    at (ToB event) = after_shut _ event w.ab closed
+    at (ToB event) = after_shut (flags_ab w.modes) event w.ab closed
     at (ToA event) = record { closed = closed; written = refl }
     at FallA = record { closed = closed; written = refl }
     at FallB = record { closed = closed; written = refl }
+    at LoosenA = record { closed = closed; written = refl }
+    at LoosenB = record { closed = closed; written = refl }
     at BeginJoin = record { closed = closed; written = refl }
     at SendJoin = record { closed = closed; written = refl }
     at HearJoin = record { closed = closed; written = refl }
@@ -151,9 +187,11 @@ shut_ba (event ∷ events) w closed = let one = at event in shut_ba events (afte
   where
     at : (event : Event) → IsShut w.ba.send (after_event event w).ba.send
     at (ToB event) = record { closed = closed; written = refl }
-    at (ToA event) = after_shut _ event w.ba closed
+    at (ToA event) = after_shut (flags_ba w.modes) event w.ba closed
     at FallA = record { closed = closed; written = refl }
     at FallB = record { closed = closed; written = refl }
+    at LoosenA = record { closed = closed; written = refl }
+    at LoosenB = record { closed = closed; written = refl }
     at BeginJoin = record { closed = closed; written = refl }
     at SendJoin = record { closed = closed; written = refl }
     at HearJoin = record { closed = closed; written = refl }

@@ -2,7 +2,6 @@
 use Rattle.std.proofs.Common.{◌≡◌, refl, sym, ap, subst, ℕ, zero, suc, ◌+◌, ◌<◌, ◌≤◌, max, Bool, true, false, nat_lt, if◌then◌else◌, is_some, List, [], ◌∷◌, length, take, drop, map, replicate, Option, Some, None, arith}
 use Rattle.std.proofs.lemmas.Bool.{le-ltb, eq-eqb, and_right}
 use Rattle.std.proofs.lemmas.List.{append-nil, length-drop, length-map, length-append, length-replicate}
-use Rattle.std.proofs.lemmas.Option.{slice_get_within}
 use Rattle.std.specs.List.{slice_get}
 use Rattle.std.specs.Option.{IfSome}
 use Rattle.send_book.specs.State.{Sending}
@@ -12,10 +11,11 @@ use Rattle.reassembly_book.specs.Steps.{after_call, by_place, merged, edge, is_t
 use Rattle.stream_lanes.specs.Words.{From}
 use Rattle.stream_lanes.specs.Moves.{Flags}
 use Rattle.stream_lanes.specs.Streams.{Reader}
-use Rattle.stream_lanes.specs.View.{View, view_of, all_in, IsEnd}
+use Rattle.stream_lanes.specs.View.{View, view_of, all_in, IsEnd, IsPlaced}
+use Rattle.stream_lanes.specs.View.IsPlaced.{was_read, stands}
 use Rattle.stream_lanes.specs.Holding.{SendHolds, IsSent, ArrivedHolds, ReaderHolds}
 use Rattle.stream_lanes.proofs.Lists.{Cells-map}
-use Rattle.stream_lanes.proofs.Bytes.{Cells-merged, Cells-by_place}
+use Rattle.stream_lanes.proofs.Bytes.{Cells-merged, Cells-by_place, merged_left}
 use Rattle.stream_lanes.proofs.Later.{Later, Anyone}
 use Rattle.stream_lanes.proofs.Views.{AllIn, all_in_is, all_in_one, is_end as is_end_of, row_below, received_written}
 use Rattle.stream_lanes.proofs.Views.AllIn.{missing, complete}
@@ -69,7 +69,8 @@ row_is xs first (x ∷ bytes) (suc n) within row =
     rw here (ap (λ ys. x ∷ ys) (row_is xs (suc first) bytes n (omega (arith, within)) rest))
 
 -- the numbers of a book that went on
-module _ (f : Flags) (s : Sending) (b c : Arriving) (room : edge b ≤ edge c) (more : received b ≤ received c) (within : received c ≤ length s.written) where
+module _ (f : Flags) (s : Sending) (b c : Arriving) (room : edge b ≤ edge c) (more : received b ≤ received c) (within : received c ≤ length s.written)
+    (placed : (place : ℕ) → IsPlaced b.read b.places place → IsPlaced c.read c.places place) where
   reach : AllIn s.closed s.written (received b) → (received b + all_in s.closed s.written (received b) ≤ received c + all_in s.closed s.written (received c))
       × (edge b + all_in s.closed s.written (received b) ≤ edge c + all_in s.closed s.written (received c))
   reach (missing is) = (omega (arith, is, more), omega (arith, is, room))
@@ -85,7 +86,7 @@ module _ (f : Flags) (s : Sending) (b c : Arriving) (room : edge b ≤ edge c) (
         written = sym (append-nil s.written);
         spent = λ path place is. is;
         untried = λ path q place is. is;
-        news = λ path q first alone n reach new. new;
+        news = λ path q kept n reach new. new;
         end = λ e is. is;
         acked = omega arith;
         confirmed = omega arith;
@@ -95,12 +96,18 @@ module _ (f : Flags) (s : Sending) (b c : Arriving) (room : edge b ≤ edge c) (
         edge = both.1;
         alone = λ is. is;
         fallen = λ is. is;
+        stays_alone = λ fallen alone. alone;
+        owner = λ path is. is;
+        placed = placed;
+        alters = refl;
+        checked = refl;
+        exact = λ is. is;
       }
 
   pub sends_on : SendHolds s (view_of f s b) → SendHolds s (view_of f s c)
   sends_on h =
       let both = reach (all_in_is s.closed s.written (received b)) in
-      record { whole = h.whole; first = h.first; held = h.held; acked = omega (arith, h.acked, more); edge = omega (arith, h.edge, both.1); fin = h.fin }
+      record { whole = h.whole; first = h.first; held = h.held; acked = omega (arith, h.acked, more); edge = λ none. let old = h.edge none in omega (arith, old, both.1); fin = h.fin }
 
 -- bytes that were sent are taken
 row_reaches : {granted : ℕ → Type 0} (v : View) (at : ℕ) (bytes : List ℕ) (bound : ℕ) → ((place byte : ℕ) → IsSent granted v place byte → place < bound)
@@ -115,15 +122,15 @@ module _ (granted : ℕ → Type 0) (f : Flags) (s : Sending) (b : Arriving) (se
   within : received b ≤ length s.written
   within = received_written (view_of f s b) b arrived
 
-  -- no byte lies past what is taken, or past a known end
-  pub not_beyond : (at : ℕ) (bytes : List ℕ) → From (IsSent granted (view_of f s b)) at bytes → reaches_past (edge b) at bytes ≡ false
-  not_beyond at bytes row = row_reaches (view_of f s b) at bytes (edge b) (λ place byte sent. sent.room) row
+  -- no byte lies past what is taken, over links that alter nothing, or past a known end
+  pub not_beyond : f.alters ≡ false → (at : ℕ) (bytes : List ℕ) → From (IsSent granted (view_of f s b)) at bytes → reaches_past (edge b) at bytes ≡ false
+  not_beyond none at bytes row = row_reaches (view_of f s b) at bytes (edge b) (λ place byte sent. sent.room none) row
 
   pub not_clash : (at : ℕ) (bytes : List ℕ) → From (IsSent granted (view_of f s b)) at bytes → (o : Option ℕ) → IfSome o (IsEnd (view_of f s b).end) → clash o at bytes ≡ None
   not_clash at bytes row None end = refl
   not_clash at bytes row (Some e) end =
       let size = (is_end_of s e end).1 in
-      ap (λ (c : Bool). if c then Some e else None) (row_reaches (view_of f s b) at bytes e (λ place byte sent. subst (λ n. place < n) size (slice_get_within s.written place byte sent.written)) row)
+      ap (λ (c : Bool). if c then Some e else None) (row_reaches (view_of f s b) at bytes e (λ place byte sent. subst (λ n. place < n) size sent.within) row)
 
   -- an end agrees with what is there
   pub not_fin_clash : (at : ℕ) → IsEnd (view_of f s b).end at → (o : Option ℕ) → IfSome o (IsEnd (view_of f s b).end) → fin_clash o at b ≡ None
@@ -134,7 +141,7 @@ module _ (granted : ℕ → Type 0) (f : Flags) (s : Sending) (b : Arriving) (se
 
   pub same_step : (r : Reader) → ReaderHolds (view_of f s b) b r → ReceiveStep granted f s b b r
   same_step r reader = record {
-    later = went_on f s b b (omega arith) (omega arith) within;
+    later = went_on f s b b (omega arith) (omega arith) within (λ place is. is);
     send = send;
     arrived = arrived;
     reader = reader;
@@ -153,9 +160,9 @@ module _ (granted : ℕ → Type 0) (f : Flags) (s : Sending) (b : Arriving) (se
       highest : (bytes : List ℕ) → From (IsSent granted (view_of f s b)) at bytes → b.read + length (drop b.read (by_place at bytes)) ≤ max b.read (length s.written)
       highest [] row = omega (arith, length-drop {A = Option ℕ} b.read [])
       highest (x ∷ bytes) row =
-          let first : at < length s.written = slice_get_within s.written at x (row.each 0 at x (omega arith) refl).written in
+          let first : at < length s.written = (row.each 0 at x (omega arith) refl).within in
           let last : at + length (x ∷ bytes) ≤ length s.written =
-          row_below (length s.written) at (x ∷ bytes) (λ n y sent. slice_get_within s.written n y sent.written) (omega (arith, first)) row in
+          row_below (length s.written) at (x ∷ bytes) (λ n y sent. sent.within) (omega (arith, first)) row in
           omega (
             arith,
             length-drop b.read (by_place at (x ∷ bytes)),
@@ -179,17 +186,21 @@ module _ (granted : ℕ → Type 0) (f : Flags) (s : Sending) (b : Arriving) (se
       more : received b ≤ received c
       more = omega (arith, filled_grows b.places (drop b.read (by_place at bytes)))
 
+      stays : (place : ℕ) → IsPlaced b.read b.places place → IsPlaced b.read (places_after at bytes b) place
+      stays place (was_read below) = was_read below
+      stays place (stands i byte is e) = stands i byte is (merged_left b.places (drop b.read (by_place at bytes)) i byte e)
+
       takes : ReceiveStep granted f s b c r
       takes = record {
-        later = went_on f s b c (omega arith) more now;
-        send = sends_on f s b c (omega arith) more now send;
+        later = went_on f s b c (omega arith) more now stays;
+        send = sends_on f s b c (omega arith) more now stays send;
         arrived = record {
           top = holds.top;
-          cells = Cells-map (λ place byte sent. record { written = sent.written; room = sent.room; recorded = sent.recorded }) holds.cells;
+          cells = Cells-map (λ place byte sent. record { within = sent.within; written = sent.written; room = sent.room; recorded = sent.recorded }) holds.cells;
           end = holds.end;
           before = holds.before;
         };
-        reader = record { out = reader.out; told = reader.told; once = reader.once };
+        reader = record { size = reader.size; out = reader.out; told = reader.told; once = reader.once };
       }
 
   pub fin_step : (at : ℕ) (r : Reader) → IsEnd (view_of f s b).end at → ReaderHolds (view_of f s b) b r → ReceiveStep granted f s b (after_call b (Fin at)) r
@@ -198,18 +209,18 @@ module _ (granted : ℕ → Type 0) (f : Flags) (s : Sending) (b : Arriving) (se
       at_clash : (clash : Bool) → ReceiveStep granted f s b (if clash then b else record b { known_end = Some at }) r
       at_clash true = same_step r reader
       at_clash false = record {
-        later = went_on f s b (record b { known_end = Some at }) (omega arith) (omega arith) within;
+        later = went_on f s b (record b { known_end = Some at }) (omega arith) (omega arith) within (λ place is. is);
         send = send;
         arrived = record { top = arrived.top; cells = arrived.cells; end = end; before = arrived.before };
-        reader = record { out = reader.out; told = reader.told; once = reader.once };
+        reader = record { size = reader.size; out = reader.out; told = reader.told; once = reader.once };
       }
 
   pub abort_step : (by_peer : Bool) (r : Reader) → ReaderHolds (view_of f s b) b r → ReceiveStep granted f s b (after_call b (Abort by_peer)) r
   abort_step by_peer r reader = record {
-    later = went_on f s b (record b { aborted = first_abort b.aborted by_peer }) (omega arith) (omega arith) within;
+    later = went_on f s b (record b { aborted = first_abort b.aborted by_peer }) (omega arith) (omega arith) within (λ place is. is);
     send = send;
     arrived = record { top = arrived.top; cells = arrived.cells; end = arrived.end; before = arrived.before };
-    reader = record { out = reader.out; told = reader.told; once = reader.once };
+    reader = record { size = reader.size; out = reader.out; told = reader.told; once = reader.once };
   }
 
   pub ack_out_step : (r : Reader) → ReaderHolds (view_of f s b) b r → ReceiveStep granted f s b (after_call b AckOut) r

@@ -1,5 +1,5 @@
 -- Bytes by position and by place: what came, what is filled, what a record has.
-use Rattle.std.proofs.Common.{◌≡◌, refl, ◌∙◌, ap, subst, ℕ, zero, suc, ◌+◌, ◌-◌, ◌<◌, ◌≤◌, ⊎_elim, ◌⊎◌, inl, inr, List, [], ◌∷◌, ◌++◌, length, take, drop, map, replicate, Option, Some, None, arith}
+use Rattle.std.proofs.Common.{◌≡◌, refl, ◌∙◌, ap, subst, ℕ, zero, suc, ◌+◌, ◌-◌, ◌<◌, ◌≤◌, Bool, ⊎_elim, ◌⊎◌, inl, inr, List, [], ◌∷◌, ◌++◌, length, take, drop, map, replicate, Option, Some, None, arith}
 use Rattle.std.proofs.lemmas.Grind.{common_steps}
 use Rattle.std.proofs.lemmas.List.{length-take, map-append, length-map}
 use Rattle.std.proofs.lemmas.Option.{slice_get_within}
@@ -9,8 +9,9 @@ use Rattle.reassembly_book.specs.Steps.{by_place, merged}
 use Rattle.stream_lanes.specs.Words.{From, Cells}
 use Rattle.stream_lanes.specs.Lane.{Cell, Mapping, DataCopy}
 use Rattle.stream_lanes.specs.Moves.{bytes_of, places_of, cells_from, place_after}
-use Rattle.stream_lanes.specs.Holding.{IsByteOf, IsRight, IsHonest, HasPlace}
-use Rattle.stream_lanes.proofs.Lists.{in_more, in_drop, in_take, in_map, From-map, IfSome-map}
+use Rattle.stream_lanes.specs.Holding.{IsByteOf, Came, IsRight, IsHonest, HasPlace}
+use Rattle.stream_lanes.specs.Holding.Came.{as_sent, turned}
+use Rattle.stream_lanes.proofs.Lists.{in_more, in_drop, in_take, in_map, From-map, Has-more, IfSome-map}
 
 -- what is at a place after a merge was there before, or came
 in_merged : (xs ys : List (Option ℕ)) (i x : ℕ) → slice_get (merged xs ys) i ≡ Some (Some x)
@@ -52,17 +53,49 @@ Cells-by_place {P} {at} {bytes} first h = record {
       h.each (n - at) n x (omega (arith, there.0)) there.1;
 }
 
-in_filled : (places : List (Option ℕ)) (i x : ℕ) → slice_get (filled places) i ≡ Some x → slice_get places i ≡ Some (Some x)
+pub in_filled : (places : List (Option ℕ)) (i x : ℕ) → slice_get (filled places) i ≡ Some x → slice_get places i ≡ Some (Some x)
 in_filled [] i x e = cc
 in_filled (None ∷ places) i x e = cc
 in_filled (Some b ∷ places) zero x e = let same : b ≡ x = cc in rw same refl
 in_filled (Some b ∷ places) (suc i) x e = in_filled places i x e
+
+-- as many places as are filled from the first one on
+pub filled_upto : (places : List (Option ℕ)) (n : ℕ) → ((i : ℕ) → i < n → (x : ℕ) × (slice_get places i ≡ Some (Some x))) → n ≤ length (filled places)
+filled_upto places zero full = omega arith
+filled_upto [] (suc n) full = let first = full 0 (omega arith) in absurd (none_there first.0 first.1)
+  where
+    none_there : (x : ℕ) → None ≡ Some (Some x) → ⊥
+    none_there x e = cc
+filled_upto (None ∷ places) (suc n) full = let first = full 0 (omega arith) in absurd (none_there first.0 first.1)
+  where
+    none_there : (x : ℕ) → ◌≡◌ {A = Option (Option ℕ)} (Some None) (Some (Some x)) → ⊥
+    none_there x e = cc
+filled_upto (Some y ∷ places) (suc n) full = omega (arith, filled_upto places n (λ i below. full (suc i) (omega (arith, below))))
+
+-- one of them
+pub filled_item : (places : List (Option ℕ)) (i : ℕ) → i < length (filled places) → (x : ℕ) × (slice_get places i ≡ Some (Some x))
+filled_item [] i below = absurd (omega (arith, below))
+filled_item (None ∷ places) i below = absurd (omega (arith, below))
+filled_item (Some y ∷ places) zero below = (y, refl)
+filled_item (Some y ∷ places) (suc i) below = filled_item places i (omega (arith, below))
+
+-- a merge keeps what is there
+pub merged_left : (xs ys : List (Option ℕ)) (i x : ℕ) → slice_get xs i ≡ Some (Some x) → slice_get (merged xs ys) i ≡ Some (Some x)
+merged_left [] ys i x e = cc
+merged_left (y ∷ xs) [] i x e = e
+merged_left (Some y ∷ xs) (z ∷ ys) zero x e = e
+merged_left (None ∷ xs) (z ∷ ys) zero x e = cc
+merged_left (Some y ∷ xs) (z ∷ ys) (suc i) x e = merged_left xs ys i x e
+merged_left (None ∷ xs) (z ∷ ys) (suc i) x e = merged_left xs ys i x e
 
 pub From-filled : {P : ℕ → ℕ → Type 0} {first : ℕ} {places : List (Option ℕ)} → Cells P first places → From P first (filled places)
 From-filled {P} {first} {places} h = record { each = λ i n x n_is e. h.each i n x n_is (in_filled places i x e) }
 
 pub From-take : {X : Type 0} {P : ℕ → X → Type 0} {first : ℕ} {xs : List X} (count : ℕ) → From P first xs → From P first (take count xs)
 From-take {X} {P} {first} {xs} count h = record { each = λ i n x n_is e. h.each i n x n_is (in_take count xs i x e).0 }
+
+pub Cells-take : {X : Type 0} {P : ℕ → X → Type 0} {first : ℕ} {xs : List (Option X)} (count : ℕ) → Cells P first xs → Cells P first (take count xs)
+Cells-take {X} {P} {first} {xs} count h = record { each = λ i n x n_is e. h.each i n x n_is (in_take count xs i (Some x) e).0 }
 
 -- a record that grew
 pub byte_more : (sent more : List Cell) (pos byte : ℕ) → IsByteOf sent pos byte → IsByteOf (sent ++ more) pos byte
@@ -86,11 +119,18 @@ right_more sent more m h = record {
   places = λ j below. place_more sent more (m.pos + j) (m.place + j) (h.places j below);
 }
 
-pub honest_more : (sent more : List Cell) (d : DataCopy) → IsHonest sent d → IsHonest (sent ++ more) d
-honest_more sent more d h = record {
+pub came_more : (alters : Bool) (pieces others : List Mapping) (sent more : List Cell) (pos byte : ℕ) → Came alters pieces sent pos byte
+    → Came alters (pieces ++ others) (sent ++ more) pos byte
+came_more alters pieces others sent more pos byte (as_sent is) = as_sent (byte_more sent more pos byte is)
+came_more alters pieces others sent more pos byte (turned may starts old is bit) = turned may (Has-more others starts) old (byte_more sent more pos old is) bit
+
+pub honest_more : (alters : Bool) (pieces others : List Mapping) (sent more : List Cell) (d : DataCopy) → IsHonest alters pieces sent d
+    → IsHonest alters (pieces ++ others) (sent ++ more) d
+honest_more alters pieces others sent more d h = record {
   within = omega (arith, h.within, length_more sent more);
-  bytes = From-map (λ pos byte e. byte_more sent more pos byte e) h.bytes;
+  bytes = From-map (λ pos byte e. came_more alters pieces others sent more pos byte e) h.bytes;
   mapping = IfSome-map d.mapping (right_more sent more) h.mapping;
+  piece = IfSome-map d.mapping (λ m has. Has-more others has) h.piece;
 }
 
 -- the part of a record that a mapping names

@@ -1,15 +1,14 @@
 -- Every event of a direction keeps what holds of it.
-use Rattle.std.proofs.Common.{◌≡◌, refl, sym, ◌∙◌, ap, subst, ℕ, zero, suc, ◌-◌, ◌<◌, ◌≤◌, Bool, true, false, ◌&&◌, ◌||◌, ◌==◌, if◌then◌else◌, ⊎_elim, [], ◌∷◌, ◌++◌, length, take, Option, Some, None, Result, Ok, Err, set, arith, nat_lt}
-use Rattle.std.proofs.lemmas.Bool.{cases_lt, cases_eq}
+use Rattle.std.proofs.Common.{◌≡◌, refl, sym, ◌∙◌, ap, subst, ℕ, zero, suc, ◌-◌, ◌<◌, ◌≤◌, Bool, true, false, ◌&&◌, ◌||◌, ◌==◌, if◌then◌else◌, ⊎_elim, [], ◌∷◌, ◌++◌, ◌+◌, nat_le, length, take, Option, Some, None, Result, Ok, Err, set, arith, nat_lt}
+use Rattle.std.proofs.lemmas.Bool.{cases_lt}
 use Rattle.std.proofs.lemmas.List.{take-append-le}
-use Rattle.std.proofs.lemmas.Option.{slice_get_within}
 use Rattle.std.specs.List.{slice_get}
 use Rattle.send_book.specs.declared.call.Span.{Span}
 use Rattle.send_book.specs.declared.call.Why.{Why}
 use Rattle.send_book.specs.declared.call.SendCall.TheVariants.{Grant, AckIn, Write as WriteBytes, Close as CloseBook, Return as ReturnBytes, GoIdentity as GoIdentityBook, GoInfinite as GoInfiniteBook, Abort as AbortBook}
 use Rattle.send_book.specs.declared.call.SendReply.{SendReply}
 use Rattle.send_book.specs.declared.call.SendReply.TheVariants.{Acked as AckedBytes}
-use Rattle.send_book.specs.State.{Sending}
+use Rattle.send_book.specs.State.{Sending, acked_len}
 use Rattle.send_book.specs.Steps.{after_call as after_send, reply_to as send_reply, decision, reply_by}
 use Rattle.reassembly_book.specs.declared.call.ReassemblyCall.TheVariants.{Place, Fin, AckOut, Read as ReadBytes, Abort as AbortReading}
 use Rattle.reassembly_book.specs.declared.call.ReassemblyReply.{ReassemblyReply}
@@ -17,11 +16,11 @@ use Rattle.reassembly_book.specs.declared.call.ReassemblyReply.TheVariants.{Plac
 use Rattle.reassembly_book.specs.State.{Arriving, filled, received}
 use Rattle.reassembly_book.specs.Steps.{after_call as after_arrival, reply_to as arrival_reply, edge}
 use Rattle.stream_lanes.specs.Words.{From}
-use Rattle.stream_lanes.specs.Lane.{DataCopy, AckCopy, Mapping, Ask, Lane}
+use Rattle.stream_lanes.specs.Lane.{DataCopy, AckCopy, Mapping, Pair, Ask, Lane}
 use Rattle.stream_lanes.specs.Lane.Ask.{Nothing, AskGrant, AskAckIn, AskPlace, AskFin, AskAckOut}
-use Rattle.stream_lanes.specs.Moves.{Flags, Move, moved, takes_grant, takes_ack, takes_placed, takes_fin, takes_ack_out, hears, sends_piece, keeps, learns_mapping, learns, hears_data_fin, hears_fin, places, clashes, lies_in, in_order, may_finish, ack_copy}
-use Rattle.stream_lanes.specs.Moves.Move.{Open, LookAtSender, LookAtReceiver, WantGrant, HearAck, SendPiece, SendDataFin, SendFin, Hear, Learn, HearDataFin, HearFin, WantPlace, WantPlacePlain, WantFin, WantAckOut, SendAck}
-use Rattle.stream_lanes.specs.Streams.{Reader, Direction, StreamEvent, after, asks, asks_at, moves, reads, is_done, takes_read}
+use Rattle.stream_lanes.specs.Moves.{Flags, Move, moved, place_by, shifted, hears_sub, sends_pair, sends_fin_pair, takes_pair, places_pair, ends_pair, is_whole, takes_grant, takes_ack, takes_placed, takes_fin, takes_ack_out, hears, sends_piece, sends_altered, altered_piece_of, keeps, learns_mapping, learns, hears_data_fin, hears_fin, places, passes, clashes, lies_in, in_order, may_finish, ack_copy}
+use Rattle.stream_lanes.specs.Moves.Move.{Open, LookAtSender, LookAtReceiver, WantGrant, HearAck, HearSubAck, SendPiece, SendAltered, SendDataFin, SendFin, SendPair, SendPlainPair, SendFinPair, Hear, Learn, HearDataFin, HearFin, Forget, WantPlace, WantPlacePlain, WantFin, TakePair, WantPlacePair, WantFinPair, WantAckOut, SendAck}
+use Rattle.stream_lanes.specs.Streams.{Reader, Direction, StreamEvent, after, asks, asks_at, moves, reads, is_done, takes_read, with_send, goes_infinite, may_go}
 use Rattle.stream_lanes.specs.Streams.StreamEvent.{Write, Close, Return, GoIdentity, GoInfinite, AbortSend, Read, AbortRead, Moves, Asks}
 use Rattle.stream_lanes.specs.View.{View, view_of}
 use Rattle.stream_lanes.specs.Holding.{IsSent, ReaderHolds, HasPlace, AskHolds, LaneHolds, IsGranted, DirectionHolds}
@@ -30,7 +29,10 @@ use Rattle.stream_lanes.proofs.Bytes.{From-filled}
 use Rattle.stream_lanes.proofs.Later.{Later, Anyone, arrived_later, lane_later}
 use Rattle.stream_lanes.proofs.Moving.{moved_held}
 use Rattle.stream_lanes.proofs.Views.{view_fits, flags_fit, received_written, received_room}
-use Rattle.stream_lanes.proofs.Sends.{SendStep, unseen, write_step, close_step, return_step, go_infinite_step, ack_step, grant_step}
+use Rattle.stream_lanes.proofs.Sends.{SendStep, unseen, write_step, close_step, return_step, go_identity_step, ack_step, grant_step}
+use Rattle.stream_lanes.proofs.Going.{gathered, goes_step, goes_held}
+use Rattle.stream_lanes.proofs.MarkLists.{spent_below}
+use Rattle.stream_lanes.specs.Marks.{AreNew}
 use Rattle.stream_lanes.proofs.Arrivals.{ReceiveStep, place_step, fin_step, abort_step, ack_out_step}
 use Rattle.stream_lanes.proofs.Reading.{read_step}
 use Rattle.stream_lanes.proofs.Granting.{grant_held}
@@ -51,13 +53,36 @@ moved_sent f path (HearAck copy) p = at (slice_get p.acks copy)
     at : (o : Option AckCopy) → (hears o p).sent ≡ p.sent
     at None = refl
     at (Some a) = refl
+moved_sent f path (HearSubAck copy) p = at (slice_get p.acks copy) p.pair
+  where
+    at : (o : Option AckCopy) (q : Option Pair) → (hears_sub o q p).sent ≡ p.sent
+    at None q = refl
+    at (Some a) None = refl
+    at (Some a) (Some m) = sent_if p.alters p (record p { asking = AskAckIn (place_by m a.sub) a.window }) refl
 moved_sent f path (SendPiece piece mapped) p = at (slice_get p.pieces piece)
   where
     at : (o : Option Mapping) → (sends_piece mapped o p).sent ≡ p.sent
     at None = refl
     at (Some m) = refl
+moved_sent f path (SendAltered piece mapped) p = at (slice_get p.pieces piece)
+  where
+    at : (o : Option Mapping) → (sends_altered mapped o p).sent ≡ p.sent
+    at None = refl
+    at (Some m) = sent_if p.alters p (record p { datas = p.datas ++ altered_piece_of mapped p m ∷ [] }) refl
 moved_sent f path SendDataFin p = refl
 moved_sent f path SendFin p = sent_if (may_finish p) p (record p { fins = p.fins ++ length p.sent ∷ [] }) refl
+moved_sent f path (SendPair shift) p = at p.pair
+  where
+    at : (o : Option Pair) → (sends_pair shift o p).sent ≡ p.sent
+    at None = refl
+    at (Some m) = sent_if (nat_le (m.pos + shift) (length p.sent)) p (record p { pairs = p.pairs ++ shifted shift m ∷ [] }) refl
+moved_sent f path (SendPlainPair pos) p =
+    sent_if (p.sender_plain && (p.opened && nat_le pos (length p.sent))) p (record p { pairs = p.pairs ++ record { pos = pos; place = pos } ∷ [] }) refl
+moved_sent f path SendFinPair p = at p.pair
+  where
+    at : (o : Option Pair) → (sends_fin_pair o p).sent ≡ p.sent
+    at None = refl
+    at (Some m) = sent_if (p.opened && is_whole p.known_end p) p (record p { fins = p.fins ++ length p.sent ∷ [] }) refl
 moved_sent f path (Hear copy count) p = at (slice_get p.datas copy)
   where
     at : (o : Option DataCopy) → (keeps count o p).sent ≡ p.sent
@@ -86,13 +111,29 @@ moved_sent f path (HearFin copy) p = at (slice_get p.fins copy)
     at : (o : Option ℕ) → (hears_fin o p).sent ≡ p.sent
     at None = refl
     at (Some pos) = sent_if (pos == p.edge) p (record p { fin_in = true }) refl
+moved_sent f path (Forget from) p = refl
 moved_sent f path (WantPlace mapping count) p = at (slice_get p.maps mapping)
   where
     at : (o : Option Mapping) → (places count o p).sent ≡ p.sent
     at None = refl
-    at (Some m) = sent_if (lies_in m (in_order count p) p) p (record p { asking = AskPlace _ (in_order count p) }) refl
+    at (Some m) = sent_if (lies_in m (in_order count p) p && passes m (in_order count p) p) p (record p { asking = AskPlace _ (in_order count p) }) refl
 moved_sent f path (WantPlacePlain count) p = sent_if p.receiver_plain p (record p { asking = AskPlace p.edge (in_order count p) }) refl
 moved_sent f path WantFin p = sent_if (p.receiver_plain && p.fin_in) p (record p { asking = AskFin p.edge }) refl
+moved_sent f path (TakePair copy) p = at (slice_get p.pairs copy)
+  where
+    at : (o : Option Pair) → (takes_pair o p).sent ≡ p.sent
+    at None = refl
+    at (Some m) = refl
+moved_sent f path (WantPlacePair count) p = at p.taken
+  where
+    at : (o : Option Pair) → (places_pair count o p).sent ≡ p.sent
+    at None = refl
+    at (Some m) = sent_if (p.receiver_loose && nat_le m.pos p.edge) p (record p { asking = AskPlace (place_by m p.edge) (in_order count p) }) refl
+moved_sent f path WantFinPair p = at p.taken
+  where
+    at : (o : Option Pair) → (ends_pair o p).sent ≡ p.sent
+    at None = refl
+    at (Some m) = sent_if (p.receiver_loose && (p.fin_in && nat_le m.pos p.edge)) p (record p { asking = AskFin (place_by m p.edge) }) refl
 moved_sent f path WantAckOut p = refl
 moved_sent f path (SendAck next window sub) p = at p.due
   where
@@ -124,7 +165,7 @@ module _ (f : Flags) (d : Direction) (h : DirectionHolds f d) (fallen : (view_of
   within : received d.arrived ≤ length d.send.written
   within = received_written (view_of f d.send d.arrived) d.arrived h.arrived
 
-  room : received d.arrived ≤ edge d.arrived
+  room : f.alters ≡ false → received d.arrived ≤ edge d.arrived
   room = received_room (view_of f d.send d.arrived) d.arrived refl h.arrived
 
   lane_at : (path : ℕ) (p : Lane) → slice_get d.lanes path ≡ Some p → LaneHolds (view_of f d.send d.arrived) path p
@@ -139,56 +180,31 @@ module _ (f : Flags) (d : Direction) (h : DirectionHolds f d) (fallen : (view_of
       ((From-filled h.arrived.cells).each (place - d.arrived.read) place there.0 (omega (arith, new)) there.1).recorded)
       (cases_lt place d.arrived.read)
 
-  -- as long as no join was answered, path 0 has what was received
-  reach : (path : ℕ) (p : Lane) → slice_get d.lanes path ≡ Some p → (view_of f d.send d.arrived).alone ≡ true → path ≡ 0 → received d.arrived ≤ length p.sent
-  reach path p there alone first = at (received d.arrived) refl
+  -- what was received was granted, so new bytes stand behind it
+  far : (n : ℕ) → AreNew n d.send.marks → received d.arrived ≤ n
+  far n new = at (received d.arrived) refl
     where
-      has : (place : ℕ) → IsGranted d.lanes place → place < length p.sent
-      has place g =
-          let other : LaneHolds (view_of f d.send d.arrived) g.at g.item = lane_at g.at g.item g.there in
-          let c = g.holds in
-          let holds = other.alone alone in
-          ⊎_elim
-          (λ zero_is.
-          let same : Some g.item ≡ Some p = sym g.there ∙ ap (slice_get d.lanes) (zero_is ∙ sym first) ∙ there in
-          let item : g.item ≡ p = cc in
-          let pos : c.item.place ≡ c.at = holds.identity.each c.at c.at c.item (omega arith) c.there in
-          let inside : c.at < length g.item.sent = slice_get_within g.item.sent c.at c.item c.there in
-          subst (λ q. place < length q.sent) item (omega (arith, c.holds, pos, inside)))
-          (λ other_path.
-          let none : g.item.sent ≡ [] = holds.others other_path in
-          let inside : c.at < length g.item.sent = slice_get_within g.item.sent c.at c.item c.there in
-          absurd (omega (arith, inside, ap length none)))
-          (cases_eq g.at 0)
-
-      at : (n : ℕ) → received d.arrived ≡ n → received d.arrived ≤ length p.sent
+      at : (m : ℕ) → received d.arrived ≡ m → received d.arrived ≤ n
       at zero is = omega (arith, is)
-      at (suc n) is = omega (arith, is, has n (arrived_granted n (omega (arith, is))))
-
-  -- each lane with what it needs to go on
-  Reaching : ℕ → Lane → Type 0
-  Reaching path p = LaneHolds (view_of f d.send d.arrived) path p × ((view_of f d.send d.arrived).alone ≡ true → path ≡ 0 → received d.arrived ≤ length p.sent)
-
-  lanes_reach : From Reaching 0 d.lanes
-  unfolding Reaching
-  lanes_reach = record {
-    each = λ i path p path_is there.
-        let at : slice_get d.lanes path ≡ Some p = ap (slice_get d.lanes) (omega (arith, path_is)) ∙ there in
-        (h.lanes.each i path p path_is there, reach path p at);
-  }
+      at (suc m) is =
+          let g = arrived_granted m (omega (arith, is)) in
+          let lane : LaneHolds (view_of f d.send d.arrived) g.at g.item = lane_at g.at g.item g.there in
+          let c = g.holds in
+          let below = spent_below g.at n c.item.place d.send.marks new (lane.record_of.cells.each c.at c.item c.there).spent in
+          let same = c.holds in
+          omega (arith, is, below, same)
 
   pub lanes_later : {u : View} → Later Anyone (view_of f d.send d.arrived) u → From (LaneHolds u) 0 d.lanes
-  unfolding Reaching
-  lanes_later l = From-map (λ path p both. lane_later l path p tt both.1 both.0) lanes_reach
+  lanes_later l = From-map (λ path p lane. lane_later l path p tt far lane) h.lanes
 
   lanes_put : {Q : ℕ → Type 0} {u : View} (path : ℕ) (q : Lane) → Later Q (view_of f d.send d.arrived) u → ((n : ℕ) → (n ≡ path → ⊥) → Q n) → LaneHolds u path q
       → From (LaneHolds u) 0 (set d.lanes path q)
-  unfolding Reaching
-  lanes_put path q l others here = From-put path q (λ n p apart both. lane_later l n p (others n apart) both.1 both.0) here lanes_reach
+  lanes_put path q l others here = From-put path q (λ n p apart lane. lane_later l n p (others n apart) far lane) here h.lanes
 
   reader_later : {Q : ℕ → Type 0} (t : Sending) → Later Q (view_of f d.send d.arrived) (view_of f t d.arrived) → ReaderHolds (view_of f t d.arrived) d.arrived d.reader
   reader_later t l = record {
-    out = h.reader.out ∙ sym (ap (take d.arrived.read) l.written ∙ take-append-le d.arrived.read d.send.written l.more (omega (arith, h.arrived.top)));
+    size = h.reader.size;
+    out = λ exact. h.reader.out (l.exact exact) ∙ sym (ap (take d.arrived.read) l.written ∙ take-append-le d.arrived.read d.send.written l.more (omega (arith, h.arrived.top)));
     told = λ is. l.end d.arrived.read (h.reader.told is);
     once = h.reader.once;
   }
@@ -196,6 +212,7 @@ module _ (f : Flags) (d : Direction) (h : DirectionHolds f d) (fallen : (view_of
   -- a call of the send book by an application or by the modes
   app_sends : (t : Sending) → SendStep Anyone f d.send t d.arrived → DirectionHolds f (record d { send = t })
   app_sends t step = record {
+    owner = step.owned h.owner;
     send = step.holds;
     arrived = arrived_later step.later d.arrived (λ place is. is) h.arrived;
     reader = reader_later t step.later;
@@ -204,13 +221,14 @@ module _ (f : Flags) (d : Direction) (h : DirectionHolds f d) (fallen : (view_of
 
   -- a call of the reassembly book by an application
   app_reads : (c : Arriving) (r : Reader) → ReceiveStep (IsGranted d.lanes) f d.send d.arrived c r → DirectionHolds f (record d { arrived = c; reader = r })
-  app_reads c r step = record { send = step.send; arrived = step.arrived; reader = step.reader; lanes = lanes_later step.later }
+  app_reads c r step = record { owner = h.owner; send = step.send; arrived = step.arrived; reader = step.reader; lanes = lanes_later step.later }
 
   -- a path's call of the send book
   lane_sends : {Q : ℕ → Type 0} (path : ℕ) (p q : Lane) (t : Sending) → slice_get d.lanes path ≡ Some p → ((n : ℕ) → (n ≡ path → ⊥) → Q n)
       → SendStep Q f d.send t d.arrived → ((place : ℕ) → HasPlace p.sent place → HasPlace q.sent place) → LaneHolds (view_of f t d.arrived) path q
       → DirectionHolds f (record d { send = t; lanes = set d.lanes path q })
   lane_sends path p q t there others step more here = record {
+    owner = step.owned h.owner;
     send = step.holds;
     arrived = arrived_later step.later d.arrived (λ place is. Has-put path p q there (more place) is) h.arrived;
     reader = reader_later t step.later;
@@ -222,10 +240,11 @@ module _ (f : Flags) (d : Direction) (h : DirectionHolds f d) (fallen : (view_of
       → ((place : ℕ) → HasPlace p.sent place → HasPlace q.sent place) → LaneHolds (view_of f d.send c) path q
       → DirectionHolds f (record d { arrived = c; lanes = set d.lanes path q })
   lane_receives path p q c there step more here = record {
+    owner = h.owner;
     send = step.send;
     arrived = record {
       top = step.arrived.top;
-      cells = Cells-map (λ place byte sent. record { written = sent.written; room = sent.room; recorded = Has-put path p q there (more place) sent.recorded }) step.arrived.cells;
+      cells = Cells-map (λ place byte sent. record { within = sent.within; written = sent.written; room = sent.room; recorded = Has-put path p q there (more place) sent.recorded }) step.arrived.cells;
       end = step.arrived.end;
       before = λ place below. Has-put path p q there (more place) (step.arrived.before place below);
     };
@@ -237,10 +256,11 @@ module _ (f : Flags) (d : Direction) (h : DirectionHolds f d) (fallen : (view_of
   lane_moves : (path : ℕ) (move : Move) (o : Option Lane) → slice_get d.lanes path ≡ o → DirectionHolds f (moves f path move o d)
   lane_moves path move None there = h
   lane_moves path move (Some p) there = record {
+    owner = h.owner;
     send = h.send;
     arrived = record {
       top = h.arrived.top;
-      cells = Cells-map (λ place byte sent. record { written = sent.written; room = sent.room; recorded = Has-put path p q there (more place) sent.recorded }) h.arrived.cells;
+      cells = Cells-map (λ place byte sent. record { within = sent.within; written = sent.written; room = sent.room; recorded = Has-put path p q there (more place) sent.recorded }) h.arrived.cells;
       end = h.arrived.end;
       before = λ place below. Has-put path p q there (more place) (h.arrived.before place below);
     };
@@ -268,9 +288,10 @@ module _ (f : Flags) (d : Direction) (h : DirectionHolds f d) (fallen : (view_of
       let step = ack_step f d.send d.arrived h.send next window within ask in
       lane_sends path p (takes_ack next (send_reply d.send (AckIn next window)) p) (after_send d.send (AckIn next window)) there (λ n apart. tt) step
       (same_places p (takes_ack next (send_reply d.send (AckIn next window)) p) (acked_sent next (send_reply d.send (AckIn next window)) p))
-      (ack_held f d.send d.arrived h.send next window path p step (reach path p there) (lane_at path p there))
+      (ack_held f d.send d.arrived h.send next window path p step far (lane_at path p there))
   lane_asks path p there (AskPlace at bytes) ask =
       let row : From (IsSent (IsGranted d.lanes) (view_of f d.send d.arrived)) at bytes = From-map (λ place byte sent. record {
+        within = sent.within;
         written = sent.written;
         room = sent.room;
         recorded = record { at = path; item = p; there = there; holds = sent.recorded };
@@ -278,16 +299,16 @@ module _ (f : Flags) (d : Direction) (h : DirectionHolds f d) (fallen : (view_of
       let step = place_step (IsGranted d.lanes) f d.send d.arrived h.send h.arrived at bytes d.reader row h.reader in
       lane_receives path p (takes_placed (length bytes) (arrival_reply d.arrived (Place at bytes)) p) (after_arrival d.arrived (Place at bytes)) there step
       (same_places p (takes_placed (length bytes) (arrival_reply d.arrived (Place at bytes)) p) (placed_sent (length bytes) (arrival_reply d.arrived (Place at bytes)) p))
-      (place_held (IsGranted d.lanes) f d.send d.arrived h.send h.arrived path p (reach path p there) (lane_at path p there) at bytes d.reader row ask step)
+      (place_held (IsGranted d.lanes) f d.send d.arrived h.send h.arrived path p far (lane_at path p there) at bytes d.reader row ask step)
   lane_asks path p there (AskFin at) ask =
       let step = fin_step (IsGranted d.lanes) f d.send d.arrived h.send h.arrived at d.reader ask h.reader in
       lane_receives path p (takes_fin (arrival_reply d.arrived (Fin at)) p) (after_arrival d.arrived (Fin at)) there step
       (same_places p (takes_fin (arrival_reply d.arrived (Fin at)) p) (fin_sent (arrival_reply d.arrived (Fin at)) p))
-      (fin_held (IsGranted d.lanes) f d.send d.arrived h.send h.arrived path p (reach path p there) (lane_at path p there) at d.reader step)
+      (fin_held (IsGranted d.lanes) f d.send d.arrived h.send h.arrived path p far (lane_at path p there) at d.reader step)
   lane_asks path p there AskAckOut ask =
       lane_receives path p (takes_ack_out (arrival_reply d.arrived AckOut) p) (after_arrival d.arrived AckOut) there
       (ack_out_step (IsGranted d.lanes) f d.send d.arrived h.send h.arrived d.reader h.reader) (λ place has. has)
-      (ack_out_held (IsGranted d.lanes) f d.send d.arrived h.send h.arrived path p (reach path p there) (lane_at path p there) room)
+      (ack_out_held (IsGranted d.lanes) f d.send d.arrived h.send h.arrived path p far (lane_at path p there) room)
 
   lane_asks_at : (path : ℕ) (o : Option Lane) → slice_get d.lanes path ≡ o → DirectionHolds f (asks_at path o d)
   lane_asks_at path None there = h
@@ -299,13 +320,34 @@ module _ (f : Flags) (d : Direction) (h : DirectionHolds f d) (fallen : (view_of
       app_reads (after_arrival d.arrived (ReadBytes max)) (takes_read (arrival_reply d.arrived (ReadBytes max)) d.reader)
       (read_step (IsGranted d.lanes) f d.send d.arrived h.send h.arrived max d.reader is h.reader)
 
+  -- the book is given to one path alone
+  identity_held : (fell : Bool) → f.sender ≡ fell → DirectionHolds f (if fell then with_send GoIdentityBook d else d)
+  identity_held false is = h
+  identity_held true is = app_sends (after_send d.send GoIdentityBook) (go_identity_step f d.send d.arrived h.send h.owner (fallen (ap (λ x. x || f.receiver) is)))
+
+  infinite_held : (path pos : ℕ) (o : Option Lane) → slice_get d.lanes path ≡ o → DirectionHolds f (goes_infinite path pos o d)
+  infinite_held path pos None there = h
+  infinite_held path pos (Some p) there = by_may (may_go path pos d.send p) refl
+    where
+      q : Lane
+      q = record p { pair = Some (record { pos = pos; place = acked_len d.send.marks }) }
+
+      by_may : (c : Bool) → may_go path pos d.send p ≡ c → DirectionHolds f (if c then record d { send = after_send d.send (GoInfiniteBook path); lanes = set d.lanes path q } else d)
+      by_may false is = h
+      by_may true is =
+          let gives : after_send d.send (GoInfiniteBook path) ≡ record d.send { owner = Some path } =
+          ap (λ (c : Bool). if c then record d.send { owner = Some path } else d.send) (gathered f d.send d.arrived h.send path pos p (lane_at path p there) is) in
+          subst (λ t. DirectionHolds f (record d { send = t; lanes = set d.lanes path q })) (sym gives)
+          (lane_sends path p q (record d.send { owner = Some path }) there (λ n apart. tt) (goes_step f d.send d.arrived h.send path pos p (lane_at path p there) is) (λ place has. has)
+          (goes_held f d.send d.arrived h.send path pos p (lane_at path p there) is far))
+
   pub after_held : (event : StreamEvent) → DirectionHolds f (after f event d)
   after_held (Write bytes) = app_sends (after_send d.send (WriteBytes bytes)) (write_step f d.send d.arrived h.send bytes)
   after_held Close = app_sends (after_send d.send CloseBook) (close_step f d.send d.arrived h.send)
   after_held (Return path) = app_sends (after_send d.send (ReturnBytes path)) (return_step f d.send d.arrived h.send path)
-  after_held GoIdentity = app_sends (after_send d.send GoIdentityBook) (unseen f d.send d.arrived h.send d.send.aborted (Some 0))
-  after_held (GoInfinite path) = app_sends (after_send d.send (GoInfiniteBook path)) (go_infinite_step f d.send d.arrived h.send path)
-  after_held AbortSend = app_sends (after_send d.send AbortBook) (unseen f d.send d.arrived h.send true d.send.owner)
+  after_held GoIdentity = identity_held f.sender refl
+  after_held (GoInfinite path pos) = infinite_held path pos (slice_get d.lanes path) refl
+  after_held AbortSend = app_sends (after_send d.send AbortBook) (unseen f d.send d.arrived h.send true d.send.owner (λ path is. is) (λ owned. owned))
   after_held (Read max) = read_at max (is_done d.reader) refl
   after_held (AbortRead by_peer) =
       app_reads (after_arrival d.arrived (AbortReading by_peer)) d.reader (abort_step (IsGranted d.lanes) f d.send d.arrived h.send h.arrived by_peer d.reader h.reader)

@@ -8,7 +8,7 @@ use Rattle.stream_lanes.specs.Lane.{Cell, Lane}
 use Rattle.stream_lanes.specs.Lane.Ask.{AskFin}
 use Rattle.stream_lanes.specs.Moves.{place_after, is_whole, may_finish, ack_copy}
 use Rattle.stream_lanes.specs.View.{View, IsEnd}
-use Rattle.stream_lanes.specs.Holding.{IsAll, RecordHolds, AloneHolds, IsFin, LaneHolds}
+use Rattle.stream_lanes.specs.Holding.{IsAll, RecordHolds, AloneHolds, IsFin, LaneHolds, IsPassed}
 use Rattle.stream_lanes.proofs.Lists.{Every-push, item_at}
 use Rattle.stream_lanes.proofs.Bytes.{place_after-identity}
 use Rattle.stream_lanes.proofs.MarkLists.{acked_spent, acked_is_spent}
@@ -16,7 +16,7 @@ use Rattle.stream_lanes.proofs.Local.{ViewFits, held_if, with_ask}
 
 module _ (v : View) (path : ℕ) (fits : ViewFits v) where
   -- as long as no join was answered, a path's record is no longer than what was written
-  alone_within : (sent : List Cell) → RecordHolds path v sent → AloneHolds path v.marks sent → length sent ≤ length v.written
+  pub alone_within : (sent : List Cell) → RecordHolds path v sent → AloneHolds path v.marks sent → length sent ≤ length v.written
   alone_within sent r a = at (length sent) refl
     where
       at : (n : ℕ) → length sent ≡ n → length sent ≤ length v.written
@@ -83,6 +83,9 @@ module _ (v : View) (path : ℕ) (fits : ViewFits v) where
         alone = h.alone;
         modes = h.modes;
         bytes = h.bytes;
+        link = h.link;
+        passed = h.passed;
+        pairs = h.pairs;
         ends = h.ends;
         fins = Every-push (length p.sent) h.fins (by_mode p.sender_plain refl both.0 both.1);
         heard = h.heard;
@@ -102,15 +105,30 @@ module _ (v : View) (path : ℕ) (fits : ViewFits v) where
 
   -- what the subflow acknowledges is received, and the FIN only where the end was reached
   sub_acks : (p : Lane) → LaneHolds v path p → p.due ≡ false → v.alone ≡ true → (fin_in : Bool) → p.fin_in ≡ fin_in
-      → (p.edge + (if fin_in then 1 else 0) ≤ v.next) × (p.edge + (if fin_in then 1 else 0) + p.latest.window ≤ v.edge)
+      → (p.edge + (if fin_in then 1 else 0) ≤ v.next) × (v.alters ≡ false → p.edge + (if fin_in then 1 else 0) + p.latest.window ≤ v.edge)
   sub_acks p h idle alone true is =
       let end : IsEnd v.end p.edge = h.receiver.fin alone is in
       let passed : p.edge ≤ v.received = h.receiver.passed alone in
       let whole = fits.whole p.edge end passed in
-      (omega (arith, passed, whole.0), omega (arith, h.receiver.fresh alone idle, whole.1))
+      (omega (arith, passed, whole.0), λ none. let fresh = h.receiver.fresh none alone idle in omega (arith, fresh, whole.1))
   sub_acks p h idle alone false is =
       let passed : p.edge ≤ v.received = h.receiver.passed alone in
-      (omega (arith, passed, fits.next), omega (arith, h.receiver.fresh alone idle, fits.room))
+      (omega (arith, passed, fits.next), λ none. let fresh = h.receiver.fresh none alone idle in omega (arith, fresh, fits.room))
+
+  -- what the subflow acknowledges was passed
+  acks_passed : (p : Lane) → LaneHolds v path p → (n : ℕ) (fin_in : Bool) → p.fin_in ≡ fin_in → n ≤ p.edge + (if fin_in then 1 else 0) → IsPassed path v p.sent n
+  acks_passed p h n true is below =
+      let fin = h.passed.fin is in
+      let end : p.edge ≡ length p.sent = fin.0 in
+      record {
+        bytes = λ pos c under e. h.passed.bytes.bytes pos c (let inside = slice_get_within p.sent pos c e in omega (arith, end, inside)) e;
+        past = λ more. fin.1;
+      }
+  acks_passed p h n false is below =
+      record {
+        bytes = λ pos c under e. h.passed.bytes.bytes pos c (omega (arith, under, below)) e;
+        past = λ more. let within = h.bytes.within in absurd (omega (arith, more, below, within));
+      }
 
   pub send_ack_held : (next window sub : ℕ) (p : Lane) → LaneHolds v path p
       → LaneHolds v path (if p.due then p else record p { acks = p.acks ++ ack_copy next window sub p ∷ [] })
@@ -127,12 +145,17 @@ module _ (v : View) (path : ℕ) (fits : ViewFits v) where
         modes = h.modes;
         bytes = record {
           granted = h.bytes.granted;
+          apart = h.bytes.apart;
           honest = h.bytes.honest;
           within = h.bytes.within;
           came = h.bytes.came;
           right = h.bytes.right;
+          learned = h.bytes.learned;
           acked = Every-push (ack_copy next window sub p) h.bytes.acked (omega (arith, h.bytes.within, fin_bound p.fin_in));
         };
+        link = h.link;
+        passed = record { bytes = h.passed.bytes; fin = h.passed.fin; copies = Every-push (ack_copy next window sub p) h.passed.copies (acks_passed p h (ack_copy next window sub p).sub p.fin_in refl (omega arith)) };
+        pairs = h.pairs;
         ends = h.ends;
         fins = h.fins;
         heard = h.heard;
@@ -142,10 +165,10 @@ module _ (v : View) (path : ℕ) (fits : ViewFits v) where
           fin = h.receiver.fin;
           fresh = h.receiver.fresh;
           copies = Every-push (ack_copy next window sub p) h.receiver.copies (record {
-            stream = record { covers = omega (arith, h.receiver.told.covers); reaches = omega (arith, h.receiver.told.reaches) };
+            stream = record { covers = omega (arith, h.receiver.told.covers); reaches = λ none. let old = h.receiver.told.reaches none in omega (arith, old) };
             subflow = λ alone.
                 let both = sub_acks p h idle alone p.fin_in refl in
-                record { covers = omega (arith, both.0); reaches = omega (arith, both.1) };
+                record { covers = omega (arith, both.0); reaches = λ none. let old = both.1 none in omega (arith, old) };
           });
         };
         ask = h.ask;

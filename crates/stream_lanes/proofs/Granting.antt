@@ -1,5 +1,5 @@
 -- What a lane makes of the reply to its grant.
-use Rattle.std.proofs.Common.{◌≡◌, refl, sym, ◌∙◌, ap, subst, ℕ, ◌+◌, ◌-◌, ◌<◌, ◌≤◌, Bool, true, false, not, ◌&&◌, if◌then◌else◌, List, ◌++◌, length, drop, Some, None, Result, Ok, Err, position, arith, inl, inr, ◌⊎◌, ⊎_elim}
+use Rattle.std.proofs.Common.{◌≡◌, refl, sym, ◌∙◌, ap, subst, ℕ, ◌+◌, ◌-◌, ◌<◌, ◌≤◌, Bool, true, false, not, ◌&&◌, if◌then◌else◌, List, [], ◌∷◌, ◌++◌, length, drop, Some, None, Result, Ok, Err, position, arith, inl, inr, ◌⊎◌, ⊎_elim}
 use Rattle.std.proofs.lemmas.Bool.{and_parts, cases_lt}
 use Rattle.std.proofs.lemmas.List.{length-append, length-take, length-drop, map-append, length-map}
 use Rattle.std.proofs.lemmas.Option.{slice_get_within}
@@ -9,7 +9,6 @@ use Rattle.send_book.specs.declared.call.Span.{Span}
 use Rattle.send_book.specs.declared.call.Why.{Why}
 use Rattle.send_book.specs.declared.call.SendCall.TheVariants.{Grant}
 use Rattle.send_book.specs.declared.mark.ByteMark.{ByteMark}
-use Rattle.send_book.specs.Tried.{no_paths, contains}
 use Rattle.send_book.specs.Marks.{is_free_for, given}
 use Rattle.send_book.specs.State.{Sending}
 use Rattle.send_book.specs.Steps.{after_call, reply_to, decision, given_by, reply_by, change_part, part_of}
@@ -20,19 +19,19 @@ use Rattle.reassembly_book.specs.State.{Arriving, received}
 use Rattle.reassembly_book.specs.Steps.{edge}
 use Rattle.stream_lanes.specs.Words.{Every}
 use Rattle.stream_lanes.specs.Marks.{spent, spent_count, AreNew, tried}
-use Rattle.stream_lanes.specs.Lane.{Cell, Mapping, Lane}
-use Rattle.stream_lanes.specs.Moves.{Flags, takes_grant, later_end, cells_from, places_of}
+use Rattle.stream_lanes.specs.Lane.{Cell, Mapping, Pair, Lane}
+use Rattle.stream_lanes.specs.Moves.{Flags, takes_grant, later_end, cells_from, places_of, place_by}
 use Rattle.stream_lanes.specs.View.{view_of, end_of, IsEnd}
-use Rattle.stream_lanes.specs.Holding.{SendHolds, CellFits, AloneHolds, IsFin, IsRight, LaneHolds, HasPlace}
-use Rattle.stream_lanes.proofs.Lists.{Every-map, Every-append, Every-push, From-append, Cells-map, in_drop, in_take, item_at, Has-more}
-use Rattle.stream_lanes.proofs.Bytes.{byte_more, right_more, honest_more, length-cells_from, in_cells_from, places-cells_from, has_place}
+use Rattle.stream_lanes.specs.Holding.{SendHolds, CellFits, AloneHolds, IsFin, AreApart, IsRight, LaneHolds, HasPlace, IsPassed, PassedHolds, IsEndless, PairsHold}
+use Rattle.stream_lanes.proofs.Lists.{Every-map, Every-append, Every-push, From-append, Cells-map, in_append, in_one, in_drop, in_take, item_at, Has-more, IfSome-map}
+use Rattle.stream_lanes.proofs.Bytes.{came_more, right_more, honest_more, length-cells_from, in_cells_from, places-cells_from, has_place}
 use Rattle.stream_lanes.proofs.MarkLists.{count_within, grant_counts, grant_first, grant_is_next, position_within, AreNew-given, given_outside}
-use Rattle.stream_lanes.proofs.Later.{But, modes_later, ends_later, fin_later, heard_later, receiver_later, cells_later}
+use Rattle.stream_lanes.proofs.Later.{But, modes_later, link_later, passes_later, granted_later, owner_later, ends_later, fin_later, heard_later, receiver_later, cells_later}
 use Rattle.stream_lanes.proofs.Views.{AllIn, all_in_is, is_end}
 use Rattle.stream_lanes.proofs.Views.AllIn.{missing, complete}
 use Rattle.stream_lanes.proofs.Sends.{SendStep}
 
-module _ (f : Flags) (s : Sending) (b : Arriving) (path : ℕ) (p : Lane) (send : SendHolds s (view_of f s b)) (room : received b ≤ edge b) (h : LaneHolds (view_of f s b) path p) where
+module _ (f : Flags) (s : Sending) (b : Arriving) (path : ℕ) (p : Lane) (send : SendHolds s (view_of f s b)) (room : f.alters ≡ false → received b ≤ edge b) (h : LaneHolds (view_of f s b) path p) where
   -- nothing was granted: the end that was told is that of the stream
   refused_held : (why : Why) → LaneHolds (view_of f s b) path (takes_grant (reply_by (Err why) s) p)
   refused_held why = record {
@@ -40,6 +39,9 @@ module _ (f : Flags) (s : Sending) (b : Arriving) (path : ℕ) (p : Lane) (send 
     alone = h.alone;
     modes = h.modes;
     bytes = h.bytes;
+    link = h.link;
+    passed = h.passed;
+    pairs = h.pairs;
     ends = record { told = told (s.closed && not s.aborted) refl; named = h.ends.named };
     fins = h.fins;
     heard = h.heard;
@@ -60,12 +62,17 @@ module _ (f : Flags) (s : Sending) (b : Arriving) (path : ℕ) (p : Lane) (send 
     modes = modes_later step.later path p.opened p.sender_plain p.receiver_plain h.modes;
     bytes = record {
       granted = Every-push piece_mapping (Every-map (right_more p.sent cells) h.bytes.granted) new_right;
-      honest = Every-map (honest_more p.sent cells) h.bytes.honest;
+      apart = apart;
+      honest = Every-map (honest_more p.alters p.pieces (piece_mapping ∷ []) p.sent cells) h.bytes.honest;
       within = omega (arith, h.bytes.within, longer);
-      came = Cells-map (λ pos byte is. byte_more p.sent cells pos byte is) h.bytes.came;
+      came = Cells-map (came_more p.alters p.pieces (piece_mapping ∷ []) p.sent cells) h.bytes.came;
       right = Every-map (right_more p.sent cells) h.bytes.right;
+      learned = Every-map (λ m has. Has-more (piece_mapping ∷ []) has) h.bytes.learned;
       acked = Every-map (λ a is. omega (arith, is, longer)) h.bytes.acked;
     };
+    link = link_later step.later p.alters p.checked p.receiver_loose h.link;
+    passed = passed;
+    pairs = pairs;
     ends = ends_later step.later p h.ends;
     fins = Every-map fins h.fins;
     heard = heard_later step.later p.heard p.fin_acked h.heard;
@@ -125,9 +132,9 @@ module _ (f : Flags) (s : Sending) (b : Arriving) (path : ℕ) (p : Lane) (send 
       once = omega (arith, longer, counted, h.record_of.once)
 
       -- a byte below the edge of the window is taken by the receiver
-      below_room : (place : ℕ) → place < s.edge → place < length s.written → AllIn s.closed s.written (received b) → place < edge b
-      below_room place below inside (missing is) = omega (arith, below, is, send.edge)
-      below_room place below inside (complete closed all is) = omega (arith, inside, all, room)
+      below_room : f.alters ≡ false → (place : ℕ) → place < s.edge → place < length s.written → AllIn s.closed s.written (received b) → place < edge b
+      below_room none place below inside (missing is) = let window = send.edge none in omega (arith, below, is, window)
+      below_room none place below inside (complete closed all is) = let taken = room none in omega (arith, inside, all, taken)
 
       cell_fits : (c : Cell) (i : ℕ) → slice_get cells i ≡ Some c → CellFits path (view_of f (record s { marks = marks }) b) c
       cell_fits c i e =
@@ -142,7 +149,7 @@ module _ (f : Flags) (s : Sending) (b : Arriving) (path : ℕ) (p : Lane) (send 
             spent = ap (spent path) (slice_get-changed_inside (given path) span.from n span.to s.marks whole m.within c.place (omega (arith, at)) (omega (arith, at, inside, whole))
                 ∙ ap (option_map (given path)) mark.1)
                 ∙ spent-given path mark.0 (m.free c.place mark.0 (omega (arith, at)) (omega (arith, at, inside, whole)) mark.1);
-            room = below_room c.place (omega (arith, at, inside, whole, m.below)) (slice_get_within s.written c.place c.byte byte) (all_in_is s.closed s.written (received b));
+            room = λ none. below_room none c.place (omega (arith, at, inside, whole, m.below)) (slice_get_within s.written c.place c.byte byte) (all_in_is s.closed s.written (received b));
           }
 
       new_cells : Every (CellFits path (view_of f (record s { marks = marks }) b)) cells
@@ -158,6 +165,14 @@ module _ (f : Flags) (s : Sending) (b : Arriving) (path : ℕ) (p : Lane) (send 
             ∙ places-cells_from span.from piece j (span.from + j) below refl;
       }
 
+      -- the new piece begins after the end of all others
+      apart : AreApart (p.pieces ++ piece_mapping ∷ [])
+      apart i j m o at_i at_j less = ⊎_elim
+          (λ old. ⊎_elim (λ other. h.bytes.apart i j m o old other less) (λ new. omega (arith, (h.bytes.granted.each i m old).within, ap (λ (k : Mapping). k.pos) (in_one piece_mapping o (j - length p.pieces) new.1).1)) (in_append p.pieces (piece_mapping ∷ []) j o at_j))
+          (λ new. ⊎_elim (λ other. absurd (omega (arith, (h.bytes.granted.each j o other).within, ap (λ (k : Mapping). k.pos) (in_one piece_mapping m (i - length p.pieces) new.1).1, less)))
+          (λ same. absurd (omega (arith, ap (λ (k : Mapping). k.pos) (in_one piece_mapping m (i - length p.pieces) new.1).1, ap (λ (k : Mapping). k.pos) (in_one piece_mapping o (j - length p.pieces) same.1).1, less))) (in_append p.pieces (piece_mapping ∷ []) j o at_j))
+          (in_append p.pieces (piece_mapping ∷ []) i m at_i)
+
       -- where a FIN was sent, all is spent, so nothing was granted
       none_after : (e : ℕ) → IsEnd (end_of s) e → e ≤ spent_count path s.marks → n ≡ 0
       none_after e end left = omega (arith, (is_end s e end).1, left, counted, count_within path marks, same_size, send.whole)
@@ -170,13 +185,83 @@ module _ (f : Flags) (s : Sending) (b : Arriving) (path : ℕ) (p : Lane) (send 
           let now = fin_later step.later path p.sent pos fin in
           record { last = omega (arith, fin.last, longer, none_after fin.left.0 fin.left.1 fin.left.2); left = now.left; ends = now.ends }
 
+      first_inside : position (is_free_for path) s.marks ≡ Some span.from → span.from < length s.marks
+      first_inside e = position_within (is_free_for path) s.marks span.from e
+
+      -- a cell of the longer record is one of before, or of the grant
+      cell_cases : (pos : ℕ) (c : Cell) → slice_get (p.sent ++ cells) pos ≡ Some c
+          → (slice_get p.sent pos ≡ Some c) ⊎ ((length p.sent ≤ pos) × (pos < length p.sent + n) × (c.place ≡ span.from + (pos - length p.sent)))
+      cell_cases pos c e = ⊎_elim
+          (λ old. inl old)
+          (λ new.
+          let inside = slice_get_within cells (pos - length p.sent) c new.1 in
+          let from = new.0 in
+          inr (from, omega (arith, inside, cells_size, from), (in_cells_from span.from piece (pos - length p.sent) c new.1).0))
+          (in_append p.sent cells pos c e)
+
+      -- what was passed stays so: where nothing more is granted to the path, nothing was
+      passes : (upto : ℕ) → IsPassed path (view_of f s b) p.sent upto → IsPassed path (view_of f (record s { marks = marks }) b) (p.sent ++ cells) upto
+      passes upto old =
+          let now = passes_later step.later path p.sent upto old in
+          record {
+            bytes = λ pos c below e. ⊎_elim
+                (λ was. now.bytes pos c below was)
+                (λ new. let all = old.past (omega (arith, new.0, below)) in absurd (omega (arith, new.0, new.1, none_after all.0 all.1 all.2)))
+                (cell_cases pos c e);
+            past = λ more. now.past (omega (arith, more, longer));
+          }
+
+      passed : PassedHolds path (view_of f (record s { marks = marks }) b) (p.sent ++ cells) p.edge p.fin_in p.acks
+      passed = record {
+        bytes = passes p.edge h.passed.bytes;
+        fin = λ is.
+            let old = h.passed.fin is in let end = old.0 in let all = old.1 in
+            (omega (arith, end, longer, none_after all.0 all.1 all.2), granted_later step.later path all);
+        copies = Every-map (λ a is. passes a.sub is) h.passed.copies;
+      }
+
+      span_within : span.to ≤ length s.marks
+      span_within = m.within
+
+      -- by an infinite mapping the next grant comes next
+      endless : (m : Pair) → IsEndless path (view_of f s b) p.sent m → IsEndless path (view_of f (record s { marks = marks }) b) (p.sent ++ cells) m
+      endless m old =
+          let inside = old.within in
+          let next : span.from ≡ place_by m (length p.sent) = grant_is_next path (place_by m (length p.sent)) span.from s.marks (grant_first path max standby s span decided) old.spent old.rest
+          (first_inside (grant_first path max standby s span decided)) in
+          let later : place_by m (length (p.sent ++ cells)) ≡ span.to = omega (arith, longer, next, whole, inside) in
+          record {
+            within = omega (arith, inside, longer);
+            places = λ pos c from e. ⊎_elim
+                (λ was. old.places pos c from was)
+                (λ new. let place = new.2 in omega (arith, new.0, place, next, inside))
+                (cell_cases pos c e);
+            spent = λ place below. ⊎_elim
+                (λ before. step.later.spent path place (old.spent place before))
+                (λ after.
+                let there = item_at cells (place - span.from) (omega (arith, below, later, after, next, cells_size, whole)) in
+                let at : there.0.place ≡ place = (in_cells_from span.from piece (place - span.from) there.0 there.1).0 ∙ omega (arith, after, next) in
+                subst (λ q. spent path (slice_get marks q) ≡ true) at (cell_fits there.0 (place - span.from) there.1).spent)
+                (cases_lt place (place_by m (length p.sent)));
+            rest = subst (λ k. AreNew k marks) (sym later) (AreNew-given path (place_by m (length p.sent)) span s.marks (omega (arith, next, whole)) (omega (arith, whole)) span_within old.rest);
+            upto = omega (arith, later, span_within, send.whole);
+            owner = owner_later step.later path old.owner;
+          }
+
+      pairs : PairsHold path (view_of f (record s { marks = marks }) b) (p.sent ++ cells) p.pair p.pairs p.taken
+      pairs = record {
+        own = IfSome-map p.pair (λ m is. let low = is.1 in (endless m is.0, omega (arith, low, step.later.acked))) h.pairs.own;
+        told = Every-map endless h.pairs.told;
+        took = IfSome-map p.taken endless h.pairs.took;
+      }
+
       alone : (view_of f (record s { marks = marks }) b).alone ≡ true → AloneHolds path marks (p.sent ++ cells)
       alone is =
           let before : AloneHolds path s.marks p.sent = h.alone is in
           let first : path ≡ 0 = h.modes.joined opened is in
           let new : AreNew (length p.sent) s.marks = before.untouched first in
           let next : span.from ≡ length p.sent = grant_is_next path (length p.sent) span.from s.marks (grant_first path max standby s span decided) (spent_before before) new
-          (first_inside (grant_first path max standby s span decided)) (none_tried first) in
+          (first_inside (grant_first path max standby s span decided)) in
           record {
             identity = From-append before.identity (record {
               each = λ i pos c pos_is e. let there = in_cells_from span.from piece i c e in omega (arith, there.0, next, pos_is);
@@ -191,12 +276,6 @@ module _ (f : Flags) (s : Sending) (b : Arriving) (path : ℕ) (p : Lane) (send 
               let there = item_at p.sent place below in
               let at : there.0.place ≡ place = before.identity.each place place there.0 (omega arith) there.1 in
               subst (λ q. spent path (slice_get s.marks q) ≡ true) at (h.record_of.cells.each place there.0 there.1).spent
-
-          first_inside : position (is_free_for path) s.marks ≡ Some span.from → span.from < length s.marks
-          first_inside e = position_within (is_free_for path) s.marks span.from e
-
-          none_tried : path ≡ 0 → contains path no_paths ≡ false
-          none_tried first = ap (λ k. contains k no_paths) first
 
   pub grant_held : (max : ℕ) (standby : Bool) → p.opened ≡ true → 1 ≤ max → SendStep (But path) f s (after_call s (Grant path max standby)) b
       → LaneHolds (view_of f (after_call s (Grant path max standby)) b) path (takes_grant (reply_to s (Grant path max standby)) p)

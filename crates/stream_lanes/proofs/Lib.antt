@@ -1,9 +1,13 @@
 pub mod AfterTheEnd
 pub mod Arrivals
 pub mod Bytes
+pub mod Checking
+pub mod Content
 pub mod Directions
 pub mod Duos
 pub mod Ending
+pub mod Endless
+pub mod Going
 pub mod Granting
 pub mod Later
 pub mod Lists

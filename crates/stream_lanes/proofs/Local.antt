@@ -1,5 +1,5 @@
 -- Each move of a lane by itself keeps what holds of it.
-use Rattle.std.proofs.Common.{◌≡◌, refl, subst, ℕ, ◌+◌, ◌≤◌, max, Bool, true, false, ◌||◌, ◌==◌, if◌then◌else◌, ◌⊎◌, ⊎_elim, [], ◌∷◌, ◌++◌, length, Option, Some, None}
+use Rattle.std.proofs.Common.{◌≡◌, refl, sym, ◌∙◌, subst, ℕ, ◌+◌, ◌-◌, ◌<◌, ◌≤◌, max, take, arith, Bool, true, false, ◌||◌, ◌==◌, if◌then◌else◌, ◌⊎◌, ⊎_elim, [], ◌∷◌, ◌++◌, length, Option, Some, None}
 use Rattle.std.proofs.lemmas.Bool.{or_cases, eqb-true, both_ways}
 use Rattle.std.specs.Option.{IfSome}
 use Rattle.std.specs.List.{slice_get}
@@ -7,11 +7,13 @@ use Rattle.stream_lanes.specs.Words.{Every}
 use Rattle.stream_lanes.specs.Marks.{AreAcked}
 use Rattle.stream_lanes.specs.Lane.{Mapping, DataCopy, AckCopy, Ask, Lane}
 use Rattle.stream_lanes.specs.Lane.Ask.{Nothing, AskGrant, AskAckIn, AskPlace, AskFin, AskAckOut}
-use Rattle.stream_lanes.specs.Moves.{Flags, known, piece_of, clashes, hears, sends_piece, keeps, learns_mapping, learns, hears_data_fin, hears_fin}
-use Rattle.stream_lanes.specs.View.{View, IsEnd}
-use Rattle.stream_lanes.specs.Holding.{IsAll, IsAck, IsAckCopy, AskHolds, LaneHolds, IsRight}
-use Rattle.stream_lanes.proofs.Lists.{Every-nil, Every-append, Every-push, in_one}
-use Rattle.stream_lanes.proofs.Bytes.{Cells-merged, Cells-by_place, From-take, part_is_honest, part_within}
+use Rattle.stream_lanes.specs.Moves.{Flags, known, part_of, piece_of, altered_piece_of, clashes, hears, sends_piece, sends_altered, keeps, learns_mapping, learns, hears_data_fin, hears_fin}
+use Rattle.stream_lanes.specs.View.{View, IsEnd, IsIn}
+use Rattle.stream_lanes.specs.Holding.{IsAll, IsAck, IsAckCopy, AskHolds, LaneHolds, IsRight, IsPiece}
+use Rattle.stream_lanes.specs.Holding.Came.{as_sent}
+use Rattle.stream_lanes.proofs.Lists.{Every-nil, Every-append, Every-push, From-map, in_one}
+use Rattle.stream_lanes.proofs.Bytes.{Cells-merged, Cells-by_place, Cells-take, From-take, part_is_honest, part_within}
+use Rattle.stream_lanes.proofs.Checking.{length-turned, turned_came}
 
 -- What holds of a view by itself.
 pub record ViewFits (v : View) : Type 0 where
@@ -24,11 +26,15 @@ pub record ViewFits (v : View) : Type 0 where
   pub whole : (e : ℕ) → IsEnd v.end e → e ≤ v.received → (v.next ≡ v.received + 1) × (v.edge ≡ v.room + 1)
   pub confirmed : (v.confirmed ≤ v.acked) ⊎ IsAll v
   pub fallen : v.fallen ≡ true → v.alone ≡ true
+  pub acked : v.acked ≤ v.received
+  pub reached : (first n : ℕ) → first ≤ v.received → ((place : ℕ) → first ≤ place → place < n → IsIn v place) → n ≤ v.received
 
 pub record FlagsFit (f : Flags) (v : View) : Type 0 where
   pub answered : f.answered ≡ true → v.alone ≡ false
   pub sender : f.sender ≡ true → v.fallen ≡ true
   pub receiver : f.receiver ≡ true → v.fallen ≡ true
+  pub inexact : f.receiver ≡ true → v.exact ≡ true → v.alters ≡ false
+  pub loose : f.loose ≡ true → v.exact ≡ true → v.alters ≡ false
 
 module _ (v : View) (path : ℕ) where
   pub held_if : (c : Bool) (p q : Lane) → (c ≡ true → LaneHolds v path q) → LaneHolds v path p → LaneHolds v path (if c then q else p)
@@ -41,6 +47,9 @@ module _ (v : View) (path : ℕ) where
     alone = h.alone;
     modes = h.modes;
     bytes = h.bytes;
+    link = h.link;
+    passed = h.passed;
+    pairs = h.pairs;
     ends = h.ends;
     fins = h.fins;
     heard = h.heard;
@@ -56,8 +65,12 @@ module _ (v : View) (path : ℕ) where
       joined = λ _ alone. ⊎_elim (λ answered. absurd (both_ways _ (flags.answered answered) alone)) (λ zero. eqb-true path 0 zero) (or_cases f.answered (path == 0) c);
       sender = h.modes.sender;
       receiver = h.modes.receiver;
+      inexact = h.modes.inexact;
     };
     bytes = h.bytes;
+    link = h.link;
+    passed = h.passed;
+    pairs = h.pairs;
     ends = h.ends;
     fins = h.fins;
     heard = h.heard;
@@ -77,8 +90,11 @@ module _ (v : View) (path : ℕ) where
   look_at_sender_held f p flags h = record {
     record_of = h.record_of;
     alone = h.alone;
-    modes = record { joined = h.modes.joined; sender = flags.sender; receiver = h.modes.receiver };
+    modes = record { joined = h.modes.joined; sender = flags.sender; receiver = h.modes.receiver; inexact = h.modes.inexact };
     bytes = h.bytes;
+    link = h.link;
+    passed = h.passed;
+    pairs = h.pairs;
     ends = h.ends;
     fins = h.fins;
     heard = h.heard;
@@ -86,12 +102,15 @@ module _ (v : View) (path : ℕ) where
     ask = h.ask;
   }
 
-  pub look_at_receiver_held : (f : Flags) (p : Lane) → FlagsFit f v → LaneHolds v path p → LaneHolds v path (record p { receiver_plain = f.receiver })
+  pub look_at_receiver_held : (f : Flags) (p : Lane) → FlagsFit f v → LaneHolds v path p → LaneHolds v path (record p { receiver_plain = f.receiver; receiver_loose = f.loose })
   look_at_receiver_held f p flags h = record {
     record_of = h.record_of;
     alone = h.alone;
-    modes = record { joined = h.modes.joined; sender = h.modes.sender; receiver = flags.receiver };
+    modes = record { joined = h.modes.joined; sender = h.modes.sender; receiver = flags.receiver; inexact = flags.inexact };
     bytes = h.bytes;
+    link = record { alters_is = h.link.alters_is; checked_is = h.link.checked_is; must = h.link.must; inexact = flags.loose };
+    passed = h.passed;
+    pairs = h.pairs;
     ends = h.ends;
     fins = h.fins;
     heard = h.heard;
@@ -119,16 +138,22 @@ module _ (v : View) (path : ℕ) where
     modes = h.modes;
     bytes = record {
       granted = h.bytes.granted;
+      apart = h.bytes.apart;
       honest = Every-push (piece_of mapped p m) h.bytes.honest (record {
         within = part_within p.sent m right;
-        bytes = part_is_honest p.sent m right;
+        bytes = From-map (λ pos byte is. as_sent is) (part_is_honest p.sent m right);
         mapping = by_mapping mapped;
+        piece = by_piece mapped;
       });
       within = h.bytes.within;
       came = h.bytes.came;
       right = h.bytes.right;
+      learned = h.bytes.learned;
       acked = h.bytes.acked;
     };
+    link = h.link;
+    passed = h.passed;
+    pairs = h.pairs;
     ends = h.ends;
     fins = h.fins;
     heard = h.heard;
@@ -143,12 +168,86 @@ module _ (v : View) (path : ℕ) where
       by_mapping true = right
       by_mapping false = tt
 
+      by_piece : (mapped : Bool) → IfSome (if mapped then Some m else None) (IsPiece p.pieces)
+      by_piece true = record { at = piece; item = m; there = is; holds = refl }
+      by_piece false = tt
+
+  pub send_altered_held : (mapped : Bool) (o : Option Mapping) (piece : ℕ) (p : Lane) → slice_get p.pieces piece ≡ o → LaneHolds v path p → LaneHolds v path (sends_altered mapped o p)
+  send_altered_held mapped None piece p is h = h
+  send_altered_held mapped (Some m) piece p is h = held_if p.alters p (record p { datas = p.datas ++ altered_piece_of mapped p m ∷ [] }) (λ alters. record {
+    record_of = h.record_of;
+    alone = h.alone;
+    modes = h.modes;
+    bytes = record {
+      granted = h.bytes.granted;
+      apart = h.bytes.apart;
+      honest = Every-push (altered_piece_of mapped p m) h.bytes.honest (record {
+        within = omega (arith, part_within p.sent m right, length-turned (part_of p.sent m));
+        bytes = turned_came p.alters p.pieces p.sent m alters (record { at = piece; item = m; there = is; holds = refl }) (part_of p.sent m) (part_is_honest p.sent m right);
+        mapping = by_mapping mapped;
+        piece = by_piece mapped;
+      });
+      within = h.bytes.within;
+      came = h.bytes.came;
+      right = h.bytes.right;
+      learned = h.bytes.learned;
+      acked = h.bytes.acked;
+    };
+    link = h.link;
+    passed = h.passed;
+    pairs = h.pairs;
+    ends = h.ends;
+    fins = h.fins;
+    heard = h.heard;
+    receiver = h.receiver;
+    ask = h.ask;
+  }) h
+    where
+      right : IsRight p.sent m
+      right = h.bytes.granted.each piece m is
+
+      by_mapping : (mapped : Bool) → IfSome (if mapped then Some m else None) (IsRight p.sent)
+      by_mapping true = right
+      by_mapping false = tt
+
+      by_piece : (mapped : Bool) → IfSome (if mapped then Some m else None) (IsPiece p.pieces)
+      by_piece true = record { at = piece; item = m; there = is; holds = refl }
+      by_piece false = tt
+
+  pub forget_held : (from : ℕ) (p : Lane) → LaneHolds v path p → LaneHolds v path (record p { kept = take (from - p.edge) p.kept })
+  forget_held from p h = record {
+    record_of = h.record_of;
+    alone = h.alone;
+    modes = h.modes;
+    bytes = record {
+      granted = h.bytes.granted;
+      apart = h.bytes.apart;
+      honest = h.bytes.honest;
+      within = h.bytes.within;
+      came = Cells-take (from - p.edge) h.bytes.came;
+      right = h.bytes.right;
+      learned = h.bytes.learned;
+      acked = h.bytes.acked;
+    };
+    link = h.link;
+    passed = h.passed;
+    pairs = h.pairs;
+    ends = h.ends;
+    fins = h.fins;
+    heard = h.heard;
+    receiver = h.receiver;
+    ask = h.ask;
+  }
+
   pub send_data_fin_held : (o : Option ℕ) (p : Lane) → p.known_end ≡ o → LaneHolds v path p → LaneHolds v path (record p { data_fins = p.data_fins ++ known o })
   send_data_fin_held o p is h = record {
     record_of = h.record_of;
     alone = h.alone;
     modes = h.modes;
     bytes = h.bytes;
+    link = h.link;
+    passed = h.passed;
+    pairs = h.pairs;
     ends = record { told = h.ends.told; named = Every-append h.ends.named (names o (subst (λ k. IfSome k (IsEnd v.end)) is h.ends.told)) };
     fins = h.fins;
     heard = h.heard;
@@ -168,12 +267,17 @@ module _ (v : View) (path : ℕ) where
     modes = h.modes;
     bytes = record {
       granted = h.bytes.granted;
+      apart = h.bytes.apart;
       honest = h.bytes.honest;
       within = h.bytes.within;
       came = Cells-merged h.bytes.came (Cells-by_place p.edge (From-take count (h.bytes.honest.each copy d is).bytes));
       right = h.bytes.right;
+      learned = h.bytes.learned;
       acked = h.bytes.acked;
     };
+    link = h.link;
+    passed = h.passed;
+    pairs = h.pairs;
     ends = h.ends;
     fins = h.fins;
     heard = h.heard;
@@ -183,11 +287,11 @@ module _ (v : View) (path : ℕ) where
 
   pub learn_held : (o : Option DataCopy) (copy : ℕ) (p : Lane) → slice_get p.datas copy ≡ o → LaneHolds v path p → LaneHolds v path (learns o p)
   learn_held None copy p is h = h
-  learn_held (Some d) copy p is h = by_mapping d.mapping (h.bytes.honest.each copy d is).mapping
+  learn_held (Some d) copy p is h = by_mapping d.mapping (h.bytes.honest.each copy d is).mapping (h.bytes.honest.each copy d is).piece
     where
-      by_mapping : (o : Option Mapping) → IfSome o (IsRight p.sent) → LaneHolds v path (learns_mapping o p)
-      by_mapping None right = h
-      by_mapping (Some m) right = by_clash (clashes m p.maps)
+      by_mapping : (o : Option Mapping) → IfSome o (IsRight p.sent) → IfSome o (IsPiece p.pieces) → LaneHolds v path (learns_mapping o p)
+      by_mapping None right piece = h
+      by_mapping (Some m) right piece = by_clash (clashes m p.maps)
         where
           by_clash : (c : Bool) → LaneHolds v path (if c then p else record p { maps = p.maps ++ m ∷ [] })
           by_clash true = h
@@ -197,12 +301,17 @@ module _ (v : View) (path : ℕ) where
             modes = h.modes;
             bytes = record {
               granted = h.bytes.granted;
+              apart = h.bytes.apart;
               honest = h.bytes.honest;
               within = h.bytes.within;
               came = h.bytes.came;
               right = Every-push m h.bytes.right right;
+              learned = Every-push m h.bytes.learned piece;
               acked = h.bytes.acked;
             };
+            link = h.link;
+            passed = h.passed;
+            pairs = h.pairs;
             ends = h.ends;
             fins = h.fins;
             heard = h.heard;
@@ -223,6 +332,9 @@ module _ (v : View) (path : ℕ) where
         alone = h.alone;
         modes = h.modes;
         bytes = h.bytes;
+        link = h.link;
+        passed = record { bytes = h.passed.bytes; fin = λ _. let fin = h.fins.each copy pos is in (sym at ∙ fin.last, fin.left); copies = h.passed.copies };
+        pairs = h.pairs;
         ends = h.ends;
         fins = h.fins;
         heard = h.heard;

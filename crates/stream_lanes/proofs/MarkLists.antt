@@ -1,6 +1,6 @@
 -- Lists of marks: which bytes are spent, which are acknowledged, which are new, under what the calls of a send book do.
 use Rattle.std.proofs.Common.{◌≡◌, refl, sym, ◌∙◌, ap, subst, ℕ, zero, suc, ◌+◌, ◌-◌, ◌<◌, ◌≤◌, min, max, Bool, true, false, not, cond, nat_lt, ◌==◌, ⊎_elim, List, [], ◌∷◌, ◌++◌, length, get_or, take, drop, map, replicate, Option, Some, None, Result, Ok, Err, position, if◌then◌else◌, arith, ◌⊎◌}
-use Rattle.std.proofs.lemmas.Bool.{cases_lt, both_ways, ltb-true}
+use Rattle.std.proofs.lemmas.Bool.{cases_lt, both_ways, ltb-true, eqb-true}
 use Rattle.std.proofs.lemmas.List.{length-take, length-drop, map-append, take-append-drop, drop-drop, length-replicate}
 use Rattle.std.proofs.lemmas.List.Sums.{sum_by-append, sum_by-cons, fails_before_first, passes_at_first}
 use Rattle.std.proofs.lemmas.Option.{slice_get_within, get_or_from_slice_get, slice_get-map}
@@ -10,8 +10,8 @@ use Rattle.send_book.specs.declared.call.Why.{Why}
 use Rattle.send_book.specs.declared.call.Why.TheVariants.{Ended, Backup, WindowShut}
 use Rattle.send_book.specs.declared.mark.ByteMark.{ByteMark}
 use Rattle.send_book.specs.declared.mark.ByteMark.TheVariants.{Acked, Held, Free}
-use Rattle.send_book.specs.Tried.{no_paths, contains, insert}
-use Rattle.send_book.specs.Marks.{is_acked, is_free_for, given, returned, has_tried, is_held_rightly}
+use Rattle.send_book.specs.Tried.{no_paths, contains, has_none, insert}
+use Rattle.send_book.specs.Marks.{is_acked, is_free_for, given, returned, has_tried, is_untouched, is_held_rightly}
 use Rattle.send_book.specs.State.{Sending, acked_len}
 use Rattle.send_book.specs.Steps.{change_part, decision, first_free, is_for, span_at, run_len}
 use Rattle.send_book.proofs.Lists.{slice_get-changed_above, slice_get-changed_inside, slice_get-append_left, slice_get-append_right, slice_get-changed_below}
@@ -23,6 +23,33 @@ use Rattle.stream_lanes.specs.Words.{Every}
 use Rattle.send_book.proofs.PathSets.{contains-insert}
 use Rattle.std.specs.Option.{option_map}
 use Rattle.std.specs.Prelude.{slice_index_or}
+
+-- a byte as it was written: no path has tried it, each may take it, and it isn't acknowledged
+none_contains : (path : ℕ) (paths : List Bool) → has_none paths ≡ true → contains path paths ≡ false
+none_contains path [] e = refl
+none_contains path (true ∷ paths) e = cc
+none_contains zero (false ∷ paths) e = refl
+none_contains (suc path) (false ∷ paths) e = none_contains path paths e
+
+pub untouched_unspent : (path : ℕ) (m : ByteMark) → is_untouched m ≡ true → spent path (Some m) ≡ false
+untouched_unspent path Acked e = cc
+untouched_unspent path (Held holder tried) e = cc
+untouched_unspent path (Free tried) e = none_contains path tried e
+
+untouched_free : (path : ℕ) (m : ByteMark) → is_untouched m ≡ true → is_free_for path m ≡ true
+untouched_free path Acked e = cc
+untouched_free path (Held holder tried) e = cc
+untouched_free path (Free tried) e = ap not (none_contains path tried e)
+
+returned_untouched : (path : ℕ) (m : ByteMark) → is_untouched m ≡ true → is_untouched (returned path m) ≡ true
+returned_untouched path Acked e = cc
+returned_untouched path (Held holder tried) e = cc
+returned_untouched path (Free tried) e = e
+
+acked_touched : (m : ByteMark) → is_acked m ≡ true → is_untouched m ≡ true → ⊥
+acked_touched Acked e new = cc
+acked_touched (Held holder tried) e new = cc
+acked_touched (Free tried) e new = cc
 
 -- where each spent byte stays spent, as many are spent at least
 pub count_grows : (path : ℕ) (ms ns : List ByteMark)
@@ -205,13 +232,13 @@ AreAcked-acked (suc n) (suc next) (suc c) (suc k) (m ∷ ms) c_is k_is h =
 pub AreNew-written : (n count : ℕ) (ms : List ByteMark) → AreNew n ms → AreNew n (ms ++ replicate count (Free no_paths))
 AreNew-written n count ms h place mark above e = ⊎_elim
     (λ left. h place mark above left)
-    (λ right. sym (in_replicate count (Free no_paths) (place - length ms) mark right.1))
+    (λ right. ap is_untouched (sym (in_replicate count (Free no_paths) (place - length ms) mark right.1)))
     (in_append ms (replicate count (Free no_paths)) place mark e)
 
 pub AreNew-returned : (path n : ℕ) (ms : List ByteMark) → AreNew n ms → AreNew n (map (returned path) ms)
 AreNew-returned path n ms h place mark above e =
     let old = in_map (returned path) ms place mark e in
-    sym old.2 ∙ ap (returned path) (h place old.0 above old.1)
+    ap is_untouched (sym old.2) ∙ returned_untouched path old.0 (h place old.0 above old.1)
 
 pub AreNew-acked : (n next c : ℕ) (ms : List ByteMark) → c ≡ min next (length ms) → ((place : ℕ) → n ≤ place → place < length ms → next ≤ place)
     → AreNew n ms → AreNew n (replicate c Acked ++ drop next ms)
@@ -258,6 +285,19 @@ grant_first path max standby b span e =
         let first : position (is_free_for path) b.marks ≡ Some from = owned (is_for path b.owner) from is in
         first ∙ ap Some (begins from _ h)
 
+-- a book that was given to a path alone grants to it alone
+pub grant_owner : (path k max : ℕ) (standby : Bool) (b : Sending) (span : Span) → decision path max standby b ≡ Ok span → b.owner ≡ Some k → k ≡ path
+grant_owner path k max standby b span e owned =
+    at (first_free path b) refl (passed standby Backup _ span (passed _ Ended _ span e))
+  where
+    mine : (o : Bool) → is_for path b.owner ≡ o → (from : ℕ) → (if o then position (is_free_for path) b.marks else None) ≡ Some from → k ≡ path
+    mine true is from h = eqb-true k path (sym (ap (is_for path) owned) ∙ is)
+    mine false is from h = cc
+
+    at : (o : Option ℕ) → first_free path b ≡ o → span_at path max b o ≡ Ok span → k ≡ path
+    at None is h = cc
+    at (Some from) is h = mine (is_for path b.owner) refl from is
+
 -- a place that passes is one of the list
 pub position_within : {X : Type 0} (test : X → Bool) (xs : List X) (from : ℕ) → position test xs ≡ Some from → from < length xs
 position_within test xs from e = at (nat_lt (position_or_len test xs) (length xs)) refl e
@@ -268,8 +308,8 @@ position_within test xs from e = at (nat_lt (position_or_len test xs) (length xs
 
 -- where the bytes below n are spent and the others new, that is byte n
 pub grant_is_next : (path n from : ℕ) (ms : List ByteMark) → position (is_free_for path) ms ≡ Some from
-    → ((place : ℕ) → place < n → spent path (slice_get ms place) ≡ true) → AreNew n ms → from < length ms → contains path no_paths ≡ false → from ≡ n
-grant_is_next path n from ms e below new within none = ⊎_elim early (λ not_early. ⊎_elim late (λ not_late. omega (arith, not_early, not_late)) (cases_lt n from)) (cases_lt from n)
+    → ((place : ℕ) → place < n → spent path (slice_get ms place) ≡ true) → AreNew n ms → from < length ms → from ≡ n
+grant_is_next path n from ms e below new within = ⊎_elim early (λ not_early. ⊎_elim late (λ not_late. omega (arith, not_early, not_late)) (cases_lt n from)) (cases_lt from n)
   where
     found : (b : Bool) → nat_lt (position_or_len (is_free_for path) ms) (length ms) ≡ b
         → cond b (Some (position_or_len (is_free_for path) ms)) None ≡ Some from
@@ -292,11 +332,10 @@ grant_is_next path n from ms e below new within none = ⊎_elim early (λ not_ea
     late : n < from → from ≡ n
     late more =
         let there = item_at ms n (omega (arith, more, within)) in
-        let is_new : there.0 ≡ Free no_paths = new n there.0 (omega arith) there.1 in
         let fails : is_free_for path (get_or ms n there.0) ≡ false = fails_before_first (is_free_for path) ms n there.0 (omega (arith, more, first.0)) in
         let same : get_or ms n there.0 ≡ there.0 = get_or_from_slice_get ms n there.0 there.0 there.1 in
-        let free : is_free_for path (Free no_paths) ≡ true = ap not none in
-        absurd (both_ways _ (sym (ap (is_free_for path) (same ∙ is_new)) ∙ fails) free)
+        let free : is_free_for path there.0 ≡ true = untouched_free path there.0 (new n there.0 (omega arith) there.1) in
+        absurd (both_ways _ (sym (ap (is_free_for path) same) ∙ fails) free)
 
 -- what is acknowledged is spent for every path
 pub acked_spent : (path n : ℕ) (ms : List ByteMark) → AreAcked n ms → n ≤ spent_count path ms
@@ -311,13 +350,53 @@ acked_spent path (suc n) (m ∷ ms) h =
     is_spent (Free tried) e = cc
 
 -- a byte among the acknowledged ones is not new
-pub acked_is_spent : (n place : ℕ) (ms : List ByteMark) (m : ByteMark) → AreAcked n ms → place < n → slice_get ms place ≡ Some m → m ≡ Free no_paths → ⊥
+pub acked_is_spent : (n place : ℕ) (ms : List ByteMark) (m : ByteMark) → AreAcked n ms → place < n → slice_get ms place ≡ Some m → is_untouched m ≡ true → ⊥
 acked_is_spent n place [] m h below e new = cc
 acked_is_spent zero place (x ∷ ms) m h below e new = absurd (omega (arith, below))
 acked_is_spent (suc n) zero (x ∷ ms) m h below e new =
-    let same : x ≡ Free no_paths = (let s : x ≡ m = cc in s ∙ new) in
-    both_ways _ (ap is_acked same) h.0
+    let same : m ≡ x = cc in acked_touched x h.0 (ap is_untouched (sym same) ∙ new)
 acked_is_spent (suc n) (suc place) (x ∷ ms) m h below e new = acked_is_spent n place ms m h.1 (omega (arith, below)) e new
+
+-- no more are spent than stand before the new ones, and all that stand before a place are, where each of them is
+pub new_count : (path n : ℕ) (ms : List ByteMark) → AreNew n ms → spent_count path ms ≤ n
+new_count path n [] new = omega arith
+new_count path zero (m ∷ ms) new =
+    omega (
+      arith,
+      sum_by-cons (λ (x : ByteMark). cond (spent path (Some x)) 1 0) m ms,
+      ap (λ b. cond {A = ℕ} b 1 0) (untouched_unspent path m (new 0 m (omega arith) refl)),
+      new_count path 0 ms (λ place mark above e. new (suc place) mark (omega arith) e),
+    )
+new_count path (suc n) (m ∷ ms) new =
+    omega (
+      arith,
+      sum_by-cons (λ (x : ByteMark). cond (spent path (Some x)) 1 0) m ms,
+      at (spent path (Some m)),
+      new_count path n ms (λ place mark above e. new (suc place) mark (omega (arith, above)) e),
+    )
+  where
+    at : (b : Bool) → cond {A = ℕ} b 1 0 ≤ 1
+    at true = omega arith
+    at false = omega arith
+
+pub spent_upto : (path n : ℕ) (ms : List ByteMark) → ((place : ℕ) → place < n → spent path (slice_get ms place) ≡ true) → n ≤ spent_count path ms
+spent_upto path zero ms each = omega arith
+spent_upto path (suc n) [] each = absurd (both_ways false refl (each 0 (omega arith)))
+spent_upto path (suc n) (m ∷ ms) each =
+    omega (
+      arith,
+      sum_by-cons (λ (x : ByteMark). cond (spent path (Some x)) 1 0) m ms,
+      ap (λ b. cond {A = ℕ} b 1 0) (each 0 (omega arith)),
+      spent_upto path n ms (λ place below. each (suc place) (omega (arith, below))),
+    )
+
+-- a spent byte stands before the new ones
+pub spent_below : (path n place : ℕ) (ms : List ByteMark) → AreNew n ms → spent path (slice_get ms place) ≡ true → place < n
+spent_below path n place ms new e = ⊎_elim (λ below. below) (λ above. absurd (at (slice_get ms place) refl above e)) (cases_lt place n)
+  where
+    at : (o : Option ByteMark) → slice_get ms place ≡ o → n ≤ place → spent path o ≡ true → ⊥
+    at None there above e = cc
+    at (Some mark) there above e = both_ways _ (untouched_unspent path mark (new place mark above there)) e
 
 -- which bytes a path has tried, under what the calls do
 none_in : (n path : ℕ) → slice_index_or (replicate n false) path false ≡ false

@@ -5,12 +5,13 @@ use Rattle.stream_lanes.specs.Lane.{Lane}
 use Rattle.stream_lanes.specs.Lane.Ask.{AskGrant, AskAckOut}
 use Rattle.std.specs.List.{slice_get}
 use Rattle.stream_lanes.specs.Moves.{Flags, Move, moved}
-use Rattle.stream_lanes.specs.Moves.Move.{Open, LookAtSender, LookAtReceiver, WantGrant, HearAck, SendPiece, SendDataFin, SendFin, Hear, Learn, HearDataFin, HearFin, WantPlace, WantPlacePlain, WantFin, WantAckOut, SendAck}
+use Rattle.stream_lanes.specs.Moves.Move.{Open, LookAtSender, LookAtReceiver, WantGrant, HearAck, HearSubAck, SendPiece, SendAltered, SendDataFin, SendFin, SendPair, SendPlainPair, SendFinPair, Hear, Learn, HearDataFin, HearFin, Forget, WantPlace, WantPlacePlain, WantFin, TakePair, WantPlacePair, WantFinPair, WantAckOut, SendAck}
 use Rattle.stream_lanes.specs.View.{View}
 use Rattle.stream_lanes.specs.Holding.{LaneHolds}
-use Rattle.stream_lanes.proofs.Local.{ViewFits, FlagsFit, held_if, with_ask, open_held, look_at_sender_held, look_at_receiver_held, hear_ack_held, send_piece_held, send_data_fin_held, hear_held, learn_held, hear_data_fin_held, hear_fin_held}
-use Rattle.stream_lanes.proofs.Placing.{want_place_held, want_place_plain_held}
+use Rattle.stream_lanes.proofs.Local.{ViewFits, FlagsFit, held_if, with_ask, open_held, look_at_sender_held, look_at_receiver_held, hear_ack_held, send_piece_held, send_altered_held, forget_held, send_data_fin_held, hear_held, learn_held, hear_data_fin_held, hear_fin_held}
+use Rattle.stream_lanes.proofs.Placing.{want_place_held, want_place_plain_held, want_place_pair_held}
 use Rattle.stream_lanes.proofs.Ending.{send_fin_held, want_fin_held, send_ack_held}
+use Rattle.stream_lanes.proofs.Endless.{hear_sub_held, send_pair_held, send_plain_pair_held, send_fin_pair_held, take_pair_held, want_fin_pair_held}
 
 pub moved_held : (f : Flags) (v : View) (path : ℕ) (move : Move) (p : Lane) → ViewFits v → FlagsFit f v → LaneHolds v path p → LaneHolds v path (moved f path move p)
 moved_held f v path Open p fits flags h = open_held v path f p flags h
@@ -21,15 +22,24 @@ moved_held f v path (WantGrant max standby) p fits flags h =
     let both = and_parts p.opened (nat_lt 0 max) may in
     with_ask v path p (AskGrant max standby) (both.0, ltb-true 0 max both.1) h) h
 moved_held f v path (HearAck copy) p fits flags h = hear_ack_held v path (slice_get p.acks copy) copy p fits refl h
+moved_held f v path (HearSubAck copy) p fits flags h = hear_sub_held v path fits (slice_get p.acks copy) p.pair copy p refl refl h
 moved_held f v path (SendPiece piece mapped) p fits flags h = send_piece_held v path mapped (slice_get p.pieces piece) piece p refl h
+moved_held f v path (SendAltered piece mapped) p fits flags h = send_altered_held v path mapped (slice_get p.pieces piece) piece p refl h
 moved_held f v path SendDataFin p fits flags h = send_data_fin_held v path p.known_end p refl h
 moved_held f v path SendFin p fits flags h = send_fin_held v path fits p h
+moved_held f v path (SendPair shift) p fits flags h = send_pair_held v path fits shift p.pair p refl h
+moved_held f v path (SendPlainPair pos) p fits flags h = send_plain_pair_held v path fits pos p h
+moved_held f v path SendFinPair p fits flags h = send_fin_pair_held v path fits p.pair p refl h
 moved_held f v path (Hear copy count) p fits flags h = hear_held v path count (slice_get p.datas copy) copy p refl h
 moved_held f v path (Learn copy) p fits flags h = learn_held v path (slice_get p.datas copy) copy p refl h
 moved_held f v path (HearDataFin copy) p fits flags h = hear_data_fin_held v path (slice_get p.data_fins copy) copy p refl h
 moved_held f v path (HearFin copy) p fits flags h = hear_fin_held v path (slice_get p.fins copy) copy p refl h
+moved_held f v path (Forget from) p fits flags h = forget_held v path from p h
 moved_held f v path (WantPlace mapping count) p fits flags h = want_place_held v path p h count (slice_get p.maps mapping) mapping refl
 moved_held f v path (WantPlacePlain count) p fits flags h = want_place_plain_held v path p h count fits
 moved_held f v path WantFin p fits flags h = want_fin_held v path fits p h
+moved_held f v path (TakePair copy) p fits flags h = take_pair_held v path fits (slice_get p.pairs copy) copy p refl h
+moved_held f v path (WantPlacePair count) p fits flags h = want_place_pair_held v path p h count p.taken refl
+moved_held f v path WantFinPair p fits flags h = want_fin_pair_held v path fits p.taken p refl h
 moved_held f v path WantAckOut p fits flags h = with_ask v path p AskAckOut tt h
 moved_held f v path (SendAck next window sub) p fits flags h = send_ack_held v path fits next window sub p h

@@ -1,5 +1,5 @@
 -- Each event is on each pipe one step or none.
-use Rattle.std.proofs.Common.{◌≡◌, refl, sym, ◌∙◌, ap, subst, ℕ, ◌+◌, ◌≤◌, min, max, Bool, true, false, ◌&&◌, ◌||◌, ◌==◌, nat_lt, if◌then◌else◌, is_some, List, [], ◌∷◌, ◌++◌, length, take, drop, map, replicate, Option, Some, None, Result, Ok, Err, arith}
+use Rattle.std.proofs.Common.{◌≡◌, refl, sym, ◌∙◌, ap, subst, ℕ, ◌+◌, ◌≤◌, min, max, Bool, true, false, ◌&&◌, ◌||◌, ◌==◌, nat_lt, if◌then◌else◌, is_some, List, [], ◌∷◌, ◌++◌, length, take, drop, map, replicate, set, Option, Some, None, Result, Ok, Err, arith}
 use Rattle.std.proofs.lemmas.Bool.{or_parts, and_from, eqb-true, eq-eqb, le-ltb, or_from}
 use Rattle.std.proofs.lemmas.List.{length-take}
 use Rattle.std.specs.List.{slice_get}
@@ -14,7 +14,8 @@ use Rattle.send_book.specs.declared.mark.ByteMark.TheVariants.{Acked, Free}
 use Rattle.send_book.specs.Tried.{no_paths}
 use Rattle.send_book.specs.Marks.{returned, given}
 use Rattle.send_book.specs.State.{acked_len}
-use Rattle.send_book.specs.Steps.{bytes_taken, is_future, fin_after, is_gathered, decision, given_by, change_part}
+use Rattle.send_book.specs.declared.call.SendCall.TheVariants.{GoIdentity as GoIdentityBook, GoInfinite as GoInfiniteBook}
+use Rattle.send_book.specs.Steps.{after_call as after_send, bytes_taken, is_future, fin_after, is_gathered, decision, given_by, change_part}
 use Rattle.send_book.proofs.Decisions.{decision-MayTake}
 use Rattle.reassembly_book.specs.declared.call.ReassemblyReply.TheVariants.{End, NoneYet}
 use Rattle.reassembly_book.specs.State.{filled, received}
@@ -22,7 +23,7 @@ use Rattle.reassembly_book.specs.Steps.{is_taken, places_after, fin_clash, is_en
 use Rattle.stream_lanes.specs.Lane.{Ask, Lane}
 use Rattle.stream_lanes.specs.Lane.Ask.{Nothing, AskGrant, AskAckIn, AskPlace, AskFin, AskAckOut}
 use Rattle.stream_lanes.specs.Moves.{Flags, Move}
-use Rattle.stream_lanes.specs.Streams.{Direction, StreamEvent, after, asks, asks_at, moves, reads, is_done, takes_read}
+use Rattle.stream_lanes.specs.Streams.{Direction, StreamEvent, after, asks, asks_at, moves, reads, is_done, takes_read, with_send, goes_infinite, may_go}
 use Rattle.stream_lanes.specs.Streams.StreamEvent.{Write, Close, Return, GoIdentity, GoInfinite, AbortSend, Read, AbortRead, Moves, Asks}
 use Rattle.stream_lanes.specs.View.{view_of, end_of, IsEnd}
 use Rattle.stream_lanes.specs.Holding.{AskHolds, IsAck, DirectionHolds}
@@ -96,9 +97,24 @@ module _ (f : Flags) (d : Direction) (h : DirectionHolds f d) where
   return_moves path = stays (same_acked (pipe_of d) (acked_len (map (returned path) d.send.marks))
       (AreAcked-count (acked_len d.send.marks) _ (AreAcked-returned path (acked_len d.send.marks) d.send.marks h.send.first)))
 
-  infinite_moves : (path : ℕ) (gathered : Bool) → IsOneStepOrNone d (record d { send = if gathered then record d.send { owner = Some path } else d.send })
-  infinite_moves path true = stays refl
-  infinite_moves path false = stays refl
+  identity_moves : (fell : Bool) → IsOneStepOrNone d (if fell then with_send GoIdentityBook d else d)
+  identity_moves true = stays refl
+  identity_moves false = stays refl
+
+  gives_moves : (path : ℕ) (lanes : List Lane) (gathered : Bool) → IsOneStepOrNone d (record d { send = if gathered then record d.send { owner = Some path } else d.send; lanes = lanes })
+  gives_moves path lanes true = stays refl
+  gives_moves path lanes false = stays refl
+
+  infinite_moves : (path pos : ℕ) (o : Option Lane) → IsOneStepOrNone d (goes_infinite path pos o d)
+  infinite_moves path pos None = stays refl
+  infinite_moves path pos (Some p) = by_may (may_go path pos d.send p)
+    where
+      lanes : List Lane
+      lanes = set d.lanes path (record p { pair = Some (record { pos = pos; place = acked_len d.send.marks }) })
+
+      by_may : (may : Bool) → IsOneStepOrNone d (if may then record d { send = after_send d.send (GoInfiniteBook path); lanes = lanes } else d)
+      by_may true = gives_moves path lanes (is_gathered path d.send)
+      by_may false = stays refl
 
   grant_moves : (path max : ℕ) (standby : Bool) (lanes : List Lane) (r : Result Span Why) → decision path max standby d.send ≡ r
       → IsOneStepOrNone d (record d { send = given_by path r d.send; lanes = lanes })
@@ -211,8 +227,8 @@ module _ (f : Flags) (d : Direction) (h : DirectionHolds f d) where
   event_moves (Write bytes) = write_moves bytes (d.send.closed || d.send.aborted) refl
   event_moves Close = close_moves d.send.aborted
   event_moves (Return path) = return_moves path
-  event_moves GoIdentity = stays refl
-  event_moves (GoInfinite path) = infinite_moves path (is_gathered path d.send)
+  event_moves GoIdentity = identity_moves f.sender
+  event_moves (GoInfinite path pos) = infinite_moves path pos (slice_get d.lanes path)
   event_moves AbortSend = stays refl
   event_moves (Read max) = read_at_moves max (is_done d.reader) refl
   event_moves (AbortRead by_peer) = stays refl

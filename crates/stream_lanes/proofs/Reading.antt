@@ -1,7 +1,7 @@
 -- What a read makes of a reassembly book, of its view and of its reader.
 use Rattle.std.proofs.Common.{◌≡◌, refl, sym, ◌∙◌, ap, subst, ℕ, ◌+◌, ◌-◌, ◌<◌, ◌≤◌, min, Bool, true, false, if◌then◌else◌, is_some, ⊎_elim, List, [], ◌∷◌, ◌++◌, length, take, drop, Option, Some, None, arith}
 use Rattle.std.proofs.lemmas.Bool.{cases_lt, eqb-true, or_parts, false≢true}
-use Rattle.std.proofs.lemmas.List.{append-nil, length-drop, length-take, take_min}
+use Rattle.std.proofs.lemmas.List.{append-nil, length-append, length-drop, length-take, take_min}
 use Rattle.std.proofs.Math.Seq.{take-add}
 use Rattle.std.specs.Option.{IfSome}
 use Rattle.send_book.specs.State.{Sending}
@@ -12,7 +12,9 @@ use Rattle.reassembly_book.specs.Steps.{after_call, reply_to, is_end, bytes_repl
 use Rattle.stream_lanes.specs.Words.{From}
 use Rattle.stream_lanes.specs.Moves.{Flags}
 use Rattle.stream_lanes.specs.Streams.{Reader, takes_read, is_done}
-use Rattle.stream_lanes.specs.View.{view_of, IsEnd}
+use Rattle.stream_lanes.specs.View.{view_of, IsEnd, IsPlaced}
+use Rattle.stream_lanes.specs.View.IsPlaced.{was_read, stands}
+use Rattle.send_book.proofs.Lists.{slice_get-drop}
 use Rattle.stream_lanes.specs.Holding.{SendHolds, IsSent, ArrivedHolds, ReaderHolds}
 use Rattle.stream_lanes.proofs.Lists.{Cells-map, Cells-drop, From-map, item_at}
 use Rattle.stream_lanes.proofs.Bytes.{From-filled}
@@ -28,18 +30,18 @@ module _ (granted : ℕ → Type 0) (f : Flags) (s : Sending) (b : Arriving) (se
   left : min max (length (filled b.places)) + length (filled (drop (min max (length (filled b.places))) b.places)) ≡ length (filled b.places)
   left = filled_left (min max (length (filled b.places))) b.places (omega arith)
 
-  next_bytes : take (b.read + min max (length (filled b.places))) s.written ≡ take b.read s.written ++ take max (filled b.places)
-  next_bytes =
+  next_bytes : (view_of f s b).exact ≡ true → take (b.read + min max (length (filled b.places))) s.written ≡ take b.read s.written ++ take max (filled b.places)
+  next_bytes exact =
       let n : ℕ = min max (length (filled b.places)) in
       take-add b.read n s.written
       ∙ ap (λ ys. take b.read s.written ++ ys)
-      (row_is s.written b.read (filled b.places) n (omega arith) (From-map (λ place x sent. sent.written) row) ∙ take_min max (filled b.places))
+      (row_is s.written b.read (filled b.places) n (omega arith) (From-map (λ place x sent. sent.written exact) row) ∙ take_min max (filled b.places))
 
   -- the book after a read, whatever the reader makes of it
   read_with : (q : Reader) → ReaderHolds (view_of f s (after_reading max b)) (after_reading max b) q → ReceiveStep granted f s b (after_reading max b) q
   read_with q reader = record {
     later = later;
-    send = sends_on f s b (after_reading max b) (omega arith) (omega (arith, left)) now send;
+    send = sends_on f s b (after_reading max b) (omega arith) (omega (arith, left)) now stays send;
     arrived = record {
       top = omega (arith, arrived.top, length-drop (min max (length (filled b.places))) b.places, filled_within b.places);
       cells = Cells-drop (min max (length (filled b.places))) (Cells-map (sent_later later (λ place is. is)) arrived.cells);
@@ -52,8 +54,17 @@ module _ (granted : ℕ → Type 0) (f : Flags) (s : Sending) (b : Arriving) (se
       now : received (after_reading max b) ≤ length s.written
       now = omega (arith, left, received_written (view_of f s b) b arrived)
 
+      -- what was placed is there, or was read
+      stays : (place : ℕ) → IsPlaced b.read b.places place → IsPlaced (b.read + min max (length (filled b.places))) (drop (min max (length (filled b.places))) b.places) place
+      stays place (was_read below) = was_read (omega (arith, below))
+      stays place (stands i byte is e) = ⊎_elim
+          (λ old. was_read (omega (arith, old, is)))
+          (λ new. stands (i - min max (length (filled b.places))) byte (omega (arith, new, is))
+          (slice_get-drop (min max (length (filled b.places))) b.places (i - min max (length (filled b.places))) i (omega (arith, new)) ∙ e))
+          (cases_lt i (min max (length (filled b.places))))
+
       later : Later Anyone (view_of f s b) (view_of f s (after_reading max b))
-      later = went_on f s b (after_reading max b) (omega arith) (omega (arith, left)) now
+      later = went_on f s b (after_reading max b) (omega arith) (omega (arith, left)) now stays
 
       came : (place : ℕ) → b.read ≤ place → place < b.read + min max (length (filled b.places)) → granted place
       came place new below =
@@ -80,12 +91,14 @@ module _ (granted : ℕ → Type 0) (f : Flags) (s : Sending) (b : Arriving) (se
       by_end : (c : Bool) → is_end b.known_end b.read ≡ c → take max (filled b.places) ≡ []
           → ReceiveStep granted f s b (after_reading max b) (takes_read (if c then End else NoneYet) r)
       by_end true is none = read_with (record r { told = true }) (record {
-        out = reader.out ∙ sym (append-nil (take b.read s.written)) ∙ ap (λ ys. take b.read s.written ++ ys) (sym none) ∙ sym next_bytes;
+        size = omega (arith, reader.size, none_read none);
+        out = λ exact. reader.out exact ∙ sym (append-nil (take b.read s.written)) ∙ ap (λ ys. take b.read s.written ++ ys) (sym none) ∙ sym (next_bytes exact);
         told = λ _. subst (IsEnd (view_of f s b).end) (omega (arith, none_read none)) (end_at b.known_end arrived.end is);
         once = λ stopped. absurd (false≢true (sym running ∙ stopped));
       })
       by_end false is none = read_with r (record {
-        out = reader.out ∙ sym (append-nil (take b.read s.written)) ∙ ap (λ ys. take b.read s.written ++ ys) (sym none) ∙ sym next_bytes;
+        size = omega (arith, reader.size, none_read none);
+        out = λ exact. reader.out exact ∙ sym (append-nil (take b.read s.written)) ∙ ap (λ ys. take b.read s.written ++ ys) (sym none) ∙ sym (next_bytes exact);
         told = λ told. absurd (false≢true (sym untold ∙ told));
         once = reader.once;
       })
@@ -93,7 +106,8 @@ module _ (granted : ℕ → Type 0) (f : Flags) (s : Sending) (b : Arriving) (se
       by_bytes : (bytes : List ℕ) → take max (filled b.places) ≡ bytes → ReceiveStep granted f s b (after_reading max b) (takes_read (bytes_reply bytes b) r)
       by_bytes [] is = by_end (is_end b.known_end b.read) refl is
       by_bytes (x ∷ bytes) is = read_with (record r { out = r.out ++ x ∷ bytes }) (record {
-        out = ap (λ ys. r.out ++ ys) (sym is) ∙ ap (λ ys. ys ++ take max (filled b.places)) reader.out ∙ sym next_bytes;
+        size = omega (arith, length-append r.out (x ∷ bytes), reader.size, length-take max (filled b.places), ap length is);
+        out = λ exact. ap (λ ys. r.out ++ ys) (sym is) ∙ ap (λ ys. ys ++ take max (filled b.places)) (reader.out exact) ∙ sym (next_bytes exact);
         told = λ told. absurd (false≢true (sym untold ∙ told));
         once = reader.once;
       })
@@ -101,4 +115,4 @@ module _ (granted : ℕ → Type 0) (f : Flags) (s : Sending) (b : Arriving) (se
       by_abort : (o : Option Bool) → ReceiveStep granted f s b (if is_some o then b else after_reading max b) (takes_read (reading o max b) r)
       by_abort None = by_bytes (take max (filled b.places)) refl
       by_abort (Some by_peer) = same_step granted f s b send arrived (record r { stopped = true })
-          (record { out = reader.out; told = reader.told; once = λ _. untold })
+          (record { size = reader.size; out = reader.out; told = reader.told; once = λ _. untold })

@@ -10,7 +10,7 @@ use Rattle.send_book.specs.State.{Sending, acked_len}
 use Rattle.send_book.specs.Steps.{is_future, fin_after}
 use Rattle.reassembly_book.specs.declared.call.ReassemblyReply.TheVariants.{Beyond}
 use Rattle.reassembly_book.specs.State.{Arriving, received}
-use Rattle.reassembly_book.specs.Steps.{edge, clash, placed_reply, fin_reply_by}
+use Rattle.reassembly_book.specs.Steps.{edge, clash, reaches_past, placed_reply, fin_reply_by}
 use Rattle.stream_lanes.specs.Words.{From}
 use Rattle.stream_lanes.specs.Lane.{Cell, Mapping, DataCopy, Ask, Lane}
 use Rattle.stream_lanes.specs.Lane.Ask.{Nothing, AskGrant, AskAckIn, AskPlace, AskFin, AskAckOut}
@@ -20,7 +20,7 @@ use Rattle.stream_lanes.specs.Streams.{Direction, StreamEvent}
 use Rattle.stream_lanes.specs.Streams.StreamEvent.{Moves, Asks}
 use Rattle.stream_lanes.specs.View.{View, view_of}
 use Rattle.stream_lanes.specs.Holding.{IsSent, IsAck, AskHolds, IsGranted, IsRight, LaneHolds, DirectionHolds}
-use Rattle.stream_lanes.specs.Laws.{is_ack_future, is_beyond_or_clash, ask_refused, mapping_clashes, copy_clashes, move_refused, lane_refused, is_refused}
+use Rattle.stream_lanes.specs.Laws.{is_ack_future, is_beyond_or_clash, ask_refused, mapping_clashes, copy_clashes, move_refused, lane_refused, is_refused, is_clash, ask_disagrees, disagrees}
 use Rattle.stream_lanes.proofs.Lists.{From-map}
 use Rattle.stream_lanes.proofs.Views.{AllIn, all_in_is, received_written}
 use Rattle.stream_lanes.proofs.Views.AllIn.{missing, complete}
@@ -67,34 +67,68 @@ not_future f s b next window within ack = le-ltb (length s.written + (if s.close
     at (complete closed whole is) = omega (arith, is, ack.covers, whole, ap {B = ℕ} (λ (c : Bool). if c then 1 else 0) closed)
 
 module _ (f : Flags) (d : Direction) (h : DirectionHolds f d) where
-  ask_taken : (path : ℕ) (p : Lane) → slice_get d.lanes path ≡ Some p → (a : Ask) → AskHolds (view_of f d.send d.arrived) p.sent p.opened p.edge a → ask_refused a d ≡ false
-  ask_taken path p there Nothing ask = refl
-  ask_taken path p there (AskGrant max standby) ask = refl
-  ask_taken path p there (AskAckIn next window) ask =
+  ask_taken : f.alters ≡ false → (path : ℕ) (p : Lane) → slice_get d.lanes path ≡ Some p → (a : Ask) → AskHolds (view_of f d.send d.arrived) p.sent p.opened p.edge a → ask_refused a d ≡ false
+  ask_taken none path p there Nothing ask = refl
+  ask_taken none path p there (AskGrant max standby) ask = refl
+  ask_taken none path p there (AskAckIn next window) ask =
       ap (λ (c : Bool). is_ack_future (if c then AckFuture (length d.send.written) else AckedBytes (min next (length d.send.written) - acked_len d.send.marks) (fin_after next d.send)))
       (not_future f d.send d.arrived next window (received_written (view_of f d.send d.arrived) d.arrived h.arrived) ask)
-  ask_taken path p there (AskPlace at bytes) ask =
+  ask_taken none path p there (AskPlace at bytes) ask =
       let row : From (IsSent (IsGranted d.lanes) (view_of f d.send d.arrived)) at bytes = From-map (λ place byte sent. record {
+        within = sent.within;
         written = sent.written;
         room = sent.room;
         recorded = record { at = path; item = p; there = there; holds = sent.recorded };
       }) ask.each in
       ap (λ (c : Bool). is_beyond_or_clash (if c then Beyond (edge d.arrived) else placed_reply (clash d.arrived.known_end at bytes) at bytes d.arrived))
-      (not_beyond (IsGranted d.lanes) f d.send d.arrived h.send h.arrived at bytes row)
+      (not_beyond (IsGranted d.lanes) f d.send d.arrived h.send h.arrived none at bytes row)
       ∙ ap (λ o. is_beyond_or_clash (placed_reply o at bytes d.arrived)) (not_clash (IsGranted d.lanes) f d.send d.arrived h.send h.arrived at bytes row d.arrived.known_end h.arrived.end)
-  ask_taken path p there (AskFin at) ask =
+  ask_taken none path p there (AskFin at) ask =
       ap (λ o. is_beyond_or_clash (fin_reply_by o at)) (not_fin_clash (IsGranted d.lanes) f d.send d.arrived h.send h.arrived at ask d.arrived.known_end h.arrived.end)
-  ask_taken path p there AskAckOut ask = refl
+  ask_taken none path p there AskAckOut ask = refl
 
-  asks_taken : (path : ℕ) (o : Option Lane) → slice_get d.lanes path ≡ o → lane_refused (λ p. ask_refused p.asking d) o ≡ false
-  asks_taken path None there = refl
-  asks_taken path (Some p) there = ask_taken path p there p.asking (h.lanes.each path path p (omega arith) there).ask
+  asks_taken : f.alters ≡ false → (path : ℕ) (o : Option Lane) → slice_get d.lanes path ≡ o → lane_refused (λ p. ask_refused p.asking d) o ≡ false
+  asks_taken none path None there = refl
+  asks_taken none path (Some p) there = ask_taken none path p there p.asking (h.lanes.each path path p (omega arith) there).ask
 
   moves_taken : (path : ℕ) (move : Move) (o : Option Lane) → slice_get d.lanes path ≡ o → lane_refused (move_refused move) o ≡ false
   moves_taken path move None there = refl
   moves_taken path move (Some p) there = move_taken (view_of f d.send d.arrived) path p (h.lanes.each path path p (omega arith) there) move
 
-  pub never_refused : (event : StreamEvent) → is_refused event d ≡ false
-  never_refused (Moves path move) = moves_taken path move (slice_get d.lanes path) refl
-  never_refused (Asks path) = asks_taken path (slice_get d.lanes path) refl
-  never_refused _ = refl
+  pub never_refused : f.alters ≡ false → (event : StreamEvent) → is_refused event d ≡ false
+  never_refused none (Moves path move) = moves_taken path move (slice_get d.lanes path) refl
+  never_refused none (Asks path) = asks_taken none path (slice_get d.lanes path) refl
+  never_refused none _ = refl
+
+  -- whatever is altered, nothing disagrees
+  ask_agrees : (path : ℕ) (p : Lane) → slice_get d.lanes path ≡ Some p → (a : Ask) → AskHolds (view_of f d.send d.arrived) p.sent p.opened p.edge a → ask_disagrees a d ≡ false
+  ask_agrees path p there Nothing ask = refl
+  ask_agrees path p there (AskGrant max standby) ask = refl
+  ask_agrees path p there (AskAckIn next window) ask =
+      ap (λ (c : Bool). is_ack_future (if c then AckFuture (length d.send.written) else AckedBytes (min next (length d.send.written) - acked_len d.send.marks) (fin_after next d.send)))
+      (not_future f d.send d.arrived next window (received_written (view_of f d.send d.arrived) d.arrived h.arrived) ask)
+  ask_agrees path p there (AskPlace at bytes) ask = by_beyond (reaches_past (edge d.arrived) at bytes)
+    where
+      row : From (IsSent (IsGranted d.lanes) (view_of f d.send d.arrived)) at bytes
+      row = From-map (λ place byte sent. record {
+        within = sent.within;
+        written = sent.written;
+        room = sent.room;
+        recorded = record { at = path; item = p; there = there; holds = sent.recorded };
+      }) ask.each
+
+      by_beyond : (c : Bool) → is_clash (if c then Beyond (edge d.arrived) else placed_reply (clash d.arrived.known_end at bytes) at bytes d.arrived) ≡ false
+      by_beyond true = refl
+      by_beyond false = ap (λ o. is_clash (placed_reply o at bytes d.arrived)) (not_clash (IsGranted d.lanes) f d.send d.arrived h.send h.arrived at bytes row d.arrived.known_end h.arrived.end)
+  ask_agrees path p there (AskFin at) ask =
+      ap (λ o. is_clash (fin_reply_by o at)) (not_fin_clash (IsGranted d.lanes) f d.send d.arrived h.send h.arrived at ask d.arrived.known_end h.arrived.end)
+  ask_agrees path p there AskAckOut ask = refl
+
+  asks_agree : (path : ℕ) (o : Option Lane) → slice_get d.lanes path ≡ o → lane_refused (λ p. ask_disagrees p.asking d) o ≡ false
+  asks_agree path None there = refl
+  asks_agree path (Some p) there = ask_agrees path p there p.asking (h.lanes.each path path p (omega arith) there).ask
+
+  pub never_disagrees : (event : StreamEvent) → disagrees event d ≡ false
+  never_disagrees (Moves path move) = moves_taken path move (slice_get d.lanes path) refl
+  never_disagrees (Asks path) = asks_agree path (slice_get d.lanes path) refl
+  never_disagrees _ = refl

@@ -1,7 +1,6 @@
 -- What a lane makes of the replies to its acknowledgement, to its bytes, to an end and to AckOut.
 use Rattle.std.proofs.Common.{◌≡◌, refl, sym, ◌∙◌, ap, subst, ℕ, zero, suc, ◌+◌, ◌-◌, ◌<◌, ◌≤◌, min, max, Bool, true, false, ◌==◌, if◌then◌else◌, is_some, ⊎_elim, List, [], ◌∷◌, ◌++◌, length, drop, map, replicate, Option, Some, None, count_by, arith}
 use Rattle.std.proofs.lemmas.Bool.{cases_lt, eqb-true, or_cases, ltb-false, true≢false}
-use Rattle.std.proofs.lemmas.Option.{slice_get_within}
 use Rattle.std.specs.List.{slice_get}
 use Rattle.std.specs.Option.{IfSome}
 use Rattle.send_book.specs.declared.call.SendCall.TheVariants.{AckIn}
@@ -20,15 +19,18 @@ use Rattle.stream_lanes.specs.Lane.{Lane}
 use Rattle.stream_lanes.specs.Lane.Ask.{Nothing}
 use Rattle.stream_lanes.specs.Moves.{Flags, takes_ack, takes_placed, takes_fin, takes_ack_out}
 use Rattle.stream_lanes.specs.Streams.{Reader}
-use Rattle.stream_lanes.specs.View.{view_of, all_in, end_of, IsEnd}
-use Rattle.stream_lanes.specs.Holding.{SendHolds, IsSent, ArrivedHolds, PlaceHolds, LaneHolds}
+use Rattle.stream_lanes.specs.View.{view_of, all_in, end_of, IsEnd, IsIn, IsPlaced}
+use Rattle.stream_lanes.specs.View.IsPlaced.{was_read, stands}
+use Rattle.stream_lanes.specs.Marks.{AreNew}
+use Rattle.stream_lanes.specs.Holding.{SendHolds, IsSent, ArrivedHolds, PlaceHolds, LaneHolds, IsPassed}
 use Rattle.stream_lanes.proofs.Lists.{Cells-drop, item_at}
+use Rattle.stream_lanes.proofs.Bytes.{filled_upto, filled_item, merged_left}
 use Rattle.stream_lanes.proofs.MarkLists.{AreAcked-count, AreAcked-acked, AreAcked-within}
 use Rattle.stream_lanes.proofs.Later.{Anyone, lane_later}
 use Rattle.stream_lanes.proofs.Local.{with_ask}
 use Rattle.stream_lanes.proofs.Views.{all_in_one, is_end as is_end_of}
 use Rattle.stream_lanes.proofs.Sends.{SendStep}
-use Rattle.stream_lanes.proofs.Arrivals.{ReceiveStep, not_beyond, not_clash}
+use Rattle.stream_lanes.proofs.Arrivals.{ReceiveStep, not_clash}
 
 -- what was acknowledged counts as confirmed
 module _ (f : Flags) (s : Sending) (b : Arriving) (send : SendHolds s (view_of f s b)) (next window : ℕ) (path : ℕ) (p : Lane) where
@@ -57,9 +59,9 @@ module _ (f : Flags) (s : Sending) (b : Arriving) (send : SendHolds s (view_of f
           (cases_lt next (suc (length s.written)))
 
   pub ack_held : SendStep Anyone f s (after_send s (AckIn next window)) b
-      → ((view_of f s b).alone ≡ true → path ≡ 0 → received b ≤ length p.sent) → LaneHolds (view_of f s b) path p
+      → ((n : ℕ) → AreNew n s.marks → received b ≤ n) → LaneHolds (view_of f s b) path p
       → LaneHolds (view_of f (after_send s (AckIn next window)) b) path (takes_ack next (send_reply s (AckIn next window)) p)
-  ack_held step reach h = by_future (is_future next s) refl step
+  ack_held step far h = by_future (is_future next s) refl step
     where
       t : Sending
       t = record s { marks = replicate (min next (length s.marks)) Acked ++ drop next s.marks; edge = max s.edge (next + window); fin = fin_after next s }
@@ -69,12 +71,15 @@ module _ (f : Flags) (s : Sending) (b : Arriving) (send : SendHolds s (view_of f
           (takes_ack next (if c then AckFuture (length s.written) else AckedBytes (min next (length s.written) - acked_len s.marks) (fin_after next s)) p)
       by_future true is step = with_ask (view_of f s b) path p Nothing tt h
       by_future false is step =
-          let now = lane_later step.later path p tt reach h in
+          let now = lane_later step.later path p tt far h in
           record {
             record_of = now.record_of;
             alone = now.alone;
             modes = now.modes;
             bytes = now.bytes;
+            link = now.link;
+            passed = now.passed;
+            pairs = now.pairs;
             ends = now.ends;
             fins = now.fins;
             heard = record {
@@ -85,33 +90,7 @@ module _ (f : Flags) (s : Sending) (b : Arriving) (send : SendHolds s (view_of f
             ask = tt;
           }
 
--- as many places as are filled from the first one on
-filled_upto : (places : List (Option ℕ)) (n : ℕ) → ((i : ℕ) → i < n → (x : ℕ) × (slice_get places i ≡ Some (Some x))) → n ≤ length (filled places)
-filled_upto places zero full = omega arith
-filled_upto [] (suc n) full = let first = full 0 (omega arith) in absurd (none_there first.0 first.1)
-  where
-    none_there : (x : ℕ) → None ≡ Some (Some x) → ⊥
-    none_there x e = cc
-filled_upto (None ∷ places) (suc n) full = let first = full 0 (omega arith) in absurd (none_there first.0 first.1)
-  where
-    none_there : (x : ℕ) → ◌≡◌ {A = Option (Option ℕ)} (Some None) (Some (Some x)) → ⊥
-    none_there x e = cc
-filled_upto (Some y ∷ places) (suc n) full = omega (arith, filled_upto places n (λ i below. full (suc i) (omega (arith, below))))
-
-filled_item : (places : List (Option ℕ)) (i : ℕ) → i < length (filled places) → (x : ℕ) × (slice_get places i ≡ Some (Some x))
-filled_item [] i below = absurd (omega (arith, below))
-filled_item (None ∷ places) i below = absurd (omega (arith, below))
-filled_item (Some y ∷ places) zero below = (y, refl)
-filled_item (Some y ∷ places) (suc i) below = filled_item places i (omega (arith, below))
-
-merged_left : (xs ys : List (Option ℕ)) (i x : ℕ) → slice_get xs i ≡ Some (Some x) → slice_get (merged xs ys) i ≡ Some (Some x)
-merged_left [] ys i x e = cc
-merged_left (y ∷ xs) [] i x e = e
-merged_left (Some y ∷ xs) (z ∷ ys) zero x e = e
-merged_left (None ∷ xs) (z ∷ ys) zero x e = cc
-merged_left (Some y ∷ xs) (z ∷ ys) (suc i) x e = merged_left xs ys i x e
-merged_left (None ∷ xs) (z ∷ ys) (suc i) x e = merged_left xs ys i x e
-
+-- what a merge adds
 merged_right : (xs ys : List (Option ℕ)) (i x : ℕ) → slice_get ys i ≡ Some (Some x) → (y : ℕ) × (slice_get (merged xs ys) i ≡ Some (Some y))
 merged_right [] ys i x e = (x, e)
 merged_right (y ∷ xs) [] i x e = cc
@@ -154,13 +133,23 @@ placed_reach b at bytes joins = ⊎_elim (λ less. omega (arith, less)) (λ more
             merged_right b.places (drop b.read (by_place at bytes)) i there.0 (slice_get-drop b.read (by_place at bytes) i (b.read + i) refl ∙ placed))
             (cases_lt i (length (filled b.places)))
 
+-- bytes that are placed stand in the book, or were read before
+placed_in : (b : Arriving) (at : ℕ) (bytes : List ℕ) (i : ℕ) → i < length bytes → IsPlaced b.read (merged b.places (drop b.read (by_place at bytes))) (at + i)
+placed_in b at bytes i below = ⊎_elim (λ old. was_read old) new (cases_lt (at + i) b.read)
+  where
+    new : b.read ≤ at + i → IsPlaced b.read (merged b.places (drop b.read (by_place at bytes))) (at + i)
+    new from =
+        let there = item_at bytes i below in
+        let placed : slice_get (by_place at bytes) (at + i) ≡ Some (Some there.0) = by_place_item at bytes i (at + i) there.0 refl there.1 in
+        let stays = merged_right b.places (drop b.read (by_place at bytes)) (at + i - b.read) there.0 (slice_get-drop b.read (by_place at bytes) (at + i - b.read) (at + i) (omega (arith, from)) ∙ placed) in
+        stands (at + i - b.read) stays.0 (omega (arith, from)) stays.1
+
 module _ (granted : ℕ → Type 0) (f : Flags) (s : Sending) (b : Arriving) (send : SendHolds s (view_of f s b)) (arrived : ArrivedHolds granted (view_of f s b) b)
-    (path : ℕ) (p : Lane) (reach : (view_of f s b).alone ≡ true → path ≡ 0 → received b ≤ length p.sent) (h : LaneHolds (view_of f s b) path p) where
-  -- the bytes are taken
-  placed_answer : (at : ℕ) (bytes : List ℕ) → From (IsSent granted (view_of f s b)) at bytes
+    (path : ℕ) (p : Lane) (far : (n : ℕ) → AreNew n s.marks → received b ≤ n) (h : LaneHolds (view_of f s b) path p) where
+  -- the bytes are taken, where they don't lie past what may be
+  placed_answer : (at : ℕ) (bytes : List ℕ) → reaches_past (edge b) at bytes ≡ false → From (IsSent granted (view_of f s b)) at bytes
       → (new : ℕ) × (arrival_reply b (Place at bytes) ≡ Placed new) × (after_arrival b (Place at bytes) ≡ record b { places = places_after at bytes b })
-  placed_answer at bytes row =
-      let beyond : reaches_past (edge b) at bytes ≡ false = not_beyond granted f s b send arrived at bytes row in
+  placed_answer at bytes beyond row =
       let clash_is : clash b.known_end at bytes ≡ None = not_clash granted f s b send arrived at bytes row b.known_end arrived.end in (
         count_by is_some (places_after at bytes b) - count_by is_some b.places,
         ap (λ (c : Bool). if c then Beyond (edge b) else placed_reply (clash b.known_end at bytes) at bytes b) beyond ∙ ap (λ o. placed_reply o at bytes b) clash_is,
@@ -171,16 +160,17 @@ module _ (granted : ℕ → Type 0) (f : Flags) (s : Sending) (b : Arriving) (se
   pub place_held : (at : ℕ) (bytes : List ℕ) (r : Reader) → From (IsSent granted (view_of f s b)) at bytes → PlaceHolds (view_of f s b) p.sent p.edge at bytes
       → ReceiveStep granted f s b (after_arrival b (Place at bytes)) r
       → LaneHolds (view_of f s (after_arrival b (Place at bytes))) path (takes_placed (length bytes) (arrival_reply b (Place at bytes)) p)
-  place_held at bytes r row ask step =
-      let answer = placed_answer at bytes row in
-      subst (λ reply. LaneHolds (view_of f s (after_arrival b (Place at bytes))) path (takes_placed (length bytes) reply p)) (sym answer.1)
-      (takes answer.0 (ap (λ (c : Arriving). received c) answer.2))
+  place_held at bytes r row ask step = by_beyond (reaches_past (edge b) at bytes) refl
     where
       now : LaneHolds (view_of f s (after_arrival b (Place at bytes))) path p
-      now = lane_later step.later path p tt reach h
+      now = lane_later step.later path p tt far h
+
+      -- what was placed stands there
+      came : after_arrival b (Place at bytes) ≡ record b { places = places_after at bytes b } → (i : ℕ) → i < length bytes → IsIn (view_of f s (after_arrival b (Place at bytes))) (at + i)
+      came is i below = subst (λ c. IsIn (view_of f s c) (at + i)) (sym is) (placed_in b at bytes i below)
 
       first_sent : (x : ℕ) (xs : List ℕ) → bytes ≡ x ∷ xs → at < length s.written
-      first_sent x xs is = slice_get_within s.written at x (row.each 0 at x (omega arith) (rw is refl)).written
+      first_sent x xs is = (row.each 0 at x (omega arith) (rw is refl)).within
 
       ends : (bs : List ℕ) → bytes ≡ bs → (view_of f s b).alone ≡ true → IsEnd (end_of s) p.edge → IsEnd (end_of s) (p.edge + length bs)
       ends [] is alone end = subst (IsEnd (end_of s)) (omega arith) end
@@ -196,20 +186,44 @@ module _ (granted : ℕ → Type 0) (f : Flags) (s : Sending) (b : Arriving) (se
           let at_edge : at ≡ p.edge = ask.identity alone (omega (arith, ap length is)) in
           omega (arith, same, at_edge, placed_reach b at bytes (omega (arith, at_edge, h.receiver.passed alone)), ap length is)
 
-      takes : (new : ℕ) → received (after_arrival b (Place at bytes)) ≡ b.read + length (filled (merged b.places (drop b.read (by_place at bytes))))
+      passes : after_arrival b (Place at bytes) ≡ record b { places = places_after at bytes b } → IsPassed path (view_of f s (after_arrival b (Place at bytes))) p.sent (p.edge + length bytes)
+      passes is = record {
+        bytes = λ pos c below e. ⊎_elim
+            (λ old. now.passed.bytes.bytes pos c old e)
+            (λ new.
+            let place = ask.cells (pos - p.edge) c (omega (arith, below, new)) (ap (slice_get p.sent) (omega (arith, new)) ∙ e) in
+            subst (IsIn (view_of f s (after_arrival b (Place at bytes)))) (sym place) (came is (pos - p.edge) (omega (arith, below, new))))
+            (cases_lt pos p.edge);
+        past = λ more. let within = ask.within in absurd (omega (arith, more, within));
+      }
+
+      takes : (new : ℕ) → after_arrival b (Place at bytes) ≡ record b { places = places_after at bytes b }
+          → received (after_arrival b (Place at bytes)) ≡ b.read + length (filled (merged b.places (drop b.read (by_place at bytes))))
           → LaneHolds (view_of f s (after_arrival b (Place at bytes))) path (takes_placed (length bytes) (Placed new) p)
-      takes new same = record {
+      takes new is same = record {
         record_of = now.record_of;
         alone = now.alone;
         modes = now.modes;
         bytes = record {
           granted = h.bytes.granted;
+          apart = h.bytes.apart;
           honest = h.bytes.honest;
           within = ask.within;
           came = Cells-drop (length bytes) h.bytes.came;
           right = h.bytes.right;
+          learned = h.bytes.learned;
           acked = h.bytes.acked;
         };
+        link = now.link;
+        passed = record {
+          bytes = passes is;
+          fin = λ in_order.
+              let old = now.passed.fin in_order in
+              let end = old.0 in let within = ask.within in
+              (omega (arith, end, within), old.1);
+          copies = now.passed.copies;
+        };
+        pairs = now.pairs;
         ends = now.ends;
         fins = now.fins;
         heard = now.heard;
@@ -217,18 +231,27 @@ module _ (granted : ℕ → Type 0) (f : Flags) (s : Sending) (b : Arriving) (se
           told = now.receiver.told;
           passed = λ alone. passed bytes refl alone same;
           fin = λ alone is. ends bytes refl alone (h.receiver.fin alone is);
-          fresh = λ alone is. absurd (true≢false is);
+          fresh = λ none alone is. absurd (true≢false is);
           copies = now.receiver.copies;
         };
         ask = tt;
       }
+
+      by_beyond : (c : Bool) → reaches_past (edge b) at bytes ≡ c
+          → LaneHolds (view_of f s (after_arrival b (Place at bytes))) path (takes_placed (length bytes) (if c then Beyond (edge b) else placed_reply (clash b.known_end at bytes) at bytes b) p)
+      by_beyond true beyond = with_ask (view_of f s (after_arrival b (Place at bytes))) path p Nothing tt now
+      by_beyond false beyond =
+          let answer = placed_answer at bytes beyond row in
+          subst (λ reply. LaneHolds (view_of f s (after_arrival b (Place at bytes))) path (takes_placed (length bytes) reply p))
+          (sym (sym (ap (λ (c : Bool). if c then Beyond (edge b) else placed_reply (clash b.known_end at bytes) at bytes b) beyond) ∙ answer.1))
+          (takes answer.0 answer.2 (ap (λ (c : Arriving). received c) answer.2))
 
   pub fin_held : (at : ℕ) (r : Reader) → ReceiveStep granted f s b (after_arrival b (Fin at)) r
       → LaneHolds (view_of f s (after_arrival b (Fin at))) path (takes_fin (arrival_reply b (Fin at)) p)
   fin_held at r step = by_clash (fin_clash b.known_end at b)
     where
       now : LaneHolds (view_of f s (after_arrival b (Fin at))) path p
-      now = lane_later step.later path p tt reach h
+      now = lane_later step.later path p tt far h
 
       by_clash : (o : Option ℕ) → LaneHolds (view_of f s (after_arrival b (Fin at))) path (takes_fin (fin_reply_by o at) p)
       by_clash (Some fin) = with_ask (view_of f s (after_arrival b (Fin at))) path p Nothing tt now
@@ -237,6 +260,9 @@ module _ (granted : ℕ → Type 0) (f : Flags) (s : Sending) (b : Arriving) (se
         alone = now.alone;
         modes = now.modes;
         bytes = now.bytes;
+        link = now.link;
+        passed = now.passed;
+        pairs = now.pairs;
         ends = now.ends;
         fins = now.fins;
         heard = now.heard;
@@ -244,26 +270,29 @@ module _ (granted : ℕ → Type 0) (f : Flags) (s : Sending) (b : Arriving) (se
           told = now.receiver.told;
           passed = now.receiver.passed;
           fin = now.receiver.fin;
-          fresh = λ alone is. absurd (true≢false is);
+          fresh = λ none alone is. absurd (true≢false is);
           copies = now.receiver.copies;
         };
         ask = tt;
       }
 
-  pub ack_out_held : received b ≤ edge b → LaneHolds (view_of f s b) path (takes_ack_out (arrival_reply b AckOut) p)
+  pub ack_out_held : (f.alters ≡ false → received b ≤ edge b) → LaneHolds (view_of f s b) path (takes_ack_out (arrival_reply b AckOut) p)
   ack_out_held room = record {
     record_of = h.record_of;
     alone = h.alone;
     modes = h.modes;
     bytes = h.bytes;
+    link = h.link;
+    passed = h.passed;
+    pairs = h.pairs;
     ends = h.ends;
     fins = h.fins;
     heard = h.heard;
     receiver = record {
-      told = record { covers = omega (arith, wanted b.known_end arrived.end); reaches = omega (arith, wanted b.known_end arrived.end, room) };
+      told = record { covers = omega (arith, wanted b.known_end arrived.end); reaches = λ none. let below = room none in omega (arith, wanted b.known_end arrived.end, below) };
       passed = h.receiver.passed;
       fin = h.receiver.fin;
-      fresh = λ alone _. omega (arith, h.receiver.passed alone, room);
+      fresh = λ none alone _. let below = room none in omega (arith, h.receiver.passed alone, below);
       copies = h.receiver.copies;
     };
     ask = tt;

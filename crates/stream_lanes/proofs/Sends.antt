@@ -1,11 +1,12 @@
 -- What each call of a send book makes of it and of its view.
-use Rattle.std.proofs.Common.{◌≡◌, refl, sym, ◌∙◌, ap, subst, ℕ, ◌+◌, ◌-◌, ◌<◌, ◌≤◌, min, max, Bool, true, false, ◌||◌, nat_lt, if◌then◌else◌, ⊎_elim, List, [], ◌++◌, length, take, drop, map, replicate, Option, Some, None, Result, Ok, Err, arith}
-use Rattle.std.proofs.lemmas.Bool.{or_parts, or_cases, ltb-true, ltb-false}
+use Rattle.std.proofs.Common.{◌≡◌, refl, sym, ◌∙◌, ap, subst, ℕ, ◌+◌, ◌-◌, ◌<◌, ◌≤◌, min, max, Bool, true, false, ◌||◌, nat_lt, if◌then◌else◌, is_none, ⊎_elim, List, [], ◌++◌, length, take, drop, map, replicate, Option, Some, None, Result, Ok, Err, arith}
+use Rattle.std.proofs.lemmas.Bool.{or_parts, or_cases, and_parts, both_ways, ltb-true, ltb-false}
+use Rattle.std.proofs.lemmas.Option.{same_Some}
 use Rattle.std.proofs.lemmas.List.{length-append, length-take, length-drop, length-replicate, length-map, append-nil}
 use Rattle.std.specs.List.{slice_get}
 use Rattle.send_book.specs.declared.call.Span.{Span}
 use Rattle.send_book.specs.declared.call.Why.{Why}
-use Rattle.send_book.specs.declared.call.SendCall.TheVariants.{Write, Close, Grant, AckIn, Return, GoInfinite}
+use Rattle.send_book.specs.declared.call.SendCall.TheVariants.{Write, Close, Grant, AckIn, Return}
 use Rattle.send_book.specs.declared.mark.ByteMark.{ByteMark}
 use Rattle.send_book.specs.declared.mark.ByteMark.TheVariants.{Acked, Free}
 use Rattle.send_book.specs.Tried.{no_paths}
@@ -18,9 +19,9 @@ use Rattle.reassembly_book.specs.State.{Arriving, received}
 use Rattle.stream_lanes.specs.Marks.{spent, AreAcked}
 use Rattle.stream_lanes.specs.Moves.{Flags}
 use Rattle.stream_lanes.specs.View.{view_of, all_in, IsEnd}
-use Rattle.stream_lanes.specs.Holding.{IsAll, SendHolds, IsAck}
+use Rattle.stream_lanes.specs.Holding.{IsAll, SendHolds, IsAck, IsOwnedBy}
 use Rattle.stream_lanes.proofs.Later.{Later, Anyone, But}
-use Rattle.stream_lanes.proofs.MarkLists.{AreAcked-count, AreAcked-within, AreAcked-written, AreAcked-returned, AreAcked-given, AreAcked-acked, AreNew-written, AreNew-returned, AreNew-acked, tried-written, tried-returned, tried-acked, tried-given, held-written, held-returned, held-given, held-acked}
+use Rattle.stream_lanes.proofs.MarkLists.{AreAcked-count, AreAcked-within, AreAcked-written, AreAcked-returned, AreAcked-given, AreAcked-acked, AreNew-written, AreNew-returned, AreNew-acked, grant_owner, tried-written, tried-returned, tried-acked, tried-given, held-written, held-returned, held-given, held-acked}
 use Rattle.stream_lanes.proofs.Views.{AllIn, all_in_is, all_in_one, end_is}
 use Rattle.stream_lanes.proofs.Views.AllIn.{missing, complete}
 
@@ -28,17 +29,19 @@ use Rattle.stream_lanes.proofs.Views.AllIn.{missing, complete}
 pub record SendStep (Q : ℕ → Type 0) (f : Flags) (s t : Sending) (b : Arriving) : Type 0 where
   pub later : Later Q (view_of f s b) (view_of f t b)
   pub holds : SendHolds t (view_of f t b)
+  pub owned : IsOwnedBy (view_of f s b) → IsOwnedBy (view_of f t b)
 
 module _ (f : Flags) (s : Sending) (b : Arriving) (h : SendHolds s (view_of f s b)) where
   -- the book has an owner, or is aborted: neither is seen
-  pub unseen : {Q : ℕ → Type 0} (aborted : Bool) (owner : Option ℕ) → SendStep Q f s (record s { aborted = aborted; owner = owner }) b
-  unseen aborted owner = record {
+  pub unseen : {Q : ℕ → Type 0} (aborted : Bool) (owner : Option ℕ) → ((path : ℕ) → s.owner ≡ Some path → owner ≡ Some path)
+      → (IsOwnedBy (view_of f s b) → IsOwnedBy (view_of f (record s { aborted = aborted; owner = owner }) b)) → SendStep Q f s (record s { aborted = aborted; owner = owner }) b
+  unseen aborted owner keeps owned = record {
     later = record {
       more = [];
       written = sym (append-nil s.written);
       spent = λ path place is. is;
       untried = λ path q place is. is;
-      news = λ path q first alone n reach new. new;
+      news = λ path q kept n reach new. new;
       end = λ e is. is;
       acked = omega arith;
       confirmed = omega arith;
@@ -48,9 +51,20 @@ module _ (f : Flags) (s : Sending) (b : Arriving) (h : SendHolds s (view_of f s 
       edge = omega arith;
       alone = λ is. is;
       fallen = λ is. is;
+      stays_alone = λ fallen alone. alone;
+      owner = keeps;
+      placed = λ place is. is;
+      alters = refl;
+      checked = refl;
+      exact = λ is. is;
     };
     holds = record { whole = h.whole; first = h.first; held = h.held; acked = h.acked; edge = h.edge; fin = h.fin };
+    owned = owned;
   }
+
+  -- the book as it is
+  pub same_book : {Q : ℕ → Type 0} → SendStep Q f s s b
+  same_book = unseen s.aborted s.owner (λ path is. is) (λ h. h)
 
   step_if : {Q : ℕ → Type 0} (c : Bool) (t u : Sending) → (c ≡ true → SendStep Q f s t b) → (c ≡ false → SendStep Q f s u b)
       → SendStep Q f s (if c then t else u) b
@@ -64,7 +78,7 @@ module _ (f : Flags) (s : Sending) (b : Arriving) (h : SendHolds s (view_of f s 
       (count, subst (λ n. AreAcked n marks) (sym count) are)
 
   pub write_step : (bytes : List ℕ) → SendStep Anyone f s (after_call s (Write bytes)) b
-  write_step bytes = step_if (s.closed || s.aborted) s _ (λ shut. unseen s.aborted s.owner) writes
+  write_step bytes = step_if (s.closed || s.aborted) s _ (λ shut. same_book) writes
     where
       n : ℕ
       n = bytes_taken bytes s
@@ -90,7 +104,7 @@ module _ (f : Flags) (s : Sending) (b : Arriving) (h : SendHolds s (view_of f s 
           written = refl;
           spent = λ path place is. grown path place is;
           untried = λ path q place is. tried-written path place n s.marks is;
-          news = λ path q first alone k reach new. AreNew-written k n s.marks new;
+          news = λ path q kept k reach new. AreNew-written k n s.marks new;
           end = λ e is. not_closed s.closed (length s.written) (length t.written) e (or_parts s.closed s.aborted may).0 is;
           acked = omega (arith, counted.0);
           confirmed = omega (arith, counted.0, none_in s.closed s.written (acked_len s.marks) (or_parts s.closed s.aborted may).0);
@@ -100,16 +114,23 @@ module _ (f : Flags) (s : Sending) (b : Arriving) (h : SendHolds s (view_of f s 
           edge = omega (arith, none_in s.closed s.written (received b) (or_parts s.closed s.aborted may).0);
           alone = λ is. is;
           fallen = λ is. is;
+          stays_alone = λ fallen alone. alone;
+          owner = λ path is. is;
+          placed = λ place is. is;
+          alters = refl;
+          checked = refl;
+          exact = λ is. is;
         };
         holds = record {
           whole = omega (arith, length-append s.marks (replicate n (Free no_paths)), length-replicate n (Free no_paths), length-append s.written (take n bytes), length-take n bytes, h.whole);
           first = counted.1;
           held = held-written n s.marks h.held;
           acked = omega (arith, counted.0, h.acked);
-          edge = omega (arith, h.edge, none_in s.closed s.written (received b) (or_parts s.closed s.aborted may).0);
+          edge = λ none. let old = h.edge none in omega (arith, old, none_in s.closed s.written (received b) (or_parts s.closed s.aborted may).0);
           fin = λ is. let all = h.fin is in
               (all.0, not_closed s.closed (length s.written) (length t.written) all.0 (or_parts s.closed s.aborted may).0 all.1, omega (arith, all.2, counted.0));
         };
+        owned = λ h. h;
       }
         where
           grown : (path place : ℕ) → spent path (slice_get s.marks place) ≡ true → spent path (slice_get t.marks place) ≡ true
@@ -117,7 +138,7 @@ module _ (f : Flags) (s : Sending) (b : Arriving) (h : SendHolds s (view_of f s 
               subst (λ c. spent path (slice_get (if c then s else t).marks place) ≡ true) may (stays-after_call (spent path) (spent-stays path) place (Write bytes) s is)
 
   pub close_step : SendStep Anyone f s (after_call s Close) b
-  close_step = step_if s.aborted s (record s { closed = true }) (λ shut. unseen s.aborted s.owner) (λ may. closes)
+  close_step = step_if s.aborted s (record s { closed = true }) (λ shut. same_book) (λ may. closes)
     where
       ends : (c : Bool) (e : ℕ) → IsEnd (if c then Some (length s.written) else None) e → IsEnd (Some (length s.written)) e
       ends true e is = is
@@ -134,7 +155,7 @@ module _ (f : Flags) (s : Sending) (b : Arriving) (h : SendHolds s (view_of f s 
           written = sym (append-nil s.written);
           spent = λ path place is. is;
           untried = λ path q place is. is;
-          news = λ path q first alone n reach new. new;
+          news = λ path q kept n reach new. new;
           end = ends s.closed;
           acked = omega arith;
           confirmed = omega (arith, grows s.closed (acked_len s.marks));
@@ -144,15 +165,22 @@ module _ (f : Flags) (s : Sending) (b : Arriving) (h : SendHolds s (view_of f s 
           edge = omega (arith, grows s.closed (received b));
           alone = λ is. is;
           fallen = λ is. is;
+          stays_alone = λ fallen alone. alone;
+          owner = λ path is. is;
+          placed = λ place is. is;
+          alters = refl;
+          checked = refl;
+          exact = λ is. is;
         };
         holds = record {
           whole = h.whole;
           first = h.first;
           held = h.held;
           acked = h.acked;
-          edge = omega (arith, h.edge, grows s.closed (received b));
+          edge = λ none. let old = h.edge none in omega (arith, old, grows s.closed (received b));
           fin = λ is. let all = h.fin is in (all.0, ends s.closed all.0 all.1, all.2);
         };
+        owned = λ h. h;
       }
 
   pub return_step : (path : ℕ) → SendStep Anyone f s (after_call s (Return path)) b
@@ -162,7 +190,7 @@ module _ (f : Flags) (s : Sending) (b : Arriving) (h : SendHolds s (view_of f s 
       written = sym (append-nil s.written);
       spent = λ k place is. stays-after_call (spent k) (spent-stays k) place (Return path) s is;
       untried = λ k q place is. tried-returned path k place s.marks is;
-      news = λ k q first alone n reach new. AreNew-returned path n s.marks new;
+      news = λ k q kept n reach new. AreNew-returned path n s.marks new;
       end = λ e is. is;
       acked = omega (arith, counted.0);
       confirmed = omega (arith, same_confirmed, counted.0);
@@ -172,6 +200,12 @@ module _ (f : Flags) (s : Sending) (b : Arriving) (h : SendHolds s (view_of f s 
       edge = omega arith;
       alone = λ is. is;
       fallen = λ is. is;
+      stays_alone = λ fallen alone. alone;
+      owner = λ path is. is;
+      placed = λ place is. is;
+      alters = refl;
+      checked = refl;
+      exact = λ is. is;
     };
     holds = record {
       whole = length-map s.marks (returned path) ∙ h.whole;
@@ -181,6 +215,7 @@ module _ (f : Flags) (s : Sending) (b : Arriving) (h : SendHolds s (view_of f s 
       edge = h.edge;
       fin = λ is. let all = h.fin is in (all.0, all.1, omega (arith, all.2, counted.0));
     };
+    owned = λ h. h;
   }
     where
       counted : (acked_len (map (returned path) s.marks) ≡ acked_len s.marks) × AreAcked (acked_len (map (returned path) s.marks)) (map (returned path) s.marks)
@@ -189,12 +224,18 @@ module _ (f : Flags) (s : Sending) (b : Arriving) (h : SendHolds s (view_of f s 
       same_confirmed : all_in s.closed s.written (acked_len (map (returned path) s.marks)) ≡ all_in s.closed s.written (acked_len s.marks)
       same_confirmed = ap (all_in s.closed s.written) counted.0
 
-  pub go_infinite_step : (path : ℕ) → SendStep Anyone f s (after_call s (GoInfinite path)) b
-  go_infinite_step path = step_if (is_gathered path s) (record s { owner = Some path }) s (λ is. unseen s.aborted (Some path)) (λ is. unseen s.aborted s.owner)
+  -- a book that was given to no path gives itself to one; as long as no join was answered, to path 0
+  pub go_infinite_step : (path : ℕ) → is_gathered path s ≡ true → ((view_of f s b).alone ≡ true → path ≡ 0) → SendStep Anyone f s (record s { owner = Some path }) b
+  go_infinite_step path gathered joined = unseen s.aborted (Some path)
+      (λ k owned. absurd (both_ways _ (ap is_none owned) (and_parts (is_none s.owner) _ gathered).0))
+      (λ h k is alone. sym (same_Some path k is) ∙ joined alone)
+
+  pub go_identity_step : IsOwnedBy (view_of f s b) → (view_of f s b).alone ≡ true → SendStep Anyone f s (record s { owner = Some 0 }) b
+  go_identity_step owner alone = unseen s.aborted (Some 0) (λ k owned. ap Some (sym (owner k owned alone))) (λ h k is alone. sym (same_Some 0 k is))
 
   -- an acknowledgement that covers received bytes alone, and the end where it was reached
   pub ack_step : (next window : ℕ) → received b ≤ length s.written → IsAck (view_of f s b) next window → SendStep Anyone f s (after_call s (AckIn next window)) b
-  ack_step next window within ack = step_if (is_future next s) s _ (λ future. unseen s.aborted s.owner) (λ past. acknowledges past)
+  ack_step next window within ack = step_if (is_future next s) s _ (λ future. same_book) (λ past. acknowledges past)
     where
       c : ℕ
       c = min next (length s.marks)
@@ -236,7 +277,7 @@ module _ (f : Flags) (s : Sending) (b : Arriving) (h : SendHolds s (view_of f s 
           written = sym (append-nil s.written);
           spent = grown;
           untried = λ k q place is. tried-acked k place next c s.marks refl is;
-          news = λ k q first alone n reach new. AreNew-acked n next c s.marks refl (λ place above inside. kept place n reach above inside (all_in_is s.closed s.written (received b))) new;
+          news = λ k q ways n reach new. AreNew-acked n next c s.marks refl (λ place above inside. kept place n reach above inside (all_in_is s.closed s.written (received b))) new;
           end = λ e is. is;
           acked = omega (arith, count);
           confirmed = confirms (all_in_is s.closed s.written (acked_len s.marks));
@@ -246,18 +287,25 @@ module _ (f : Flags) (s : Sending) (b : Arriving) (h : SendHolds s (view_of f s 
           edge = omega arith;
           alone = λ is. is;
           fallen = λ is. is;
+          stays_alone = λ fallen alone. alone;
+          owner = λ path is. is;
+          placed = λ place is. is;
+          alters = refl;
+          checked = refl;
+          exact = λ is. is;
         };
         holds = record {
           whole = size ∙ h.whole;
           first = subst (λ n. AreAcked n marks) (sym count) are;
           held = held-acked next c s.marks h.held;
           acked = omega (arith, count, h.acked, covered (all_in_is s.closed s.written (received b)));
-          edge = omega (arith, h.edge, ack.reaches);
+          edge = λ none. let old = h.edge none in let reach = ack.reaches none in omega (arith, old, reach);
           fin = λ is. ⊎_elim
               (λ old. let all = h.fin old in (all.0, all.1, omega (arith, all.2, count)))
               (λ new. closed_end (ltb-true (length s.written) next new))
               (or_cases s.fin (nat_lt (length s.written) next) is);
         };
+        owned = λ h. h;
       }
         where
           grown : (path place : ℕ) → spent path (slice_get s.marks place) ≡ true → spent path (slice_get marks place) ≡ true
@@ -285,7 +333,8 @@ module _ (f : Flags) (s : Sending) (b : Arriving) (h : SendHolds s (view_of f s 
           written = sym (append-nil s.written);
           spent = grown;
           untried = λ k q place is. tried-given path k place span s.marks (omega (arith, m.whole)) m.within q is;
-          news = λ k q first alone n reach new. absurd (q (first ∙ sym (joined alone)));
+          news = λ k q kept n reach new.
+              absurd (⊎_elim (λ alone. q (alone.0 ∙ sym (joined alone.1))) (λ owned. q (grant_owner path k max standby s span decided owned)) kept);
           end = λ e is. is;
           acked = omega (arith, counted.0);
           confirmed = omega (arith, ap (all_in s.closed s.written) counted.0, counted.0);
@@ -295,6 +344,12 @@ module _ (f : Flags) (s : Sending) (b : Arriving) (h : SendHolds s (view_of f s 
           edge = omega arith;
           alone = λ is. is;
           fallen = λ is. is;
+          stays_alone = λ fallen alone. alone;
+          owner = λ path is. is;
+          placed = λ place is. is;
+          alters = refl;
+          checked = refl;
+          exact = λ is. is;
         };
         holds = record {
           whole = same_size ∙ h.whole;
@@ -304,6 +359,7 @@ module _ (f : Flags) (s : Sending) (b : Arriving) (h : SendHolds s (view_of f s 
           edge = h.edge;
           fin = λ is. let all = h.fin is in (all.0, all.1, omega (arith, all.2, counted.0));
         };
+        owned = λ h. h;
       }
         where
           marks : List ByteMark
@@ -335,5 +391,5 @@ module _ (f : Flags) (s : Sending) (b : Arriving) (h : SendHolds s (view_of f s 
               (stays-after_call (spent k) (spent-stays k) place (Grant path max standby) s is)
 
       by_decision : (r : Result Span Why) → decision path max standby s ≡ r → SendStep (But path) f s (given_by path r s) b
-      by_decision (Err why) is = unseen s.aborted s.owner
+      by_decision (Err why) is = same_book
       by_decision (Ok span) is = grants span is (decision-MayTake path max standby s span is)

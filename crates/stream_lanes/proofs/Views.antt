@@ -1,16 +1,18 @@
 -- What holds of the view of two books, and numbers of theirs.
-use Rattle.std.proofs.Common.{◌≡◌, refl, sym, ap, ℕ, zero, suc, ◌+◌, ◌<◌, ◌≤◌, Bool, true, false, not, ◌||◌, ◌==◌, if◌then◌else◌, ◌⊎◌, inl, inr, List, length, Some, None, arith}
-use Rattle.std.proofs.lemmas.Bool.{eqb-true, eq-eqb, or_right}
-use Rattle.std.proofs.lemmas.Option.{slice_get_within, same_Some}
+use Rattle.std.proofs.Common.{◌≡◌, refl, sym, ap, ℕ, zero, suc, ◌+◌, ◌-◌, ◌<◌, ◌≤◌, ◌∙◌, Bool, true, false, not, ◌&&◌, ◌||◌, ◌==◌, if◌then◌else◌, ◌⊎◌, inl, inr, ⊎_elim, List, length, Option, Some, None, arith}
+use Rattle.std.specs.List.{slice_get}
+use Rattle.std.proofs.lemmas.Bool.{eqb-true, eq-eqb, or_left, or_right, both_ways, not-true, cases_lt}
+use Rattle.std.proofs.lemmas.Option.{same_Some}
 use Rattle.send_book.specs.State.{Sending, acked_len}
 use Rattle.reassembly_book.specs.State.{Arriving, filled, received}
 use Rattle.reassembly_book.specs.Steps.{edge}
 use Rattle.stream_lanes.specs.Words.{From}
 use Rattle.stream_lanes.specs.Moves.{Flags}
-use Rattle.stream_lanes.specs.View.{View, view_of, all_in, end_of, IsEnd}
+use Rattle.stream_lanes.specs.View.{View, view_of, all_in, end_of, IsEnd, IsPlaced}
+use Rattle.stream_lanes.specs.View.IsPlaced.{was_read, stands}
 use Rattle.stream_lanes.specs.Holding.{IsAll, SendHolds, ArrivedHolds}
 use Rattle.stream_lanes.proofs.Lists.{item_at}
-use Rattle.stream_lanes.proofs.Bytes.{From-filled}
+use Rattle.stream_lanes.proofs.Bytes.{From-filled, filled_upto, filled_item}
 use Rattle.stream_lanes.proofs.Local.{ViewFits, FlagsFit}
 
 -- the end of a stream: whether it has come
@@ -61,7 +63,25 @@ row_below {P} bound first bytes below within row = at (length bytes) refl
 
 pub received_written : {granted : ℕ → Type 0} (v : View) (b : Arriving) → ArrivedHolds granted v b → received b ≤ length v.written
 received_written v b h =
-    row_below (length v.written) b.read (filled b.places) (λ n x sent. slice_get_within v.written n x sent.written) (omega (arith, h.top)) (From-filled h.cells)
+    row_below (length v.written) b.read (filled b.places) (λ n x sent. sent.within) (omega (arith, h.top)) (From-filled h.cells)
+
+-- all that is filled from a place on that is received is received too
+reached_upto : (read : ℕ) (places : List (Option ℕ)) (first n : ℕ) → first ≤ read + length (filled places)
+    → ((place : ℕ) → first ≤ place → place < n → IsPlaced read places place) → n ≤ read + length (filled places)
+reached_upto read places first n from each = ⊎_elim (λ less. omega (arith, less)) (λ more. upto more) (cases_lt n read)
+  where
+    upto : read ≤ n → n ≤ read + length (filled places)
+    upto more = let all = filled_upto places (n - read) full in omega (arith, all, more)
+      where
+        full : (i : ℕ) → i < n - read → (x : ℕ) × (slice_get places i ≡ Some (Some x))
+        full i below = ⊎_elim
+            (λ before. filled_item places i (omega (arith, before, from)))
+            (λ behind. at (each (read + i) behind (omega (arith, below))))
+            (cases_lt (read + i) first)
+          where
+            at : IsPlaced read places (read + i) → (x : ℕ) × (slice_get places i ≡ Some (Some x))
+            at (was_read under) = absurd (omega (arith, under))
+            at (stands j byte is e) = (byte, ap (slice_get places) (omega (arith, is)) ∙ e)
 
 pub view_fits : (f : Flags) (s : Sending) (b : Arriving) → ((view_of f s b).fallen ≡ true → (view_of f s b).alone ≡ true)
     → received b ≤ length s.written → SendHolds s (view_of f s b) → ViewFits (view_of f s b)
@@ -78,19 +98,34 @@ view_fits f s b fallen within h = record {
       (omega (arith, one), omega (arith, one));
   confirmed = confirmed (all_in_is s.closed s.written (acked_len s.marks));
   fallen = fallen;
+  acked = h.acked;
+  reached = reached_upto b.read b.places;
 }
   where
     confirmed : AllIn s.closed s.written (acked_len s.marks) → ((view_of f s b).confirmed ≤ acked_len s.marks) ⊎ IsAll (view_of f s b)
     confirmed (missing is) = inl (omega (arith, is))
     confirmed (complete closed size is) = inr (length s.written, end_is s closed, omega (arith, size))
 
+-- while the receiver is exact, it fell over links that alter nothing alone, and over others each mapping is checked
+fallen_alters_nothing : (alters checked fell : Bool) → fell ≡ true → (not alters || (checked && not fell)) ≡ true → alters ≡ false
+fallen_alters_nothing false checked fell is exact = refl
+fallen_alters_nothing true true fell is exact = absurd (both_ways _ (not-true fell exact) is)
+fallen_alters_nothing true false fell is exact = cc
+
+pub exact_checks : (alters checked fell : Bool) → (not alters || (checked && not fell)) ≡ true → alters ≡ true → checked ≡ true
+exact_checks alters true fell exact may = refl
+exact_checks true false fell exact may = cc
+exact_checks false false fell exact may = cc
+
 pub flags_fit : (f : Flags) (s : Sending) (b : Arriving) → FlagsFit f (view_of f s b)
 flags_fit f s b = record {
   answered = λ is. ap not is;
   sender = λ is. ap (λ x. x || f.receiver) is;
   receiver = λ is. or_right f.sender f.receiver is;
+  inexact = λ is exact. fallen_alters_nothing f.alters f.checked (f.receiver || f.loose) (or_left f.receiver f.loose is) exact;
+  loose = λ is exact. fallen_alters_nothing f.alters f.checked (f.receiver || f.loose) (or_right f.receiver f.loose is) exact;
 }
 
--- no more has arrived than is taken
-pub received_room : {granted : ℕ → Type 0} (v : View) (b : Arriving) → v.room ≡ edge b → ArrivedHolds granted v b → received b ≤ edge b
-received_room v b room h = row_below (edge b) b.read (filled b.places) (λ n x sent. omega (arith, sent.room, room)) (omega arith) (From-filled h.cells)
+-- over links that alter nothing no more has arrived than is taken
+pub received_room : {granted : ℕ → Type 0} (v : View) (b : Arriving) → v.room ≡ edge b → ArrivedHolds granted v b → v.alters ≡ false → received b ≤ edge b
+received_room v b room h none = row_below (edge b) b.read (filled b.places) (λ n x sent. let below = sent.room none in omega (arith, below, room)) (omega arith) (From-filled h.cells)

@@ -8,12 +8,18 @@ pub record Modes : Type 0 where
   -- the side is or was in Identity: it fell back to plain TCP on path 0
   pub plain_a : Bool
   pub plain_b : Bool
+  -- the side is or was in InfiniteReceive or InfiniteBoth: it takes the peer's bytes by an infinite mapping
+  pub loose_a : Bool
+  pub loose_b : Bool
   -- A began a join
   pub begun : Bool
   -- a segment that asks for a join was sent
   pub join_sent : Bool
   -- B answered a join
   pub answered : Bool
+  -- links may alter payload, and mappings are checked: neither ever changes
+  pub alters : Bool
+  pub checked : Bool
 
 pub record Duo : Type 0 where
   pub modes : Modes
@@ -26,6 +32,8 @@ pub data Event : Type 0 where
   ToA : (event : StreamEvent) → Event
   FallA : Event
   FallB : Event
+  LoosenA : Event
+  LoosenB : Event
   BeginJoin : Event
   SendJoin : Event
   HearJoin : Event
@@ -48,16 +56,18 @@ abbrev pub hears_join : Modes → Modes
 hears_join m = if m.join_sent && not m.plain_b then record m { answered = true } else m
 
 abbrev pub flags_ab : Modes → Flags
-flags_ab m = record { answered = m.answered; sender = m.plain_a; receiver = m.plain_b }
+flags_ab m = record { answered = m.answered; sender = m.plain_a; receiver = m.plain_b; loose = m.loose_b; alters = m.alters; checked = m.checked }
 
 abbrev pub flags_ba : Modes → Flags
-flags_ba m = record { answered = m.answered; sender = m.plain_b; receiver = m.plain_a }
+flags_ba m = record { answered = m.answered; sender = m.plain_b; receiver = m.plain_a; loose = m.loose_a; alters = m.alters; checked = m.checked }
 
 abbrev pub after_event : Event → Duo → Duo
 after_event (ToB event) w = record w { ab = after (flags_ab w.modes) event w.ab }
 after_event (ToA event) w = record w { ba = after (flags_ba w.modes) event w.ba }
 after_event FallA w = record w { modes = falls_a w.modes }
 after_event FallB w = record w { modes = falls_b w.modes }
+after_event LoosenA w = record w { modes = record w.modes { loose_a = true } }
+after_event LoosenB w = record w { modes = record w.modes { loose_b = true } }
 after_event BeginJoin w = record w { modes = begins_join w.modes }
 after_event SendJoin w = record w { modes = sends_join w.modes }
 after_event HearJoin w = record w { modes = hears_join w.modes }
@@ -67,10 +77,15 @@ abbrev pub after_events : List Event → Duo → Duo
 after_events [] w = w
 after_events (event ∷ events) w = after_events events (after_event event w)
 
--- a connection of so many paths before its first event, with equal buffers and equal capacities at both sides
-abbrev pub opening : ℕ → ℕ → ℕ → Duo
-opening paths buffer capacity = record {
-  modes = record { plain_a = false; plain_b = false; begun = false; join_sent = false; answered = false };
-  ab = opening_direction paths buffer capacity;
-  ba = opening_direction paths buffer capacity;
+-- a connection of so many paths before its first event, with equal buffers and equal capacities at both sides, over links
+-- that may alter payload or may not, with mappings that are checked or not
+abbrev pub opening_over : Bool → Bool → ℕ → ℕ → ℕ → Duo
+opening_over alters checked paths buffer capacity = record {
+  modes = record { plain_a = false; plain_b = false; loose_a = false; loose_b = false; begun = false; join_sent = false; answered = false; alters = alters; checked = checked };
+  ab = opening_direction alters checked paths buffer capacity;
+  ba = opening_direction alters checked paths buffer capacity;
 }
+
+-- the same over links that alter nothing, where no check is needed
+abbrev pub opening : ℕ → ℕ → ℕ → Duo
+opening paths buffer capacity = opening_over false false paths buffer capacity

@@ -1,11 +1,12 @@
 -- A run over two paths: the first segment of path 0 is lost, its repetition comes twice; path 1 dies with its bytes on the
 -- way, gives them back, and path 0 sends them.
-use Rattle.std.specs.Prelude.{ℕ, true, false, List, [], ◌∷◌, flat_map, codes}
+use Rattle.std.specs.Prelude.{ℕ, true, false, List, [], ◌∷◌, flat_map, codes, get_or}
+use Rattle.stream_lanes.specs.Lane.{Lane, new_lane}
 use Rattle.stream_lanes.specs.Moves.{Move}
-use Rattle.stream_lanes.specs.Moves.Move.{Open, LookAtSender, LookAtReceiver, WantGrant, HearAck, SendPiece, SendDataFin, SendFin, Hear, Learn, HearDataFin, HearFin, WantPlace, WantPlacePlain, WantFin, WantAckOut, SendAck}
-use Rattle.stream_lanes.specs.Streams.StreamEvent.{Write, Close, Return, GoIdentity, Read, Moves, Asks}
-use Rattle.stream_lanes.specs.Duo.{Duo, Event, after_events, opening}
-use Rattle.stream_lanes.specs.Duo.Event.{ToB, FallA, FallB, BeginJoin, SendJoin, HearJoin}
+use Rattle.stream_lanes.specs.Moves.Move.{Open, LookAtSender, LookAtReceiver, WantGrant, HearAck, HearSubAck, SendPiece, SendAltered, SendDataFin, SendFin, SendPair, SendFinPair, Hear, Learn, HearDataFin, HearFin, Forget, WantPlace, WantPlacePlain, WantFin, TakePair, WantPlacePair, WantFinPair, WantAckOut, SendAck}
+use Rattle.stream_lanes.specs.Streams.StreamEvent.{Write, Close, Return, GoIdentity, GoInfinite, Read, Moves, Asks}
+use Rattle.stream_lanes.specs.Duo.{Duo, Event, after_events, opening, opening_over}
+use Rattle.stream_lanes.specs.Duo.Event.{ToB, FallA, FallB, LoosenB, BeginJoin, SendJoin, HearJoin}
 
 -- "abcdefgh"
 abbrev pub text : List ℕ
@@ -22,6 +23,11 @@ ask path = ToB (Asks path)
 abbrev pub acknowledges : ℕ → ℕ → List Event
 acknowledges path copy =
     on path WantAckOut ∷ ask path ∷ on path (SendAck 100 100 100) ∷ on path (HearAck copy) ∷ ask path ∷ []
+
+-- the same by the subflow's acknowledgement
+abbrev pub acknowledges_by_the_subflow : ℕ → List Event
+acknowledges_by_the_subflow copy =
+    on 0 WantAckOut ∷ ask 0 ∷ on 0 (SendAck 100 100 100) ∷ on 0 (HearSubAck copy) ∷ ask 0 ∷ []
 
 -- it hears a copy, learns its mapping, and places four of its bytes
 abbrev pub takes_copy : ℕ → ℕ → ℕ → List Event
@@ -69,3 +75,73 @@ run_in_plain_tcp = flat_map (λ part. part) (
 
 abbrev pub after_the_plain_run : Duo
 after_the_plain_run = after_events run_in_plain_tcp (opening 1 16 8)
+
+-- A run over links that alter payload, with mappings that are checked: the first copy is altered, and its bytes are
+-- forgotten where the check has failed; the repetition passes.
+abbrev pub run_with_an_altered_copy : List Event
+run_with_an_altered_copy = flat_map (λ part. part) (
+    (on 0 Open ∷ acknowledges 0 0)
+    ∷ (ToB (Write text) ∷ ToB Close ∷ on 0 (WantGrant 9 false) ∷ ask 0 ∷ on 0 (SendAltered 0 true) ∷ on 0 (SendPiece 0 true) ∷ [])
+    -- the check fails: nothing is asked, and the bytes are forgotten
+    ∷ (on 0 (Hear 0 8) ∷ on 0 (Learn 0) ∷ on 0 (WantPlace 0 8) ∷ on 0 (Forget 0) ∷ [])
+    -- a part of the mapping isn't passed, the whole is
+    ∷ (on 0 (Hear 1 8) ∷ on 0 (WantPlace 0 4) ∷ on 0 (WantPlace 0 8) ∷ ask 0 ∷ [])
+    ∷ acknowledges 0 1
+    ∷ (on 0 (WantGrant 9 false) ∷ ask 0 ∷ on 0 SendDataFin ∷ on 0 (HearDataFin 0) ∷ ask 0 ∷ [])
+    ∷ acknowledges 0 2
+    ∷ (ToB (Read 100) ∷ ToB (Read 100) ∷ [])
+    ∷ [])
+
+abbrev pub after_the_altered_run : Duo
+after_the_altered_run = after_events run_with_an_altered_copy (opening_over true true 1 16 8)
+
+-- the same copy after a fall to plain TCP, where nothing is checked
+abbrev pub run_altered_in_plain_tcp : List Event
+run_altered_in_plain_tcp = flat_map (λ part. part) (
+    (on 0 Open ∷ acknowledges 0 0)
+    ∷ (FallA ∷ FallB ∷ on 0 LookAtSender ∷ on 0 LookAtReceiver ∷ ToB GoIdentity ∷ [])
+    ∷ (ToB (Write text) ∷ ToB Close ∷ on 0 (WantGrant 9 false) ∷ ask 0 ∷ on 0 (SendAltered 0 false) ∷ [])
+    ∷ (on 0 (Hear 0 9) ∷ on 0 (WantPlacePlain 9) ∷ ask 0 ∷ ToB (Read 100) ∷ [])
+    ∷ [])
+
+abbrev pub after_the_altered_plain_run : Duo
+after_the_altered_plain_run = after_events run_altered_in_plain_tcp (opening_over true true 1 16 8)
+
+-- Over links that alter payload a sole path falls to an infinite mapping: the first copy is altered and its check fails, the
+-- sender's side hears so and goes by an infinite mapping, and so does the receiver's once it hears that one.
+abbrev pub run_with_an_infinite_mapping : List Event
+run_with_an_infinite_mapping = flat_map (λ part. part) (
+    (on 0 Open ∷ acknowledges 0 0)
+    ∷ (ToB (Write text) ∷ ToB Close ∷ on 0 (WantGrant 9 false) ∷ ask 0 ∷ on 0 (SendAltered 0 true) ∷ [])
+    ∷ (on 0 (Hear 0 8) ∷ on 0 (Learn 0) ∷ on 0 (WantPlace 0 8) ∷ on 0 (Forget 0) ∷ [])
+    -- the segment again, with the infinite mapping
+    ∷ (ToB (GoInfinite 0 0) ∷ on 0 (SendPair 0) ∷ on 0 (SendPiece 0 false) ∷ [])
+    ∷ (LoosenB ∷ on 0 LookAtReceiver ∷ on 0 (TakePair 0) ∷ on 0 (Hear 1 8) ∷ on 0 (WantPlacePair 8) ∷ ask 0 ∷ [])
+    ∷ acknowledges_by_the_subflow 1
+    -- the FIN stands for the end
+    ∷ (on 0 (WantGrant 9 false) ∷ ask 0 ∷ on 0 SendFinPair ∷ on 0 (HearFin 0) ∷ on 0 WantFinPair ∷ ask 0 ∷ [])
+    ∷ acknowledges_by_the_subflow 2
+    ∷ (ToB (Read 100) ∷ ToB (Read 100) ∷ [])
+    ∷ [])
+
+abbrev pub after_the_infinite_run : Duo
+after_the_infinite_run = after_events run_with_an_infinite_mapping (opening_over true true 1 16 8)
+
+-- Path 0 has places 5 and 6, and behind them those that path 1 had before it died; a copy of path 1 comes all the same, so
+-- these are acknowledged, and 5 and 6 are not.
+abbrev pub run_with_a_late_copy : List Event
+run_with_a_late_copy = flat_map (λ part. part) (
+    (on 0 Open ∷ acknowledges 0 0)
+    ∷ (BeginJoin ∷ SendJoin ∷ HearJoin ∷ on 1 Open ∷ ToB (Write text) ∷ [])
+    ∷ (on 1 (WantGrant 5 false) ∷ ask 1 ∷ on 1 (SendPiece 0 true) ∷ on 0 (WantGrant 2 false) ∷ ask 0 ∷ [])
+    ∷ (ToB (Return 1) ∷ on 0 (WantGrant 5 false) ∷ ask 0 ∷ [])
+    ∷ (on 1 (Hear 0 5) ∷ on 1 (Learn 0) ∷ on 1 (WantPlace 0 5) ∷ ask 1 ∷ [])
+    ∷ acknowledges 0 1
+    ∷ [])
+
+abbrev pub after_the_rising_run : Duo
+after_the_rising_run = after_events run_with_a_late_copy (opening_over true true 2 16 8)
+
+-- path 0 there
+abbrev pub first_lane : Lane
+first_lane = get_or after_the_rising_run.ab.lanes 0 new_lane

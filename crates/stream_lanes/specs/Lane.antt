@@ -13,6 +13,11 @@ pub record Mapping : Type 0 where
   pub place : ℕ
   pub len : ℕ
 
+-- an infinite mapping: the positions from `pos` on have the places from `place` on (RFC 8684, section 3.7)
+pub record Pair : Type 0 where
+  pub pos : ℕ
+  pub place : ℕ
+
 -- a segment with data, or what is left of it where its options were taken off
 pub record DataCopy : Type 0 where
   pub pos : ℕ
@@ -40,6 +45,9 @@ pub data Ask : Type 0 where
   AskAckOut : Ask
 
 pub record Lane : Type 0 where
+  -- whether links may alter payload, and whether mappings are checked: neither ever changes
+  pub alters : Bool
+  pub checked : Bool
   -- the sender's end may ask for bytes
   pub opened : Bool
   -- every byte that it was granted, by position
@@ -54,6 +62,9 @@ pub record Lane : Type 0 where
   pub fin_acked : Bool
   -- it knows that its side fell back to plain TCP
   pub sender_plain : Bool
+  -- the infinite mapping that it goes by since its book is its alone, and those ever sent
+  pub pair : Option Pair
+  pub pairs : List Pair
   -- every copy ever sent: data, DATA_FIN with the end that it names, FIN with its position, acknowledgements
   pub datas : List DataCopy
   pub data_fins : List ℕ
@@ -65,8 +76,11 @@ pub record Lane : Type 0 where
   pub kept : List (Option ℕ)
   -- the mappings that it learned
   pub maps : List Mapping
-  -- it knows that its side fell back to plain TCP
+  -- it knows that its side fell back to plain TCP, or to an infinite mapping
   pub receiver_plain : Bool
+  pub receiver_loose : Bool
+  -- the infinite mapping that it took
+  pub taken : Option Pair
   -- the FIN has come in order
   pub fin_in : Bool
   -- it has to ask what is to be acknowledged before it sends anything
@@ -78,6 +92,8 @@ pub record Lane : Type 0 where
 -- a lane before its first segment
 abbrev pub new_lane : Lane
 new_lane = record {
+  alters = false;
+  checked = false;
   opened = false;
   sent = [];
   pieces = [];
@@ -85,6 +101,8 @@ new_lane = record {
   heard = 0;
   fin_acked = false;
   sender_plain = false;
+  pair = None;
+  pairs = [];
   datas = [];
   data_fins = [];
   fins = [];
@@ -93,8 +111,14 @@ new_lane = record {
   kept = [];
   maps = [];
   receiver_plain = false;
+  receiver_loose = false;
+  taken = None;
   fin_in = false;
   due = false;
   latest = record { next = 0; window = 0 };
   asking = Nothing;
 }
+
+-- the same over links that may alter payload, or may not, with mappings that are checked or not
+abbrev pub lane_over : Bool → Bool → Lane
+lane_over alters checked = record new_lane { alters = alters; checked = checked }

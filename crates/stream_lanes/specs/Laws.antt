@@ -1,5 +1,5 @@
 -- What is promised of a connection over every list of events.
-use Rattle.std.specs.Prelude.{ℕ, ◌≡◌, ◌+◌, ◌<◌, ◌≤◌, Bool, true, false, ◌||◌, Option, Some, None, List, [], length, slice_get, IfSome, ◌^◌, ◌-◌}
+use Rattle.std.specs.Prelude.{ℕ, ◌≡◌, ◌+◌, ◌<◌, ◌≤◌, Bool, true, false, not, ◌||◌, nat_lt, if◌then◌else◌, Option, Some, None, List, [], length, slice_get, IfSome, ◌^◌, ◌-◌}
 use Rattle.pipe_model.specs.declared.pipe.Pipe.{Pipe}
 use Rattle.pipe_model.specs.declared.pipe.PipeStep.{PipeStep}
 use Rattle.pipe_model.specs.declared.pipe.PipeStep.TheVariants.{Ack as AckStep}
@@ -16,20 +16,30 @@ use Rattle.reassembly_book.specs.declared.call.ReassemblyReply.{ReassemblyReply}
 use Rattle.reassembly_book.specs.declared.call.ReassemblyReply.TheVariants.{Beyond, FinClash}
 use Rattle.reassembly_book.specs.State.{received}
 use Rattle.reassembly_book.specs.Steps.{reply_to as arrival_reply}
+use Rattle.seq_units.specs.declared.mapping.Mapping.{Mapping as Summed}
+use Rattle.dss_checksum.specs.Checksum.{dss_checksum}
 use Rattle.stream_lanes.specs.Words.{Every, From}
 use Rattle.stream_lanes.specs.Marks.{spent, tried}
 use Rattle.stream_lanes.specs.Holding.{HasPlace}
-use Rattle.stream_lanes.specs.Lane.{Mapping, DataCopy, Ask, Lane}
+use Rattle.stream_lanes.specs.Lane.{Mapping, Pair, DataCopy, Ask, Lane}
 use Rattle.stream_lanes.specs.Lane.Ask.{AskAckIn, AskPlace, AskFin}
-use Rattle.stream_lanes.specs.Moves.{Move, clashes}
+use Rattle.stream_lanes.specs.Moves.{Move, clashes, in_order, part_of, places_of, place_by}
 use Rattle.stream_lanes.specs.Moves.Move.{Learn}
 use Rattle.stream_lanes.specs.Streams.{Direction, StreamEvent}
 use Rattle.stream_lanes.specs.Streams.StreamEvent.{Moves, Asks}
-use Rattle.stream_lanes.specs.Duo.{Duo, Event, after_event, after_events, opening}
+use Rattle.stream_lanes.specs.Duo.{Modes, Duo, Event, after_event, after_events, opening, opening_over}
 
--- P holds of a connection at every moment, whatever happens to it
+-- P holds of a connection over links that alter nothing at every moment, whatever happens to it
 abbrev pub Always : (Duo → Type 0) → Type 0
 Always P = (paths buffer capacity : ℕ) (events : List Event) → P (after_events events (opening paths buffer capacity))
+
+-- the same over links that may alter payload, where mappings are checked
+abbrev pub AlwaysChecked : (Duo → Type 0) → Type 0
+AlwaysChecked P = (paths buffer capacity : ℕ) (events : List Event) → P (after_events events (opening_over true true paths buffer capacity))
+
+-- and over any links, with mappings that are checked or not
+abbrev pub AlwaysAny : (Duo → Type 0) → Type 0
+AlwaysAny P = (alters checked : Bool) (paths buffer capacity : ℕ) (events : List Event) → P (after_events events (opening_over alters checked paths buffer capacity))
 
 -- P holds of both directions
 abbrev pub BothWays : (Direction → Type 0) → Duo → Type 0
@@ -162,6 +172,7 @@ pub record LaneIsShort (n : ℕ) (p : Lane) : Type 0 where
   pub data_fins : Every (λ e. e ≤ n) p.data_fins
   pub fins : Every (λ pos. pos ≤ n) p.fins
   pub acks : Every (λ a. (a.sub ≤ n + 1) × (a.next ≤ n + 1)) p.acks
+  pub pairs : Every (λ m. (m.pos ≤ n) × (m.place ≤ n)) p.pairs
   pub edge : p.edge ≤ n
   pub maps : Every (MappingIsShort n) p.maps
   pub latest : p.latest.next ≤ n + 1
@@ -180,6 +191,7 @@ pub record TellsNear (expected : ℕ) (p : Lane) : Type 0 where
   pub mapped : Every (λ c. IfSome c.mapping (λ m. IsNear expected m.pos × IsNear expected m.place)) p.datas
   pub data_fins : Every (IsNear expected) p.data_fins
   pub fins : Every (IsNear expected) p.fins
+  pub pairs : Every (λ m. IsNear expected m.pos × IsNear expected m.place) p.pairs
   pub acks : Every (λ a. IsNear expected a.sub × IsNear expected a.next) p.acks
 
 -- of a stream below 2^31 - 2 bytes every position and place that is told is near each one that may be expected: a
@@ -196,3 +208,70 @@ pub record FallsAreRight (w : Duo) : Type 0 where
   pub a : w.modes.plain_a ≡ true → (w.modes.begun ≡ false) × (w.modes.answered ≡ false)
   pub b : w.modes.plain_b ≡ true → w.modes.answered ≡ false
   pub plain : (w.modes.plain_a || w.modes.plain_b) ≡ true → BothWays IsPlain w
+
+-- whatever was altered: a reader that was told the end has as many bytes as were written to a closed stream
+abbrev pub EndsAtAllBytes : Direction → Type 0
+EndsAtAllBytes d = d.reader.told ≡ true → (d.send.closed ≡ true) × (length d.reader.out ≡ length d.send.written)
+
+-- the byte at a place of the stream, where it was placed: the reader's, or that of the reassembly book
+abbrev pub flattened : Option (Option ℕ) → Option ℕ
+flattened None = None
+flattened (Some cell) = cell
+
+abbrev pub content : Direction → ℕ → Option ℕ
+content d place = if nat_lt place d.arrived.read then slice_get d.reader.out place else flattened (slice_get d.arrived.places (place - d.arrived.read))
+
+-- each byte that was placed is the written one at its place, and stays it, in the book and with the reader
+abbrev pub PlacedIsRight : Direction → Direction → Type 0
+PlacedIsRight d later = (place byte : ℕ) → content d place ≡ Some byte → (slice_get later.send.written place ≡ Some byte) × (content later place ≡ Some byte)
+
+-- the receiver's side fell neither back to plain TCP nor to an infinite mapping
+abbrev pub never_fell_a : Modes → Bool
+never_fell_a m = not (m.plain_a || m.loose_a)
+
+abbrev pub never_fell_b : Modes → Bool
+never_fell_b m = not (m.plain_b || m.loose_b)
+
+-- every byte that a side placed before it fell is the other side's byte at that place, for ever
+abbrev pub PlacedBeforeTheFallIsRight : Duo → Type 0
+PlacedBeforeTheFallIsRight w = (more : List Event) → (never_fell_b w.modes ≡ true → PlacedIsRight w.ab (after_events more w).ab)
+    × (never_fell_a w.modes ≡ true → PlacedIsRight w.ba (after_events more w).ba)
+
+-- until then the reader has a prefix of what was written
+abbrev pub PrefixBeforeTheFall : Duo → Type 0
+PrefixBeforeTheFall w = (never_fell_b w.modes ≡ true → ReadsAPrefix w.ab) × (never_fell_a w.modes ≡ true → ReadsAPrefix w.ba)
+
+-- an infinite mapping that was sent is right: the places of the record from its position on are those that it gives
+abbrev pub PairIsRight : Lane → Pair → Type 0
+PairIsRight p m = (pos place : ℕ) → m.pos ≤ pos → slice_get (places_of p.sent) pos ≡ Some place → place ≡ place_by m pos
+
+abbrev pub InfiniteMappingsAreRight : Direction → Type 0
+InfiniteMappingsAreRight d = Every (λ p. Every (PairIsRight p) p.pairs) d.lanes
+
+-- Where all bytes of a learned mapping have come, and their checksum is that of the bytes that were sent, whatever numbers
+-- the mapping is told with, they are these: so the check of a real end lets pass what a lane's does
+-- (RFC 8684, section 3.3.1).
+abbrev pub ChecksumsShow : Direction → Type 0
+ChecksumsShow d = (path mapping count : ℕ) (p : Lane) (m : Mapping) (told : Summed) → slice_get d.lanes path ≡ Some p → slice_get p.maps mapping ≡ Some m
+    → p.edge ≡ m.pos → length (in_order count p) ≡ m.len → dss_checksum told (in_order count p) ≡ dss_checksum told (part_of p.sent m)
+    → in_order count p ≡ part_of p.sent m
+
+-- the answers that would say that places, ends or acknowledgements don't agree
+abbrev pub is_clash : ReassemblyReply → Bool
+is_clash (FinClash fin at) = true
+is_clash _ = false
+
+abbrev pub ask_disagrees : Ask → Direction → Bool
+ask_disagrees (AskAckIn next window) d = is_ack_future (send_reply d.send (AckIn next window))
+ask_disagrees (AskPlace at bytes) d = is_clash (arrival_reply d.arrived (Place at bytes))
+ask_disagrees (AskFin at) d = is_clash (arrival_reply d.arrived (Fin at))
+ask_disagrees _ d = false
+
+-- the event is answered by FinClash or AckFuture, or its mapping clashes with one that was learned
+abbrev pub disagrees : StreamEvent → Direction → Bool
+disagrees (Moves path move) d = lane_refused (move_refused move) (slice_get d.lanes path)
+disagrees (Asks path) d = lane_refused (λ p. ask_disagrees p.asking d) (slice_get d.lanes path)
+disagrees _ d = false
+
+abbrev pub NothingDisagrees : Direction → Type 0
+NothingDisagrees d = (event : StreamEvent) → disagrees event d ≡ false

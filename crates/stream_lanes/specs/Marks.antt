@@ -2,8 +2,8 @@
 use Rattle.std.specs.Prelude.{ℕ, zero, suc, ◌≡◌, ◌≤◌, Bool, true, false, Option, Some, None, List, [], ◌∷◌, count_by, slice_get}
 use Rattle.send_book.specs.declared.mark.ByteMark.{ByteMark}
 use Rattle.send_book.specs.declared.mark.ByteMark.TheVariants.{Acked, Held, Free}
-use Rattle.send_book.specs.Tried.{no_paths, contains}
-use Rattle.send_book.specs.Marks.{is_acked, has_tried, is_held_rightly}
+use Rattle.send_book.specs.Tried.{contains}
+use Rattle.send_book.specs.Marks.{is_acked, has_tried, is_untouched, is_held_rightly}
 
 -- the byte is acknowledged, or this path has tried it: it is granted to the path no more
 abbrev pub spent : ℕ → Option ByteMark → Bool
@@ -32,4 +32,4 @@ AreAcked (suc n) (m ∷ marks) = (is_acked m ≡ true) × AreAcked n marks
 
 -- byte n and those after it are as they were written: no path has tried one, and none is acknowledged
 abbrev pub AreNew : ℕ → List ByteMark → Type 0
-AreNew n marks = (place : ℕ) (mark : ByteMark) → n ≤ place → slice_get marks place ≡ Some mark → mark ≡ Free no_paths
+AreNew n marks = (place : ℕ) (mark : ByteMark) → n ≤ place → slice_get marks place ≡ Some mark → is_untouched mark ≡ true

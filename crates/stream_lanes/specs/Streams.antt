@@ -1,11 +1,12 @@
 -- One direction of a connection: the writer's send book, the reader's reassembly book, a lane for each path, and what the
 -- reader got. Every call of the two books is an event.
-use Rattle.std.specs.Prelude.{ℕ, Bool, true, false, ◌||◌, if◌then◌else◌, Option, Some, None, List, [], ◌++◌, length, replicate, slice_get, slice_set}
+use Rattle.std.specs.Prelude.{ℕ, Bool, true, false, ◌&&◌, ◌||◌, ◌==◌, nat_lt, nat_le, suc, if◌then◌else◌, Option, Some, None, List, [], ◌∷◌, ◌++◌, length, take, drop, replicate, slice_get, slice_set}
+use Rattle.std.specs.List.{list_all}
 use Rattle.send_book.specs.declared.call.SendCall.{SendCall}
 use Rattle.send_book.specs.declared.call.SendCall.TheVariants.{Grant, AckIn}
 use Rattle.send_book.specs.declared.call.SendCall.TheVariants.{Write as WriteBytes, Close as CloseBook, Return as ReturnBytes, GoIdentity as GoIdentityBook, GoInfinite as GoInfiniteBook, Abort as AbortBook}
-use Rattle.send_book.specs.State.{Sending, new_sending as opened_send}
-use Rattle.send_book.specs.Steps.{reply_to as send_reply, after_call as after_send}
+use Rattle.send_book.specs.State.{Sending, new_sending as opened_send, acked_len}
+use Rattle.send_book.specs.Steps.{reply_to as send_reply, after_call as after_send, is_gathered}
 use Rattle.reassembly_book.specs.declared.call.ReassemblyCall.{ReassemblyCall}
 use Rattle.reassembly_book.specs.declared.call.ReassemblyCall.TheVariants.{Place, Fin, AckOut}
 use Rattle.reassembly_book.specs.declared.call.ReassemblyCall.TheVariants.{Read as ReadBytes, Abort as AbortReading}
@@ -13,7 +14,7 @@ use Rattle.reassembly_book.specs.declared.call.ReassemblyReply.{ReassemblyReply}
 use Rattle.reassembly_book.specs.declared.call.ReassemblyReply.TheVariants.{Bytes, End, Aborted}
 use Rattle.reassembly_book.specs.State.{Arriving, new_arriving as opened_arriving}
 use Rattle.reassembly_book.specs.Steps.{reply_to as arrival_reply, after_call as after_arrival}
-use Rattle.stream_lanes.specs.Lane.{Ask, Lane, new_lane}
+use Rattle.stream_lanes.specs.Lane.{Cell, Ask, Lane, lane_over}
 use Rattle.stream_lanes.specs.Lane.Ask.{Nothing, AskGrant, AskAckIn, AskPlace, AskFin, AskAckOut}
 use Rattle.stream_lanes.specs.Moves.{Flags, Move, moved, takes_grant, takes_ack, takes_placed, takes_fin, takes_ack_out}
 
@@ -35,9 +36,10 @@ pub data StreamEvent : Type 0 where
   Close : StreamEvent
   -- a path gives back what it holds
   Return : (path : ℕ) → StreamEvent
-  -- the send book is given to one path alone
+  -- the send book is given to one path alone: where the writer's side fell back to plain TCP, or where an infinite mapping
+  -- that begins at a position of the path's record is right
   GoIdentity : StreamEvent
-  GoInfinite : (path : ℕ) → StreamEvent
+  GoInfinite : (path pos : ℕ) → StreamEvent
   AbortSend : StreamEvent
   -- the application of the reader's side
   Read : (max : ℕ) → StreamEvent
@@ -93,13 +95,34 @@ abbrev pub asks_at : ℕ → Option Lane → Direction → Direction
 asks_at path None d = d
 asks_at path (Some p) d = asks path p.asking p d
 
+-- the places of these bytes rise by one from a place on
+abbrev pub rises : ℕ → List Cell → Bool
+rises place [] = true
+rises place (c ∷ cells) = (c.place == place) && rises (suc place) cells
+
+-- An infinite mapping that begins at a position of the record with the first place that isn't acknowledged is right: the
+-- book gives itself to the path, the bytes before that position are acknowledged, and from there on places rise by one.
+abbrev pub may_go : ℕ → ℕ → Sending → Lane → Bool
+may_go path pos s p =
+    p.opened && (is_gathered path s && (nat_le pos (length p.sent)
+    && (list_all (λ c. nat_lt c.place (acked_len s.marks)) (take pos p.sent) && rises (acked_len s.marks) (drop pos p.sent))))
+
+abbrev pub goes_infinite : ℕ → ℕ → Option Lane → Direction → Direction
+goes_infinite path pos None d = d
+goes_infinite path pos (Some p) d =
+    if may_go path pos d.send p
+    then record d {
+      send = after_send d.send (GoInfiniteBook path);
+      lanes = slice_set d.lanes path (record p { pair = Some (record { pos = pos; place = acked_len d.send.marks }) });
+    } else d
+
 -- the direction after an event
 abbrev pub after : Flags → StreamEvent → Direction → Direction
 after f (Write bytes) d = with_send (WriteBytes bytes) d
 after f Close d = with_send CloseBook d
 after f (Return path) d = with_send (ReturnBytes path) d
-after f GoIdentity d = with_send GoIdentityBook d
-after f (GoInfinite path) d = with_send (GoInfiniteBook path) d
+after f GoIdentity d = if f.sender then with_send GoIdentityBook d else d
+after f (GoInfinite path pos) d = goes_infinite path pos (slice_get d.lanes path) d
 after f AbortSend d = with_send AbortBook d
 after f (Read max) d = if is_done d.reader then d else reads max d
 after f (AbortRead by_peer) d = record d { arrived = after_arrival d.arrived (AbortReading by_peer) }
@@ -107,10 +130,10 @@ after f (Moves path move) d = moves f path move (slice_get d.lanes path) d
 after f (Asks path) d = asks_at path (slice_get d.lanes path) d
 
 -- so many paths, none of which has sent anything
-abbrev pub opening_direction : ℕ → ℕ → ℕ → Direction
-opening_direction paths buffer capacity = record {
+abbrev pub opening_direction : Bool → Bool → ℕ → ℕ → ℕ → Direction
+opening_direction alters checked paths buffer capacity = record {
   send = opened_send buffer;
   arrived = opened_arriving capacity;
-  lanes = replicate paths new_lane;
+  lanes = replicate paths (lane_over alters checked);
   reader = record { out = []; told = false; stopped = false };
 }

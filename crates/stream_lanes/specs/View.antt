@@ -1,5 +1,5 @@
 -- What a lane may rely on of the two books and of the modes.
-use Rattle.std.specs.Prelude.{ℕ, ◌≡◌, ◌+◌, Bool, not, ◌&&◌, ◌||◌, ◌==◌, if◌then◌else◌, Option, Some, None, List, length}
+use Rattle.std.specs.Prelude.{ℕ, ◌≡◌, ◌+◌, Bool, not, ◌&&◌, ◌||◌, ◌==◌, ◌<◌, if◌then◌else◌, Option, Some, None, List, length, slice_get}
 use Rattle.send_book.specs.declared.mark.ByteMark.{ByteMark}
 use Rattle.send_book.specs.State.{Sending, acked_len}
 use Rattle.reassembly_book.specs.State.{Arriving, received}
@@ -25,6 +25,15 @@ pub record View : Type 0 where
   pub alone : Bool
   -- a side fell back to plain TCP
   pub fallen : Bool
+  -- links may alter payload, and mappings are checked
+  pub alters : Bool
+  pub checked : Bool
+  -- all that the receiver placed is as it was sent
+  pub exact : Bool
+  -- the path that the send book was given to alone; how much was read, and what stands in the reassembly book
+  pub owner : Option ℕ
+  pub read : ℕ
+  pub places : List (Option ℕ)
 
 -- one where the stream is closed and these are all of its bytes: DATA_FIN takes the place after the last byte
 abbrev pub all_in : Bool → List ℕ → ℕ → ℕ
@@ -32,6 +41,11 @@ all_in closed written count = if closed && (length written == count) then 1 else
 
 abbrev pub end_of : Sending → Option ℕ
 end_of s = if s.closed then Some (length s.written) else None
+
+-- no link alters payload, or each mapping is checked and the receiver's side fell neither to plain TCP nor to an infinite
+-- mapping
+abbrev pub is_exact : Flags → Bool
+is_exact f = not f.alters || (f.checked && not (f.receiver || f.loose))
 
 abbrev pub view_of : Flags → Sending → Arriving → View
 view_of f s b = record {
@@ -46,7 +60,21 @@ view_of f s b = record {
   edge = edge b + all_in s.closed s.written (received b);
   alone = not f.answered;
   fallen = f.sender || f.receiver;
+  alters = f.alters;
+  checked = f.checked;
+  exact = is_exact f;
+  owner = s.owner;
+  read = b.read;
+  places = b.places;
 }
 
 abbrev pub IsEnd : Option ℕ → ℕ → Type 0
 IsEnd end at = end ≡ Some at
+
+-- a place has been filled
+pub data IsPlaced (read : ℕ) (places : List (Option ℕ)) (place : ℕ) : Type 0 where
+  was_read : place < read → IsPlaced read places place
+  stands : (i byte : ℕ) → place ≡ read + i → slice_get places i ≡ Some (Some byte) → IsPlaced read places place
+
+abbrev pub IsIn : View → ℕ → Type 0
+IsIn v place = IsPlaced v.read v.places place

@@ -96,7 +96,7 @@ module _ (six : SixBooks) (others : Others) (p : PathState Carried) (ab ba : Lan
 
   -- the agenda changes alone
   pub agenda_shows : (ds : List Duty) → PathShows p.profile (with_agenda ds p) ab ba
-  agenda_shows ds = record { profile = h.profile; unchanged = h.unchanged; a = h.a; b = h.b; copies = h.copies }
+  agenda_shows ds = record { profile = h.profile; may = h.may; a = h.a; b = h.b; copies = h.copies }
 
   pub agenda_strolled : (ds : List Duty) → Strolled p.profile (with_agenda ds p) ab ba
   agenda_strolled ds = record { ab_after = ab; ba_after = ba; ab_moves = stays ab; ba_moves = stays ba; shows = agenda_shows ds }
@@ -156,7 +156,7 @@ module _ (six : SixBooks) (others : Others) (p : PathState Carried) (ab ba : Lan
     ack_said_shows : IsCalm → (position : ℕ) → SegmentShows back.acks out (ack_said p.profile s position None e)
     ack_said_shows calm position = ack_says p.profile s e back.acks out shows.acks.windows (shows.acks.sub calm) position None tt
 
-    record_said_shows : IsCalm → (o : Option Record) → IfSome o (RecordShows p.profile s out.datas out.fins) → SegmentShows back.acks out (record_or_ack p.profile s o e)
+    record_said_shows : IsCalm → (o : Option Record) → IfSome o (RecordShows p.profile s out.alters out.datas out.fins) → SegmentShows back.acks out (record_or_ack p.profile s o e)
     record_said_shows calm = record_or_ack_says p.profile s e back.acks out shows.acks.windows (shows.acks.sub calm) (ready.first s)
 
     pub acknowledges_step : IsCalm → (ds : List Duty) → Steps (sends values s (ack_segment s p) p) (sent_on values s (ack_segment s p) (having_sent to_send.Ack p.clock (ack_segment s p) e) ds p)

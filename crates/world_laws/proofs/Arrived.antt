@@ -22,9 +22,7 @@ use Rattle.subflow_tcp.specs.Judging.{meaning_of}
 use Rattle.subflow_tcp.specs.State.{EndState}
 use Rattle.subflow_tcp.specs.Taking as taking
 use Rattle.subflow_tcp.specs.declared.handshake.State.{State as EndPhase}
-use Rattle.stream_lanes.specs.Holding.{LaneHolds}
 use Rattle.stream_lanes.specs.Lane.{Lane, AckCopy}
-use Rattle.stream_lanes.specs.View.{View}
 use Rattle.stream_lanes.proofs.Lists.{Every-nil}
 use Rattle.actor_desk.specs.Words.{is_nil}
 use Rattle.path_agenda.specs.declared.heard.Heard.{Heard}
@@ -41,7 +39,6 @@ use Rattle.world_laws.proofs.Hearing.{Fits, meaning_fits, state_shows, cut_shows
 use Rattle.world_laws.proofs.Records.{acknowledged_shows}
 use Rattle.world_laws.proofs.Roads.{Strolls, stays}
 use Rattle.world_laws.proofs.Showing.{HasSub, HasNone, HasData, HasFin, Knowledge, knowledge_of, is_unfinished, AcksShow, SegmentShows, EndShows}
-use Rattle.world_laws.proofs.Taking.{heard_lane, hears, heard_goes, heard_under, heard_more}
 use Rattle.world_laws.proofs.Rules.{sub_of_none}
 use Rattle.path_segments.specs.declared.position.HeardPosition.TheVariants.{At}
 
@@ -53,48 +50,32 @@ pub record Holding (c : Profile) (s : Side) (k : Knowledge) (live : List KeptMap
   pub acks : (next window : ℕ) (asked : Bool) (edge : ℕ) → AcksShow next window asked edge back → AcksShow next window asked edge back_after
   pub halves : Halves c s k live out back_after tcp
 
-module _ (c : Profile) (s : Side) (k : Knowledge) (live : List KeptMapping) (out back : Lane) (v : View) (path : ℕ) (holds : LaneHolds v path back) where
+module _ (c : Profile) (s : Side) (k : Knowledge) (live : List KeptMapping) (out back : Lane) where
   abbrev Held : EndState → Type 0
   Held tcp = Holding c s k live out back tcp
 
   not_held : (tcp : EndState) → Halves c s k live out back tcp → Held tcp
   not_held tcp h = record { back_after = back; back_moves = stays back; receiver = receiver_stays back; acks = λ next window asked edge acks. acks; halves = h }
 
-  -- at the edge the lane hears the copy, and behind the FIN nothing counts
+  -- at the edge the copy is held until it is kept, and behind the FIN nothing counts
   hold : (pos : ℕ) (payload : List ℕ) (tcp : EndState) → HasData back.datas pos payload → Halves c s k live out back tcp → Held (taking.after_holding pos payload tcp)
-  hold pos payload tcp has h = ⊎_elim
-      (λ at.
-      let count = (tcp.recv.edge + tcp.recv.window) - pos in
-      let q : Lane = heard_lane back v path holds pos payload has count in
-      record {
-        back_after = q;
-        back_moves = hears back v path holds pos payload has count;
-        receiver = heard_goes back v path holds pos payload has count;
-        acks = λ next window asked edge acks. record { windows = acks.windows; latest = acks.latest; due = acks.due; sub = acks.sub };
-        halves = record {
-          sender = h.sender;
-          receiver = record {
-            same_mode = h.receiver.same_mode;
-            edge = inl (record {
-              edge_is = at.edge_is;
-              under = heard_more back v path holds pos payload has count tcp.recv.places at.under;
-              held = heard_under back v path holds pos payload has count tcp.recv.edge tcp.recv.places at.edge_is at.under;
-            });
-            fin = h.receiver.fin;
-            mapped = h.receiver.mapped;
-          };
-        };
-      })
-      (λ past. not_held (taking.after_holding pos payload tcp) (record {
-        sender = h.sender;
-        receiver = record {
-          same_mode = h.receiver.same_mode;
-          edge = inr (record { at_is = past.at_is; none = past.none; edge_is = past.edge_is; fin_in = past.fin_in });
-          fin = h.receiver.fin;
-          mapped = h.receiver.mapped;
-        };
-      }))
-      h.receiver.edge
+  hold pos payload tcp has h = not_held (taking.after_holding pos payload tcp) (record {
+    sender = h.sender;
+    receiver = record {
+      same_mode = h.receiver.same_mode;
+      edge = ⊎_elim
+          (λ at. inl (record {
+            edge_is = at.edge_is;
+            under = at.under;
+            only = at.only;
+            held = record { position = pos; octets = payload; count = (tcp.recv.edge + tcp.recv.window) - pos; has = has; is = refl };
+          }))
+          (λ past. inr (record { at_is = past.at_is; none = past.none; edge_is = past.edge_is; fin_in = past.fin_in }))
+          h.receiver.edge;
+      fin = h.receiver.fin;
+      mapped = h.receiver.mapped;
+    };
+  })
 
   pub payload_held : (sg : PlainSegment) (m : Meaning) (tcp : EndState) → Fits (copy_of (meant sg)) (is_unfinished tcp.state) m → SegmentShows out.acks back sg → Halves c s k live out back tcp
       → Held (with_payload m sg.payload tcp)
@@ -164,7 +145,7 @@ module _ (c : Profile) (s : Side) (k : Knowledge) (live : List KeptMapping) (out
   killed : (tcp : EndState) → Both tcp → Both (taking.after_death false tcp)
   killed tcp h = record {
     sender = state_shows c s k out tcp.state phase.Dead _ (λ no_more. absurd (false≢true no_more)) (acknowledged_shows c s k out tcp.send.nxt tcp.state tcp.send h.sender);
-    receiver = cut_shows tcp.fin_at live k.identity back (tcp.recv.edge - tcp.recv.edge) tcp.recv h.receiver;
+    receiver = cut_shows tcp.fin_at live k.identity back (tcp.recv.edge - tcp.recv.edge) (omega arith) tcp.recv h.receiver;
   }
 
   arrived_both : (sg : PlainSegment) (m : Meaning) (hint : Hint) (now : ℕ) (tcp : EndState) → hint.keep ≡ false → Fits (copy_of (meant sg)) (is_unfinished tcp.state) m
@@ -320,9 +301,9 @@ acknowledged_shows_in acks p sg means.Ahead u fits said = sub_of_none _ said.win
 
 -- ---- the end
 
-pub arrived_end : (c : Profile) (s : Side) (now : ℕ) (sg : PlainSegment) (e : PathEnd) (out back : Lane) (v : View) (path : ℕ) → LaneHolds v path back → SegmentShows out.acks back sg
+pub arrived_end : (c : Profile) (s : Side) (now : ℕ) (sg : PlainSegment) (e : PathEnd) (out back : Lane) → SegmentShows out.acks back sg
     → e.treated.asked ≡ false → EndShows c s e out back → Did c s (after_judged c s now (meant sg) (judged_in (is_joined c) s (meant sg) e) e) out out back back
-arrived_end c s now sg e out back v path holds said calm h =
+arrived_end c s now sg e out back said calm h =
     let copy : Copy = copy_of (meant sg) in
     let items = items_of (is_joined c) s (meant sg) in
     let m : Meaning = taken_as (judged_in (is_joined c) s (meant sg) e) in
@@ -330,7 +311,7 @@ arrived_end c s now sg e out back v path holds said calm h =
     let fits : Fits copy (is_unfinished e.tcp.state) m =
     judged_taken sg.rst items e (Fits copy (is_unfinished e.tcp.state)) tt (is_joined c) (meaning_of copy e.tcp) (meaning_fits copy e.tcp) in
     let kept : Holding c s k live out back (with_payload m sg.payload e.tcp) =
-    payload_held c s k live out back v path holds sg m e.tcp fits said (record { sender = h.sender; receiver = h.receiver }) in
+    payload_held c s k live out back sg m e.tcp fits said (record { sender = h.sender; receiver = h.receiver }) in
     let q : Lane = kept.back_after in
     let g : SenderGoes out out = sender_stays out in
     let l : Longer out.acks out.acks back q = heard_longer out out back q g kept.receiver in

@@ -1,6 +1,6 @@
 -- What an end does: the lanes go on by what its sender's half and its receiver's half do, and show the end as it is then.
 use Rattle.stream_lanes.specs.Moves.{sub_next}
-use Rattle.std.proofs.Common.{◌≡◌, refl, sym, ◌∙◌, ap, ℕ, suc, ◌+◌, ◌-◌, ◌*◌, ◌/◌, ◌%◌, ◌^◌, ◌<◌, ◌≤◌, min, ◌&&◌, nat_lt, Bool, true, false, if◌then◌else◌, Option, Some, List, [], ◌∷◌, ◌++◌, length, take, drop, arith}
+use Rattle.std.proofs.Common.{◌≡◌, refl, sym, ◌∙◌, ap, ℕ, suc, ◌+◌, ◌-◌, ◌*◌, ◌/◌, ◌%◌, ◌^◌, ◌<◌, ◌≤◌, min, ◌&&◌, nat_lt, Bool, true, false, if◌then◌else◌, Option, Some, List, [], ◌∷◌, ◌++◌, length, take, drop, arith, subst}
 use Rattle.std.proofs.lemmas.Bool.{lt-ltb}
 use Rattle.std.proofs.lemmas.List.{append-nil, append_assoc}
 use Rattle.std.specs.List.{slice_get}
@@ -11,16 +11,18 @@ use Rattle.send_book.specs.declared.call.SendReply.TheVariants as send_replies
 use Rattle.reassembly_book.specs.declared.call.ReassemblyReply.TheVariants as reassembly_replies
 use Rattle.stream_lanes.specs.Lane.{Cell, Mapping, DataCopy, AckCopy, Lane}
 use Rattle.stream_lanes.specs.Lane.Ask.{Nothing, AskGrant, AskAckIn, AskFin, AskAckOut}
-use Rattle.stream_lanes.specs.Moves.{Move, bytes_of, cells_from, hears, hears_data_fin, sends_piece, is_whole, known, later_end, takes_grant, takes_ack_out, ack_copy}
-use Rattle.stream_lanes.specs.Moves.Move.{WantGrant, HearAck, SendPiece, SendDataFin, SendFin, HearDataFin, WantAckOut, SendAck, WantFin}
+use Rattle.stream_lanes.specs.Moves.{Move, sends_altered, bytes_of, cells_from, hears, hears_data_fin, sends_piece, is_whole, known, later_end, takes_grant, takes_ack_out, ack_copy}
+use Rattle.stream_lanes.specs.Moves.Move.{WantGrant, HearAck, SendPiece, SendAltered, SendDataFin, SendFin, HearDataFin, WantAckOut, SendAck, WantFin}
 use Rattle.stream_lanes.specs.Words.{Has}
 use Rattle.stream_lanes.proofs.Lists.{Has-more}
+use Rattle.ones_sum.specs.Words.{with_bit_turned}
+use Rattle.segment_wire.specs.Changes.{with_turned_bit}
 use Rattle.path_segments.specs.Spelling.{numbers_of}
 use Rattle.path_core.specs.OptionsOut.{spelled_by, bare_mapping, place_numbered}
 use Rattle.path_core.specs.State.{Profile}
 use Rattle.world_laws.proofs.Growing.{SenderGoes, ReceiverGoes}
-use Rattle.world_laws.proofs.Roads.{moves, Strolls, one_move}
-use Rattle.world_laws.proofs.Showing.{HasAck, HasNumber, WindowShows, HasNone, HasSub}
+use Rattle.world_laws.proofs.Roads.{moves, Strolls, one_move, then_strolls}
+use Rattle.world_laws.proofs.Showing.{HasAck, HasData, HasNumber, WindowShows, HasNone, HasSub}
 
 -- the last one of a list
 last_there : {X : Type 0} (xs : List X) (x : X) → slice_get (xs ++ x ∷ []) (length xs) ≡ Some x
@@ -156,14 +158,40 @@ module _ (span : Span) (piece : List ℕ) (p : Lane) where
   abbrev pub copy_granted : DataCopy
   copy_granted = record { pos = length p.sent; bytes = piece; mapping = Some mapping_granted }
 
+  -- the same with a bit turned, where links alter payload
+  abbrev pub altered_copy : DataCopy
+  altered_copy = record { pos = length p.sent; bytes = with_bit_turned piece 0 0; mapping = Some mapping_granted }
+
+  abbrev pub altered_granted : List DataCopy
+  altered_granted = if p.alters then altered_copy ∷ [] else []
+
+  abbrev pub once_sent : Lane
+  once_sent = record granted_lane { datas = p.datas ++ copy_granted ∷ [] }
+
   abbrev pub with_piece : Lane
-  with_piece = record granted_lane { datas = p.datas ++ copy_granted ∷ [] }
+  with_piece = record granted_lane { datas = (p.datas ++ copy_granted ∷ []) ++ altered_granted }
+
+  part_is : take (length piece) (drop (length p.sent) (bytes_of (p.sent ++ cells_from span.from piece))) ≡ piece
+  part_is = ap (take (length piece)) (bytes_more p.sent span.from piece) ∙ take_whole piece
+
+  sends_once : Strolls granted_lane once_sent
+  sends_once = one_move (SendPiece (length p.pieces) true) granted_lane once_sent refl (sym (
+      ap (λ o. sends_piece true o granted_lane) (last_there p.pieces mapping_granted)
+      ∙ ap (λ bytes. record granted_lane { datas = p.datas ++ record { pos = length p.sent; bytes = bytes; mapping = Some mapping_granted } ∷ [] }) part_is))
+
+  sends_turned : Strolls once_sent with_piece
+  sends_turned = one_move (SendAltered (length p.pieces) true) once_sent with_piece refl (sym (
+      ap (λ o. sends_altered true o once_sent) (last_there p.pieces mapping_granted)
+      ∙ ap (λ bytes. if p.alters then record granted_lane { datas = (p.datas ++ copy_granted ∷ []) ++ record { pos = length p.sent; bytes = with_bit_turned bytes 0 0; mapping = Some mapping_granted } ∷ [] } else once_sent) part_is
+      ∙ by p.alters))
+    where
+      by : (b : Bool) → (if b then record granted_lane { datas = (p.datas ++ copy_granted ∷ []) ++ altered_copy ∷ [] } else once_sent)
+          ≡ record granted_lane { datas = (p.datas ++ copy_granted ∷ []) ++ (if b then altered_copy ∷ [] else []) }
+      by true = refl
+      by false = ap (λ xs. record granted_lane { datas = xs }) (sym (append-nil (p.datas ++ copy_granted ∷ [])))
 
   pub sends_the_piece : Strolls granted_lane with_piece
-  sends_the_piece = one_move (SendPiece (length p.pieces) true) granted_lane with_piece refl (sym (
-      ap (λ o. sends_piece true o granted_lane) (last_there p.pieces mapping_granted)
-      ∙ ap (λ bytes. record granted_lane { datas = p.datas ++ record { pos = length p.sent; bytes = bytes; mapping = Some mapping_granted } ∷ [] })
-      (ap (take (length piece)) (bytes_more p.sent span.from piece) ∙ take_whole piece)))
+  sends_the_piece = then_strolls granted_lane once_sent with_piece sends_once sends_turned
 
   pub piece_goes : SenderGoes p with_piece
   piece_goes = record {
@@ -173,11 +201,21 @@ module _ (span : Span) (piece : List ℕ) (p : Lane) where
     heard = p.heard;
     fin_acked = p.fin_acked;
     asking = Nothing;
-    datas = copy_granted ∷ [];
+    datas = copy_granted ∷ altered_granted;
     data_fins = [];
     fins = [];
-    is = rw (append-nil p.data_fins, append-nil p.fins) refl;
+    is = rw (append_assoc p.datas, append-nil p.data_fins, append-nil p.fins) refl;
   }
+
+  -- that copy is there, with the link's own word for it
+  same_turned : (octets : List ℕ) → with_bit_turned octets 0 0 ≡ with_turned_bit octets
+  same_turned [] = refl
+  same_turned (first ∷ rest) = refl
+
+  pub turned_granted : (position : ℕ) → suc (length p.sent) ≡ position → p.alters ≡ true → HasData with_piece.datas position (with_turned_bit piece)
+  turned_granted position at may =
+      subst (λ b. HasData ((p.datas ++ copy_granted ∷ []) ++ (if b then altered_copy ∷ [] else [])) position (with_turned_bit piece)) (sym may)
+      (has_last (p.datas ++ copy_granted ∷ []) altered_copy (record { position_is = at; octets_are = same_turned piece }))
 
 -- ---- a refused grant
 

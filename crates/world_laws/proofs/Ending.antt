@@ -36,11 +36,12 @@ use Rattle.path_core.specs.State.{Profile}
 use Rattle.path_core.specs.Treating.{acked_in}
 use Rattle.path_core.specs.Words.{told_last}
 use Rattle.path_core.specs.StreamEnds.{is_open}
-use Rattle.world_laws.proofs.Doing.{place_is, told_lane, ack_moves, told_goes, told_windows, with_piece, granted_lane, sends_the_piece, piece_goes, refused_lane, with_end, sends_the_end, end_goes, with_fin_sent, fin_goes, length-granted, has_last, told_sub}
+use Rattle.world_laws.proofs.Doing.{copy_granted, altered_granted, turned_granted, place_is, told_lane, ack_moves, told_goes, told_windows, with_piece, granted_lane, sends_the_piece, piece_goes, refused_lane, with_end, sends_the_end, end_goes, with_fin_sent, fin_goes, length-granted, has_last, told_sub}
 use Rattle.world_laws.proofs.Growing.{SenderGoes, ReceiverGoes, sender_stays, receiver_stays, Longer, sent_longer, data_longer, mapping_longer, fin_longer, same_edge}
 use Rattle.world_laws.proofs.Roads.{moves, Strolls, stays}
 use Rattle.world_laws.proofs.Showing.{HasNumber, KindShows, RecordShows, is_unfinished, TreatedShows, EndShows, HasNone, IsAtEdge, IsGrantedTo, IsPastFin}
 use Rattle.world_laws.proofs.Records.{every_cons, every_first, every_rest}
+use Rattle.segment_wire.specs.Changes.{with_turned_bit}
 
 -- an end that may finish hasn't finished
 pub unfinished_if : (state : EndPhase) → states.may_finish state ≡ true → is_unfinished state ≡ true
@@ -126,7 +127,7 @@ module _ (c : Profile) (s : Side) (out back : Lane) where
         receiver = told_goes next window sub back;
         shows = record {
           sender = h.sender;
-          receiver = record { same_mode = h.receiver.same_mode; edge = same_edge refl refl refl h.receiver.edge; fin = h.receiver.fin; mapped = h.receiver.mapped };
+          receiver = record { same_mode = h.receiver.same_mode; edge = same_edge refl refl refl (λ position octets has. has) h.receiver.edge; fin = h.receiver.fin; mapped = h.receiver.mapped };
           acks = record {
             windows = told_windows next window sub back;
             latest = refl;
@@ -141,12 +142,12 @@ module _ (c : Profile) (s : Side) (out back : Lane) where
 
   -- ---- grants
 
-  same_pieces : (q : Lane) → Longer back.acks back.acks out q → (v : SendState) → Every (RecordShows c s out.datas out.fins) v.records → Every (RecordShows c s q.datas q.fins) v.records
+  same_pieces : (q : Lane) → Longer back.acks back.acks out q → (v : SendState) → Every (RecordShows c s out.alters out.datas out.fins) v.records → Every (RecordShows c s q.alters q.datas q.fins) v.records
   same_pieces q l v h = Every-map (λ r shows. at r.kind r shows) h
     where
-      at : (kind : RecordKind) (r : Record) → KindShows c s out.datas out.fins kind r → KindShows c s q.datas q.fins kind r
+      at : (kind : RecordKind) (r : Record) → KindShows c s out.alters out.datas out.fins kind r → KindShows c s q.alters q.datas q.fins kind r
       at Syn r shows = shows
-      at Data r shows = record { octets = data_longer l r.pos r.piece shows.octets; mapping = mapping_longer l _ r.pos r.mapping.length shows.mapping }
+      at Data r shows = record { octets = data_longer l r.pos r.piece shows.octets; turned = λ may. data_longer l r.pos (with_turned_bit r.piece) (shows.turned (sym l.alters_is ∙ may)); mapping = mapping_longer l _ r.pos r.mapping.length shows.mapping }
       at Fin r shows = (shows.0, fin_longer l r.pos shows.1)
 
   -- the lanes where only the sender's half went on
@@ -208,12 +209,13 @@ module _ (c : Profile) (s : Side) (out back : Lane) where
             next = λ un. omega (arith, at, l);
             unfinished = h.sender.unfinished;
             pieces = Every-push _ (same_pieces q (longer q g) e.tcp.send h.sender.pieces) (record {
-              octets = has_last out.datas _ (record { position_is = sym at; octets_are = refl });
-              mapping = has_last out.datas _ (record {
+              octets = Has-more (altered_granted span piece out) (has_last out.datas (copy_granted span piece out) (record { position_is = sym at; octets_are = refl }));
+              turned = λ may. turned_granted span piece out e.tcp.send.nxt (sym at) may;
+              mapping = Has-more (altered_granted span piece out) (has_last out.datas (copy_granted span piece out) (record {
                 mapping = _;
                 there = refl;
                 is = record { place_is = sym (place_is c s span.from e.tcp.send.nxt (length piece) fit.small); position_is = sym at; len_is = refl };
-              });
+              }));
             });
             known_end = h.sender.known_end;
             same_end = h.sender.same_end;

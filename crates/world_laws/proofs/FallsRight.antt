@@ -18,7 +18,7 @@ use Rattle.stream_lanes.specs.Duo.{Duo, after_events}
 use Rattle.stream_lanes.specs.Holding.{Holds, IsHonest, IsRight, LaneHolds}
 use Rattle.stream_lanes.specs.Lane.{Cell, Lane, Mapping}
 use Rattle.stream_lanes.specs.View.{View}
-use Rattle.stream_lanes.proofs.Duos.{all_held}
+use Rattle.stream_lanes.proofs.Duos.{any_held}
 use Rattle.stream_lanes.proofs.Lists.{Every-map, in_map, in_set}
 use Rattle.actor_desk.specs.declared.ask.Ask.{Ask}
 use Rattle.actor_desk.specs.declared.ask.Ask.TheVariants as asks
@@ -59,7 +59,7 @@ use Rattle.world_laws.proofs.FellEver.{ever_fallen}
 use Rattle.world_laws.proofs.JoinedSo.{always_joined}
 use Rattle.world_laws.proofs.Journaling.{books_after}
 use Rattle.world_laws.proofs.KeysAgree.{Joined, FellBack, MemberIs, WorldIs, fell_stays, joined_stays, turn_keys, opened_keys}
-use Rattle.world_laws.proofs.Lanes.{duo_of, first_duo, MemberIsSteady, IsSteady, WorldShows}
+use Rattle.world_laws.proofs.Lanes.{Links, plainly, duo_of, first_duo, MemberIsSteady, IsSteady, WorldShows}
 use Rattle.world_laws.proofs.Opened.{opened_actors}
 use Rattle.world_laws.proofs.PromisesMade.{run_fresh}
 use Rattle.world_laws.proofs.RoundGrantAsks.{MayNotAsk, ask_isn't, asks_none}
@@ -303,7 +303,7 @@ module _ (v : View) (p : Lane) (alone : v.alone ≡ true) (h : LaneHolds v 0 p) 
 
   mapped_place : (place position len : ℕ) → HasMapping p.datas place position len → suc place ≡ position
   mapped_place place position len has =
-      let honest : IsHonest p.sent has.item = h.bytes.honest.each has.at has.item has.there in
+      let honest : IsHonest p.alters p.pieces p.sent has.item = h.bytes.honest.each has.at has.item has.there in
       let right : IsRight p.sent has.holds.mapping = subst (λ o. IfSome o (IsRight p.sent)) has.holds.there honest.mapping in
       let same = right_place has.holds.mapping right in
       let place_is = has.holds.is.place_is in let position_is = has.holds.is.position_is in
@@ -315,7 +315,7 @@ module _ (v : View) (p : Lane) (alone : v.alone ≡ true) (h : LaneHolds v 0 p) 
       let place_is = has.holds.place_is in let position_is = has.holds.position_is in
       omega (arith, same, place_is, position_is)
 
-  record_place : (c : Profile) (s : Side) (fins : List ℕ) (kind : RecordKind) (r : Record) → KindShows c s p.datas fins kind r → IsAtPlace kind c s r
+  record_place : (c : Profile) (s : Side) (fins : List ℕ) (kind : RecordKind) (r : Record) → KindShows c s p.alters p.datas fins kind r → IsAtPlace kind c s r
   record_place c s fins Syn r shows = tt
   record_place c s fins Data r shows = mapped_place _ _ _ shows.mapping
   record_place c s fins Fin r shows = tt
@@ -326,10 +326,10 @@ plain_end v u out back out_alone back_alone out_holds back_holds c s e h = recor
   learned = Every-map (λ kept shows. kept_place u back back_alone back_holds kept shows) h.receiver.mapped;
 }
 
-shown_plain : (start : Start) (d : Duo) (w : WorldState Carried) → Holds d → WorldShows start d w → FallsAreRight w → PositionsArePlaces w
-shown_plain start d w held h right = record { each = λ s fell c at. path s fell c (subst (λ (v : WorldState Carried). slice_get v.crew 2 ≡ Some c) h.is at) }
+shown_plain : (links : Links) (start : Start) (d : Duo) (w : WorldState Carried) → Holds d → WorldShows links start d w → FallsAreRight w → PositionsArePlaces w
+shown_plain links start d w held h right = record { each = λ s fell c at. path s fell c (subst (λ (v : WorldState Carried). slice_get v.crew 2 ≡ Some c) h.is at) }
   where
-    holds : Holds (duo_of (books_in h.cast.books) h.lanes_ab h.lanes_ba h.reader_a h.reader_b)
+    holds : Holds (duo_of links (books_in h.cast.books) h.lanes_ab h.lanes_ba h.reader_a h.reader_b)
     holds = subst Holds h.duo_is held
 
     path : (s : Side) → has_fallen s w ≡ true → (c : ActorCrew Carried) → slice_get (world_of h.cast).crew 2 ≡ Some c → PathIsPlain c.member
@@ -350,8 +350,9 @@ shown_plain start d w held h right = record { each = λ s fell c at. path s fell
 
 pub positions_are_places : IsPromised PositionsArePlaces
 positions_are_places start turns plain =
-    let r = each_run_shows start plain turns in
-    shown_plain start (after_events r.events (first_duo start)) (world_run values turns (opened_world start)) (all_held (length start.paths) start.buffer start.buffer r.events) r.shows (falls_are_right start turns)
+    let can = plainly start plain in
+    let r = each_run_shows start can turns in
+    shown_plain can.links start (after_events r.events (first_duo can.links start)) (world_run values turns (opened_world start)) (any_held can.links.alters can.links.checked (length start.paths) start.buffer start.buffer r.events) r.shows (falls_are_right start turns)
 
 -- ---- over octets
 

@@ -1,7 +1,6 @@
 -- What was sent on a lane stays, so what the ends and the copies have to do with the lanes stays as these go on.
 use Rattle.std.proofs.Common.{◌≡◌, refl, sym, ◌∙◌, ap, subst, ℕ, suc, ◌-◌, ◌⊎◌, inl, inr, ⊎_elim, Bool, Option, Some, None, List, [], ◌++◌, true, false, arith}
 use Rattle.std.proofs.lemmas.List.{append-nil}
-use Rattle.std.specs.Option.{IfSome}
 use Rattle.std.proofs.lemmas.Bool.{lt-ltb}
 use Rattle.outside_kit.specs.declared.side.Side.{Side}
 use Rattle.mptcp_options.specs.declared.capable.CapableKeys.{CapableKeys}
@@ -25,6 +24,7 @@ use Rattle.path_core.specs.Joins.{join_asked}
 use Rattle.path_core.specs.State.{Profile}
 use Rattle.world_laws.proofs.Showing.{HasAck, HasSub, HasNone, HasData, HasMapping, HasNumber, HasFin, Knowledge, identity_of, knowledge_of, SenderShows, Under, IsAtEdge, IsPastFin, AcksShow, ReceiverShows, ItemShows, TreatedShows, EndShows, MappingShows, KeysShow, OptionShows, SegmentShows}
 use Rattle.dss_mapping.specs.Mappings.{octets_of}
+use Rattle.segment_wire.specs.Changes.{with_turned_bit}
 
 -- ---- how a lane goes on
 
@@ -106,6 +106,7 @@ mapping_more (Some (Infinite place position)) p q datas data_fins d f h = tt
 
 -- what a segment on a lane has to do with it stays as both lanes go on
 pub record Longer (acks acks_after : List AckCopy) (p q : Lane) : Type 0 where
+  pub alters_is : q.alters ≡ p.alters
   pub more_acks : List AckCopy
   pub acks_are : acks_after ≡ acks ++ more_acks
   pub datas : List DataCopy
@@ -153,6 +154,7 @@ module _ {acks acks_after : List AckCopy} {p q : Lane} (l : Longer acks acks_aft
     sub = λ syn rst. IfSome-map sg.acknowledged (λ n has. sub_longer (n - 1) _ has) (h.sub syn rst);
     options = Every-map (option_longer _) h.options;
     payload = ⊎_elim (λ none. inl none) (λ has. inr (data_longer sg.position sg.payload has)) h.payload;
+    turned = λ may. ⊎_elim (λ none. inl none) (λ has. inr (data_longer sg.position (with_turned_bit sg.payload) has)) (h.turned (sym l.alters_is ∙ may));
     fin = λ is. let f = h.fin is in (f.0, fin_longer sg.position f.1);
     plain = h.plain;
   }
@@ -175,14 +177,16 @@ module _ {acks acks_after : List AckCopy} {p q : Lane} (l : Longer acks acks_aft
 -- ---- the other end
 
 -- where the edge is, as far as other fields of the lane change
-pub same_edge : {recv : Receiving} {fin_at : Option ℕ} {p q : Lane} → q.edge ≡ p.edge → q.kept ≡ p.kept → q.fin_in ≡ p.fin_in → IsAtEdge recv p ⊎ IsPastFin fin_at recv p
+pub same_edge : {recv : Receiving} {fin_at : Option ℕ} {p q : Lane} → q.edge ≡ p.edge → q.kept ≡ p.kept → q.fin_in ≡ p.fin_in → ((position : ℕ) (octets : List ℕ) → HasData p.datas position octets → HasData q.datas position octets)
+    → IsAtEdge recv p ⊎ IsPastFin fin_at recv p
     → IsAtEdge recv q ⊎ IsPastFin fin_at recv q
-same_edge {recv} {fin_at} {p} {q} edge kept fin (inl at) = inl (record {
+same_edge {recv} {fin_at} {p} {q} edge kept fin more (inl at) = inl (record {
   edge_is = at.edge_is ∙ ap suc (sym edge);
   under = subst (Under recv.places) (sym kept) at.under;
-  held = subst (λ bytes. IfSome recv.incoming (λ places. Under places bytes)) (sym kept) at.held;
+  only = subst (λ bytes. Under bytes recv.places ⊎ (recv.places ≡ [])) (sym kept) at.only;
+  held = IfSome-map recv.incoming (λ places h. record { position = h.position; octets = h.octets; count = h.count; has = more h.position h.octets h.has; is = h.is }) at.held;
 })
-same_edge edge kept fin (inr past) = inr (record {
+same_edge edge kept fin more (inr past) = inr (record {
   at_is = past.at_is ∙ ap (λ n. Some (suc n)) (sym edge);
   none = past.none;
   edge_is = past.edge_is ∙ ap (λ n. suc (suc n)) (sym edge);
@@ -210,7 +214,7 @@ peer_receiver : (recv : Receiving) (fin_at : Option ℕ) (live : List KeptMappin
     → ReceiverShows recv fin_at live plain q
 peer_receiver recv fin_at live plain p q g h = subst (ReceiverShows recv fin_at live plain) (sym g.is) (record {
   same_mode = h.same_mode;
-  edge = same_edge refl refl refl h.edge;
+  edge = same_edge refl refl refl (λ position octets has. Has-more g.datas has) h.edge;
   fin = IfSome-map fin_at (λ pos has. Has-more g.fins has) h.fin;
   mapped = h.mapped;
 })
@@ -222,6 +226,7 @@ peer_acks next window asked edge p q g h = subst (AcksShow next window asked edg
 -- what the lanes have grown by where the end of one side does something
 pub sent_longer : (out out_after back back_after : Lane) → SenderGoes out out_after → ReceiverGoes back back_after → Longer back.acks back_after.acks out out_after
 sent_longer out out_after back back_after g r = record {
+  alters_is = ap (λ p. p.alters) g.is;
   more_acks = r.acks;
   acks_are = ap (λ p. p.acks) r.is;
   datas = g.datas;
@@ -235,6 +240,7 @@ sent_longer out out_after back back_after g r = record {
 -- the other direction of the same
 pub heard_longer : (out out_after back back_after : Lane) → SenderGoes out out_after → ReceiverGoes back back_after → Longer out.acks out_after.acks back back_after
 heard_longer out out_after back back_after g r = record {
+  alters_is = ap (λ p. p.alters) r.is;
   more_acks = [];
   acks_are = ap (λ p. p.acks) g.is ∙ sym (append-nil out.acks);
   datas = [];

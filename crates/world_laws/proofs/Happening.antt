@@ -41,7 +41,7 @@ use Rattle.world_laws.proofs.Roads.{stays}
 use Rattle.world_laws.proofs.Rules.{opened_shows, died_shows as died_end_shows, refused_shows, died_unless_shows, fired_shows}
 use Rattle.world_laws.proofs.Showing.{FlightShows, EndShows, SegmentShows, PathShows}
 use Rattle.world_laws.proofs.Sides.{Answered, IsQuiet, side_kept, quiet, quiet_side}
-use Rattle.world_laws.proofs.Strolling.{Strolled, side_shows, back_holds}
+use Rattle.world_laws.proofs.Strolling.{Strolled, side_shows}
 
 -- ---- copies
 
@@ -83,7 +83,7 @@ module _ (six : SixBooks) (others : Others) (p : PathState Carried) (ab ba : Lan
 
   -- the path at a tick, with other lines left
   ticked : (tick : ℕ) (lines : List LineLeft) → PathShows p.profile (record (at_tick tick p) { lines = lines }) ab ba
-  ticked tick lines = record { profile = h.profile; unchanged = h.unchanged; a = h.a; b = h.b; copies = h.copies }
+  ticked tick lines = record { profile = h.profile; may = h.may; a = h.a; b = h.b; copies = h.copies }
 
   -- ---- lines
 
@@ -95,7 +95,7 @@ module _ (six : SixBooks) (others : Others) (p : PathState Carried) (ab ba : Lan
     ba_moves = stays ba;
     shows = record {
       profile = x.profile;
-      unchanged = x.unchanged;
+      may = x.may;
       a = died_unless_shows p.profile A ab ba q.a (calm A) x.a;
       b = died_unless_shows p.profile B ba ab q.b (calm B) x.b;
       copies = Every-nil _;
@@ -113,14 +113,14 @@ module _ (six : SixBooks) (others : Others) (p : PathState Carried) (ab ba : Lan
     ba_after = ba;
     ab_moves = stays ab;
     ba_moves = stays ba;
-    shows = record { profile = x.profile; unchanged = x.unchanged; a = noted A backup ab ba q.a x.a; b = x.b; copies = x.copies };
+    shows = record { profile = x.profile; may = x.may; a = noted A backup ab ba q.a x.a; b = x.b; copies = x.copies };
   }
   noted_shows B backup q x = record {
     ab_after = ab;
     ba_after = ba;
     ab_moves = stays ab;
     ba_moves = stays ba;
-    shows = record { profile = x.profile; unchanged = x.unchanged; a = x.a; b = noted B backup ba ab q.b x.b; copies = x.copies };
+    shows = record { profile = x.profile; may = x.may; a = x.a; b = noted B backup ba ab q.b x.b; copies = x.copies };
   }
 
   rest_shows : (ds : List Duty) (q : PathState Carried) → PathShows p.profile q ab ba → Strolled p.profile (with_agenda ds q) ab ba
@@ -129,7 +129,7 @@ module _ (six : SixBooks) (others : Others) (p : PathState Carried) (ab ba : Lan
     ba_after = ba;
     ab_moves = stays ab;
     ba_moves = stays ba;
-    shows = record { profile = x.profile; unchanged = x.unchanged; a = x.a; b = x.b; copies = x.copies };
+    shows = record { profile = x.profile; may = x.may; a = x.a; b = x.b; copies = x.copies };
   }
 
   line_shows : (action : LineAction) (q : PathState Carried) → AreCalm q → PathShows p.profile q ab ba → Strolled p.profile (after_line action q) ab ba
@@ -148,7 +148,7 @@ module _ (six : SixBooks) (others : Others) (p : PathState Carried) (ab ba : Lan
   delivered : (due : Due) → PathShows p.profile (record (at_tick due.tick p) { link = after_delivery due p.link }) ab ba
   delivered due = record {
     profile = h.profile;
-    unchanged = h.unchanged;
+    may = h.may;
     a = h.a;
     b = h.b;
     copies = without_kept (position (is_due due) p.link.under_way) p.link.under_way h.copies;
@@ -160,7 +160,7 @@ module _ (six : SixBooks) (others : Others) (p : PathState Carried) (ab ba : Lan
   heard_is sg false = refl
 
   heard_shows : (acks : List AckCopy) (lane : Lane) (sg : PlainSegment) (plain : Bool) → SegmentShows acks lane sg → SegmentShows acks lane (record sg { options = (if plain then [] else sg.options) })
-  heard_shows acks lane sg true said = record { window = said.window; sub = said.sub; options = Every-nil _; payload = said.payload; fin = said.fin; plain = said.plain }
+  heard_shows acks lane sg true said = record { window = said.window; sub = said.sub; options = Every-nil _; payload = said.payload; turned = said.turned; fin = said.fin; plain = said.plain }
   heard_shows acks lane sg false said = said
 
   told : (s : Side) (ask : Ask) (q : PathState Carried) (sg : PlainSegment) → IsQuiet six ask → AreCalm q → PathShows p.profile q ab ba → q.profile ≡ p.profile → SegmentShows (pick s ab ba).acks (pick s ba ab) sg
@@ -172,7 +172,7 @@ module _ (six : SixBooks) (others : Others) (p : PathState Carried) (ab ba : Lan
       let ds = template_of (is_joined q.profile) s (items_of (is_joined q.profile) s (meant sg)) verdict in
       let d : Did p.profile s f (pick s ab ba) (pick s ab ba) (pick s ba ab) (pick s ba ab) =
       subst (λ c. Did p.profile s (after_judged c s q.clock (meant sg) (judged_in (is_joined c) s (meant sg) e) e) (pick s ab ba) (pick s ab ba) (pick s ba ab) (pick s ba ab)) (sym same)
-      (arrived_end p.profile s q.clock sg e (pick s ab ba) (pick s ba ab) _ _ (back_holds six others s ab ba holds) said (calm s) (side_shows p.profile s q ab ba x)) in
+      (arrived_end p.profile s q.clock sg e (pick s ab ba) (pick s ba ab) said (calm s) (side_shows p.profile s q ab ba x)) in
       quiet_side p.profile six others s q (goes_on s f ds q) ab ba ask x is (side_kept p.profile q ab ba x s (pick s ab ba) (pick s ba ab) f ds d)
 
   arrives : (s : Side) (ask : Ask) (q : PathState Carried) (sg : PlainSegment) → IsQuiet six ask → AreCalm q → PathShows p.profile q ab ba → q.profile ≡ p.profile → SegmentShows (pick s ab ba).acks (pick s ba ab) sg
@@ -188,7 +188,7 @@ module _ (six : SixBooks) (others : Others) (p : PathState Carried) (ab ba : Lan
     ba_after = ba;
     ab_moves = stays ab;
     ba_moves = stays ba;
-    shows = record { profile = x.profile; unchanged = x.unchanged; a = x.a; b = x.b; copies = x.copies };
+    shows = record { profile = x.profile; may = x.may; a = x.a; b = x.b; copies = x.copies };
   })
 
   copy_step : (due : Due) (ask : Ask) → IsQuiet six ask → Steps ask (copy_taken values due p)
@@ -231,7 +231,7 @@ module _ (six : SixBooks) (others : Others) (p : PathState Carried) (ab ba : Lan
   event_step : (event : Event) (r : Reply) → Steps (step_for (path_of p) (Some event)) (happens values event r p)
   event_step (happenings.Joins tick) r =
       join_step (step_for (path_of p) (Some (happenings.Joins tick))) r (leaves A) (emission A) (record (at_tick tick p) { joined_at = None }) tt
-      (same_calm (record (at_tick tick p) { joined_at = None }) refl refl) (record { profile = h.profile; unchanged = h.unchanged; a = h.a; b = h.b; copies = h.copies })
+      (same_calm (record (at_tick tick p) { joined_at = None }) refl refl) (record { profile = h.profile; may = h.may; a = h.a; b = h.b; copies = h.copies })
   event_step (happenings.Takes line) r =
       quiet p.profile six others (step_for (path_of p) (Some (happenings.Takes line))) (line_taken line p) ab ba tt (line_shows line.action (record (at_tick line.tick p) { lines = tail_of p.lines }) (same_calm (record (at_tick line.tick p) { lines = tail_of p.lines }) refl refl) (ticked line.tick (tail_of p.lines)))
   event_step (happenings.Arrives due) r = copy_step due (step_for (path_of p) (Some (happenings.Arrives due))) tt

@@ -1,5 +1,5 @@
 -- What the rules of a subflow leave of what its end shows.
-use Rattle.std.proofs.Common.{◌≡◌, refl, ℕ, zero, suc, ◌&&◌, ◌==◌, nat_lt, nat_le, inl, inr, ⊎_elim, Bool, true, false, if◌then◌else◌, Option, Some, None, List, [], ◌∷◌}
+use Rattle.std.proofs.Common.{◌≡◌, refl, ap, ◌∙◌, ◌<◌, ◌⊎◌, take, arith, ℕ, zero, suc, ◌&&◌, ◌==◌, nat_lt, nat_le, inl, inr, ⊎_elim, Bool, true, false, if◌then◌else◌, Option, Some, None, List, [], ◌∷◌}
 use Rattle.std.proofs.lemmas.Bool.{and_parts}
 use Rattle.std.specs.List.{slice_get}
 use Rattle.outside_kit.specs.declared.side.Side.{Side}
@@ -16,7 +16,7 @@ use Rattle.subflow_tcp.specs.Segments.{Copy, occupied}
 use Rattle.subflow_tcp.specs.State.{EndState, is_at_limit}
 use Rattle.subflow_tcp.specs.States as states
 use Rattle.stream_lanes.specs.Lane.{Lane}
-use Rattle.world_laws.proofs.Showing.{Knowledge, is_unfinished, SenderShows, ReceiverShows}
+use Rattle.world_laws.proofs.Showing.{Under, Knowledge, is_unfinished, SenderShows, ReceiverShows}
 use Rattle.path_core.specs.State.{Profile}
 
 -- ---- fewer octets
@@ -29,7 +29,7 @@ no_gap : (places : List (Option ℕ)) (b : ℕ) → slice_get (gap_before places
 no_gap [] b e = cc
 no_gap (place ∷ places) b e = cc
 
-cut_there : (n : ℕ) (places : List (Option ℕ)) (i b : ℕ) → slice_get (cut n places) i ≡ Some (Some b) → slice_get places i ≡ Some (Some b)
+pub cut_there : (n : ℕ) (places : List (Option ℕ)) (i b : ℕ) → slice_get (cut n places) i ≡ Some (Some b) → slice_get places i ≡ Some (Some b)
 cut_there zero places i b e = cc
 cut_there (suc n) [] i b e = cc
 cut_there (suc n) (Some x ∷ places) zero b e = e
@@ -37,13 +37,58 @@ cut_there (suc n) (Some x ∷ places) (suc i) b e = cut_there n places i b e
 cut_there (suc n) (None ∷ places) zero b e = absurd (no_gap (cut n places) b e)
 cut_there (suc n) (None ∷ places) (suc i) b e = cut_there n places i b (gap_there (cut n places) i b e)
 
+-- what is left after a cut, and that it is left
+pub cut_within : (n : ℕ) (places : List (Option ℕ)) (i b : ℕ) → slice_get (cut n places) i ≡ Some (Some b) → i < n
+cut_within zero places i b e = cc
+cut_within (suc n) [] i b e = cc
+cut_within (suc n) (Some x ∷ places) zero b e = omega arith
+cut_within (suc n) (Some x ∷ places) (suc i) b e = let below = cut_within n places i b e in omega (arith, below)
+cut_within (suc n) (None ∷ places) zero b e = omega arith
+cut_within (suc n) (None ∷ places) (suc i) b e = let below = cut_within n places i b (gap_there (cut n places) i b e) in omega (arith, below)
+
+pub cut_leaves : (n : ℕ) (places : List (Option ℕ)) (i b : ℕ) → i < n → slice_get places i ≡ Some (Some b) → slice_get (cut n places) i ≡ Some (Some b)
+cut_leaves zero places i b below e = absurd (omega (arith, below))
+cut_leaves (suc n) [] i b below e = cc
+cut_leaves (suc n) (Some x ∷ places) zero b below e = e
+cut_leaves (suc n) (Some x ∷ places) (suc i) b below e = cut_leaves n places i b (omega (arith, below)) e
+cut_leaves (suc n) (None ∷ places) zero b below e = cc
+cut_leaves (suc n) (None ∷ places) (suc i) b below e = behind_gap (cut n places) i b (cut_leaves n places i b (omega (arith, below)) e)
+  where
+    behind_gap : (xs : List (Option ℕ)) (i b : ℕ) → slice_get xs i ≡ Some (Some b) → slice_get (gap_before xs) (suc i) ≡ Some (Some b)
+    behind_gap [] i b e = cc
+    behind_gap (x ∷ xs) i b e = e
+
+-- the lane forgets what the end does
+taken_there : (n : ℕ) (places : List (Option ℕ)) (i b : ℕ) → slice_get (take n places) i ≡ Some (Some b) → (i < n) × (slice_get places i ≡ Some (Some b))
+taken_there zero places i b e = cc
+taken_there (suc n) [] i b e = cc
+taken_there (suc n) (x ∷ places) zero b e = (omega arith, e)
+taken_there (suc n) (x ∷ places) (suc i) b e = let rest = taken_there n places i b e in let below = rest.0 in (omega (arith, below), rest.1)
+
+take_leaves : (n : ℕ) (places : List (Option ℕ)) (i b : ℕ) → i < n → slice_get places i ≡ Some (Some b) → slice_get (take n places) i ≡ Some (Some b)
+take_leaves zero places i b below e = absurd (omega (arith, below))
+take_leaves (suc n) [] i b below e = cc
+take_leaves (suc n) (x ∷ places) zero b below e = e
+take_leaves (suc n) (x ∷ places) (suc i) b below e = take_leaves n places i b (omega (arith, below)) e
+
+pub under_cut : (n : ℕ) (places kept : List (Option ℕ)) → Under places kept → Under (cut n places) (take n kept)
+under_cut n places kept u = record { each = λ i b e. take_leaves n kept i b (cut_within n places i b e) (u.each i b (cut_there n places i b e)) }
+
+pub only_cut : (n : ℕ) (places kept : List (Option ℕ)) → Under kept places ⊎ (places ≡ []) → Under (take n kept) (cut n places) ⊎ (cut n places ≡ [])
+only_cut n places kept (inl u) = inl (record { each = λ i b e. let there = taken_there n kept i b e in cut_leaves n places i b there.0 (u.each i b there.1) })
+only_cut n places kept (inr none) = inr (ap (cut n) none ∙ nothing n)
+  where
+    nothing : (n : ℕ) → cut n [] ≡ []
+    nothing zero = refl
+    nothing (suc n) = refl
+
 module _ (fin_at : Option ℕ) (live : List KeptMapping) (plain : Bool) (p : Lane) where
-  -- octets are let go, and what is held
-  pub cut_shows : (n : ℕ) (recv : Receiving) → ReceiverShows recv fin_at live plain p → ReceiverShows (record recv { places = cut n recv.places; incoming = None }) fin_at live plain p
-  cut_shows n recv h = record {
+  -- all octets are let go, and what is held
+  pub cut_shows : (n : ℕ) → n ≡ 0 → (recv : Receiving) → ReceiverShows recv fin_at live plain p → ReceiverShows (record recv { places = cut n recv.places; incoming = None }) fin_at live plain p
+  cut_shows n none recv h = record {
     same_mode = h.same_mode;
     edge = ⊎_elim
-        (λ at. inl (record { edge_is = at.edge_is; under = record { each = λ i b e. at.under.each i b (cut_there n recv.places i b e) }; held = tt }))
+        (λ at. inl (record { edge_is = at.edge_is; under = record { each = λ i b e. at.under.each i b (cut_there n recv.places i b e) }; only = inr (ap (λ m. cut m recv.places) none); held = tt }))
         (λ past. inr (record { at_is = past.at_is; none = λ i b e. past.none i b (cut_there n recv.places i b e); edge_is = past.edge_is; fin_in = past.fin_in }))
         h.edge;
     fin = h.fin;
@@ -54,7 +99,7 @@ module _ (fin_at : Option ℕ) (live : List KeptMapping) (plain : Bool) (p : Lan
   dropped_shows recv h = record {
     same_mode = h.same_mode;
     edge = ⊎_elim
-        (λ at. inl (record { edge_is = at.edge_is; under = at.under; held = tt }))
+        (λ at. inl (record { edge_is = at.edge_is; under = at.under; only = at.only; held = tt }))
         (λ past. inr (record { at_is = past.at_is; none = past.none; edge_is = past.edge_is; fin_in = past.fin_in }))
         h.edge;
     fin = h.fin;

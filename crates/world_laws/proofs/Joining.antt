@@ -31,7 +31,6 @@ use Rattle.path_core.specs.Turns.{FirstStands, IsSettled}
 use Rattle.path_core.specs.Values.{Carried, values}
 use Rattle.world_laws.specs.declared.member.Member.TheVariants.{App}
 use Rattle.world_laws.specs.Openings.{PathPlan, Start, path_begins}
-use Rattle.world_laws.specs.Promises.{IsPlain}
 use Rattle.world_laws.specs.StampedBooks.{answer_to}
 use Rattle.world_laws.specs.Worlds.{WorldState, Turn, note_of, asked, all_over, greatest, begins, end_round, after_turn}
 use Rattle.world_laws.proofs.Applying.{Reads, settled_app}
@@ -39,7 +38,7 @@ use Rattle.world_laws.proofs.Answering.{IsReady}
 use Rattle.world_laws.proofs.Casts.{Walker, Cast, Fare, Every-put, world_of, walking, seated, walked, after_a, after_b, after_path, fare_after_a, fare_after_b, fare_after_path, map_there, path_asked, path_stepped, path_step_is, walks_on, next_cast, next_is, next_fare}
 use Rattle.world_laws.proofs.Clearing.{unclear_before, takes_clear, next_clear}
 use Rattle.world_laws.proofs.Journaling.{books_after}
-use Rattle.world_laws.proofs.Lanes.{duo_of, Others, duo_at, StandsSo, PathThere, WorldShows, PathIsSteady, IsSteady, Moved, unmoved, then_moved, asked_by, asked_in, TurnShows, Shown, EachTurnShows, turn_events, turn_is}
+use Rattle.world_laws.proofs.Lanes.{Carries, duo_of, Others, duo_at, StandsSo, PathThere, WorldShows, PathIsSteady, IsSteady, Moved, unmoved, then_moved, asked_by, asked_in, TurnShows, Shown, EachTurnShows, turn_events, turn_is}
 use Rattle.world_laws.proofs.PlacesKnown.{takes_those, begins_those}
 use Rattle.world_laws.proofs.PlacesSent.{IsLonger, BothLast, all_last, there_lasts, last_longer, KnowsThose}
 use Rattle.world_laws.proofs.Ready.{ready}
@@ -79,12 +78,12 @@ path_asked_is number t = ap asked_by (map_there walking t.paths number) ∙ by (
     by None = refl
     by (Some x) = refl
 
-module _ (start : Start) (can : IsPlain start) where
+module _ (start : Start) (can : Carries start) where
   -- a step as it is, whatever is asked
   record Stepped (o : Option Ask) (d : Duo) (w : WorldState Carried) : Type 0 where
     duo : Duo
     turn_shows : TurnShows o d duo
-    world_shows : WorldShows start duo w
+    world_shows : WorldShows can.links start duo w
 
   -- a full segment of each path has room for octets beside its options
   pub room : (number : ℕ) (plan : PathPlan) → slice_get start.paths number ≡ Some plan → 29 ≤ (path_begins start number plan).profile.mss
@@ -109,6 +108,8 @@ module _ (start : Start) (can : IsPlain start) where
   -- what there is beside the lanes of a path
   abbrev pub beside : (lanes_ab lanes_ba : List Lane) (reader_a reader_b : Reader) (number : ℕ) (ab ba : Lane) → slice_get lanes_ab number ≡ Some ab → slice_get lanes_ba number ≡ Some ba → Others
   beside lanes_ab lanes_ba reader_a reader_b number ab ba ab_there ba_there = record {
+    links = can.links;
+    unchecked = can.unchecked;
     number = number;
     lanes_ab = lanes_ab;
     lanes_ba = lanes_ba;
@@ -120,10 +121,10 @@ module _ (start : Start) (can : IsPlain start) where
 
   -- with these lanes the two directions are as they are
   pub beside_is : (lanes_ab lanes_ba : List Lane) (reader_a reader_b : Reader) (number : ℕ) (ab ba : Lane) (ab_there : slice_get lanes_ab number ≡ Some ab) (ba_there : slice_get lanes_ba number ≡ Some ba)
-      (six : SixBooks) → duo_at six ab ba (beside lanes_ab lanes_ba reader_a reader_b number ab ba ab_there ba_there) ≡ duo_of six lanes_ab lanes_ba reader_a reader_b
+      (six : SixBooks) → duo_at six ab ba (beside lanes_ab lanes_ba reader_a reader_b number ab ba ab_there ba_there) ≡ duo_of can.links six lanes_ab lanes_ba reader_a reader_b
   beside_is lanes_ab lanes_ba reader_a reader_b number ab ba ab_there ba_there six =
-      ap (λ lanes. duo_of six lanes (set lanes_ba number ba) reader_a reader_b) (there_again lanes_ab number ab ab_there)
-      ∙ ap (λ lanes. duo_of six lanes_ab lanes reader_a reader_b) (there_again lanes_ba number ba ba_there)
+      ap (λ lanes. duo_of can.links six lanes (set lanes_ba number ba) reader_a reader_b) (there_again lanes_ab number ab ab_there)
+      ∙ ap (λ lanes. duo_of can.links six lanes_ab lanes reader_a reader_b) (there_again lanes_ba number ba ba_there)
 
   -- the path goes on, on these lanes
   pub goes_there : (lanes_ab lanes_ba : List Lane) (number : ℕ) (p q : PathState Carried) (h : PathThere start lanes_ab lanes_ba number p) (ab ba : Lane) → path_of q ≡ path_of p
@@ -207,7 +208,7 @@ module _ (start : Start) (can : IsPlain start) where
 
   module _ (six : SixBooks) (reader_a reader_b : Reader) where
     abbrev with_lanes : List Lane → List Lane → Duo
-    with_lanes lanes_ab lanes_ba = duo_of six lanes_ab lanes_ba reader_a reader_b
+    with_lanes lanes_ab lanes_ba = duo_of can.links six lanes_ab lanes_ba reader_a reader_b
 
     -- these paths, the first of which has this number, begin a round on lanes that move
     pub record AllBegun (first : ℕ) (xs : List (Walker Carried)) (lanes_ab lanes_ba : List Lane) : Type 0 where
@@ -232,7 +233,7 @@ module _ (start : Start) (can : IsPlain start) where
         let c = (path_begins start number h.plan).profile in
         let w : Strolled c (next_round p) h.ab h.ba =
         settles six others c start_of_turn (begun_path p) h.ab h.ba
-        (record { profile = h.shows.profile; unchanged = h.shows.unchanged; a = h.shows.a; b = h.shows.b; copies = h.shows.copies }) (subst Holds (sym here_is) holds) in
+        (record { profile = h.shows.profile; may = h.shows.may; a = h.shows.a; b = h.shows.b; copies = h.shows.copies }) (subst Holds (sym here_is) holds) in
         let e : Duo = duo_at six w.ab_after w.ba_after others in
         let moved : Moved (with_lanes lanes_ab lanes_ba) e = subst (λ d. Moved d e) here_is (lanes_moved six others h.ab w.ab_after h.ba w.ba_after w.ab_moves w.ba_moves) in
         let last = all_last moved.events number h.ab h.ba (with_lanes lanes_ab lanes_ba)
@@ -292,14 +293,14 @@ module _ (start : Start) (can : IsPlain start) where
 
   module _ (t : Cast Carried) (fare : Fare start t) (settled_paths : Every (λ x. IsSettled x.path) t.paths) (lanes_ab lanes_ba : List Lane) (reader_a reader_b : Reader)
       (reads_a : Reads t.a.told t.at_a.list reader_a) (reads_b : Reads t.b.told t.at_b.list reader_b) (paths : From (λ n x. PathThere start lanes_ab lanes_ba n x.path) 0 t.paths)
-      (steady : IsSteady (world_of t)) (holds : Holds (duo_of (books_in t.books) lanes_ab lanes_ba reader_a reader_b)) where
+      (steady : IsSteady (world_of t)) (holds : Holds (duo_of can.links (books_in t.books) lanes_ab lanes_ba reader_a reader_b)) where
     abbrev six : SixBooks
     six = books_in t.books
 
     abbrev here : Duo
-    here = duo_of six lanes_ab lanes_ba reader_a reader_b
+    here = duo_of can.links six lanes_ab lanes_ba reader_a reader_b
 
-    unmoved_world : WorldShows start here (world_of t)
+    unmoved_world : WorldShows can.links start here (world_of t)
     unmoved_world = record {
       cast = t;
       is = refl;
@@ -435,7 +436,7 @@ module _ (start : Start) (can : IsPlain start) where
               lanes_ba = set lanes_ba number turn.ba_end;
               reader_a = reader_a;
               reader_b = reader_b;
-              duo_is = ap (λ books. duo_of books (set lanes_ab number turn.ab_end) (set lanes_ba number turn.ba_end) reader_a reader_b) (sym (books_after ask x.at.pass t.books));
+              duo_is = ap (λ books. duo_of can.links books (set lanes_ab number turn.ab_end) (set lanes_ba number turn.ba_end) reader_a reader_b) (sym (books_after ask x.at.pass t.books));
               reads_a = reads_a;
               reads_b = reads_b;
               paths = From-put number (walked values ask t.books x)
@@ -468,10 +469,10 @@ module _ (start : Start) (can : IsPlain start) where
     step_of_a [] is = stays_here
     step_of_a (duty ∷ ds) is =
         let ask = app_ask duty t.a in
-        let turn : TurnOfA six lanes_ab lanes_ba reader_a reader_b t.a t.at_a.list (note_of t.books t.at_a.pass ask) t.a duty =
-        turn_of_a six lanes_ab lanes_ba reader_a reader_b t.a t.at_a.list (note_of t.books t.at_a.pass ask) duty fare.a.side_is (subst (λ xs. FirstAppStands xs t.a) is fare.a.settled) refl reads_a in
+        let turn : TurnOfA can.links six lanes_ab lanes_ba reader_a reader_b t.a t.at_a.list (note_of t.books t.at_a.pass ask) t.a duty =
+        turn_of_a can.links six lanes_ab lanes_ba reader_a reader_b t.a t.at_a.list (note_of t.books t.at_a.pass ask) duty fare.a.side_is (subst (λ xs. FirstAppStands xs t.a) is fare.a.settled) refl reads_a in
         record {
-          duo = duo_of (after_ask ask six) lanes_ab lanes_ba turn.reader reader_b;
+          duo = duo_of can.links (after_ask ask six) lanes_ab lanes_ba turn.reader reader_b;
           turn_shows = turn.turn;
           world_shows = record {
             cast = after_a ask t;
@@ -482,7 +483,7 @@ module _ (start : Start) (can : IsPlain start) where
             lanes_ba = lanes_ba;
             reader_a = turn.reader;
             reader_b = reader_b;
-            duo_is = ap (λ books. duo_of books lanes_ab lanes_ba turn.reader reader_b) (sym (books_after ask t.at_a.pass t.books));
+            duo_is = ap (λ books. duo_of can.links books lanes_ab lanes_ba turn.reader reader_b) (sym (books_after ask t.at_a.pass t.books));
             reads_a = subst (λ told. Reads told (after_a ask t).at_a.list turn.reader) (sym (taken_told duty ds (answer_to t.books ask) t.a is)) turn.reads;
             reads_b = reads_b;
             paths = paths;
@@ -493,10 +494,10 @@ module _ (start : Start) (can : IsPlain start) where
     step_of_b [] is = stays_here
     step_of_b (duty ∷ ds) is =
         let ask = app_ask duty t.b in
-        let turn : TurnOfB six lanes_ab lanes_ba reader_a reader_b t.b t.at_b.list (note_of t.books t.at_b.pass ask) t.b duty =
-        turn_of_b six lanes_ab lanes_ba reader_a reader_b t.b t.at_b.list (note_of t.books t.at_b.pass ask) duty fare.b.side_is (subst (λ xs. FirstAppStands xs t.b) is fare.b.settled) refl reads_b in
+        let turn : TurnOfB can.links six lanes_ab lanes_ba reader_a reader_b t.b t.at_b.list (note_of t.books t.at_b.pass ask) t.b duty =
+        turn_of_b can.links six lanes_ab lanes_ba reader_a reader_b t.b t.at_b.list (note_of t.books t.at_b.pass ask) duty fare.b.side_is (subst (λ xs. FirstAppStands xs t.b) is fare.b.settled) refl reads_b in
         record {
-          duo = duo_of (after_ask ask six) lanes_ab lanes_ba reader_a turn.reader;
+          duo = duo_of can.links (after_ask ask six) lanes_ab lanes_ba reader_a turn.reader;
           turn_shows = turn.turn;
           world_shows = record {
             cast = after_b ask t;
@@ -507,7 +508,7 @@ module _ (start : Start) (can : IsPlain start) where
             lanes_ba = lanes_ba;
             reader_a = reader_a;
             reader_b = turn.reader;
-            duo_is = ap (λ books. duo_of books lanes_ab lanes_ba reader_a turn.reader) (sym (books_after ask t.at_b.pass t.books));
+            duo_is = ap (λ books. duo_of can.links books lanes_ab lanes_ba reader_a turn.reader) (sym (books_after ask t.at_b.pass t.books));
             reads_a = reads_a;
             reads_b = subst (λ told. Reads told (after_b ask t).at_b.list turn.reader) (sym (taken_told duty ds (answer_to t.books ask) t.b is)) turn.reads;
             paths = paths;
@@ -524,8 +525,8 @@ module _ (start : Start) (can : IsPlain start) where
         let all = all_begun six reader_a reader_b 0 t.paths lanes_ab lanes_ba paths holds in
         let next = next_cast t in
         record {
-          duo = duo_of six all.ab_after all.ba_after reader_a reader_b;
-          turn_shows = moved_turn here (duo_of six all.ab_after all.ba_after reader_a reader_b) all.moved;
+          duo = duo_of can.links six all.ab_after all.ba_after reader_a reader_b;
+          turn_shows = moved_turn here (duo_of can.links six all.ab_after all.ba_after reader_a reader_b) all.moved;
           world_shows = record {
             cast = next;
             is = next_is t;
@@ -561,14 +562,14 @@ module _ (start : Start) (can : IsPlain start) where
     path_turn_step number None there = stays_here
     path_turn_step number (Some x) there = path_step number x there x.path.agenda refl
 
-    shown_by : (turn : Turn) (o : Option Ask) (w : WorldState Carried) → asked_in turn (world_of t) ≡ o → after_turn values turn (world_of t) ≡ w → Stepped o here w → Shown start turn here (world_of t)
+    shown_by : (turn : Turn) (o : Option Ask) (w : WorldState Carried) → asked_in turn (world_of t) ≡ o → after_turn values turn (world_of t) ≡ w → Stepped o here w → Shown can.links start turn here (world_of t)
     shown_by turn o w asks goes x = record {
       duo = x.duo;
       turn_shows = subst (λ a. TurnShows a here x.duo) (sym asks) x.turn_shows;
-      world_shows = subst (WorldShows start x.duo) (sym goes) x.world_shows;
+      world_shows = subst (WorldShows can.links start x.duo) (sym goes) x.world_shows;
     }
 
-    turn_step : (turn : Turn) → Shown start turn here (world_of t)
+    turn_step : (turn : Turn) → Shown can.links start turn here (world_of t)
     turn_step (Turn.Step zero) = shown_by (Turn.Step 0) _ _ refl refl (step_of_a t.a.agenda refl)
     turn_step (Turn.Step (suc zero)) = shown_by (Turn.Step 1) _ _ refl refl (step_of_b t.b.agenda refl)
     turn_step (Turn.Step (suc (suc number))) =
@@ -582,5 +583,5 @@ pub each_turn_shows : EachTurnShows
 each_turn_shows start can turn d w steady holds h =
     let x = turn_step start can h.cast h.fare h.settled h.lanes_ab h.lanes_ba h.reader_a h.reader_b h.reads_a h.reads_b h.paths
     (subst IsSteady h.is steady) (subst Holds h.duo_is holds) turn in
-    let at_duo : Shown start turn d (world_of h.cast) = subst (λ y. Shown start turn y (world_of h.cast)) (sym h.duo_is) x in
-    subst (Shown start turn d) (sym h.is) at_duo
+    let at_duo : Shown can.links start turn d (world_of h.cast) = subst (λ y. Shown can.links start turn y (world_of h.cast)) (sym h.duo_is) x in
+    subst (Shown can.links start turn d) (sym h.is) at_duo

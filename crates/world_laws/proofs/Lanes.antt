@@ -2,7 +2,7 @@
 -- one call of a book, and moves again.
 use Rattle.std.proofs.Common.{◌≡◌, refl, sym, ◌∙◌, ap, ℕ, zero, suc, ◌-◌, ◌^◌, ◌<◌, ◌≤◌, Bool, true, false, Option, Some, None, List, [], ◌∷◌, ◌++◌, length, set}
 use Rattle.std.specs.List.{slice_get, list_all}
-use Rattle.std.proofs.lemmas.Bool.{and_parts, and_from}
+use Rattle.std.proofs.lemmas.Bool.{and_parts, and_from, true≢false}
 use Rattle.outside_kit.specs.declared.side.Side.TheVariants.{A, B}
 use Rattle.outside_kit.specs.declared.side.Side.{Side}
 use Rattle.send_book.specs.declared.call.SendCall.{SendCall}
@@ -15,8 +15,8 @@ use Rattle.stream_lanes.specs.Lane.Ask.{AskGrant, AskAckIn, AskPlace, AskFin, As
 use Rattle.stream_lanes.specs.Moves.{Flags, Move}
 use Rattle.stream_lanes.specs.Streams.{Reader, Direction, StreamEvent, is_done}
 use Rattle.stream_lanes.specs.Streams.StreamEvent.{Write, Close, Return, GoIdentity, AbortSend, Read, AbortRead, Moves, Asks}
-use Rattle.stream_lanes.specs.Duo.{Modes, Duo, Event, flags_ab, flags_ba, after_event, after_events, opening}
-use Rattle.stream_lanes.specs.Duo.Event.{ToB, ToA, FallA, FallB, BeginJoin, SendJoin, HearJoin}
+use Rattle.stream_lanes.specs.Duo.{Modes, Duo, Event, flags_ab, flags_ba, after_event, after_events, opening_over}
+use Rattle.stream_lanes.specs.Duo.Event.{ToB, ToA, FallA, FallB, LoosenA, LoosenB, BeginJoin, SendJoin, HearJoin}
 use Rattle.stream_lanes.specs.Holding.{Holds}
 use Rattle.stream_lanes.specs.Words.{Every, From}
 use Rattle.actor_desk.specs.declared.ask.Ask.{Ask}
@@ -27,7 +27,9 @@ use Rattle.path_agenda.specs.declared.duty.Duty.{Duty}
 use Rattle.path_agenda.specs.declared.duty.Duty.TheVariants as duties
 use Rattle.path_agenda.specs.declared.duty.AskDuty.TheVariants as ask_duties
 use Rattle.path_core.specs.State.{PathState, end_at}
+use Rattle.path_core.specs.Shown.{AltersNothing}
 use Rattle.path_core.specs.Turns.{IsSettled}
+use Rattle.link_model.specs.Steps.{lines_of}
 use Rattle.path_core.specs.Values.{Carried, values}
 use Rattle.control_book.specs.Replies.{is_sure}
 use Rattle.control_book.specs.declared.call.ControlCall.{ControlCall}
@@ -47,31 +49,47 @@ use Rattle.world_laws.proofs.Shielding.{is_shield}
 
 -- ---- what is shown
 
+-- what is so of a connection for ever: whether its links may alter payload, and whether mappings are checked
+pub record Links : Type 0 where
+  pub alters : Bool
+  pub checked : Bool
+
 -- by the control books: which side fell back, or may have done so before it was stopped, whether A began a join, and whether B answered one
-abbrev pub modes_by : SixBooks → Modes
-modes_by six = record {
+abbrev pub modes_by : Links → SixBooks → Modes
+modes_by links six = record {
   plain_a = is_plain six.control_a.fall;
   plain_b = is_plain six.control_b.fall;
+  loose_a = false;
+  loose_b = false;
   begun = six.control_a.fall.joined;
   join_sent = six.control_a.fall.joined;
   answered = six.control_b.fall.joined;
+  alters = links.alters;
+  checked = links.checked;
 }
 
 -- what the direction on which a side sends needs of them
-abbrev pub flags_of : Side → SixBooks → Flags
-flags_of A six = flags_ab (modes_by six)
-flags_of B six = flags_ba (modes_by six)
+abbrev pub flags_of : Links → Side → SixBooks → Flags
+flags_of links A six = flags_ab (modes_by links six)
+flags_of links B six = flags_ba (modes_by links six)
+
+pub flags_are : (links : Links) (s : Side) (six : SixBooks) → ((flags_of links s six).alters ≡ links.alters) × ((flags_of links s six).checked ≡ links.checked)
+flags_are links A six = (refl, refl)
+flags_are links B six = (refl, refl)
 
 -- the books of a world in the two directions, with a lane for each path
-abbrev pub duo_of : SixBooks → List Lane → List Lane → Reader → Reader → Duo
-duo_of six lanes_ab lanes_ba reader_a reader_b = record {
-  modes = modes_by six;
+abbrev pub duo_of : Links → SixBooks → List Lane → List Lane → Reader → Reader → Duo
+duo_of links six lanes_ab lanes_ba reader_a reader_b = record {
+  modes = modes_by links six;
   ab = direction six.send_a six.reassembly_b lanes_ab reader_b;
   ba = direction six.send_b six.reassembly_a lanes_ba reader_a;
 }
 
--- what there is beside the lanes of one path: the number of the path, the other lanes, and what the readers got
+-- what there is beside the lanes of one path: what the links may do, the number of the path, the other lanes, and what the readers got
 pub record Others : Type 0 where
+  pub links : Links
+  -- so far the lanes check nothing
+  pub unchecked : links.checked ≡ false
   pub number : ℕ
   pub lanes_ab : List Lane
   pub lanes_ba : List Lane
@@ -83,7 +101,7 @@ pub record Others : Type 0 where
 -- with these lanes of that path
 abbrev pub duo_at : SixBooks → Lane → Lane → Others → Duo
 duo_at six ab ba others =
-    duo_of six (set others.lanes_ab others.number ab) (set others.lanes_ba others.number ba) others.reader_a others.reader_b
+    duo_of others.links six (set others.lanes_ab others.number ab) (set others.lanes_ba others.number ba) others.reader_a others.reader_b
 
 -- Path 0 has open lanes; on a path that joins A was granted nothing as long as it may send no DSS.
 abbrev pub StandsSo : ℕ → PathState Carried → Lane → Lane → Type 0
@@ -108,7 +126,7 @@ pub record PathThere (start : Start) (lanes_ab lanes_ba : List Lane) (number : �
   pub knows : KnowsThose ab ba p
 
 -- The directions have the books, each reader is what the steps of its application say, and each path shows on its lanes.
-pub record WorldShows (start : Start) (d : Duo) (w : WorldState Carried) : Type 0 where
+pub record WorldShows (links : Links) (start : Start) (d : Duo) (w : WorldState Carried) : Type 0 where
   pub cast : Cast Carried
   pub is : w ≡ world_of cast
   pub fare : Fare start cast
@@ -117,7 +135,7 @@ pub record WorldShows (start : Start) (d : Duo) (w : WorldState Carried) : Type 
   pub lanes_ba : List Lane
   pub reader_a : Reader
   pub reader_b : Reader
-  pub duo_is : d ≡ duo_of (books_in cast.books) lanes_ab lanes_ba reader_a reader_b
+  pub duo_is : d ≡ duo_of links (books_in cast.books) lanes_ab lanes_ba reader_a reader_b
   pub reads_a : Reads cast.a.told cast.at_a.list reader_a
   pub reads_b : Reads cast.b.told cast.at_b.list reader_b
   pub paths : From (λ number x. PathThere start lanes_ab lanes_ba number x.path) 0 cast.paths
@@ -181,6 +199,8 @@ is_silent (ToB (Moves path m)) = true
 is_silent (ToA (Moves path m)) = true
 is_silent FallA = true
 is_silent FallB = true
+is_silent LoosenA = true
+is_silent LoosenB = true
 is_silent BeginJoin = true
 is_silent SendJoin = true
 is_silent HearJoin = true
@@ -286,33 +306,48 @@ pub record TurnShows (ask : Option Ask) (d e : Duo) : Type 0 where
 -- ---- the two laws, and what follows
 
 -- the connection of so many paths, before anything happens
-abbrev pub first_duo : Start → Duo
-first_duo start = opening (length start.paths) start.buffer start.buffer
+abbrev pub first_duo : Links → Start → Duo
+first_duo links start = opening_over links.alters links.checked (length start.paths) start.buffer start.buffer
+
+-- Links that may carry a connection: they alter payload only where these may, and so far check nothing; and a full segment of each
+-- path has room for octets beside its options.
+pub record Carries (start : Start) : Type 0 where
+  pub links : Links
+  pub may : links.alters ≡ false → (path : ℕ) → AltersNothing (lines_of path start.lines)
+  pub unchecked : links.checked ≡ false
+  pub size : Every (λ plan. 29 ≤ plan.mss) start.paths
+
+-- links that alter anything, and links that alter nothing
+pub anyhow : (start : Start) → Every (λ plan. 29 ≤ plan.mss) start.paths → Carries start
+anyhow start size = record { links = record { alters = true; checked = false }; may = λ none. absurd (true≢false none); unchecked = refl; size = size }
+
+abbrev pub plainly : (start : Start) → IsPlain start → Carries start
+plainly start plain = record { links = record { alters = false; checked = false }; may = λ none. plain.unaltered; unchecked = refl; size = plain.size }
 
 -- moves of the lanes before the first turn
-abbrev pub OpenedShows : Start → Type 0
-OpenedShows start = (events : List Event) × WorldShows start (after_events events (first_duo start)) (opened_world start)
+abbrev pub OpenedShows : Links → Start → Type 0
+OpenedShows links start = (events : List Event) × WorldShows links start (after_events events (first_duo links start)) (opened_world start)
 
-pub record Shown (start : Start) (turn : Turn) (d : Duo) (w : WorldState Carried) : Type 0 where
+pub record Shown (links : Links) (start : Start) (turn : Turn) (d : Duo) (w : WorldState Carried) : Type 0 where
   pub duo : Duo
   pub turn_shows : TurnShows (asked_in turn w) d duo
-  pub world_shows : WorldShows start duo (after_turn values turn w)
+  pub world_shows : WorldShows links start duo (after_turn values turn w)
 
 -- the opened world shows
 abbrev pub EachOpeningShows : Type 0
-EachOpeningShows = (start : Start) → IsPlain start → OpenedShows start
+EachOpeningShows = (start : Start) (can : Carries start) → OpenedShows can.links start
 
 -- and every turn keeps it, lawful or not
 abbrev pub EachTurnShows : Type 0
-EachTurnShows = (start : Start) → IsPlain start → (turn : Turn) (d : Duo) (w : WorldState Carried) → IsSteady w → Holds d → WorldShows start d w → Shown start turn d w
+EachTurnShows = (start : Start) (can : Carries start) (turn : Turn) (d : Duo) (w : WorldState Carried) → IsSteady w → Holds d → WorldShows can.links start d w → Shown can.links start turn d w
 
 -- after each list of turns the world shows in a connection that comes about by events from the opening
-pub record Reached (start : Start) (w : WorldState Carried) : Type 0 where
+pub record Reached (links : Links) (start : Start) (w : WorldState Carried) : Type 0 where
   pub events : List Event
-  pub shows : WorldShows start (after_events events (first_duo start)) w
+  pub shows : WorldShows links start (after_events events (first_duo links start)) w
 
 abbrev pub EachRunShows : Type 0
-EachRunShows = (start : Start) → IsPlain start → (turns : List Turn) → Reached start (world_run values turns (opened_world start))
+EachRunShows = (start : Start) (can : Carries start) (turns : List Turn) → Reached can.links start (world_run values turns (opened_world start))
 
 -- ---- events
 
@@ -336,6 +371,9 @@ pub record Moved (d e : Duo) : Type 0 where
   pub events : List Event
   pub silent : AreSilent events
   pub to : e ≡ after_events events d
+
+pub moved_along : (d e : Duo) → d ≡ e → Moved d e
+moved_along d e same = record { events = []; silent = refl; to = sym same }
 
 pub unmoved : (d : Duo) → Moved d d
 unmoved d = record { events = []; silent = refl; to = refl }

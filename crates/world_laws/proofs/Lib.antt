@@ -15,6 +15,7 @@ pub mod Doing
 pub mod Taking
 pub mod Ending
 pub mod Hearing
+pub mod Anyway
 pub mod Applying
 pub mod Journaling
 pub mod Rules

@@ -13,20 +13,20 @@ use Rattle.world_laws.specs.Promises.{IsPromised, IsPromisedOfOctets}
 use Rattle.world_laws.specs.Worlds.{WorldState, world_run}
 use Rattle.world_laws.proofs.Beginning.{each_run_shows}
 use Rattle.world_laws.proofs.CastLifting.{each_actor}
-use Rattle.world_laws.proofs.Lanes.{WorldShows}
+use Rattle.world_laws.proofs.Lanes.{Links, WorldShows, plainly}
 use Rattle.world_laws.proofs.PlacesKnown.{agrees_so}
 use Rattle.world_laws.proofs.PromisesMade.{run_fresh}
 
 -- what a world shows of each path, its ends agree on
-shows_agreement : (start : Start) (w : WorldState Carried) {d : _} → WorldShows start d w → MappingsAgree w
-shows_agreement start w h = subst MappingsAgree (sym h.is) (record {
+pub shows_agreement : (links : Links) (start : Start) (w : WorldState Carried) {d : _} → WorldShows links start d w → MappingsAgree w
+shows_agreement links start w h = subst MappingsAgree (sym h.is) (record {
   each = each_actor (λ actor c. EndsAgree c.member) h.cast tt tt (λ number x there. let path = h.paths.each number number x (omega arith) there in agrees_so path.ab path.ba x.path path.knows);
 })
 
 -- ---- the law
 
 pub mappings_agree : IsPromised MappingsAgree
-mappings_agree start turns plain = shows_agreement start (world_run values turns (opened_world start)) (each_run_shows start plain turns).shows
+mappings_agree start turns plain = shows_agreement _ start (world_run values turns (opened_world start)) (each_run_shows start (plainly start plain) turns).shows
 
 shown_agrees : (m : Actor Carried) → EndsAgree m → EndsAgree (shown_member m)
 shown_agrees (App a) h = tt

@@ -1,5 +1,5 @@
 -- The record of what a lane was granted only gets longer, and the mappings of what was sent on it tell its places.
-use Rattle.std.proofs.Common.{◌≡◌, refl, sym, ◌∙◌, ap, subst, ℕ, suc, ◌+◌, ◌-◌, ⊎_elim, Bool, true, false, ◌||◌, ◌&&◌, ◌==◌, nat_lt, if◌then◌else◌, Option, Some, None, Result, Ok, Err, List, [], ◌∷◌, ◌++◌, length, set, arith}
+use Rattle.std.proofs.Common.{◌≡◌, refl, sym, ◌∙◌, ap, subst, ℕ, suc, ◌+◌, ◌-◌, ⊎_elim, Bool, true, false, ◌||◌, ◌&&◌, ◌==◌, nat_lt, nat_le, if◌then◌else◌, Option, Some, None, Result, Ok, Err, List, [], ◌∷◌, ◌++◌, length, set, arith}
 use Rattle.std.proofs.lemmas.Bool.{cases_eq}
 use Rattle.std.proofs.lemmas.List.{append-nil, append_assoc, map-append}
 use Rattle.std.proofs.lemmas.Option.{same_Some}
@@ -9,11 +9,11 @@ use Rattle.outside_kit.specs.declared.side.Side.TheVariants.{A, B}
 use Rattle.std.specs.Option.{IfSome}
 use Rattle.dss_mapping.specs.declared.kept.KeptMapping.{KeptMapping}
 use Rattle.dss_mapping.specs.Mappings.{run_of, octets_of}
-use Rattle.send_book.specs.declared.call.SendCall.TheVariants.{AckIn}
+use Rattle.send_book.specs.declared.call.SendCall.TheVariants.{AckIn, GoIdentity as GoIdentityBook, GoInfinite as GoInfiniteBook}
 use Rattle.send_book.specs.declared.call.Span.{Span}
 use Rattle.send_book.specs.declared.call.Why.{Why}
-use Rattle.send_book.specs.State.{Sending}
-use Rattle.send_book.specs.Steps.{decision, reply_by, reply_to as send_reply}
+use Rattle.send_book.specs.State.{Sending, acked_len}
+use Rattle.send_book.specs.Steps.{decision, reply_by, reply_to as send_reply, after_call as after_send}
 use Rattle.reassembly_book.specs.declared.call.ReassemblyCall.TheVariants.{Place, Fin, AckOut}
 use Rattle.reassembly_book.specs.declared.call.ReassemblyReply.{ReassemblyReply}
 use Rattle.reassembly_book.specs.declared.call.ReassemblyReply.TheVariants.{Placed, FinSet, Ack}
@@ -21,14 +21,14 @@ use Rattle.send_book.specs.declared.call.SendReply.{SendReply}
 use Rattle.send_book.specs.declared.call.SendReply.TheVariants.{Acked}
 use Rattle.reassembly_book.specs.Steps.{reply_to as arrival_reply}
 use Rattle.stream_lanes.specs.Holding.{IsRight, LaneHolds}
-use Rattle.stream_lanes.specs.Lane.{Cell, Mapping, DataCopy, AckCopy, Ask, Lane}
+use Rattle.stream_lanes.specs.Lane.{Cell, Mapping, Pair, DataCopy, AckCopy, Ask, Lane}
 use Rattle.stream_lanes.specs.Lane.Ask.{Nothing, AskGrant, AskAckIn, AskPlace, AskFin, AskAckOut}
-use Rattle.stream_lanes.specs.Moves.{Flags, Move, moved, hears, sends_piece, keeps, clashes, learns, learns_mapping, hears_data_fin, hears_fin, places, lies_in, in_order, may_finish, ack_copy, places_of, takes_grant, takes_ack, takes_placed, takes_fin, takes_ack_out}
-use Rattle.stream_lanes.specs.Moves.Move.{Open, LookAtSender, LookAtReceiver, WantGrant, HearAck, SendPiece, SendDataFin, SendFin, Hear, Learn, HearDataFin, HearFin, WantPlace, WantPlacePlain, WantFin, WantAckOut, SendAck}
-use Rattle.stream_lanes.specs.Streams.{Direction, StreamEvent, moves, reads, asks, asks_at, after, is_done}
+use Rattle.stream_lanes.specs.Moves.{Flags, Move, moved, place_by, shifted, is_whole, hears_sub, sends_pair, sends_fin_pair, takes_pair, places_pair, ends_pair, hears, sends_piece, sends_altered, altered_piece_of, keeps, clashes, learns, learns_mapping, hears_data_fin, hears_fin, places, passes, lies_in, in_order, may_finish, ack_copy, places_of, takes_grant, takes_ack, takes_placed, takes_fin, takes_ack_out}
+use Rattle.stream_lanes.specs.Moves.Move.{Open, LookAtSender, LookAtReceiver, WantGrant, HearAck, HearSubAck, SendPiece, SendAltered, SendDataFin, SendFin, SendPair, SendPlainPair, SendFinPair, Hear, Learn, HearDataFin, HearFin, Forget, WantPlace, WantPlacePlain, WantFin, TakePair, WantPlacePair, WantFinPair, WantAckOut, SendAck}
+use Rattle.stream_lanes.specs.Streams.{Direction, StreamEvent, moves, reads, asks, asks_at, after, is_done, with_send, goes_infinite, may_go}
 use Rattle.stream_lanes.specs.Streams.StreamEvent.{Write, Close, Return, GoIdentity, GoInfinite, AbortSend, Read, AbortRead, Moves, Asks}
 use Rattle.stream_lanes.specs.Duo.{Duo, Event, flags_ab, flags_ba, after_event, after_events}
-use Rattle.stream_lanes.specs.Duo.Event.{ToB, ToA, FallA, FallB, BeginJoin, SendJoin, HearJoin}
+use Rattle.stream_lanes.specs.Duo.Event.{ToB, ToA, FallA, FallB, LoosenA, LoosenB, BeginJoin, SendJoin, HearJoin}
 use Rattle.stream_lanes.specs.View.{View}
 use Rattle.stream_lanes.proofs.Directions.{moved_sent, acked_sent, placed_sent, fin_sent}
 use Rattle.stream_lanes.proofs.Lists.{in_more, set_same, set_other}
@@ -94,6 +94,10 @@ module _ (p : Lane) (is : p.opened ≡ true) where
   opened_piece mapped None = is
   opened_piece mapped (Some m) = is
 
+  opened_altered : (mapped : Bool) (o : Option Mapping) → (sends_altered mapped o p).opened ≡ true
+  opened_altered mapped None = is
+  opened_altered mapped (Some m) = opened_if p.alters p (record p { datas = p.datas ++ altered_piece_of mapped p m ∷ [] }) (λ x. x) is
+
   opened_copy : (count : ℕ) (o : Option DataCopy) → (keeps count o p).opened ≡ true
   opened_copy count None = is
   opened_copy count (Some d) = is
@@ -120,7 +124,33 @@ module _ (p : Lane) (is : p.opened ≡ true) where
 
   opened_place : (count : ℕ) (o : Option Mapping) → (places count o p).opened ≡ true
   opened_place count None = is
-  opened_place count (Some m) = opened_if (lies_in m (in_order count p) p) p (record p { asking = AskPlace _ (in_order count p) }) (λ x. x) is
+  opened_place count (Some m) = opened_if (lies_in m (in_order count p) p && passes m (in_order count p) p) p (record p { asking = AskPlace _ (in_order count p) }) (λ x. x) is
+
+  opened_sub : (o : Option AckCopy) (q : Option Pair) → (hears_sub o q p).opened ≡ true
+  opened_sub None q = is
+  opened_sub (Some a) None = is
+  opened_sub (Some a) (Some m) = opened_if p.alters p (record p { asking = AskAckIn (place_by m a.sub) a.window }) (λ x. x) is
+
+  opened_pair : (shift : ℕ) (o : Option Pair) → (sends_pair shift o p).opened ≡ true
+  opened_pair shift None = is
+  opened_pair shift (Some m) = opened_if (nat_le (m.pos + shift) (length p.sent)) p (record p { pairs = p.pairs ++ shifted shift m ∷ [] }) (λ x. x) is
+
+  opened_fin_pair : (o : Option Pair) → (sends_fin_pair o p).opened ≡ true
+  opened_fin_pair None = is
+  opened_fin_pair (Some m) = opened_if (p.opened && is_whole p.known_end p) p (record p { fins = p.fins ++ length p.sent ∷ [] }) (λ x. x) is
+
+  opened_taken : (o : Option Pair) → (takes_pair o p).opened ≡ true
+  opened_taken None = is
+  opened_taken (Some m) = is
+
+  opened_place_pair : (count : ℕ) (o : Option Pair) → (places_pair count o p).opened ≡ true
+  opened_place_pair count None = is
+  opened_place_pair count (Some m) =
+      opened_if (p.receiver_loose && nat_le m.pos p.edge) p (record p { asking = AskPlace (place_by m p.edge) (in_order count p) }) (λ x. x) is
+
+  opened_end_pair : (o : Option Pair) → (ends_pair o p).opened ≡ true
+  opened_end_pair None = is
+  opened_end_pair (Some m) = opened_if (p.receiver_loose && (p.fin_in && nat_le m.pos p.edge)) p (record p { asking = AskFin (place_by m p.edge) }) (λ x. x) is
 
   moved_opened : (f : Flags) (path : ℕ) (move : Move) → (moved f path move p).opened ≡ true
   moved_opened f path Open = opened_if (f.answered || path == 0) p (record p { opened = true }) (λ x. refl) is
@@ -128,16 +158,26 @@ module _ (p : Lane) (is : p.opened ≡ true) where
   moved_opened f path LookAtReceiver = is
   moved_opened f path (WantGrant max standby) = opened_if (p.opened && nat_lt 0 max) p (record p { asking = AskGrant max standby }) (λ x. x) is
   moved_opened f path (HearAck copy) = opened_ack (slice_get p.acks copy)
+  moved_opened f path (HearSubAck copy) = opened_sub (slice_get p.acks copy) p.pair
   moved_opened f path (SendPiece piece mapped) = opened_piece mapped (slice_get p.pieces piece)
+  moved_opened f path (SendAltered piece mapped) = opened_altered mapped (slice_get p.pieces piece)
   moved_opened f path SendDataFin = is
   moved_opened f path SendFin = opened_if (may_finish p) p (record p { fins = p.fins ++ length p.sent ∷ [] }) (λ x. x) is
+  moved_opened f path (SendPair shift) = opened_pair shift p.pair
+  moved_opened f path (SendPlainPair pos) =
+      opened_if (p.sender_plain && (p.opened && nat_le pos (length p.sent))) p (record p { pairs = p.pairs ++ record { pos = pos; place = pos } ∷ [] }) (λ x. x) is
+  moved_opened f path SendFinPair = opened_fin_pair p.pair
   moved_opened f path (Hear copy count) = opened_copy count (slice_get p.datas copy)
   moved_opened f path (Learn copy) = opened_learned (slice_get p.datas copy)
   moved_opened f path (HearDataFin copy) = opened_end (slice_get p.data_fins copy)
   moved_opened f path (HearFin copy) = opened_fin (slice_get p.fins copy)
+  moved_opened f path (Forget from) = is
   moved_opened f path (WantPlace mapping count) = opened_place count (slice_get p.maps mapping)
   moved_opened f path (WantPlacePlain count) = opened_if p.receiver_plain p (record p { asking = AskPlace p.edge (in_order count p) }) (λ x. x) is
   moved_opened f path WantFin = opened_if (p.receiver_plain && p.fin_in) p (record p { asking = AskFin p.edge }) (λ x. x) is
+  moved_opened f path (TakePair copy) = opened_taken (slice_get p.pairs copy)
+  moved_opened f path (WantPlacePair count) = opened_place_pair count p.taken
+  moved_opened f path WantFinPair = opened_end_pair p.taken
   moved_opened f path WantAckOut = is
   moved_opened f path (SendAck next window sub) = by p.due
     where
@@ -190,12 +230,27 @@ module _ (f : Flags) (number : ℕ) (p : Lane) (d : Direction) (h : Lasts number
   reads_on max true = h
   reads_on max false = stays (reads max d) refl
 
+  identity_lasts : (fell : Bool) → Lasts number p (if fell then with_send GoIdentityBook d else d)
+  identity_lasts true = stays _ refl
+  identity_lasts false = h
+
+  infinite_lasts : (path pos : ℕ) (o : Option Lane) → slice_get d.lanes path ≡ o → Lasts number p (goes_infinite path pos o d)
+  infinite_lasts path pos None there = h
+  infinite_lasts path pos (Some q) there = by_may (may_go path pos d.send q)
+    where
+      r : Lane
+      r = record q { pair = Some (record { pos = pos; place = acked_len d.send.marks }) }
+
+      by_may : (may : Bool) → Lasts number p (if may then record d { send = after_send d.send (GoInfiniteBook path); lanes = set d.lanes path r } else d)
+      by_may true = put_lasts path q r _ refl there (same_longer q r refl (λ is. is))
+      by_may false = h
+
   after_lasts : (event : StreamEvent) → Lasts number p (after f event d)
   after_lasts (Write bytes) = stays _ refl
   after_lasts Close = stays _ refl
   after_lasts (Return path) = stays _ refl
-  after_lasts GoIdentity = stays _ refl
-  after_lasts (GoInfinite path) = stays _ refl
+  after_lasts GoIdentity = identity_lasts f.sender
+  after_lasts (GoInfinite path pos) = infinite_lasts path pos (slice_get d.lanes path) refl
   after_lasts AbortSend = stays _ refl
   after_lasts (Read max) = reads_on max (is_done d.reader)
   after_lasts (AbortRead by_peer) = stays _ refl
@@ -213,6 +268,8 @@ duo_lasts (ToB event) number p q d h = record { ab = after_lasts (flags_ab d.mod
 duo_lasts (ToA event) number p q d h = record { ab = h.ab; ba = after_lasts (flags_ba d.modes) number q d.ba h.ba event }
 duo_lasts FallA number p q d h = record { ab = h.ab; ba = h.ba }
 duo_lasts FallB number p q d h = record { ab = h.ab; ba = h.ba }
+duo_lasts LoosenA number p q d h = record { ab = h.ab; ba = h.ba }
+duo_lasts LoosenB number p q d h = record { ab = h.ab; ba = h.ba }
 duo_lasts BeginJoin number p q d h = record { ab = h.ab; ba = h.ba }
 duo_lasts SendJoin number p q d h = record { ab = h.ab; ba = h.ba }
 duo_lasts HearJoin number p q d h = record { ab = h.ab; ba = h.ba }

@@ -3,7 +3,7 @@
 use Rattle.std.proofs.Common.{◌≡◌, refl, sym, ap, subst, ℕ, suc, ◌+◌, ◌-◌, ◌<◌, ◌≤◌, nat_lt, nat_le, ◌&&◌, inl, inr, ⊎_elim, Bool, true, false, if◌then◌else◌, filter, find, Option, Some, None, List, [], ◌∷◌, length, take, drop, arith, not, ◌∙◌, ◌⊎◌, ◌*◌, ◌/◌, true≢false}
 use Rattle.std.proofs.lemmas.Bool.{and_parts, ltb-true, leb-true, eqb-true, false≢true, both_ways}
 use Rattle.std.proofs.lemmas.List.{append-nil, length-take}
-use Rattle.std.proofs.lemmas.Option.{same_Some, slice_get_within}
+use Rattle.std.proofs.lemmas.Option.{same_Some}
 use Rattle.std.specs.List.{slice_get}
 use Rattle.std.specs.Option.{IfSome}
 use Rattle.outside_kit.specs.declared.side.Side.{Side}
@@ -19,14 +19,15 @@ use Rattle.subflow_tcp.specs.Closing.{is_fin_next, after_passing_fin}
 use Rattle.subflow_tcp.specs.Judging.{is_at}
 use Rattle.subflow_tcp.specs.State.{EndState}
 use Rattle.subflow_tcp.specs.States as states
-use Rattle.stream_lanes.specs.Holding.{IsByteOf, IsFin, LaneHolds}
-use Rattle.stream_lanes.specs.Lane.{Cell, Mapping, Lane}
+use Rattle.stream_lanes.specs.Holding.{IsFin, LaneHolds}
+use Rattle.stream_lanes.specs.Lane.{Mapping, Lane}
 use Rattle.stream_lanes.specs.Lane.Ask.{Nothing, AskPlace}
 use Rattle.stream_lanes.specs.Laws.{copy_clashes}
 use Rattle.stream_lanes.specs.Moves.{takes_placed, ack_copy, sub_next}
 use Rattle.stream_lanes.specs.View.{View}
 use Rattle.stream_lanes.specs.Words.{Every}
-use Rattle.stream_lanes.proofs.Lists.{Every-map, Every-push, Has-more, in_drop, in_map}
+use Rattle.stream_lanes.proofs.Checking.{came_within}
+use Rattle.stream_lanes.proofs.Lists.{Every-map, Every-push, Has-more, in_drop}
 use Rattle.path_core.specs.Ends.{PathEnd}
 use Rattle.path_core.specs.Passing.{having_asked, after_pass_fin, place_passed, plain_fin}
 use Rattle.path_core.specs.Deliver.{Piece, count_in, piece_in, is_whole, is_right, some_piece, checked_piece, piece_by, next_piece, after_piece, with_learned, with_skipped, plain_piece, data_fin_behind}
@@ -37,7 +38,7 @@ use Rattle.world_laws.proofs.Hearing.{state_shows, fin_passed_back}
 use Rattle.world_laws.proofs.Records.{every_cons, every_first, every_rest}
 use Rattle.world_laws.proofs.Roads.{Strolls, stays, then_strolls}
 use Rattle.world_laws.proofs.Showing.{HasMapping, HasFin, KeptShows, HeldShows, Under, IsAtEdge, IsPastFin, ReceiverShows, EndShows, SenderShows, identity_of, knowledge_of}
-use Rattle.world_laws.proofs.Taking.{learned_lane, learns_it, learned_goes, learned_there, wants_place, under_drop, acked_lane, acked_sub, acks_it, finished_lane, hears_the_fin, wants_plain}
+use Rattle.world_laws.proofs.Taking.{learned_lane, learns_it, learned_goes, learned_there, wants_place, under_drop, only_drop, acked_lane, acked_sub, acks_it, finished_lane, hears_the_fin, wants_plain}
 use Rattle.world_laws.proofs.Doing.{take_whole}
 
 -- the maps of the lane are more
@@ -45,7 +46,7 @@ more_maps : (recv : Receiving) (fin_at : Option ℕ) (live live_after : List Kep
     → ReceiverShows recv fin_at live plain p → ReceiverShows recv fin_at live_after plain (record p { maps = maps })
 more_maps recv fin_at live live_after plain p maps mapped h = record {
   same_mode = h.same_mode;
-  edge = same_edge refl refl refl h.edge;
+  edge = same_edge refl refl refl (λ position octets has. has) h.edge;
   fin = h.fin;
   mapped = mapped;
 }
@@ -143,7 +144,7 @@ module _ (c : Profile) (s : Side) (out back : Lane) where
       sender = h.sender;
       receiver = record {
         same_mode = h.receiver.same_mode;
-        edge = same_edge refl refl refl h.receiver.edge;
+        edge = same_edge refl refl refl (λ position octets has. has) h.receiver.edge;
         fin = h.receiver.fin;
         mapped = h.receiver.mapped;
       };
@@ -237,12 +238,12 @@ module _ (c : Profile) (s : Side) (out back : Lane) where
           let some = n.some in
           absurd (omega (arith, same, l, zero_is, some))
 
-  wants_piece : (e : PathEnd) (piece : Piece) → NextPiece e piece → EndShows c s e out back → Strolls back (record back { asking = AskPlace piece.place piece.octets })
-  wants_piece e piece n h =
+  wants_piece : back.checked ≡ false → (e : PathEnd) (piece : Piece) → NextPiece e piece → EndShows c s e out back → Strolls back (record back { asking = AskPlace piece.place piece.octets })
+  wants_piece unchecked e piece n h =
       let at = at_edge e piece n h in
       let l = length-take (count_in e.tcp.recv.edge n.kept) (filled e.tcp.recv.places) in
       subst (λ x. Strolls back (record back { asking = AskPlace x.place x.octets })) (sym n.is)
-      (wants_place back e.tcp.recv.edge e.tcp.recv.places (count_in e.tcp.recv.edge n.kept) at.edge_is at.under n.kept.place n.kept.pos (octets_of n.kept) n.has n.after n.before (omega (arith, l)))
+      (wants_place back e.tcp.recv.edge e.tcp.recv.places (count_in e.tcp.recv.edge n.kept) at.edge_is at.under unchecked n.kept.place n.kept.pos (octets_of n.kept) n.has n.after n.before (omega (arith, l)))
 
   -- the next bytes may be placed, by a mapping or in plain TCP by their positions
   pub record IsNextReady (e : PathEnd) (piece : Piece) : Type 0 where
@@ -267,14 +268,14 @@ module _ (c : Profile) (s : Side) (out back : Lane) where
           let zero_is : length (filled e.tcp.recv.places) ≡ 0 = ap (λ (xs : List ℕ). length xs) none in
           omega (arith, some, l, zero_is)
 
-  pub next_ready : (e : PathEnd) (piece : Piece) → next_piece c e ≡ Some piece → EndShows c s e out back → IsNextReady e piece
-  next_ready e piece is h = by e.modes.identity refl is
+  pub next_ready : back.checked ≡ false → (e : PathEnd) (piece : Piece) → next_piece c e ≡ Some piece → EndShows c s e out back → IsNextReady e piece
+  next_ready unchecked e piece is h = by e.modes.identity refl is
     where
       by : (b : Bool) → e.modes.identity ≡ b
           → (if b then some_piece (plain_piece e.tcp) else piece_by c.spelling.checksums (if b then None else mapping_at e.receiving.mappings e.tcp.recv.edge) e.tcp) ≡ Some piece
           → IsNextReady e piece
       by true plain is = plain_ready e piece plain is h
-      by false above is = let n = piece_from e piece is h in record { at = at_edge e piece n h; wants = wants_piece e piece n h }
+      by false above is = let n = piece_from e piece is h in record { at = at_edge e piece n h; wants = wants_piece unchecked e piece n h }
 
   filtered : {X : Type 0} {P : X → Type 0} (test : X → Bool) (xs : List X) → Every P xs → Every P (filter test xs)
   filtered test [] h = h
@@ -316,6 +317,7 @@ module _ (c : Profile) (s : Side) (out back : Lane) where
             edge = inl (record {
               edge_is = let edge_is = at.edge_is in omega (arith, edge_is);
               under = subst (λ n. Under (drop n e.tcp.recv.places) q.kept) (sym (moved_on e.tcp.recv.edge (length piece.octets))) (under_drop (length piece.octets) e.tcp.recv.places back.kept at.under);
+              only = subst (λ n. Under q.kept (drop n e.tcp.recv.places) ⊎ (drop n e.tcp.recv.places ≡ [])) (sym (moved_on e.tcp.recv.edge (length piece.octets))) (only_drop (length piece.octets) e.tcp.recv.places back.kept at.only);
               held = tt;
             });
             fin = h.receiver.fin;
@@ -337,9 +339,7 @@ module _ (c : Profile) (s : Side) (out back : Lane) where
       let fin : IsFin path v back.sent has.item = holds.fins.each has.at has.item has.there in
       let last : has.item ≡ length back.sent = fin.last in
       let edge_is = at.edge_is in
-      let came : IsByteOf back.sent (back.edge + i) byte = holds.bytes.came.each i (back.edge + i) byte refl (at.under.each i byte there) in
-      let cell = in_map (λ (c : Cell). c.byte) back.sent (back.edge + i) byte came in
-      let within = slice_get_within back.sent (back.edge + i) cell.0 cell.1 in
+      let within = came_within back.alters back.pieces back.sent (back.edge + i) byte (holds.bytes.came.each i (back.edge + i) byte refl (at.under.each i byte there)) in
       let position_is = has.holds in
       absurd (omega (arith, last, edge_is, within, is, position_is))
 

@@ -1,5 +1,5 @@
 -- What a connection promises follows from what its world shows of the two directions.
-use Rattle.std.proofs.Common.{◌≡◌, refl, sym, ◌∙◌, ap, subst, ℕ, Bool, true, false, ◌||◌, if◌then◌else◌, Option, Some, None, Result, Ok, Err, List, [], ◌∷◌, take}
+use Rattle.std.proofs.Common.{◌≡◌, refl, sym, ◌∙◌, ap, subst, ℕ, Bool, true, false, ◌||◌, if◌then◌else◌, Option, Some, None, Result, Ok, Err, List, [], ◌∷◌, take, not, length, ◌&&◌}
 use Rattle.std.specs.List.{slice_get, list_all}
 use Rattle.std.proofs.lemmas.Bool.{and_parts, false≢true}
 use Rattle.outside_kit.specs.declared.side.Side.TheVariants.{A, B}
@@ -23,11 +23,12 @@ use Rattle.stream_lanes.specs.Lane.Ask.{AskAckIn, AskPlace, AskFin}
 use Rattle.stream_lanes.specs.Moves.{Flags, Move}
 use Rattle.stream_lanes.specs.Streams.{Reader, Direction, StreamEvent, moves as lane_moves}
 use Rattle.stream_lanes.specs.Streams.StreamEvent.{Moves, Asks}
-use Rattle.stream_lanes.specs.Duo.{Duo, Event, after_event, after_events}
-use Rattle.stream_lanes.specs.Duo.Event.{ToB, ToA, FallA, FallB, BeginJoin, SendJoin, HearJoin}
+use Rattle.stream_lanes.specs.Duo.{Duo, Event, after_event, after_events, flags_ab, flags_ba}
+use Rattle.stream_lanes.specs.Duo.Event.{ToB, ToA, FallA, FallB, LoosenA, LoosenB, BeginJoin, SendJoin, HearJoin}
+use Rattle.stream_lanes.specs.View.{is_exact}
 use Rattle.stream_lanes.specs.Holding.{DirectionHolds, Holds}
 use Rattle.stream_lanes.specs.Laws.{pipe_of as lane_pipe, StepsOrStays, EachEventIsOneStep, NothingIsRefused, BothWays, is_ack_future, is_beyond_or_clash, ask_refused, lane_refused}
-use Rattle.stream_lanes.proofs.Promises.{reads_prefix, acknowledges, ends_whole}
+use Rattle.stream_lanes.proofs.Promises.{reads_prefix, acknowledges, ends_whole, ends_at_all}
 use Rattle.actor_desk.specs.declared.ask.Ask.{Ask}
 use Rattle.actor_desk.specs.declared.ask.Ask.TheVariants as asks
 use Rattle.actor_desk.specs.declared.ask.Note.{Note}
@@ -38,52 +39,82 @@ use Rattle.actor_desk.specs.Desk.{SixBooks, reply_of}
 use Rattle.path_core.specs.Values.{Carried}
 use Rattle.world_laws.specs.Openings.{Start}
 use Rattle.world_laws.specs.Outcomes.{tells_end, was_told, read_by, output_of, pipe_ab, pipe_ba}
+use Rattle.world_laws.specs.Altered.{BothKeepCount}
 use Rattle.world_laws.specs.Promises.{tells_refusal, was_told_end, BothKeepTheirWord}
 use Rattle.world_laws.specs.Worlds.{WorldState}
 use Rattle.world_laws.proofs.Applying.{Reads}
-use Rattle.world_laws.proofs.Lanes.{duo_of, WorldShows, IsAsking, SendCallIs, ReassemblyCallIs, CallIs, is_silent, AreSilent, call_events, TurnShows}
+use Rattle.world_laws.proofs.Lanes.{Links, duo_of, WorldShows, IsAsking, SendCallIs, ReassemblyCallIs, CallIs, is_silent, AreSilent, call_events, TurnShows}
 use Rattle.world_laws.proofs.Roads.{direction}
 use Rattle.world_laws.proofs.Casts.{Cast, world_of}
+use Rattle.world_laws.proofs.Falls.{is_plain}
 
 -- ---- one direction
 
-module _ (f : Flags) (send : Sending) (arrived : Arriving) (lanes : List Lane) (reader : Reader) (told : Bool) (list : List Note)
+module _ (f : Flags) (exact : is_exact f ≡ true) (send : Sending) (arrived : Arriving) (lanes : List Lane) (reader : Reader) (told : Bool) (list : List Note)
     (h : DirectionHolds f (direction send arrived lanes reader)) (reads : Reads told list reader) where
   prefix_of : IsPrefix (read_by list) send.written
-  prefix_of = subst (λ xs. IsPrefix xs send.written) reads.out_is (reads_prefix f (direction send arrived lanes reader) h)
+  prefix_of = subst (λ xs. IsPrefix xs send.written) reads.out_is (reads_prefix f (direction send arrived lanes reader) exact h)
 
   whole_of : was_told tells_end list ≡ true → (send.closed ≡ true) × (read_by list ≡ send.written)
   whole_of is =
-      let whole = ends_whole f (direction send arrived lanes reader) h (reads.told_is ∙ is) in (whole.0, sym reads.out_is ∙ whole.1)
+      let whole = ends_whole f (direction send arrived lanes reader) exact h (reads.told_is ∙ is) in (whole.0, sym reads.out_is ∙ whole.1)
 
 -- ---- both directions of a world
 
-kept : (t : Cast Carried) (ab ba : List Lane) (reader_a reader_b : Reader) → Holds (duo_of (books_in t.books) ab ba reader_a reader_b) → Reads t.a.told t.at_a.list reader_a
+kept : (links : Links) → links.alters ≡ false → (t : Cast Carried) (ab ba : List Lane) (reader_a reader_b : Reader) → Holds (duo_of links (books_in t.books) ab ba reader_a reader_b) → Reads t.a.told t.at_a.list reader_a
     → Reads t.b.told t.at_b.list reader_b → BothKeepTheirWord (world_of t)
-kept t ab ba reader_a reader_b h reads_a reads_b =
+kept links none t ab ba reader_a reader_b h reads_a reads_b =
+    let six = books_in t.books in
+    let exact_b = ap (λ c. not c || (links.checked && not (is_plain six.control_b.fall || false))) none in
+    let exact_a = ap (λ c. not c || (links.checked && not (is_plain six.control_a.fall || false))) none in
+    let to_b = acknowledges _ (direction six.send_a six.reassembly_b ab reader_b) h.ab in
+    let to_a = acknowledges _ (direction six.send_b six.reassembly_a ba reader_a) h.ba in
+    record {
+      ab = record {
+        prefix = prefix_of _ exact_b six.send_a six.reassembly_b ab reader_b t.b.told t.at_b.list h.ab reads_b;
+        acked = to_b.count;
+        arrived = to_b.written;
+        fin = to_b.fin;
+        told = whole_of _ exact_b six.send_a six.reassembly_b ab reader_b t.b.told t.at_b.list h.ab reads_b;
+      };
+      ba = record {
+        prefix = prefix_of _ exact_a six.send_b six.reassembly_a ba reader_a t.a.told t.at_a.list h.ba reads_a;
+        acked = to_a.count;
+        arrived = to_a.written;
+        fin = to_a.fin;
+        told = whole_of _ exact_a six.send_b six.reassembly_a ba reader_a t.a.told t.at_a.list h.ba reads_a;
+      };
+    }
+
+pub keeps_its_word : (links : Links) (start : Start) (d : Duo) (w : WorldState Carried) → links.alters ≡ false → Holds d → WorldShows links start d w → BothKeepTheirWord w
+keeps_its_word links start d w none h s =
+    subst BothKeepTheirWord (sym s.is) (kept links none s.cast s.lanes_ab s.lanes_ba s.reader_a s.reader_b (subst Holds s.duo_is h) s.reads_a s.reads_b)
+
+-- whatever is altered, lengths are kept
+counted : (links : Links) (t : Cast Carried) (ab ba : List Lane) (reader_a reader_b : Reader) → Holds (duo_of links (books_in t.books) ab ba reader_a reader_b) → Reads t.a.told t.at_a.list reader_a
+    → Reads t.b.told t.at_b.list reader_b → BothKeepCount (world_of t)
+counted links t ab ba reader_a reader_b h reads_a reads_b =
     let six = books_in t.books in
     let to_b = acknowledges _ (direction six.send_a six.reassembly_b ab reader_b) h.ab in
     let to_a = acknowledges _ (direction six.send_b six.reassembly_a ba reader_a) h.ba in
     record {
       ab = record {
-        prefix = prefix_of _ six.send_a six.reassembly_b ab reader_b t.b.told t.at_b.list h.ab reads_b;
         acked = to_b.count;
         arrived = to_b.written;
         fin = to_b.fin;
-        told = whole_of _ six.send_a six.reassembly_b ab reader_b t.b.told t.at_b.list h.ab reads_b;
+        told = λ is. let all = ends_at_all _ (direction six.send_a six.reassembly_b ab reader_b) h.ab (reads_b.told_is ∙ is) in (all.0, ap length (sym reads_b.out_is) ∙ all.1);
       };
       ba = record {
-        prefix = prefix_of _ six.send_b six.reassembly_a ba reader_a t.a.told t.at_a.list h.ba reads_a;
         acked = to_a.count;
         arrived = to_a.written;
         fin = to_a.fin;
-        told = whole_of _ six.send_b six.reassembly_a ba reader_a t.a.told t.at_a.list h.ba reads_a;
+        told = λ is. let all = ends_at_all _ (direction six.send_b six.reassembly_a ba reader_a) h.ba (reads_a.told_is ∙ is) in (all.0, ap length (sym reads_a.out_is) ∙ all.1);
       };
     }
 
-pub keeps_its_word : (start : Start) (d : Duo) (w : WorldState Carried) → Holds d → WorldShows start d w → BothKeepTheirWord w
-keeps_its_word start d w h s =
-    subst BothKeepTheirWord (sym s.is) (kept s.cast s.lanes_ab s.lanes_ba s.reader_a s.reader_b (subst Holds s.duo_is h) s.reads_a s.reads_b)
+pub keeps_count : (links : Links) (start : Start) (d : Duo) (w : WorldState Carried) → Holds d → WorldShows links start d w → BothKeepCount w
+keeps_count links start d w h s =
+    subst BothKeepCount (sym s.is) (counted links s.cast s.lanes_ab s.lanes_ba s.reader_a s.reader_b (subst Holds s.duo_is h) s.reads_a s.reads_b)
 
 -- ---- what the two directions show of outputs and pipes
 
@@ -99,8 +130,8 @@ pub record SameAsShown (d : Duo) (w : WorldState Carried) : Type 0 where
   pub ab : pipe_ab w ≡ lane_pipe d.ab
   pub ba : pipe_ba w ≡ lane_pipe d.ba
 
-pub same_as_shown : (start : Start) (d : Duo) (w : WorldState Carried) → WorldShows start d w → SameAsShown d w
-same_as_shown start d w s =
+pub same_as_shown : (links : Links) (start : Start) (d : Duo) (w : WorldState Carried) → WorldShows links start d w → SameAsShown d w
+same_as_shown links start d w s =
     subst (SameAsShown d) (sym s.is) (subst (λ e. SameAsShown e (world_of s.cast)) (sym s.duo_is) (record {
       out_b = sym s.reads_b.out_is;
       out_a = sym s.reads_a.out_is;
@@ -140,10 +171,12 @@ moved_same f path m None d = same_books d
 moved_same f path m (Some p) d = record { send = refl; arrived = refl; reader = refl }
 
 event_same : (event : Event) (d : Duo) → is_silent event ≡ true → SameDuo d (after_event event d)
-event_same (ToB (Moves path m)) d is = record { ab = moved_same _ path m (slice_get d.ab.lanes path) d.ab; ba = same_books d.ba }
-event_same (ToA (Moves path m)) d is = record { ab = same_books d.ab; ba = moved_same _ path m (slice_get d.ba.lanes path) d.ba }
+event_same (ToB (Moves path m)) d is = record { ab = moved_same (flags_ab d.modes) path m (slice_get d.ab.lanes path) d.ab; ba = same_books d.ba }
+event_same (ToA (Moves path m)) d is = record { ab = same_books d.ab; ba = moved_same (flags_ba d.modes) path m (slice_get d.ba.lanes path) d.ba }
 event_same FallA d is = record { ab = same_books d.ab; ba = same_books d.ba }
 event_same FallB d is = record { ab = same_books d.ab; ba = same_books d.ba }
+event_same LoosenA d is = record { ab = same_books d.ab; ba = same_books d.ba }
+event_same LoosenB d is = record { ab = same_books d.ab; ba = same_books d.ba }
 event_same BeginJoin d is = record { ab = same_books d.ab; ba = same_books d.ba }
 event_same SendJoin d is = record { ab = same_books d.ab; ba = same_books d.ba }
 event_same HearJoin d is = record { ab = same_books d.ab; ba = same_books d.ba }

@@ -1,5 +1,5 @@
 -- The promises, over segments as values and over octets.
-use Rattle.std.proofs.Common.{◌≡◌, sym, ◌∙◌, ap, subst, ℕ, true, List, [], ◌∷◌, ◌++◌}
+use Rattle.std.proofs.Common.{◌≡◌, sym, ◌∙◌, ap, subst, ℕ, true, List, [], ◌∷◌, ◌++◌, refl}
 use Rattle.outside_kit.specs.declared.side.Side.{Side}
 use Rattle.outside_kit.specs.declared.side.Side.TheVariants.{A, B}
 use Rattle.path_core.specs.Octets.{octets}
@@ -15,20 +15,21 @@ use Rattle.world_laws.proofs.PromisesRuns.{always_keep_word, never_follows, alwa
 use Rattle.world_laws.proofs.PromisesShown.{both_shown, came_shown, step_shown, refused_shown, addresses_shown, joins_shown, keys_shown, same_told, run_shown}
 use Rattle.world_laws.proofs.TellingWorlds.{every_list_is_fresh}
 use Rattle.world_laws.proofs.WeavingRounds.{run_append}
+use Rattle.world_laws.proofs.Lanes.{plainly}
 
 -- ---- over segments as values
 
 pub keep_their_word : IsPromised BothKeepTheirWord
-keep_their_word start turns plain = always_keep_word start plain turns
+keep_their_word start turns plain = always_keep_word start (plainly start plain) refl turns
 
 pub nothing_follows : IsPromised (NothingFollows values)
-nothing_follows start turns plain = never_follows start plain turns
+nothing_follows start turns plain = never_follows start (plainly start plain) turns
 
 pub one_step_each : IsPromised (EachTurnIsOneStep values)
-one_step_each start turns plain = always_one_step start plain turns
+one_step_each start turns plain = always_one_step start (plainly start plain) turns
 
 pub nothing_refused : IsPromised NothingWasRefused
-nothing_refused start turns plain = never_refused start plain turns
+nothing_refused start turns plain = never_refused start (plainly start plain) refl turns
 
 -- ---- over octets
 

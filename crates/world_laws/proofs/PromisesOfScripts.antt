@@ -24,6 +24,7 @@ use Rattle.world_laws.specs.PlainScripts.{alters_payload, PlainScriptsStartPlain
 use Rattle.world_laws.proofs.Causing.{aborts_have_cause_in_octets}
 use Rattle.world_laws.proofs.FallsRight.{falls_in_octets, falls_last_in_octets, places_in_octets}
 use Rattle.world_laws.proofs.GrantingOnce.{granted_once}
+use Rattle.world_laws.proofs.Announcing.{announcements_end}
 use Rattle.world_laws.proofs.Standbys.{backups_get_nothing}
 use Rattle.world_laws.proofs.LowHalves.{short_numbers}
 use Rattle.world_laws.proofs.PlacesAgree.{mappings_agree_in_octets}
@@ -125,6 +126,7 @@ plain_scripts_keep_all_promises script file_a file_b turns h =
       places = places_in_octets start turns starts.0 starts.1;
       granted = granted_once octets start turns;
       standbys = backups_get_nothing octets start turns;
+      announcements = announcements_end octets start turns;
       aborts = aborts_have_cause_in_octets start turns starts.0 starts.1;
     }
 

@@ -22,7 +22,7 @@ use Rattle.world_laws.proofs.Strolling.{out_holds}
 -- as long as no join was answered, a mapping from the first position begins at the first place
 first_mapping : (v : View) (path : ℕ) (p : Lane) → v.alone ≡ true → LaneHolds v path p → (place len : ℕ) → HasMapping p.datas place 1 len → HasMapping p.datas 0 1 len
 first_mapping v path p alone h place len has =
-    let honest : IsHonest p.sent has.item = h.bytes.honest.each has.at has.item has.there in
+    let honest : IsHonest p.alters p.pieces p.sent has.item = h.bytes.honest.each has.at has.item has.there in
     let right : IsRight p.sent has.holds.mapping = subst (λ o. IfSome o (IsRight p.sent)) has.holds.there honest.mapping in
     let some = right.some in
     let cell = in_map (λ (c : Cell). c.place) p.sent (has.holds.mapping.pos + 0) (has.holds.mapping.place + 0) (right.places 0 (omega (arith, some))) in
@@ -43,7 +43,7 @@ first_mapping v path p alone h place len has =
 -- nothing is mapped where nothing was granted
 nothing_mapped : (v : View) (path : ℕ) (p : Lane) → p.sent ≡ [] → LaneHolds v path p → (place len : ℕ) → HasMapping p.datas place 1 len → ⊥
 nothing_mapped v path p none h place len has =
-    let honest : IsHonest p.sent has.item = h.bytes.honest.each has.at has.item has.there in
+    let honest : IsHonest p.alters p.pieces p.sent has.item = h.bytes.honest.each has.at has.item has.there in
     let right : IsRight p.sent has.holds.mapping = subst (λ o. IfSome o (IsRight p.sent)) has.holds.there honest.mapping in
     let some = right.some in let within = right.within in
     let empty : length p.sent ≡ 0 = ap (λ (xs : List Cell). length xs) none in

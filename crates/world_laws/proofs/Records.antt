@@ -92,19 +92,19 @@ uncovered_kept {P} pos (r ∷ rs) h = by (nat_le (end_of r) pos) (uncovered_kept
 -- ---- the sending half
 
 module _ (c : Profile) (s : Side) (k : Knowledge) (p : Lane) where
-  same_kind : (kind : RecordKind) (r : Record) (x : Sending) → KindShows c s p.datas p.fins kind r → KindShows c s p.datas p.fins kind (record r { sending = x })
+  same_kind : (kind : RecordKind) (r : Record) (x : Sending) → KindShows c s p.alters p.datas p.fins kind r → KindShows c s p.alters p.datas p.fins kind (record r { sending = x })
   same_kind Syn r x h = h
-  same_kind Data r x h = record { octets = h.octets; mapping = h.mapping }
+  same_kind Data r x h = record { octets = h.octets; turned = h.turned; mapping = h.mapping }
   same_kind Fin r x h = h
 
-  same_record : (r : Record) (x : Sending) → RecordShows c s p.datas p.fins r → RecordShows c s p.datas p.fins (record r { sending = x })
+  same_record : (r : Record) (x : Sending) → RecordShows c s p.alters p.datas p.fins r → RecordShows c s p.alters p.datas p.fins (record r { sending = x })
   same_record r x h = same_kind r.kind r x h
 
   abbrev Shows : EndPhase → SendState → Type 0
   Shows state v = SenderShows c s state v k p
 
   -- other records of the same octets
-  with_records : (state : EndPhase) (v : SendState) (rs : List Record) → Shows state v → Every (RecordShows c s p.datas p.fins) rs → Shows state (record v { records = rs })
+  with_records : (state : EndPhase) (v : SendState) (rs : List Record) → Shows state v → Every (RecordShows c s p.alters p.datas p.fins) rs → Shows state (record v { records = rs })
   with_records state v rs h pieces = record {
     plain = h.plain;
     next = h.next;

@@ -1,11 +1,12 @@
 -- What the replies of the books make of the path and of its lanes: what a copy said, grants, bytes that are placed, ends of the streams.
-use Rattle.std.proofs.Common.{◌≡◌, refl, sym, subst, ℕ, zero, suc, ◌^◌, ◌<◌, ◌≤◌, nat_lt, Bool, true, false, if◌then◌else◌, Option, Some, None, Result, Ok, Err, List, [], ◌∷◌, ◌++◌, length, arith, ◌∙◌, ◌-◌, drop}
+use Rattle.std.proofs.Common.{◌≡◌, refl, sym, ap, subst, ℕ, zero, suc, ◌^◌, ◌<◌, ◌≤◌, nat_lt, Bool, true, false, if◌then◌else◌, Option, Some, None, Result, Ok, Err, List, [], ◌∷◌, ◌++◌, length, arith, ◌∙◌, ◌-◌, drop}
 use Rattle.std.proofs.lemmas.Bool.{false≢true, and_parts}
 use Rattle.std.specs.Option.{IfSome}
 use Rattle.std.proofs.lemmas.List.{length-drop, length-take}
 use Rattle.outside_kit.specs.declared.side.Side.{Side}
 use Rattle.outside_kit.specs.declared.side.Side.TheVariants.{A, B}
-use Rattle.send_book.specs.declared.call.SendCall.TheVariants.{Grant, AckIn}
+use Rattle.link_model.specs.Steps.{peer}
+use Rattle.send_book.specs.declared.call.SendCall.TheVariants.{Grant, AckIn, GoIdentity as GoIdentityBook}
 use Rattle.send_book.specs.declared.call.SendReply.{SendReply}
 use Rattle.send_book.specs.declared.call.SendReply.TheVariants as send_replies
 use Rattle.send_book.specs.declared.call.Span.{Span}
@@ -22,14 +23,16 @@ use Rattle.stream_lanes.specs.Holding.{Holds}
 use Rattle.stream_lanes.specs.Moves.{takes_grant, takes_placed, takes_fin}
 use Rattle.stream_lanes.specs.Words.{Every}
 use Rattle.stream_lanes.proofs.Lists.{Every-push}
+use Rattle.stream_lanes.specs.Streams.{with_send}
 use Rattle.stream_lanes.specs.Streams.StreamEvent.{GoIdentity}
+use Rattle.stream_lanes.specs.Duo.{Event as LaneEvent, after_events}
 use Rattle.stream_lanes.specs.Duo.Event.{ToA, ToB}
 use Rattle.actor_desk.specs.declared.ask.Ask.{Ask}
 use Rattle.actor_desk.specs.declared.ask.Ask.TheVariants as asks
 use Rattle.actor_desk.specs.declared.ask.LocalStep.TheVariants as steps
 use Rattle.actor_desk.specs.declared.ask.Reply.{Reply}
 use Rattle.actor_desk.specs.declared.ask.Reply.TheVariants as replies
-use Rattle.actor_desk.specs.Desk.{SixBooks, send_of, reply_of, control_of}
+use Rattle.actor_desk.specs.Desk.{SixBooks, send_of, reply_of, control_of, after_ask}
 use Rattle.actor_desk.specs.Words.{pick}
 use Rattle.fallback_state.specs.declared.fall.Event.TheVariants as events
 use Rattle.fallback_state.specs.declared.fall.Event.{Event}
@@ -57,7 +60,7 @@ use Rattle.world_laws.proofs.Falls.{is_plain}
 use Rattle.world_laws.proofs.Answering.{IsReady, Steps, shows_at, agenda_step, agenda_side, end_step, did_step, did_then, break_step, rate_quiet}
 use Rattle.world_laws.proofs.Doing.{granted_lane, refused_lane, wants_grant, hears_ack, wants_fin, hears_none, hears_sub, wants_plain_fin}
 use Rattle.world_laws.proofs.Ending.{granted_end, refused_end, idle_end, IsFit, heard_end, unheard_end}
-use Rattle.world_laws.proofs.Lanes.{Others, duo_at, MayCall, unmoved}
+use Rattle.world_laws.proofs.Lanes.{flags_are, Others, duo_at, MayCall, Moved, moved_along}
 use Rattle.world_laws.proofs.Placing.{learned_end, asked_back, asked_end, placed_end, next_ready, plain_fin_came}
 use Rattle.world_laws.proofs.Records.{every_first, every_rest}
 use Rattle.world_laws.proofs.Rules.{asked_shows, keys_show, peer_end_shows, rate_shows, fell_shows, noted_shows, plain_ack_shows, key_shows, fin_told_shows}
@@ -110,6 +113,18 @@ granted_fits c s out back path most standby b span piece short tiles some is = b
     by (Err why) decided e = cc
 
 -- ---- the steps
+
+abbrev given_event : Side → LaneEvent
+given_event A = ToB GoIdentity
+given_event B = ToA GoIdentity
+
+-- where its side fell back, GoIdentity is that call of the book
+given_to_one : (s : Side) (six : SixBooks) (others : Others) (ab ba : Lane) → is_plain (control_of s six).fall ≡ true
+    → Moved (after_events (given_event s ∷ []) (duo_at six ab ba others)) (duo_at (after_ask (identity_ask s) six) ab ba others)
+given_to_one A six others ab ba plain = moved_along _ _ (
+    ap (λ (fell : Bool). record (duo_at six ab ba others) { ab = if fell then with_send GoIdentityBook (duo_at six ab ba others).ab else (duo_at six ab ba others).ab }) plain)
+given_to_one B six others ab ba plain = moved_along _ _ (
+    ap (λ (fell : Bool). record (duo_at six ab ba others) { ba = if fell then with_send GoIdentityBook (duo_at six ab ba others).ba else (duo_at six ab ba others).ba }) plain)
 
 module _ (six : SixBooks) (others : Others) (p : PathState Carried) (ab ba : Lane) (h : PathShows p.profile p ab ba) (holds : Holds (duo_at six ab ba others))
     (ready : IsReady p ab ba) where
@@ -285,10 +300,13 @@ module _ (six : SixBooks) (others : Others) (p : PathState Carried) (ab ba : Lan
 
     -- ---- bytes
 
+    unchecked : back.checked ≡ false
+    unchecked = (back_holds six others s ab ba holds).link.checked_is ∙ (flags_are others.links (peer s) six).1 ∙ others.unchecked
+
     pub piece_step : (o : Option Piece) → piece_of s p ≡ o → Makes (piece_ask s o) (answered_piece s o (is_placed (reply_of six (piece_ask s o))) p)
     piece_step None is = end_step six others p ab ba h ready s (asks.Local steps.End) (having_asked e) (breaks s 1) tt (asked_shows p.profile s out back e shows)
     piece_step (Some piece) is =
-        let n = next_ready p.profile s out back e piece is shows in
+        let n = next_ready p.profile s out back unchecked e piece is shows in
         place_side p.profile six others piece.place piece.octets s p _ ab ba h n.wants
         (by (place_reply_at p.profile six others piece.place piece.octets s))
       where
@@ -297,7 +315,7 @@ module _ (six : SixBooks) (others : Others) (p : PathState Carried) (ab ba : Lan
 
         by : (r : ReassemblyReply) → SideDid p.profile s p (answered_piece s (Some piece) (is_placed (replies.Reassembly r)) p) ab ba out (takes_placed (length piece.octets) r back)
         by (reassembly_replies.Placed new) =
-            let n = next_ready p.profile s out back e piece is shows in
+            let n = next_ready p.profile s out back unchecked e piece is shows in
             side_kept p.profile p ab ba h s out _ (having_asked (after_piece piece e)) p.agenda (placed_end p.profile s out back new e piece n.at shows)
         by (reassembly_replies.Beyond edge) = other
         by (reassembly_replies.FinClash fin at) = other
@@ -383,7 +401,7 @@ module _ (six : SixBooks) (others : Others) (p : PathState Carried) (ab ba : Lan
     calls = (GoIdentity, refl, refl);
     ab_called = looked_out ab;
     ba_called = looked_back ba;
-    called = unmoved _;
+    called = given_to_one A six others (looked_out ab) (looked_back ba) plain;
     after = record {
       ab_after = looked_out ab;
       ba_after = looked_back ba;
@@ -400,7 +418,7 @@ module _ (six : SixBooks) (others : Others) (p : PathState Carried) (ab ba : Lan
     calls = (GoIdentity, refl, refl);
     ab_called = looked_back ab;
     ba_called = looked_out ba;
-    called = unmoved _;
+    called = given_to_one B six others (looked_back ab) (looked_out ba) plain;
     after = record {
       ab_after = looked_back ab;
       ba_after = looked_out ba;

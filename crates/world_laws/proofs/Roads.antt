@@ -13,13 +13,13 @@ use Rattle.reassembly_book.specs.Steps.{reply_to as arrival_reply, after_call as
 use Rattle.stream_lanes.specs.Lane.{Ask as LaneAsk, Lane}
 use Rattle.stream_lanes.specs.Lane.Ask.{Nothing, AskGrant, AskAckIn, AskPlace, AskFin, AskAckOut}
 use Rattle.stream_lanes.specs.Moves.{Flags, Move, moved, takes_grant, takes_ack, takes_placed, takes_fin, takes_ack_out}
-use Rattle.stream_lanes.specs.Moves.Move.{Open, LookAtSender, LookAtReceiver, WantGrant, HearAck, SendPiece, SendDataFin, SendFin, Hear, Learn, HearDataFin, HearFin, WantPlace, WantPlacePlain, WantFin, WantAckOut, SendAck}
+use Rattle.stream_lanes.specs.Moves.Move.{Open, LookAtSender, LookAtReceiver, WantGrant, HearAck, HearSubAck, SendPiece, SendAltered, SendDataFin, SendFin, SendPair, SendPlainPair, SendFinPair, Hear, Learn, HearDataFin, HearFin, Forget, WantPlace, WantPlacePlain, WantFin, TakePair, WantPlacePair, WantFinPair, WantAckOut, SendAck}
 use Rattle.stream_lanes.specs.Streams.{Reader, Direction, after, asks, asks_at, moves as moves_in}
 use Rattle.stream_lanes.specs.Streams.StreamEvent.{Moves, Asks}
 
 -- no side fell back, and no join was answered
 abbrev pub no_flags : Flags
-no_flags = record { answered = false; sender = false; receiver = false }
+no_flags = record { answered = false; sender = false; receiver = false; loose = false; alters = false; checked = false }
 
 -- a move that isn't the opening of a lane, and looks at no mode
 abbrev pub is_calm : Move → Bool
@@ -38,16 +38,25 @@ moves_alike f path LookAtSender p calm = absurd (false≢true calm)
 moves_alike f path LookAtReceiver p calm = absurd (false≢true calm)
 moves_alike f path (WantGrant max standby) p calm = refl
 moves_alike f path (HearAck copy) p calm = refl
+moves_alike f path (HearSubAck copy) p calm = refl
 moves_alike f path (SendPiece piece mapped) p calm = refl
+moves_alike f path (SendAltered piece mapped) p calm = refl
 moves_alike f path SendDataFin p calm = refl
 moves_alike f path SendFin p calm = refl
+moves_alike f path (SendPair shift) p calm = refl
+moves_alike f path (SendPlainPair pos) p calm = refl
+moves_alike f path SendFinPair p calm = refl
 moves_alike f path (Hear copy count) p calm = refl
 moves_alike f path (Learn copy) p calm = refl
 moves_alike f path (HearDataFin copy) p calm = refl
 moves_alike f path (HearFin copy) p calm = refl
+moves_alike f path (Forget from) p calm = refl
 moves_alike f path (WantPlace mapping count) p calm = refl
 moves_alike f path (WantPlacePlain count) p calm = refl
 moves_alike f path WantFin p calm = refl
+moves_alike f path (TakePair copy) p calm = refl
+moves_alike f path (WantPlacePair count) p calm = refl
+moves_alike f path WantFinPair p calm = refl
 moves_alike f path WantAckOut p calm = refl
 moves_alike f path (SendAck next window sub) p calm = refl
 

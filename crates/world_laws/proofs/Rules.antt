@@ -1,5 +1,5 @@
 -- Rules of an end that leave the lanes alone.
-use Rattle.std.proofs.Common.{◌≡◌, refl, sym, subst, ℕ, ◌-◌, inl, ⊎_elim, Bool, true, false, if◌then◌else◌, unwrap_or, Option, Some, None, List}
+use Rattle.std.proofs.Common.{◌≡◌, refl, sym, ◌∙◌, ap, subst, ℕ, ◌-◌, ◌⊎◌, inl, inr, Bool, true, false, if◌then◌else◌, Option, Some, None, [], arith, List}
 use Rattle.std.proofs.lemmas.Bool.{both_ways, false≢true}
 use Rattle.std.specs.Option.{IfSome}
 use Rattle.outside_kit.specs.declared.side.Side.{Side}
@@ -11,7 +11,9 @@ use Rattle.fallback_state.specs.declared.fall.Verdict.TheVariants as verdicts
 use Rattle.fallback_state.specs.declared.fall.Event.TheVariants as events
 use Rattle.fallback_state.specs.declared.fall.Event.{Event}
 use Rattle.control_book.specs.declared.call.ControlReply.TheVariants as control_replies
-use Rattle.subflow_recv.specs.Receiving.{Receiving, after_forget_from, without_held, after_keep_held}
+use Rattle.byte_pieces.specs.Places.{cut}
+use Rattle.stream_lanes.specs.Words.{Every}
+use Rattle.subflow_recv.specs.Receiving.{after_forget_from, without_held, after_keep_held}
 use Rattle.subflow_tcp.specs.declared.handshake.State.{State as EndPhase}
 use Rattle.subflow_tcp.specs.declared.handshake.State.TheVariants as phase
 use Rattle.subflow_tcp.specs.Expiring as expiring
@@ -38,11 +40,13 @@ use Rattle.path_core.specs.Treating.{after_dss, after_keep, is_dropped, covered_
 use Rattle.path_core.specs.Fallback.{after_fell, fell_in, mode_in}
 use Rattle.path_core.specs.declared.modes.Modes.{Modes}
 use Rattle.world_laws.proofs.Arriving.{syn_both}
-use Rattle.world_laws.proofs.Hearing.{cut_shows, dropped_shows, state_shows}
+use Rattle.world_laws.proofs.Hearing.{cut_shows, cut_there, under_cut, only_cut, dropped_shows, state_shows}
 use Rattle.world_laws.proofs.Records.{acknowledged_shows, expired_shows}
-use Rattle.world_laws.proofs.Showing.{Under, is_unfinished, ReceiverShows, TreatedShows, EndShows, AcksShow, HasNone, HasSub, identity_of}
-use Rattle.world_laws.proofs.Ending.{with_modes}
-use Rattle.world_laws.proofs.Growing.{past_behind}
+use Rattle.world_laws.proofs.Showing.{Under, IsAtEdge, IsPastFin, KeptShows, HoldsShow, HasFin, is_unfinished, TreatedShows, EndShows, AcksShow, HasNone, HasSub, identity_of}
+use Rattle.world_laws.proofs.Ending.{Did, did_nothing, with_modes}
+use Rattle.world_laws.proofs.Growing.{past_behind, sender_stays}
+use Rattle.world_laws.proofs.Roads.{stays}
+use Rattle.world_laws.proofs.Taking.{forgets_lane, forgets, forgets_goes, keeps_held}
 
 grown_told : (growth : ℕ) (o : Option Pending) (c : Congestion) → (windows.grown_by growth o c).told ≡ c.told
 grown_told growth None c = refl
@@ -239,7 +243,7 @@ module _ (c : Profile) (s : Side) (out back : Lane) where
   dead_tcp reset e t shows calm h = record {
     sender = state_shows c s _ out e.tcp.state phase.Dead _ (λ no_more. absurd (false≢true no_more))
         (acknowledged_shows c s _ out e.tcp.send.nxt e.tcp.state e.tcp.send h.sender);
-    receiver = cut_shows e.tcp.fin_at e.receiving.mappings.live (identity_of e) back (e.tcp.recv.edge - e.tcp.recv.edge) e.tcp.recv h.receiver;
+    receiver = cut_shows e.tcp.fin_at e.receiving.mappings.live (identity_of e) back (e.tcp.recv.edge - e.tcp.recv.edge) (omega arith) e.tcp.recv h.receiver;
     acks = calmer _ _ calm h.acks;
     told = h.told;
     treated = shows;
@@ -275,41 +279,47 @@ module _ (c : Profile) (s : Side) (out back : Lane) where
 
   -- ---- what is kept
 
-  pub check_shows : (c : Profile) (checksums : Bool) (o : Option KeptMapping) (e : PathEnd) → Shows e → Shows (forgotten_by checksums o e)
-  check_shows c checksums None e h = h
-  check_shows c checksums (Some kept) e h = by (is_wrong checksums kept e.tcp)
+  -- where a checksum is wrong the lane forgets what the end does
+  pub check_did : (checksums : Bool) (o : Option KeptMapping) (e : PathEnd) → Shows e → Did c s (forgotten_by checksums o e) out out back back
+  check_did checksums None e h = did_nothing c s out back e h
+  check_did checksums (Some kept) e h = by (is_wrong checksums kept e.tcp)
     where
-      by : (b : Bool) → Shows (if b then record e { tcp = record e.tcp { recv = after_forget_from kept.pos e.tcp.recv } } else e)
-      by false = h
+      q : Lane
+      q = forgets_lane back (kept.pos - 1)
+
+      cut_edge : IsAtEdge e.tcp.recv back ⊎ IsPastFin e.tcp.fin_at e.tcp.recv back
+          → IsAtEdge (after_forget_from kept.pos e.tcp.recv) q ⊎ IsPastFin e.tcp.fin_at (after_forget_from kept.pos e.tcp.recv) q
+      cut_edge (inl at) =
+          let same : kept.pos - e.tcp.recv.edge ≡ kept.pos - 1 - back.edge = (let edge_is = at.edge_is in omega (arith, edge_is)) in
+          inl (record {
+            edge_is = at.edge_is;
+            under = subst (λ n. Under (cut n e.tcp.recv.places) q.kept) (sym same) (under_cut (kept.pos - 1 - back.edge) e.tcp.recv.places back.kept at.under);
+            only = subst (λ n. Under q.kept (cut n e.tcp.recv.places) ⊎ (cut n e.tcp.recv.places ≡ [])) (sym same) (only_cut (kept.pos - 1 - back.edge) e.tcp.recv.places back.kept at.only);
+            held = tt;
+          })
+      cut_edge (inr past) = inr (record { at_is = past.at_is; none = λ i b there. past.none i b (cut_there (kept.pos - e.tcp.recv.edge) e.tcp.recv.places i b there); edge_is = past.edge_is; fin_in = past.fin_in })
+
+      by : (b : Bool) → Did c s (if b then record e { tcp = record e.tcp { recv = after_forget_from kept.pos e.tcp.recv } } else e) out out back back
+      by false = did_nothing c s out back e h
       by true = record {
-        sender = h.sender;
-        receiver = cut_shows e.tcp.fin_at e.receiving.mappings.live (identity_of e) back (kept.pos - e.tcp.recv.edge) e.tcp.recv h.receiver;
-        acks = h.acks;
-        told = h.told;
-        treated = h.treated;
-        held = h.held;
+        out_after = out;
+        back_after = q;
+        out_moves = stays out;
+        back_moves = forgets back (kept.pos - 1);
+        sender = sender_stays out;
+        receiver = forgets_goes back (kept.pos - 1);
+        shows = record {
+          sender = h.sender;
+          receiver = record { same_mode = h.receiver.same_mode; edge = cut_edge h.receiver.edge; fin = h.receiver.fin; mapped = h.receiver.mapped };
+          acks = record { windows = h.acks.windows; latest = h.acks.latest; due = h.acks.due; sub = h.acks.sub };
+          told = h.told;
+          treated = record { items = h.treated.items; fins = h.treated.fins; answer = h.treated.answer; window = h.treated.window; sub = h.treated.sub; nothing = h.treated.nothing };
+          held = h.held;
+        };
       }
 
-  kept_receiver : (fin_at : Option ℕ) (live : List KeptMapping) (plain : Bool) (recv : Receiving) (passed : Bool) → is_behind fin_at recv.edge ≡ passed → ReceiverShows recv fin_at live plain back
-      → ReceiverShows (if passed then without_held recv else after_keep_held recv) fin_at live plain back
-  kept_receiver fin_at live plain recv true is h = dropped_shows fin_at live plain back recv h
-  kept_receiver fin_at live plain recv false is h = record {
-    same_mode = h.same_mode;
-    edge = ⊎_elim (λ at. inl (record { edge_is = at.edge_is; under = under_if recv.incoming at.under at.held; held = tt })) (λ past. absurd (both_ways _ is (past_behind fin_at recv back past))) h.edge;
-    fin = h.fin;
-    mapped = h.mapped;
-  }
-    where
-      under_if : (o : Option (List (Option ℕ))) → Under recv.places back.kept → IfSome o (λ places. Under places back.kept) → Under (unwrap_or o recv.places) back.kept
-      under_if None u held = u
-      under_if (Some places) u held = held
-
-  kept_edge : (recv : Receiving) (passed : Bool) → (if passed then without_held recv else after_keep_held recv).edge ≡ recv.edge
-  kept_edge recv true = refl
-  kept_edge recv false = refl
-
-  pub keep_shows : (e : PathEnd) → Shows e → Shows (after_keep s e)
-  keep_shows e shows = by (is_dropped s e)
+  pub keep_did : (e : PathEnd) → Shows e → Did c s (after_keep s e) out out back back
+  keep_did e shows = by (is_dropped s e)
     where
       h : Shows (record e { treated = record e.treated { held_edge = (if is_not_kept s e then None else e.treated.held_edge) } })
       h = with_treated e _ (record {
@@ -321,23 +331,51 @@ module _ (c : Profile) (s : Side) (out back : Lane) where
         nothing = shows.treated.nothing;
       }) (λ none. none) shows
 
-      by : (b : Bool) → Shows (record e {
-        tcp = if b then taking.after_dropping_held e.tcp else taking.after_keeping_held e.tcp;
-        treated = record e.treated { held_edge = (if is_not_kept s e then None else e.treated.held_edge) };
-      })
-      by true = record {
+      by : (b : Bool) → Did c s (record e { tcp = if b then taking.after_dropping_held e.tcp else taking.after_keeping_held e.tcp; treated = (record e.treated { held_edge = (if is_not_kept s e then None else e.treated.held_edge) }) }) out out back back
+      by true = did_nothing c s out back _ (record {
         sender = h.sender;
         receiver = dropped_shows e.tcp.fin_at e.receiving.mappings.live (identity_of e) back e.tcp.recv h.receiver;
         acks = h.acks;
         told = h.told;
         treated = h.treated;
         held = h.held;
-      }
-      by false = record {
-        sender = h.sender;
-        receiver = kept_receiver e.tcp.fin_at e.receiving.mappings.live (identity_of e) e.tcp.recv (is_behind e.tcp.fin_at e.tcp.recv.edge) refl h.receiver;
-        acks = subst (λ edge. AcksShow e.receiving.next e.receiving.window e.treated.asked edge back) (sym (kept_edge e.tcp.recv (is_behind e.tcp.fin_at e.tcp.recv.edge))) h.acks;
-        told = h.told;
-        treated = h.treated;
-        held = h.held;
-      }
+      })
+      by false = kept_by (is_behind e.tcp.fin_at e.tcp.recv.edge) refl h.receiver.edge
+        where
+          -- what is held is kept by the lane too
+          kept_by : (passed : Bool) → is_behind e.tcp.fin_at e.tcp.recv.edge ≡ passed → IsAtEdge e.tcp.recv back ⊎ IsPastFin e.tcp.fin_at e.tcp.recv back
+              → Did c s (record e { tcp = record e.tcp { recv = (if passed then without_held e.tcp.recv else after_keep_held e.tcp.recv) }; treated = (record e.treated { held_edge = (if is_not_kept s e then None else e.treated.held_edge) }) }) out out back back
+          kept_by true is edge = did_nothing c s out back _ (record {
+            sender = h.sender;
+            receiver = dropped_shows e.tcp.fin_at e.receiving.mappings.live (identity_of e) back e.tcp.recv h.receiver;
+            acks = h.acks;
+            told = h.told;
+            treated = h.treated;
+            held = h.held;
+          })
+          kept_by false is (inr past) = absurd (both_ways _ is (past_behind e.tcp.fin_at e.tcp.recv back past))
+          kept_by false is (inl at) =
+              let k = keeps_held back e.tcp.recv at in
+              record {
+                out_after = out;
+                back_after = k.after;
+                out_moves = stays out;
+                back_moves = k.moves;
+                sender = sender_stays out;
+                receiver = k.goes;
+                shows = record {
+                  sender = h.sender;
+                  receiver = record {
+                    same_mode = ap (λ q. q.receiver_plain) k.same ∙ h.receiver.same_mode;
+                    edge = inl k.at;
+                    fin = subst (λ q. IfSome e.tcp.fin_at (HasFin q.fins)) (sym k.same) h.receiver.fin;
+                    mapped = subst (λ q. Every (KeptShows q.maps) e.receiving.mappings.live) (sym k.same) h.receiver.mapped;
+                  };
+                  acks = subst (AcksShow e.receiving.next e.receiving.window e.treated.asked e.tcp.recv.edge) (sym k.same)
+                      (record { windows = h.acks.windows; latest = h.acks.latest; due = h.acks.due; sub = h.acks.sub });
+                  told = h.told;
+                  treated = subst (TreatedShows (record e.treated { held_edge = (if is_not_kept s e then None else e.treated.held_edge) }) out.acks) (sym k.same)
+                      (record { items = h.treated.items; fins = h.treated.fins; answer = h.treated.answer; window = h.treated.window; sub = h.treated.sub; nothing = h.treated.nothing });
+                  held = subst (λ q. HoldsShow q.datas e.receiving.mappings.held e.receiving.mapped_data_fin) (sym k.same) h.held;
+                };
+              }

@@ -118,6 +118,7 @@ module _ (c : Profile) (s : Side) (e : PathEnd) (acks : List AckCopy) (p : Lane)
     sub = λ syn. absurd (false≢true (sym syn));
     options = syn_options_say _ s;
     payload = inl refl;
+    turned = λ may. inl refl;
     fin = λ is. absurd (false≢true is);
     plain = λ syn. refl;
   }
@@ -128,6 +129,7 @@ module _ (c : Profile) (s : Side) (e : PathEnd) (acks : List AckCopy) (p : Lane)
     sub = λ syn rst. tt;
     options = unless_plain_say _ reason e.modes.identity;
     payload = inl refl;
+    turned = λ may. inl refl;
     fin = λ is. absurd (false≢true is);
     plain = λ syn. refl;
   }
@@ -139,6 +141,7 @@ module _ (c : Profile) (s : Side) (e : PathEnd) (acks : List AckCopy) (p : Lane)
     sub = λ syn rst. absurd (both_ways o.rst rst resets);
     options = reset_options_say _ reason;
     payload = inl refl;
+    turned = λ may. inl refl;
     fin = λ is. absurd (both_ways o.fin none is);
     plain = λ syn. none;
   }
@@ -152,6 +155,7 @@ module _ (c : Profile) (s : Side) (e : PathEnd) (acks : List AckCopy) (p : Lane)
       sub = λ syn rst. now;
       options = ack_options_say fin h;
       payload = inl refl;
+      turned = λ may. inl refl;
       fin = λ is. absurd (false≢true is);
       plain = λ syn. refl;
     }
@@ -164,6 +168,7 @@ module _ (c : Profile) (s : Side) (e : PathEnd) (acks : List AckCopy) (p : Lane)
       sub = λ syn rst. now;
       options = every_two _ _ (w.ack, tt) tt;
       payload = inl refl;
+      turned = λ may. inl refl;
       fin = λ is. absurd (false≢true is);
       plain = λ syn. refl;
     }
@@ -176,6 +181,7 @@ module _ (c : Profile) (s : Side) (e : PathEnd) (acks : List AckCopy) (p : Lane)
       sub = λ syn rst. now;
       options = every_two _ _ (w.ack, tt) (shows _ notice);
       payload = inl refl;
+      turned = λ may. inl refl;
       fin = λ is. absurd (false≢true is);
       plain = λ syn. refl;
     }
@@ -192,6 +198,7 @@ module _ (c : Profile) (s : Side) (e : PathEnd) (acks : List AckCopy) (p : Lane)
       sub = λ syn rst. now;
       options = fin_options_say (fin_position e.tcp.send);
       payload = inl refl;
+      turned = λ may. inl refl;
       fin = λ is. (refl, h);
       plain = λ syn. absurd (false≢true syn);
     }
@@ -227,12 +234,13 @@ module _ (c : Profile) (s : Side) (e : PathEnd) (acks : List AckCopy) (p : Lane)
       abbrev said_as : RecordKind → Record → PlainSegment
       said_as kind r = segment_of c (record (record_segment e.tcp r) { syn = is_syn kind; fin = is_fin kind }) (record_options kind c s r e) r.piece e
 
-      kind_says : (kind : RecordKind) (r : Record) → KindShows c s p.datas p.fins kind r → SegmentShows acks p (said_as kind r)
+      kind_says : (kind : RecordKind) (r : Record) → KindShows c s p.alters p.datas p.fins kind r → SegmentShows acks p (said_as kind r)
       kind_says Syn r h = record {
         window = w.syn;
         sub = λ syn. absurd (false≢true (sym syn));
         options = syn_options_say _ s;
         payload = inl h;
+        turned = λ may. inl h;
         fin = λ is. absurd (false≢true is);
         plain = λ syn. refl;
       }
@@ -241,6 +249,7 @@ module _ (c : Profile) (s : Side) (e : PathEnd) (acks : List AckCopy) (p : Lane)
         sub = λ syn rst. acknowledges (is_opening e.tcp.state);
         options = piece_options_say r h.mapping;
         payload = inr h.octets;
+        turned = λ may. inr (h.turned may);
         fin = λ is. absurd (false≢true is);
         plain = λ syn. refl;
       }
@@ -249,14 +258,15 @@ module _ (c : Profile) (s : Side) (e : PathEnd) (acks : List AckCopy) (p : Lane)
         sub = λ syn rst. acknowledges (is_opening e.tcp.state);
         options = fin_options_say r.pos;
         payload = inl h.0;
+        turned = λ may. inl h.0;
         fin = λ is. (h.0, h.1);
         plain = λ syn. absurd (false≢true syn);
       }
 
-      pub record_says : (r : Record) → RecordShows c s p.datas p.fins r → SegmentShows acks p (record_said c s r e)
+      pub record_says : (r : Record) → RecordShows c s p.alters p.datas p.fins r → SegmentShows acks p (record_said c s r e)
       record_says r h = kind_says r.kind r h
 
-      pub record_or_ack_says : (o : Option Record) → IfSome o (RecordShows c s p.datas p.fins) → SegmentShows acks p (record_or_ack c s o e)
+      pub record_or_ack_says : (o : Option Record) → IfSome o (RecordShows c s p.alters p.datas p.fins) → SegmentShows acks p (record_or_ack c s o e)
       record_or_ack_says None h = ack_says e.tcp.send.nxt None tt
       record_or_ack_says (Some r) h = record_says r h
 

@@ -30,7 +30,7 @@ use Rattle.world_laws.proofs.Lanes.{Others, duo_at}
 use Rattle.world_laws.proofs.Placing.{learned_end, skipped_shows, passed_fin}
 use Rattle.world_laws.proofs.Replying.{fin_shows, every_item}
 use Rattle.world_laws.proofs.Roads.{stays, then_strolls}
-use Rattle.world_laws.proofs.Rules.{dss_shows, timer_shows, check_shows, keep_shows, plain_ack_shows, unmapped_shows}
+use Rattle.world_laws.proofs.Rules.{dss_shows, timer_shows, check_did, keep_did, plain_ack_shows, unmapped_shows}
 use Rattle.world_laws.proofs.Showing.{ItemShows, EndShows, PathShows}
 use Rattle.world_laws.proofs.Sides.{longer_link}
 use Rattle.world_laws.proofs.Strolling.{Strolled, strolls_held, agrees, back_holds, side_shows, did_on_path}
@@ -162,9 +162,9 @@ module _ (six : SixBooks) (others : Others) (c : Profile) where
     passes (duties.Silent (silent_duties.Timer s)) = same_lanes s (after_timer p.clock (end_at s p)) (timer_shows c s (pick s ab ba) (pick s ba ab) p.clock (end_at s p) (side_shows c s p ab ba h))
     passes (duties.Step (step_duties.Heard s index)) =
         end_strolled s (item_passed s (item_of index (end_at s p)) (end_at s p)) (maybe_did s (item_of index (end_at s p)) (item_shows s index (end_at s p).modes.identity))
-    passes (duties.Silent (silent_duties.Keep s)) = same_lanes s (after_keep s (end_at s p)) (keep_shows c s (pick s ab ba) (pick s ba ab) (end_at s p) (side_shows c s p ab ba h))
-    passes (duties.Ask (ask_duties.Edge s)) = same_lanes s (after_check p.profile (end_at s p))
-        (check_shows c s (pick s ab ba) (pick s ba ab) p.profile p.profile.spelling.checksums (mapping_here (end_at s p)) (end_at s p) (side_shows c s p ab ba h))
+    passes (duties.Silent (silent_duties.Keep s)) = end_strolled s (after_keep s (end_at s p)) (keep_did c s (pick s ab ba) (pick s ba ab) (end_at s p) (side_shows c s p ab ba h))
+    passes (duties.Ask (ask_duties.Edge s)) = end_strolled s (after_check p.profile (end_at s p))
+        (check_did c s (pick s ab ba) (pick s ba ab) p.profile.spelling.checksums (mapping_here (end_at s p)) (end_at s p) (side_shows c s p ab ba h))
     passes (duties.Silent (silent_duties.PassFin s)) =
         end_strolled s (after_pass_fin (end_at s p)) (passed_fin c s (pick s ab ba) (pick s ba ab) _ _ (end_at s p) (back_holds six others s ab ba holds) (side_shows c s p ab ba h))
     passes (duties.Ask ask_duties.JoinAgain) = stays_so c p ab ba h
@@ -217,7 +217,7 @@ module _ (six : SixBooks) (others : Others) (c : Profile) where
     passes duties.End = stays_so c p ab ba h
 
   agenda_stays : (ds : List Duty) (p : PathState Carried) (ab ba : Lane) → PathShows c p ab ba → Strolled c (with_agenda ds p) ab ba
-  agenda_stays ds p ab ba h = stays_so c (with_agenda ds p) ab ba (record { profile = h.profile; unchanged = h.unchanged; a = h.a; b = h.b; copies = h.copies })
+  agenda_stays ds p ab ba h = stays_so c (with_agenda ds p) ab ba (record { profile = h.profile; may = h.may; a = h.a; b = h.b; copies = h.copies })
 
   pub settles : (ds : List Duty) (p : PathState Carried) (ab ba : Lane) → PathShows c p ab ba → Holds (duo_at six ab ba others) → Strolled c (settled ds p) ab ba
   settles [] p ab ba h holds = agenda_stays [] p ab ba h

@@ -1,6 +1,6 @@
 -- What the ends of a path and the copies on its link have to do with the two lanes that the path is shown as. Positions of a
 -- path count its SYN, those of a lane its bytes alone.
-use Rattle.std.proofs.Common.{◌≡◌, ℕ, suc, ◌-◌, ◌⊎◌, Bool, true, false, Option, Some, None, List, [], length}
+use Rattle.std.proofs.Common.{◌≡◌, ℕ, suc, ◌-◌, ◌⊎◌, Bool, true, false, Option, Some, None, List, [], length, take, drop}
 use Rattle.std.specs.List.{slice_get}
 use Rattle.std.specs.Option.{IfSome}
 use Rattle.outside_kit.specs.declared.side.Side.{Side}
@@ -20,7 +20,7 @@ use Rattle.subflow_send.specs.declared.record.RecordKind.TheVariants.{Syn, Data,
 use Rattle.subflow_send.specs.Records.{Record, SendState}
 use Rattle.subflow_tcp.specs.declared.handshake.State.{State as EndPhase}
 use Rattle.subflow_tcp.specs.declared.handshake.State.TheVariants as phase
-use Rattle.subflow_recv.specs.Receiving.{Receiving}
+use Rattle.subflow_recv.specs.Receiving.{Receiving, by_place, merged}
 use Rattle.stream_lanes.specs.Lane.{Cell, Mapping, DataCopy, AckCopy, Lane}
 use Rattle.stream_lanes.specs.Words.{Every, Has}
 use Rattle.stream_lanes.specs.Holding.{HasPlace}
@@ -30,7 +30,9 @@ use Rattle.path_core.specs.Ends.{PathEnd, Treated}
 use Rattle.path_core.specs.Joins.{join_asked}
 use Rattle.path_core.specs.OptionsOut.{place_numbered}
 use Rattle.path_core.specs.State.{PathState, Profile}
-use Rattle.path_core.specs.Shown.{AltersNothing}
+use Rattle.segment_wire.specs.Changes.{with_turned_bit}
+use Rattle.link_script.specs.declared.script.ScriptLine.{ScriptLine}
+use Rattle.link_model.specs.Fate.{is_altered}
 use Rattle.path_core.specs.Values.{Carried}
 use Rattle.dss_mapping.specs.Mappings.{octets_of}
 use Rattle.path_core.specs.declared.mapped_data_fin.MappedDataFin.{MappedDataFin}
@@ -94,17 +96,18 @@ HasFin fins position = Has (λ m. suc m ≡ position) fins
 -- ---- the sending half of an end
 
 -- a record that may be sent again
-pub record IsPiece (c : Profile) (s : Side) (datas : List DataCopy) (r : Record) : Type 0 where
+pub record IsPiece (c : Profile) (s : Side) (alters : Bool) (datas : List DataCopy) (r : Record) : Type 0 where
   pub octets : HasData datas r.pos r.piece
+  pub turned : alters ≡ true → HasData datas r.pos (with_turned_bit r.piece)
   pub mapping : HasMapping datas (place_numbered c s r.mapping.number) r.pos r.mapping.length
 
-abbrev pub KindShows : Profile → Side → List DataCopy → List ℕ → RecordKind → Record → Type 0
-KindShows c s datas fins Syn r = r.piece ≡ []
-KindShows c s datas fins Data r = IsPiece c s datas r
-KindShows c s datas fins Fin r = (r.piece ≡ []) × HasFin fins r.pos
+abbrev pub KindShows : Profile → Side → Bool → List DataCopy → List ℕ → RecordKind → Record → Type 0
+KindShows c s alters datas fins Syn r = r.piece ≡ []
+KindShows c s alters datas fins Data r = IsPiece c s alters datas r
+KindShows c s alters datas fins Fin r = (r.piece ≡ []) × HasFin fins r.pos
 
-abbrev pub RecordShows : Profile → Side → List DataCopy → List ℕ → Record → Type 0
-RecordShows c s datas fins r = KindShows c s datas fins r.kind r
+abbrev pub RecordShows : Profile → Side → Bool → List DataCopy → List ℕ → Record → Type 0
+RecordShows c s alters datas fins r = KindShows c s alters datas fins r.kind r
 
 -- no FIN was sent, and the end isn't dead
 abbrev pub is_unfinished : EndPhase → Bool
@@ -148,7 +151,7 @@ pub record SenderShows (c : Profile) (s : Side) (state : EndPhase) (v : SendStat
   -- the next position is that after the bytes that were granted
   pub next : is_unfinished state ≡ true → v.nxt ≡ suc (length p.sent)
   pub unfinished : is_unfinished state ≡ true → v.finished ≡ false
-  pub pieces : Every (RecordShows c s p.datas p.fins) v.records
+  pub pieces : Every (RecordShows c s p.alters p.datas p.fins) v.records
   pub known_end : IfSome k.known_end (HasNumber p.data_fins)
   pub same_end : p.known_end ≡ k.known_end
   pub heard : p.heard ≡ k.heard
@@ -161,11 +164,21 @@ pub record SenderShows (c : Profile) (s : Side) (state : EndPhase) (v : SendStat
 pub record Under (places kept : List (Option ℕ)) : Type 0 where
   pub each : (i byte : ℕ) → slice_get places i ≡ Some (Some byte) → slice_get kept i ≡ Some (Some byte)
 
--- the edge is that of the lane, or behind the FIN, where nothing is kept
+-- a payload that is held and not kept yet: so many octets of a copy
+pub record IsHeld (datas : List DataCopy) (edge : ℕ) (places held : List (Option ℕ)) : Type 0 where
+  pub position : ℕ
+  pub octets : List ℕ
+  pub count : ℕ
+  pub has : HasData datas position octets
+  pub is : held ≡ merged places (drop edge (by_place position (take count octets)))
+
+-- The edge is that of the lane, or behind the FIN, where nothing is kept. What is kept is kept on the lane, and nothing else, unless
+-- the end let all of it go.
 pub record IsAtEdge (recv : Receiving) (p : Lane) : Type 0 where
   pub edge_is : recv.edge ≡ suc p.edge
   pub under : Under recv.places p.kept
-  pub held : IfSome recv.incoming (λ places. Under places p.kept)
+  pub only : Under p.kept recv.places ⊎ (recv.places ≡ [])
+  pub held : IfSome recv.incoming (IsHeld p.datas recv.edge recv.places)
 
 pub record IsPastFin (fin_at : Option ℕ) (recv : Receiving) (p : Lane) : Type 0 where
   pub at_is : fin_at ≡ Some (suc p.edge)
@@ -258,6 +271,8 @@ pub record SegmentShows (acks : List AckCopy) (p : Lane) (sg : PlainSegment) : T
   pub sub : sg.syn ≡ false → sg.rst ≡ false → IfSome sg.acknowledged (λ n. HasSub acks (n - 1) (window_told sg.syn sg.window))
   pub options : Every (OptionShows (window_told sg.syn sg.window) acks p) sg.options
   pub payload : (sg.payload ≡ []) ⊎ HasData p.datas sg.position sg.payload
+  -- and over links that alter payload the same with a bit turned
+  pub turned : p.alters ≡ true → (sg.payload ≡ []) ⊎ HasData p.datas sg.position (with_turned_bit sg.payload)
   pub fin : sg.fin ≡ true → (sg.payload ≡ []) × HasFin p.fins sg.position
   pub plain : sg.syn ≡ true → sg.fin ≡ false
 
@@ -267,9 +282,14 @@ FlightShows ab ba A sg = SegmentShows ab.acks ba sg
 
 -- ---- the path
 
+-- what a script alters the links of these lanes may alter
+pub record MayAlter (lines : List ScriptLine) (to_b to_a : Bool) : Type 0 where
+  pub a : (number : ℕ) → is_altered A number lines ≡ true → to_b ≡ true
+  pub b : (number : ℕ) → is_altered B number lines ≡ true → to_a ≡ true
+
 pub record PathShows (c : Profile) (p : PathState Carried) (ab ba : Lane) : Type 0 where
   pub profile : p.profile ≡ c
-  pub unchanged : AltersNothing p.link.lines
+  pub may : MayAlter p.link.lines ab.alters ba.alters
   pub a : EndShows c A p.a ab ba
   pub b : EndShows c B p.b ba ab
   pub copies : Every (λ f. FlightShows ab ba f.to f.carried.segment) p.link.under_way

@@ -141,7 +141,7 @@ module _ (c : Profile) (six : SixBooks) (others : Others) where
   quiet_books (asks.Send s call) ab ba quiet = absurd quiet
   quiet_books (asks.Reassembly s call) ab ba quiet = absurd quiet
   quiet_books (asks.Control s call) ab ba quiet =
-      control_moves s call six quiet (set others.lanes_ab others.number ab) (set others.lanes_ba others.number ba) others.reader_a others.reader_b
+      control_moves others.links s call six quiet (set others.lanes_ab others.number ab) (set others.lanes_ba others.number ba) others.reader_a others.reader_b
   quiet_books (asks.Local step) ab ba quiet = unmoved (duo_at six ab ba others)
 
   pub quiet : (ask : Ask) (q : PathState Carried) (ab ba : Lane) → IsQuiet six ask → Strolled c q ab ba → Answered c six others ask q ab ba
@@ -175,11 +175,11 @@ module _ (c : Profile) (six : SixBooks) (others : Others) where
 
   called_ab : (p ba : Lane) → after_events (ToB (Asks others.number) ∷ []) (duo_at six p ba others)
       ≡ record (duo_at six p ba others) { ab = with_asked others.lanes_ab others.number six.send_a six.reassembly_b others.reader_b p.asking p }
-  called_ab p ba = ap (λ d. record (duo_at six p ba others) { ab = d }) (asked_there others.lanes_ab others.number six.send_a six.reassembly_b others.reader_b (flags_of A six) others.within_ab p)
+  called_ab p ba = ap (λ d. record (duo_at six p ba others) { ab = d }) (asked_there others.lanes_ab others.number six.send_a six.reassembly_b others.reader_b (flags_of others.links A six) others.within_ab p)
 
   called_ba : (ab p : Lane) → after_events (ToA (Asks others.number) ∷ []) (duo_at six ab p others)
       ≡ record (duo_at six ab p others) { ba = with_asked others.lanes_ba others.number six.send_b six.reassembly_a others.reader_a p.asking p }
-  called_ba ab p = ap (λ d. record (duo_at six ab p others) { ba = d }) (asked_there others.lanes_ba others.number six.send_b six.reassembly_a others.reader_a (flags_of B six) others.within_ba p)
+  called_ba ab p = ap (λ d. record (duo_at six ab p others) { ba = d }) (asked_there others.lanes_ba others.number six.send_b six.reassembly_a others.reader_a (flags_of others.links B six) others.within_ba p)
 
   -- ---- calls of the side's send book
 

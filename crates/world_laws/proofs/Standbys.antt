@@ -11,7 +11,6 @@ use Rattle.send_book.specs.State.{Sending, acked_len}
 use Rattle.send_book.specs.Steps.{decision, reply_by}
 use Rattle.stream_lanes.proofs.Lists.{in_set, in_map}
 use Rattle.actor_desk.specs.declared.ask.Ask.{Ask}
-use Rattle.actor_desk.specs.declared.ask.Ask.TheVariants as asks
 use Rattle.actor_desk.specs.declared.ask.Note.{Note}
 use Rattle.actor_desk.specs.declared.ask.Reply.TheVariants as replies
 use Rattle.actor_desk.specs.Desk.{SixBooks, reply_of}
@@ -29,7 +28,7 @@ use Rattle.path_core.specs.Duties.{ask_for}
 use Rattle.path_core.specs.Emission.{first_unsent, data_ask, payload_size}
 use Rattle.path_core.specs.Starts.{first_turn, waiting_path}
 use Rattle.path_core.specs.State.{PathState, end_at, path_of}
-use Rattle.path_core.specs.Steps.{asks_of, asks_first, takes}
+use Rattle.path_core.specs.Steps.{asks_of, asks_first}
 use Rattle.world_laws.specs.declared.member.Member.TheVariants.{App, Path}
 use Rattle.world_laws.specs.Actors.{Actor, ActorCrew, member_asks, member_takes, member_next}
 use Rattle.world_laws.specs.Laws.{Always}

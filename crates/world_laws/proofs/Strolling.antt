@@ -1,5 +1,5 @@
 -- Moves of the two lanes in the duo of a world, and what a rule of one side's end makes of what the path shows.
-use Rattle.std.proofs.Common.{◌≡◌, refl, sym, ◌∙◌, ap, subst, ℕ, ◌+◌, Bool, true, false, List, [], ◌∷◌, arith}
+use Rattle.std.proofs.Common.{◌≡◌, refl, sym, ◌∙◌, ap, subst, ℕ, ◌+◌, Bool, true, false, List, [], ◌∷◌, arith, inl, inr, ⊎_elim}
 use Rattle.std.specs.List.{slice_get, list_all}
 use Rattle.std.proofs.lemmas.Bool.{and_parts}
 use Rattle.outside_kit.specs.declared.side.Side.{Side}
@@ -8,7 +8,7 @@ use Rattle.link_model.specs.State.{LinkState}
 use Rattle.link_model.specs.Steps.{peer, changed, arrivals, next_number, with_flights, one_more}
 use Rattle.link_model.specs.Fate.{is_stripped, is_altered, fate_of}
 use Rattle.path_segments.specs.Spelled.{PlainSegment}
-use Rattle.stream_lanes.specs.Lane.{Lane}
+use Rattle.stream_lanes.specs.Lane.{Lane, AckCopy}
 use Rattle.stream_lanes.specs.Laws.{copy_clashes, lane_refused, move_refused}
 use Rattle.stream_lanes.specs.Moves.{Move}
 use Rattle.stream_lanes.specs.Moves.Move.{Learn}
@@ -19,11 +19,12 @@ use Rattle.stream_lanes.specs.View.{view_of}
 use Rattle.stream_lanes.specs.Words.{Every}
 use Rattle.stream_lanes.proofs.Duos.{after_event_held}
 use Rattle.stream_lanes.proofs.Lists.{Every-map}
-use Rattle.stream_lanes.proofs.Refusals.{never_refused}
+use Rattle.stream_lanes.proofs.Refusals.{never_disagrees}
 use Rattle.actor_desk.specs.Desk.{SixBooks, send_of, reassembly_of}
 use Rattle.actor_desk.specs.Words.{pick}
 use Rattle.path_core.specs.Handover.{handed}
-use Rattle.path_core.specs.Shown.{AltersNothing}
+use Rattle.segment_wire.specs.Changes.{with_turned_bit}
+use Rattle.std.specs.Int.Bits.{bit_xor, xor_assoc, xor_self, xor_zero_r}
 use Rattle.path_core.specs.State.{PathState, Profile, end_at}
 use Rattle.path_core.specs.Values.{Carried, carried_by, stripped, altered, values}
 use Rattle.world_laws.proofs.Ending.{Did}
@@ -31,7 +32,7 @@ use Rattle.world_laws.proofs.Growing.{SenderGoes, ReceiverGoes, sent_longer, hea
 use Rattle.world_laws.proofs.Lanes.{flags_of, Others, duo_at, LaneMoves, moves_to_b, moves_to_a, move_events, moves_silent, events_append, Moved}
 use Rattle.world_laws.proofs.Roads.{is_calm, put_there, moved_there, move, moves, Strolls}
 use Rattle.world_laws.proofs.Saying.{flights_kept}
-use Rattle.world_laws.proofs.Showing.{EndShows, SegmentShows, FlightShows, PathShows}
+use Rattle.world_laws.proofs.Showing.{EndShows, SegmentShows, FlightShows, PathShows, HasData, MayAlter}
 
 -- ---- moves in the duo
 
@@ -44,7 +45,7 @@ module _ (six : SixBooks) (others : Others) where
   moved_to_b (m ∷ ms) ab ba calm =
       let parts = and_parts (is_calm m) (list_all is_calm ms) calm in
       ap (λ d. after_events (moves_to_b others.number ms) (record (Pair ab ba) { ab = d }))
-      (moved_there others.lanes_ab others.number six.send_a six.reassembly_b others.reader_b (flags_of A six) others.within_ab m ab parts.0)
+      (moved_there others.lanes_ab others.number six.send_a six.reassembly_b others.reader_b (flags_of others.links A six) others.within_ab m ab parts.0)
       ∙ moved_to_b ms (move m ab) ba parts.1
 
   pub moved_to_a : (ms : List Move) (ab ba : Lane) → list_all is_calm ms ≡ true → after_events (moves_to_a others.number ms) (Pair ab ba) ≡ Pair ab (moves ms ba)
@@ -52,7 +53,7 @@ module _ (six : SixBooks) (others : Others) where
   moved_to_a (m ∷ ms) ab ba calm =
       let parts = and_parts (is_calm m) (list_all is_calm ms) calm in
       ap (λ d. after_events (moves_to_a others.number ms) (record (Pair ab ba) { ba = d }))
-      (moved_there others.lanes_ba others.number six.send_b six.reassembly_a others.reader_a (flags_of B six) others.within_ba m ba parts.0)
+      (moved_there others.lanes_ba others.number six.send_b six.reassembly_a others.reader_a (flags_of others.links B six) others.within_ba m ba parts.0)
       ∙ moved_to_a ms ab (move m ba) parts.1
 
   pub moved_both : (ab_moves ba_moves : List Move) (ab ba : Lane) → list_all is_calm ab_moves ≡ true → list_all is_calm ba_moves ≡ true
@@ -83,11 +84,11 @@ events_held [] d h = h
 events_held (event ∷ events) d h = events_held events (after_event event d) (after_event_held event d h)
 
 -- the lanes of a path among the others
-ab_holds : (six : SixBooks) (others : Others) (ab ba : Lane) → Holds (duo_at six ab ba others) → LaneHolds (view_of (flags_of A six) six.send_a six.reassembly_b) others.number ab
+ab_holds : (six : SixBooks) (others : Others) (ab ba : Lane) → Holds (duo_at six ab ba others) → LaneHolds (view_of (flags_of others.links A six) six.send_a six.reassembly_b) others.number ab
 ab_holds six others ab ba h =
     h.ab.lanes.each others.number others.number ab (omega arith) (put_there others.lanes_ab others.number ab others.within_ab)
 
-ba_holds : (six : SixBooks) (others : Others) (ab ba : Lane) → Holds (duo_at six ab ba others) → LaneHolds (view_of (flags_of B six) six.send_b six.reassembly_a) others.number ba
+ba_holds : (six : SixBooks) (others : Others) (ab ba : Lane) → Holds (duo_at six ab ba others) → LaneHolds (view_of (flags_of others.links B six) six.send_b six.reassembly_a) others.number ba
 ba_holds six others ab ba h =
     h.ba.lanes.each others.number others.number ba (omega arith) (put_there others.lanes_ba others.number ba others.within_ba)
 
@@ -100,12 +101,12 @@ module _ (six : SixBooks) (others : Others) where
 
   -- what holds of the lane that a side sends on, and of the one that it hears
   pub out_holds : (s : Side) (ab ba : Lane) → Holds (duo_at six ab ba others)
-      → LaneHolds (view_of (flags_of s six) (send_of s six) (reassembly_of (peer s) six)) others.number (pick s ab ba)
+      → LaneHolds (view_of (flags_of others.links s six) (send_of s six) (reassembly_of (peer s) six)) others.number (pick s ab ba)
   out_holds A ab ba h = ab_holds six others ab ba h
   out_holds B ab ba h = ba_holds six others ab ba h
 
   pub back_holds : (s : Side) (ab ba : Lane) → Holds (duo_at six ab ba others)
-      → LaneHolds (view_of (flags_of (peer s) six) (send_of (peer s) six) (reassembly_of s six)) others.number (pick s ba ab)
+      → LaneHolds (view_of (flags_of others.links (peer s) six) (send_of (peer s) six) (reassembly_of s six)) others.number (pick s ba ab)
   back_holds A ab ba h = ba_holds six others ab ba h
   back_holds B ab ba h = ab_holds six others ab ba h
 
@@ -113,19 +114,19 @@ module _ (six : SixBooks) (others : Others) where
   pub agrees : (s : Side) (ab ba : Lane) → Holds (duo_at six ab ba others) → (copy : ℕ) → copy_clashes (slice_get (pick s ba ab).datas copy) (pick s ba ab) ≡ false
   agrees A ab ba h copy =
       ap (λ o. lane_refused (move_refused (Learn copy)) o) (sym (put_there others.lanes_ba others.number ba others.within_ba))
-      ∙ never_refused (flags_of B six) (duo_at six ab ba others).ba h.ba (Moves others.number (Learn copy))
+      ∙ never_disagrees (flags_of others.links B six) (duo_at six ab ba others).ba h.ba (Moves others.number (Learn copy))
   agrees B ab ba h copy =
       ap (λ o. lane_refused (move_refused (Learn copy)) o) (sym (put_there others.lanes_ab others.number ab others.within_ab))
-      ∙ never_refused (flags_of A six) (duo_at six ab ba others).ab h.ab (Moves others.number (Learn copy))
+      ∙ never_disagrees (flags_of others.links A six) (duo_at six ab ba others).ab h.ab (Moves others.number (Learn copy))
 
 -- ---- the link
 
 pub record LinkShows (ab ba : Lane) (link : LinkState Carried) : Type 0 where
-  pub unchanged : AltersNothing link.lines
+  pub may : MayAlter link.lines ab.alters ba.alters
   pub copies : Every (λ f. FlightShows ab ba f.to f.carried.segment) link.under_way
 
 pub link_shows : (c : Profile) (p : PathState Carried) (ab ba : Lane) → PathShows c p ab ba → LinkShows ab ba p.link
-link_shows c p ab ba h = record { unchanged = h.unchanged; copies = h.copies }
+link_shows c p ab ba h = record { may = h.may; copies = h.copies }
 
 -- a segment of a side, on the lanes
 abbrev pub SaidShows : Side → Lane → Lane → PlainSegment → Type 0
@@ -134,7 +135,7 @@ SaidShows s out back sg = SegmentShows back.acks out sg
 pub link_longer : (s : Side) (out out_after back back_after : Lane) (link : LinkState Carried) → SenderGoes out out_after → ReceiverGoes back back_after
     → LinkShows (pick s out back) (pick s back out) link → LinkShows (pick s out_after back_after) (pick s back_after out_after) link
 link_longer A out out_after back back_after link g r h = record {
-  unchanged = h.unchanged;
+  may = record { a = λ n is. ap (λ p. p.alters) g.is ∙ h.may.a n is; b = λ n is. ap (λ p. p.alters) r.is ∙ h.may.b n is };
   copies = Every-map (λ f shows. at f.to f.carried.segment shows) h.copies;
 }
   where
@@ -142,7 +143,7 @@ link_longer A out out_after back back_after link g r h = record {
     at B sg shows = segment_longer (sent_longer out out_after back back_after g r) sg shows
     at A sg shows = segment_longer (heard_longer out out_after back back_after g r) sg shows
 link_longer B out out_after back back_after link g r h = record {
-  unchanged = h.unchanged;
+  may = record { a = λ n is. ap (λ p. p.alters) r.is ∙ h.may.a n is; b = λ n is. ap (λ p. p.alters) g.is ∙ h.may.b n is };
   copies = Every-map (λ f shows. at f.to f.carried.segment shows) h.copies;
 }
   where
@@ -161,24 +162,50 @@ sent_link s ab ba sg carried ticks link is shows h = by s kept
 
     by : (t : Side) → Every (λ f. FlightShows ab ba f.to f.carried.segment) (with_flights (peer s) (next_number s link) carried ticks link.under_way)
         → LinkShows ab ba (one_more t (record link { under_way = with_flights (peer s) (next_number s link) carried ticks link.under_way }))
-    by A copies = record { unchanged = h.unchanged; copies = copies }
-    by B copies = record { unchanged = h.unchanged; copies = copies }
+    by A copies = record { may = h.may; copies = copies }
+    by B copies = record { may = h.may; copies = copies }
+
+-- a bit that is turned twice
+turned_back : (octets : List ℕ) → with_turned_bit (with_turned_bit octets) ≡ octets
+turned_back [] = refl
+turned_back (first ∷ rest) = ap (λ x. x ∷ rest) (xor_assoc first 1 1 ∙ ap (bit_xor first) (xor_self 1) ∙ xor_zero_r first)
+
+no_bit : (octets : List ℕ) → octets ≡ [] → with_turned_bit octets ≡ []
+no_bit octets none = ap with_turned_bit none
+
+-- the segment with a bit of its payload turned is on the lane too
+altered_shows : (acks : List AckCopy) (p : Lane) (sg : PlainSegment) → p.alters ≡ true → SegmentShows acks p sg → SegmentShows acks p (record sg { payload = with_turned_bit sg.payload })
+altered_shows acks p sg may h = record {
+  window = h.window;
+  sub = h.sub;
+  options = h.options;
+  payload = ⊎_elim (λ none. inl (no_bit sg.payload none)) (λ has. inr has) (h.turned may);
+  turned = λ _. ⊎_elim (λ none. inl (no_bit sg.payload none)) (λ has. inr (subst (HasData p.datas sg.position) (sym (turned_back sg.payload)) has)) h.payload;
+  fin = λ is. let f = h.fin is in (no_bit sg.payload f.0, f.1);
+  plain = h.plain;
+}
 
 pub handed_shows : (s : Side) (out back : Lane) (sg : PlainSegment) (p : PathState Carried) → SegmentShows back.acks out sg
     → LinkShows (pick s out back) (pick s back out) p.link → LinkShows (pick s out back) (pick s back out) (handed values s sg p)
 handed_shows s out back sg p shows h =
-    sent_link s (pick s out back) (pick s back out) sg
-    (changed stripped altered (is_stripped s (next_number s p.link) p.clock p.link.lines) (is_altered s (next_number s p.link) p.link.lines) (carried_by p.profile.spelling s sg))
-    (arrivals (fate_of s (next_number s p.link) p.link.lines) (p.clock + p.link.delay)) p.link
-    (same _ _ (h.unchanged.alters s (next_number s p.link)))
-    (to_peer s shows) h
+    sent_link s (pick s out back) (pick s back out) carried.segment carried
+    (arrivals (fate_of s (next_number s p.link) p.link.lines) (p.clock + p.link.delay)) p.link refl
+    (to_peer s (changed_shows (is_stripped s (next_number s p.link) p.clock p.link.lines) (is_altered s (next_number s p.link) p.link.lines) (own_may s h.may (next_number s p.link)))) h
   where
-    same : (strips alters : Bool) → alters ≡ false → (changed stripped altered strips alters (carried_by p.profile.spelling s sg)).segment ≡ sg
-    same false false is = refl
-    same true false is = refl
-    same strips true is = cc
+    carried : Carried
+    carried = changed stripped altered (is_stripped s (next_number s p.link) p.clock p.link.lines) (is_altered s (next_number s p.link) p.link.lines) (carried_by p.profile.spelling s sg)
 
-    to_peer : (s : Side) → SegmentShows back.acks out sg → FlightShows (pick s out back) (pick s back out) (peer s) sg
+    own_may : (s : Side) → MayAlter p.link.lines (pick s out back).alters (pick s back out).alters → (n : ℕ) → is_altered s n p.link.lines ≡ true → out.alters ≡ true
+    own_may A may n is = may.a n is
+    own_may B may n is = may.b n is
+
+    changed_shows : (strips alters : Bool) → (alters ≡ true → out.alters ≡ true) → SegmentShows back.acks out (changed stripped altered strips alters (carried_by p.profile.spelling s sg)).segment
+    changed_shows false false may = shows
+    changed_shows true false may = shows
+    changed_shows false true may = altered_shows back.acks out sg (may refl) shows
+    changed_shows true true may = altered_shows back.acks out sg (may refl) shows
+
+    to_peer : (s : Side) → SegmentShows back.acks out carried.segment → FlightShows (pick s out back) (pick s back out) (peer s) carried.segment
     to_peer A shows = shows
     to_peer B shows = shows
 
@@ -213,7 +240,7 @@ module _ (c : Profile) (p q : PathState Carried) (ab ba : Lane) (h : PathShows c
     ba_moves = d.back_moves;
     shows = record {
       profile = profile ∙ h.profile;
-      unchanged = link.unchanged;
+      may = link.may;
       a = d.shows;
       b = subst (λ e. EndShows c B e d.back_after d.out_after) (sym same) (peer_shows c B p.b ab d.out_after ba d.back_after d.sender d.receiver h.b);
       copies = link.copies;
@@ -226,7 +253,7 @@ module _ (c : Profile) (p q : PathState Carried) (ab ba : Lane) (h : PathShows c
     ba_moves = d.out_moves;
     shows = record {
       profile = profile ∙ h.profile;
-      unchanged = link.unchanged;
+      may = link.may;
       a = subst (λ e. EndShows c A e d.back_after d.out_after) (sym same) (peer_shows c A p.a ba d.out_after ab d.back_after d.sender d.receiver h.a);
       b = d.shows;
       copies = link.copies;

@@ -1,27 +1,25 @@
 -- What the receiver's half of an end does, on the lane: it keeps the octets of a copy, learns a mapping, places bytes, and passes
 -- the FIN.
-use Rattle.std.proofs.Common.{◌≡◌, refl, sym, ◌∙◌, ap, subst, ℕ, zero, suc, ◌+◌, ◌-◌, ◌<◌, ◌≤◌, nat_le, ◌⊎◌, inl, inr, ⊎_elim, Bool, true, false, if◌then◌else◌, Option, Some, None, List, [], ◌∷◌, ◌++◌, length, take, drop, arith, ◌*◌, ◌/◌}
+use Rattle.std.proofs.Common.{◌≡◌, refl, sym, ◌∙◌, ap, subst, ℕ, zero, suc, ◌+◌, ◌-◌, ◌<◌, ◌≤◌, nat_le, ◌⊎◌, inl, inr, ⊎_elim, Bool, true, false, if◌then◌else◌, Option, Some, None, List, [], ◌∷◌, ◌++◌, length, take, drop, arith, ◌*◌, ◌/◌, unwrap_or, ◌&&◌, not, ◌||◌, ◌==◌}
 use Rattle.std.proofs.lemmas.Bool.{le-leb, and_from, eq-eqb}
 use Rattle.std.proofs.lemmas.List.{append-nil, length-take}
-use Rattle.std.proofs.lemmas.Option.{same_Some}
 use Rattle.std.specs.List.{slice_get}
 use Rattle.reassembly_book.specs.State.{filled}
 use Rattle.reassembly_book.specs.Steps.{by_place, merged}
 use Rattle.send_book.proofs.Lists.{slice_get-drop}
-use Rattle.stream_lanes.specs.Holding.{IsByteOf, IsHonest, LaneHolds}
+use Rattle.std.specs.Option.{IfSome}
+use Rattle.subflow_recv.specs.Receiving.{Receiving, after_keep_held}
 use Rattle.stream_lanes.specs.Lane.{Lane}
 use Rattle.stream_lanes.specs.Lane.Ask.{AskPlace}
 use Rattle.stream_lanes.specs.Laws.{copy_clashes, mapping_clashes}
-use Rattle.stream_lanes.specs.Moves.{clashes, keeps, learns, learns_mapping, places, lies_in, in_order, ack_copy, hears_fin, sub_next}
-use Rattle.stream_lanes.specs.Moves.Move.{Hear, Learn, WantPlace, HearFin, SendAck, WantPlacePlain}
-use Rattle.stream_lanes.specs.View.{View}
+use Rattle.stream_lanes.specs.Moves.{clashes, keeps, learns, learns_mapping, places, lies_in, are_same, part_of, in_order, ack_copy, hears_fin, sub_next}
+use Rattle.stream_lanes.specs.Moves.Move.{Forget, Hear, Learn, WantPlace, HearFin, SendAck, WantPlacePlain}
 use Rattle.stream_lanes.specs.Words.{Has}
-use Rattle.stream_lanes.proofs.Bytes.{Cells-by_place, From-take}
 use Rattle.stream_lanes.proofs.Lists.{in_drop}
 use Rattle.world_laws.proofs.Doing.{has_last, least}
-use Rattle.world_laws.proofs.Growing.{ReceiverGoes}
-use Rattle.world_laws.proofs.Roads.{Strolls, one_move}
-use Rattle.world_laws.proofs.Showing.{HasData, HasMapping, IsMappingOf, Under, HasFin, HasSub}
+use Rattle.world_laws.proofs.Growing.{ReceiverGoes, receiver_stays}
+use Rattle.world_laws.proofs.Roads.{Strolls, one_move, stays, then_strolls}
+use Rattle.world_laws.proofs.Showing.{HasData, HasMapping, IsMappingOf, IsHeld, IsAtEdge, Under, HasFin, HasSub}
 
 -- ---- bytes by place
 
@@ -50,24 +48,17 @@ merged_right (None ∷ xs) (z ∷ ys) zero x e = (x, e)
 merged_right (Some y ∷ xs) (z ∷ ys) (suc i) x e = merged_right xs ys i x e
 merged_right (None ∷ xs) (z ∷ ys) (suc i) x e = merged_right xs ys i x e
 
--- bytes of one record at one position are the same
-module _ (places kept more : List (Option ℕ)) (u : Under places kept) (agree : (i b x : ℕ) → slice_get kept i ≡ Some (Some b) → slice_get more i ≡ Some (Some x) → b ≡ x) where
-  came_under : (i x : ℕ) → slice_get more i ≡ Some (Some x) → slice_get (merged kept more) i ≡ Some (Some x)
-  came_under i x e = by (merged_right kept more i x e)
-    where
-      by : (y : ℕ) × (slice_get (merged kept more) i ≡ Some (Some y)) → slice_get (merged kept more) i ≡ Some (Some x)
-      by there = ⊎_elim
-          (λ old. let same : there.0 ≡ x = agree i there.0 x old e in there.1 ∙ ap (λ b. Some (Some b)) same)
-          (λ new. there.1 ∙ sym new ∙ e)
-          (in_merged kept more i there.0 there.1)
-
-  pub under_merged : Under (merged places more) (merged kept more)
-  under_merged = record {
-    each = λ i x e. ⊎_elim (λ old. merged_left kept more i x (u.each i x old)) (λ new. came_under i x new) (in_merged places more i x e);
-  }
-
-  pub under_more : Under places (merged kept more)
-  under_more = record { each = λ i x e. merged_left kept more i x (u.each i x e) }
+-- what comes where nothing is kept is kept alike
+pub under_merged : (xs ys more : List (Option ℕ)) → Under xs ys → Under ys xs → Under (merged xs more) (merged ys more)
+under_merged xs ys more u v = record { each = λ i x e. ⊎_elim (λ old. merged_left ys more i x (u.each i x old)) (λ new. at i x e new (merged_right ys more i x new)) (in_merged xs more i x e) }
+  where
+    at : (i x : ℕ) → slice_get (merged xs more) i ≡ Some (Some x) → slice_get more i ≡ Some (Some x) → (y : ℕ) × (slice_get (merged ys more) i ≡ Some (Some y)) → slice_get (merged ys more) i ≡ Some (Some x)
+    at i x e new there = ⊎_elim
+        (λ old.
+        let both : Some (Some x) ≡ Some (Some there.0) = sym e ∙ merged_left xs more i there.0 (v.each i there.0 old) in
+        there.1 ∙ sym both)
+        (λ same. there.1 ∙ sym same ∙ new)
+        (in_merged ys more i there.0 there.1)
 
 -- positions that count the SYN
 one_further : (edge at : ℕ) (bytes : List ℕ) → drop (suc edge) (by_place (suc at) bytes) ≡ drop edge (by_place at bytes)
@@ -79,6 +70,14 @@ pub under_drop : (n : ℕ) (places kept : List (Option ℕ)) → Under places ke
 under_drop n places kept u = record {
   each = λ i x e. slice_get-drop n kept i (n + i) refl ∙ u.each (n + i) x (in_drop n places i (n + i) (Some x) refl e);
 }
+
+nothing_left : (n : ℕ) (xs : List (Option ℕ)) → xs ≡ [] → drop n xs ≡ []
+nothing_left zero xs none = none
+nothing_left (suc n) xs none = ap (drop (suc n)) none
+
+pub only_drop : (n : ℕ) (places kept : List (Option ℕ)) → Under kept places ⊎ (places ≡ []) → Under (drop n kept) (drop n places) ⊎ (drop n places ≡ [])
+only_drop n places kept (inl u) = inl (under_drop n kept places u)
+only_drop n places kept (inr none) = inr (nothing_left n places none)
 
 -- what is in order is in order on the lane
 pub filled_under : (n : ℕ) (places kept : List (Option ℕ)) → Under places kept → n ≤ length (filled places) → take n (filled places) ≡ take n (filled kept)
@@ -92,53 +91,135 @@ filled_under (suc n) (Some x ∷ places) (Some y ∷ kept) u most =
     let same : y ≡ x = cc in
     rw same (ap (λ xs. x ∷ xs) (filled_under n places kept (record { each = λ i b e. u.each (suc i) b e }) (omega (arith, most))))
 
+-- ---- the lane forgets
+
+module _ (p : Lane) (from : ℕ) where
+  abbrev pub forgets_lane : Lane
+  forgets_lane = record p { kept = take (from - p.edge) p.kept }
+
+  pub forgets : Strolls p forgets_lane
+  forgets = one_move (Forget from) p forgets_lane refl refl
+
+  pub forgets_goes : ReceiverGoes p forgets_lane
+  forgets_goes = record {
+    edge = p.edge;
+    kept = forgets_lane.kept;
+    maps = p.maps;
+    fin_in = p.fin_in;
+    due = p.due;
+    latest = p.latest;
+    asking = p.asking;
+    acks = [];
+    is = rw (append-nil p.acks) refl;
+  }
+
 -- ---- a copy is heard
 
-module _ (p : Lane) (v : View) (path : ℕ) (h : LaneHolds v path p) where
-  -- the lane keeps the first octets of the copy
-  module _ (position : ℕ) (octets : List ℕ) (has : HasData p.datas position octets) (count : ℕ) where
-    abbrev pub heard_lane : Lane
-    heard_lane = record p { kept = merged p.kept (drop p.edge (by_place has.item.pos (take count has.item.bytes))) }
+-- the lane keeps what the end does: nothing, or the octets that were held
+pub record KeepsHeld (p : Lane) (recv : Receiving) : Type 0 where
+  pub after : Lane
+  pub moves : Strolls p after
+  pub goes : ReceiverGoes p after
+  pub kept : List (Option ℕ)
+  pub same : after ≡ record p { kept = kept }
+  pub at : IsAtEdge (after_keep_held recv) after
 
-    pub hears : Strolls p heard_lane
-    hears = one_move (Hear has.at count) p heard_lane refl (sym (ap (λ o. keeps count o p) has.there))
+module _ (p : Lane) (recv : Receiving) (position : ℕ) (octets : List ℕ) (count : ℕ) (has : HasData p.datas position octets) where
+  abbrev heard_by : List (Option ℕ) → Lane
+  heard_by kept = record p { kept = merged kept (drop p.edge (by_place has.item.pos (take count has.item.bytes))) }
 
-    pub heard_goes : ReceiverGoes p heard_lane
-    heard_goes = record {
-      edge = p.edge;
-      kept = heard_lane.kept;
-      maps = p.maps;
-      fin_in = p.fin_in;
-      due = p.due;
-      latest = p.latest;
-      asking = p.asking;
-      acks = [];
-      is = rw (append-nil p.acks) refl;
+  hears_from : (kept : List (Option ℕ)) → Strolls (record p { kept = kept }) (heard_by kept)
+  hears_from kept = one_move (Hear has.at count) (record p { kept = kept }) (heard_by kept) refl (sym (ap (λ o. keeps count o (record p { kept = kept })) has.there))
+
+  heard_goes : (kept : List (Option ℕ)) → ReceiverGoes p (heard_by kept)
+  heard_goes kept = record {
+    edge = p.edge;
+    kept = (heard_by kept).kept;
+    maps = p.maps;
+    fin_in = p.fin_in;
+    due = p.due;
+    latest = p.latest;
+    asking = p.asking;
+    acks = [];
+    is = rw (append-nil p.acks) refl;
+  }
+
+  -- the same octets at the end, whose positions count the SYN
+  same_octets : (edge : ℕ) → edge ≡ suc p.edge → drop edge (by_place position (take count octets)) ≡ drop p.edge (by_place has.item.pos (take count has.item.bytes))
+  same_octets edge at =
+      ap (λ e. drop e (by_place position (take count octets))) at
+      ∙ ap (λ q. drop (suc p.edge) (by_place q (take count octets))) (sym has.holds.position_is)
+      ∙ ap (λ bs. drop (suc p.edge) (by_place (suc has.item.pos) (take count bs))) (sym has.holds.octets_are)
+      ∙ one_further p.edge has.item.pos (take count has.item.bytes)
+
+  abbrev more : List (Option ℕ)
+  more = drop p.edge (by_place has.item.pos (take count has.item.bytes))
+
+  -- after octets that are kept alike, or where the end let all go, and so the lane forgets first
+  hears_held : recv.edge ≡ suc p.edge → (places : List (Option ℕ)) → recv.incoming ≡ Some places → places ≡ merged recv.places (drop recv.edge (by_place position (take count octets)))
+      → Under recv.places p.kept → Under p.kept recv.places ⊎ (recv.places ≡ []) → KeepsHeld p recv
+  hears_held edge_is places in_hand is under (inl only) = record {
+    after = heard_by p.kept;
+    moves = hears_from p.kept;
+    goes = heard_goes p.kept;
+    kept = (heard_by p.kept).kept;
+    same = refl;
+    at = record { edge_is = edge_is; under = at_under; only = inl at_only; held = tt };
+  }
+    where
+      now : unwrap_or recv.incoming recv.places ≡ merged recv.places more
+      now = ap (λ o. unwrap_or o recv.places) in_hand ∙ is ∙ ap (merged recv.places) (same_octets recv.edge edge_is)
+
+      at_under : Under (unwrap_or recv.incoming recv.places) (heard_by p.kept).kept
+      at_under = subst (λ xs. Under xs (heard_by p.kept).kept) (sym now) (under_merged recv.places p.kept more under only)
+
+      at_only : Under (heard_by p.kept).kept (unwrap_or recv.incoming recv.places)
+      at_only = subst (λ xs. Under (heard_by p.kept).kept xs) (sym now) (under_merged p.kept recv.places more only under)
+  hears_held edge_is places in_hand is under (inr none) = record {
+    after = heard_by (take (p.edge - p.edge) p.kept);
+    moves = then_strolls p (forgets_lane p p.edge) (heard_by (take (p.edge - p.edge) p.kept)) (forgets p p.edge) (hears_from (take (p.edge - p.edge) p.kept));
+    goes = heard_goes (take (p.edge - p.edge) p.kept);
+    kept = (heard_by (take (p.edge - p.edge) p.kept)).kept;
+    same = refl;
+    at = record { edge_is = edge_is; under = at_under; only = inl at_only; held = tt };
+  }
+    where
+      alike : (xs : List (Option ℕ)) → Under xs xs
+      alike xs = record { each = λ i b e. e }
+
+      now : unwrap_or recv.incoming recv.places ≡ more
+      now = ap (λ o. unwrap_or o recv.places) in_hand ∙ is ∙ ap (λ xs. merged xs (drop recv.edge (by_place position (take count octets)))) none ∙ same_octets recv.edge edge_is
+
+      forgotten : take (p.edge - p.edge) p.kept ≡ []
+      forgotten = let none : p.edge - p.edge ≡ 0 = omega arith in ap (λ n. take n p.kept) none
+
+      kept_is : (heard_by (take (p.edge - p.edge) p.kept)).kept ≡ more
+      kept_is = ap (λ xs. merged xs more) forgotten
+
+      at_under : Under (unwrap_or recv.incoming recv.places) (heard_by (take (p.edge - p.edge) p.kept)).kept
+      at_under = subst (λ ys. Under (unwrap_or recv.incoming recv.places) ys) (sym kept_is) (subst (λ xs. Under xs more) (sym now) (alike more))
+
+      at_only : Under (heard_by (take (p.edge - p.edge) p.kept)).kept (unwrap_or recv.incoming recv.places)
+      at_only = subst (λ ys. Under ys (unwrap_or recv.incoming recv.places)) (sym kept_is) (subst (λ xs. Under more xs) (sym now) (alike more))
+
+pub keeps_held : (p : Lane) (recv : Receiving) → IsAtEdge recv p → KeepsHeld p recv
+keeps_held p recv at = by recv.incoming refl at.held
+  where
+    by : (o : Option (List (Option ℕ))) → recv.incoming ≡ o → IfSome o (IsHeld p.datas recv.edge recv.places) → KeepsHeld p recv
+    by None none held = record {
+      after = p;
+      moves = stays p;
+      goes = receiver_stays p;
+      kept = p.kept;
+      same = refl;
+      at = record {
+        edge_is = at.edge_is;
+        under = subst (λ o. Under (unwrap_or o recv.places) p.kept) (sym none) at.under;
+        only = subst (λ o. Under p.kept (unwrap_or o recv.places) ⊎ (unwrap_or o recv.places ≡ [])) (sym none) at.only;
+        held = tt;
+      };
     }
-
-    agree : (i b x : ℕ) → slice_get p.kept i ≡ Some (Some b) → slice_get (drop p.edge (by_place has.item.pos (take count has.item.bytes))) i ≡ Some (Some x) → b ≡ x
-    agree i b x old new =
-        let honest : IsHonest p.sent has.item = h.bytes.honest.each has.at has.item has.there in
-        let came : IsByteOf p.sent (p.edge + i) b = h.bytes.came.each i (p.edge + i) b refl old in
-        let here : IsByteOf p.sent (p.edge + i) x = (Cells-by_place p.edge (From-take count honest.bytes)).each i (p.edge + i) x refl new in
-        same_Some b x (sym came ∙ here)
-
-    -- the same octets at the end, whose positions count the SYN
-    same_octets : (edge : ℕ) → edge ≡ suc p.edge → drop edge (by_place position (take count octets)) ≡ drop p.edge (by_place has.item.pos (take count has.item.bytes))
-    same_octets edge at =
-        ap (λ e. drop e (by_place position (take count octets))) at
-        ∙ ap (λ q. drop (suc p.edge) (by_place q (take count octets))) (sym has.holds.position_is)
-        ∙ ap (λ bs. drop (suc p.edge) (by_place (suc has.item.pos) (take count bs))) (sym has.holds.octets_are)
-        ∙ one_further p.edge has.item.pos (take count has.item.bytes)
-
-    pub heard_under : (edge : ℕ) (places : List (Option ℕ)) → edge ≡ suc p.edge → Under places p.kept
-        → Under (merged places (drop edge (by_place position (take count octets)))) heard_lane.kept
-    heard_under edge places at u =
-        subst (λ more. Under (merged places more) heard_lane.kept) (sym (same_octets edge at))
-        (under_merged places p.kept (drop p.edge (by_place has.item.pos (take count has.item.bytes))) u agree)
-
-    pub heard_more : (places : List (Option ℕ)) → Under places p.kept → Under places heard_lane.kept
-    heard_more places u = under_more places p.kept (drop p.edge (by_place has.item.pos (take count has.item.bytes))) u agree
+    by (Some places) some held = hears_held p recv held.position held.octets held.count held.has at.edge_is places some held.is at.under at.only
 
 -- ---- a mapping is learned
 
@@ -178,7 +259,7 @@ take_taken zero xs = refl
 take_taken (suc count) [] = refl
 take_taken (suc count) (x ∷ xs) = ap (λ ys. x ∷ ys) (take_taken count xs)
 
-module _ (p : Lane) (edge : ℕ) (places_kept : List (Option ℕ)) (count : ℕ) (at : edge ≡ suc p.edge) (u : Under places_kept p.kept)
+module _ (p : Lane) (edge : ℕ) (places_kept : List (Option ℕ)) (count : ℕ) (at : edge ≡ suc p.edge) (u : Under places_kept p.kept) (unchecked : p.checked ≡ false)
     (place position len : ℕ) (has : Has (IsMappingOf place position len) p.maps)
     (after : position ≤ edge) (before : edge < position + len) (most : length (take count (filled places_kept)) ≤ position + len - edge) where
   abbrev pub octets : List ℕ
@@ -203,8 +284,9 @@ module _ (p : Lane) (edge : ℕ) (places_kept : List (Option ℕ)) (count : ℕ)
   pub wants_place : Strolls p (record p { asking = AskPlace (place + (edge - position)) octets })
   wants_place = one_move (WantPlace has.at (length octets)) p _ refl (sym (
       ap (λ o. places (length octets) o p) has.there
-      ∙ ap (λ bs. if lies_in has.item bs p then record p { asking = AskPlace (has.item.place + (p.edge - has.item.pos)) bs } else p) same_order
-      ∙ ap (λ (b : Bool). if b then record p { asking = AskPlace (has.item.place + (p.edge - has.item.pos)) octets } else p) lies
+      ∙ ap (λ (c : Bool). if lies_in has.item (in_order (length octets) p) p && (not c || (has.item.pos == p.edge && are_same (in_order (length octets) p) (part_of p.sent has.item))) then record p { asking = AskPlace (has.item.place + (p.edge - has.item.pos)) (in_order (length octets) p) } else p) unchecked
+      ∙ ap (λ bs. if lies_in has.item bs p && true then record p { asking = AskPlace (has.item.place + (p.edge - has.item.pos)) bs } else p) same_order
+      ∙ ap (λ (b : Bool). if b && true then record p { asking = AskPlace (has.item.place + (p.edge - has.item.pos)) octets } else p) lies
       ∙ ap (λ q. record p { asking = AskPlace q octets }) same_place))
 
 -- in plain TCP bytes have their positions as places

@@ -64,6 +64,7 @@ use Rattle.path_agenda.specs.declared.notice.PeerNotice.TheVariants as peer_note
 use Rattle.path_core.specs.OptionsOut.{noted_said, notice_option, HasAddress}
 use Rattle.path_core.proofs.Sayable.{noted_can}
 use Rattle.path_core.proofs.Sayable.{carried_can}
+use Rattle.segment_wire.specs.Changes.{with_turned_bit}
 
 abbrev pub IsShort : ℕ → Type 0
 IsShort n = n < 2 ^ 31
@@ -101,6 +102,28 @@ pub record SegmentTells (c : Profile) (s : Side) (sg : PlainSegment) : Type 0 wh
   pub syn : is_some sg.mss ≡ sg.syn
   pub mss : IfSome sg.mss (λ n. n < 2 ^ 16)
   pub options : All (OptionTells c s) sg.options
+
+-- with a bit of its payload turned it tells the same
+length-turned : (octets : List ℕ) → length (with_turned_bit octets) ≡ length octets
+length-turned [] = refl
+length-turned (first ∷ rest) = refl
+
+pub altered_tells : (c : Profile) (s : Side) (sg : PlainSegment) → SegmentTells c s sg → SegmentTells c s (record sg { payload = with_turned_bit sg.payload })
+altered_tells c s sg h = record {
+  sayable = record {
+    path = h.sayable.path;
+    window = h.sayable.window;
+    options = h.sayable.options;
+    room = h.sayable.room;
+    fits = let same = length-turned sg.payload in let fits = h.sayable.fits in omega (arith, same, fits);
+  };
+  position = h.position;
+  acknowledged = h.acknowledged;
+  reaches = λ none. let same = length-turned sg.payload in let old = h.reaches none in omega (arith, same, old);
+  syn = h.syn;
+  mss = h.mss;
+  options = h.options;
+}
 
 -- without its options it tells less
 syn_room : (mss : Option ℕ) → length (syn_text mss ++ []) ≤ 40

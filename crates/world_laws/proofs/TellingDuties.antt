@@ -1,5 +1,5 @@
 -- What each duty's reply leaves of the numbers that a path's ends and copies tell.
-use Rattle.std.proofs.Common.{◌≡◌, refl, ap, subst, is_none, ℕ, suc, ◌+◌, ◌-◌, ◌^◌, ◌<◌, ◌≤◌, min, ◌&&◌, nat_lt, not, Bool, true, false, if◌then◌else◌, Option, Some, None, Result, Ok, Err, List, [], ◌∷◌, length, take, drop, arith}
+use Rattle.std.proofs.Common.{◌≡◌, refl, ap, ◌∙◌, subst, is_none, ℕ, suc, ◌+◌, ◌-◌, ◌^◌, ◌<◌, ◌≤◌, min, ◌&&◌, nat_lt, not, Bool, true, false, if◌then◌else◌, Option, Some, None, Result, Ok, Err, List, [], ◌∷◌, length, take, drop, arith}
 use Rattle.std.proofs.lemmas.Bool.{and_parts, and_from, ltb-true}
 use Rattle.std.proofs.lemmas.List.{length-take, length-drop}
 use Rattle.std.specs.Option.{IfSome}
@@ -84,7 +84,7 @@ use Rattle.path_agenda.specs.declared.notice.OwnNotice.{OwnNotice}
 use Rattle.path_agenda.specs.Words.{first_of}
 use Rattle.world_laws.proofs.Answering.{IsReady}
 use Rattle.world_laws.proofs.Ending.{unfinished_if}
-use Rattle.world_laws.proofs.Lanes.{flags_of, Others, duo_at}
+use Rattle.world_laws.proofs.Lanes.{flags_of, flags_are, Others, duo_at}
 use Rattle.world_laws.proofs.Placing.{IsNextReady, next_ready}
 use Rattle.world_laws.proofs.Records.{every_find, every_at, every_first}
 use Rattle.world_laws.proofs.Replying.{every_item, granted_step}
@@ -287,7 +287,7 @@ module _ (six : SixBooks) (others : Others) (p : PathState Carried) (ab ba : Lan
     on_occasion : (sg : PlainSegment) (occasion : Occasion) (ds : List Duty) → SegmentTells p.profile s sg → AreFair ds
         → Tells (sent_on values s sg (having_sent occasion p.clock sg e) ds p)
     on_occasion sg occasion ds said fair =
-        tells_sent p.profile p t h.unchanged s sg (having_sent occasion p.clock sg e) ds said (rules.sent_end_tells p.profile s e tells occasion p.clock sg) fair
+        tells_sent p.profile p t s sg (having_sent occasion p.clock sg e) ds said (rules.sent_end_tells p.profile s e tells occasion p.clock sg) fair
 
     abbrev wide : p.profile.mss < 2 ^ 16
     wide = omega (arith, mss)
@@ -311,13 +311,13 @@ module _ (six : SixBooks) (others : Others) (p : PathState Carried) (ab ba : Lan
     -- MP_FASTCLOSE, as it is carried
     fast_closed : Tells (answered_fast_close values s p)
     fast_closed =
-        tells_sent p.profile p t h.unchanged s (fast_close_of s p) (having_fast_closed s p) (left p) (carried_tells p.profile s path wide e tells e.notices.carrier tells.notices.carrier)
+        tells_sent p.profile p t s (fast_close_of s p) (having_fast_closed s p) (left p) (carried_tells p.profile s path wide e tells e.notices.carrier tells.notices.carrier)
         (rules.fast_closed_tells p.profile s (having_sent to_send.Ack p.clock (fast_close_of s p) e) (rules.sent_end_tells p.profile s e tells to_send.Ack p.clock (fast_close_of s p))) left_fair
 
     -- a notice, of what is to be noted
     noted : Tells (answered_note values s p)
     noted =
-        tells_sent p.profile p t h.unchanged s (note_of s p) (having_noted s p) p.agenda
+        tells_sent p.profile p t s (note_of s p) (having_noted s p) p.agenda
         (noted_tells p.profile s path wide e tells (first_of e.notices.queue) (first_note e.notices.queue tells.notices.queue))
         (rules.noted_out_tells p.profile s (having_sent to_send.Ack p.clock (note_of s p) e) (rules.sent_end_tells p.profile s e tells to_send.Ack p.clock (note_of s p))) t.agenda
       where
@@ -347,13 +347,13 @@ module _ (six : SixBooks) (others : Others) (p : PathState Carried) (ab ba : Lan
 
     reset_told : (reason : Option ℕ) (ds : List Duty) → IfSome reason (λ n. n < 256) → AreFair ds → Tells (reset_on values s reason ds p)
     reset_told reason ds low fair =
-        tells_sent p.profile p t h.unchanged s (reset_of s reason p) (died e) ds (reset_tells p.profile s path wide e tells reason low) (rules.died_tells p.profile s e tells) fair
+        tells_sent p.profile p t s (reset_of s reason p) (died e) ds (reset_tells p.profile s path wide e tells reason low) (rules.died_tells p.profile s e tells) fair
 
     dead_told : Tells (answered_dead values s p)
-    dead_told = tells_sent p.profile p t h.unchanged s (dead_answer s p) e (left p) (dead_answer_tells p.profile s path wide e tells) tells left_fair
+    dead_told = tells_sent p.profile p t s (dead_answer s p) e (left p) (dead_answer_tells p.profile s path wide e tells) tells left_fair
 
     refused_told : Tells (answered_refusal values s p)
-    refused_told = tells_sent p.profile p t h.unchanged s (refusal_of s p) e (left p) (refusal_tells p.profile s path wide e tells) tells left_fair
+    refused_told = tells_sent p.profile p t s (refusal_of s p) e (left p) (refusal_tells p.profile s path wide e tells) tells left_fair
 
     -- ---- what is to be acknowledged, and a break
 
@@ -538,15 +538,18 @@ module _ (six : SixBooks) (others : Others) (p : PathState Carried) (ab ba : Lan
     -- ---- bytes
 
     -- the lane that the side hears, with other fields
-    heard_holds : (q : Lane) → Strolls back q → LaneHolds (view_of (flags_of (peer s) six) (send_of (peer s) six) (reassembly_of s six)) others.number q
+    heard_holds : (q : Lane) → Strolls back q → LaneHolds (view_of (flags_of others.links (peer s) six) (send_of (peer s) six) (reassembly_of s six)) others.number q
     heard_holds = by s
       where
-        by : (s : Side) (q : Lane) → Strolls (pick s ba ab) q → LaneHolds (view_of (flags_of (peer s) six) (send_of (peer s) six) (reassembly_of s six)) others.number q
+        by : (s : Side) (q : Lane) → Strolls (pick s ba ab) q → LaneHolds (view_of (flags_of others.links (peer s) six) (send_of (peer s) six) (reassembly_of s six)) others.number q
         by A q x = back_holds six others A ab q (strolls_held six others ab ab ba q (stays ab) x holds)
         by B q x = back_holds six others B q ba (strolls_held six others ab q ba ba x (stays ba) holds)
 
     broken : Tells (goes_on s (having_asked e) (breaks s 1) p)
     broken = on (having_asked e) (breaks s 1) (rules.asked_tells p.profile s e tells) refl
+
+    unchecked : back.checked ≡ false
+    unchecked = (heard_holds back (stays back)).link.checked_is ∙ (flags_are others.links (peer s) six).1 ∙ others.unchecked
 
     -- the bytes that the edge passes were sent
     piece_reaches : (piece : Piece) → IsNextReady p.profile s out back e piece → IsShort (e.tcp.recv.edge + length piece.octets)
@@ -561,7 +564,7 @@ module _ (six : SixBooks) (others : Others) (p : PathState Carried) (ab ba : Lan
     piece_by (Some piece) is false = broken
     piece_by (Some piece) is true =
         let f : PathEnd = after_piece piece e in
-        on (having_asked f) p.agenda (rules.asked_tells p.profile s f (rules.piece_tells p.profile s e tells piece (piece_reaches piece (next_ready p.profile s out back e piece is shows)))) t.agenda
+        on (having_asked f) p.agenda (rules.asked_tells p.profile s f (rules.piece_tells p.profile s e tells piece (piece_reaches piece (next_ready p.profile s out back unchecked e piece is shows)))) t.agenda
 
     fin_told : (set : Bool) → Tells (answered_fin_heard s set p)
     fin_told false = broken
@@ -581,7 +584,7 @@ module _ (six : SixBooks) (others : Others) (p : PathState Carried) (ab ba : Lan
     data_fin_told : Tells (answered_data_fin_sent values s p)
     data_fin_told =
         let f : PathEnd = having_sent to_send.Ack p.clock (data_fin_segment s p) e in
-        tells_sent p.profile p t h.unchanged s (data_fin_segment s p) (having_sent_data_fin s p) (left p) (ack_tells e.tcp.send.nxt e.sending.known_end tells.sender.next tells.stream.known_end)
+        tells_sent p.profile p t s (data_fin_segment s p) (having_sent_data_fin s p) (left p) (ack_tells e.tcp.send.nxt e.sending.known_end tells.sender.next tells.stream.known_end)
         (rules.end_sent_tells p.profile s f (rules.sent_end_tells p.profile s e tells to_send.Ack p.clock (data_fin_segment s p))) left_fair
 
     fin_at : (finished : Bool) → IsShort (if finished then e.tcp.send.nxt - 1 else e.tcp.send.nxt)
@@ -594,7 +597,7 @@ module _ (six : SixBooks) (others : Others) (p : PathState Carried) (ab ba : Lan
         let next = next_is may in let sent = out_is.sent in let written = short.written s in
         let f : PathEnd = with_told (fin_segment_of s p) e in
         let g : PathEnd = record f { tcp = after_finishing f.tcp } in
-        tells_sent p.profile p t h.unchanged s (fin_segment_of s p) (having_sent_fin s p) (left p) (fin_said_tells p.profile s path wide e tells (fin_at e.tcp.send.finished))
+        tells_sent p.profile p t s (fin_segment_of s p) (having_sent_fin s p) (left p) (fin_said_tells p.profile s path wide e tells (fin_at e.tcp.send.finished))
         (rules.fin_record_tells p.profile s g
         (rules.finished_tells p.profile s f (rules.told_end_tells p.profile s e tells (fin_segment_of s p)) (omega (arith, next, sent, written))) p.clock) left_fair
 

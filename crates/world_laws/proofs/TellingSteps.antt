@@ -25,7 +25,6 @@ use Rattle.path_agenda.specs.declared.duty.AskDuty.TheVariants as ask_duties
 use Rattle.path_agenda.specs.declared.duty.SendDuty.TheVariants as send_duties
 use Rattle.path_core.specs.Ends.{PathEnd}
 use Rattle.path_core.specs.Handover.{handed, sent_on}
-use Rattle.path_core.specs.Shown.{AltersNothing}
 use Rattle.path_core.specs.State.{PathState, Profile, end_at, goes_on, with_agenda}
 use Rattle.path_core.specs.Values.{Carried, carried_by, stripped, altered, values}
 use Rattle.path_agenda.specs.Words.{replaced}
@@ -34,7 +33,7 @@ use Rattle.world_laws.proofs.IdsFit.{IdsFit}
 use Rattle.world_laws.proofs.Lanes.{flags_of, Others, duo_at}
 use Rattle.world_laws.proofs.Roads.{put_there}
 use Rattle.world_laws.proofs.Saying.{flights_kept}
-use Rattle.world_laws.proofs.Telling.{IsShort, IsKey, SegmentTells, EndTells}
+use Rattle.world_laws.proofs.Telling.{IsShort, IsKey, SegmentTells, EndTells, altered_tells}
 
 -- ---- the path
 
@@ -88,9 +87,9 @@ pub record BooksAreShort (six : SixBooks) : Type 0 where
 -- the lane that a side sends on has no more octets than were written
 pub sent_short : (six : SixBooks) (others : Others) (ab ba : Lane) → Holds (duo_at six ab ba others) → (s : Side) → LaneIsShort (length (send_of s six).written) (pick s ab ba)
 sent_short six others ab ba holds A =
-    (paths_short (flags_of A six) (duo_at six ab ba others).ab holds.ab).each others.number ab (put_there others.lanes_ab others.number ab others.within_ab)
+    (paths_short (flags_of others.links A six) (duo_at six ab ba others).ab holds.ab).each others.number ab (put_there others.lanes_ab others.number ab others.within_ab)
 sent_short six others ab ba holds B =
-    (paths_short (flags_of B six) (duo_at six ab ba others).ba holds.ba).each others.number ba (put_there others.lanes_ba others.number ba others.within_ba)
+    (paths_short (flags_of others.links B six) (duo_at six ab ba others).ba holds.ba).each others.number ba (put_there others.lanes_ba others.number ba others.within_ba)
 
 module _ (six : SixBooks) (others : Others) (ab ba : Lane) (holds : Holds (duo_at six ab ba others)) (short : BooksAreShort six) where
   received_short : (s : Side) → received (reassembly_of s six) ≤ length (send_of (peer s) six).written
@@ -133,17 +132,19 @@ module _ (c : Profile) (p : PathState Carried) (h : PathTells c p) where
   pub tells_agenda : (ds : List Duty) → AreFair ds → PathTells c (with_agenda ds p)
   tells_agenda ds fair = record { a = h.a; b = h.b; copies = h.copies; agenda = fair }
 
-  -- also where its options were taken away
-  maybe_stripped : (s : Side) (sg : PlainSegment) (strips alters : Bool) → alters ≡ false → SegmentTells c s sg
-      → CopyTells c (peer s) (changed stripped altered strips alters (carried_by p.profile.spelling s sg))
-  maybe_stripped A sg true false is tells = record { from = refl; segment = tells }
-  maybe_stripped A sg false false is tells = record { from = refl; segment = tells }
-  maybe_stripped B sg true false is tells = record { from = refl; segment = tells }
-  maybe_stripped B sg false false is tells = record { from = refl; segment = tells }
-  maybe_stripped s sg strips true is tells = cc
+  -- also where its options were taken away, or a bit of its payload was turned
+  maybe_changed : (s : Side) (sg : PlainSegment) (strips alters : Bool) → SegmentTells c s sg → CopyTells c (peer s) (changed stripped altered strips alters (carried_by p.profile.spelling s sg))
+  maybe_changed A sg true false tells = record { from = refl; segment = tells }
+  maybe_changed A sg false false tells = record { from = refl; segment = tells }
+  maybe_changed B sg true false tells = record { from = refl; segment = tells }
+  maybe_changed B sg false false tells = record { from = refl; segment = tells }
+  maybe_changed A sg true true tells = record { from = refl; segment = altered_tells c A sg tells }
+  maybe_changed A sg false true tells = record { from = refl; segment = altered_tells c A sg tells }
+  maybe_changed B sg true true tells = record { from = refl; segment = altered_tells c B sg tells }
+  maybe_changed B sg false true tells = record { from = refl; segment = altered_tells c B sg tells }
 
-  handed_tells : AltersNothing p.link.lines → (s : Side) (sg : PlainSegment) → SegmentTells c s sg → Every (λ f. CopyTells c f.to f.carried) (handed values s sg p).under_way
-  handed_tells unaltered s sg tells = more s
+  handed_tells : (s : Side) (sg : PlainSegment) → SegmentTells c s sg → Every (λ f. CopyTells c f.to f.carried) (handed values s sg p).under_way
+  handed_tells s sg tells = more s
       (flights_kept (λ f. CopyTells c f.to f.carried) (peer s) (next_number s p.link) carried (λ tick. told)
       (arrivals (fate_of s (next_number s p.link) p.link.lines) (p.clock + p.link.delay)) p.link.under_way h.copies)
     where
@@ -151,7 +152,7 @@ module _ (c : Profile) (p : PathState Carried) (h : PathTells c p) where
       carried = changed stripped altered (is_stripped s (next_number s p.link) p.clock p.link.lines) (is_altered s (next_number s p.link) p.link.lines) (carried_by p.profile.spelling s sg)
 
       told : CopyTells c (peer s) carried
-      told = maybe_stripped s sg _ _ (unaltered.alters s (next_number s p.link)) tells
+      told = maybe_changed s sg _ _ tells
 
       more : (t : Side) → Every (λ f. CopyTells c f.to f.carried) (with_flights (peer s) (next_number s p.link) carried (arrivals (fate_of s (next_number s p.link) p.link.lines) (p.clock + p.link.delay)) p.link.under_way)
           → Every (λ f. CopyTells c f.to f.carried)
@@ -159,7 +160,7 @@ module _ (c : Profile) (p : PathState Carried) (h : PathTells c p) where
       more A copies = copies
       more B copies = copies
 
-  pub tells_sent : AltersNothing p.link.lines → (s : Side) (sg : PlainSegment) (e : PathEnd) (ds : List Duty) → SegmentTells c s sg → EndTells c s e → AreFair ds
+  pub tells_sent : (s : Side) (sg : PlainSegment) (e : PathEnd) (ds : List Duty) → SegmentTells c s sg → EndTells c s e → AreFair ds
       → PathTells c (sent_on values s sg e ds p)
-  tells_sent unaltered A sg e ds said tells fair = record { a = tells; b = h.b; copies = handed_tells unaltered A sg said; agenda = fair }
-  tells_sent unaltered B sg e ds said tells fair = record { a = h.a; b = tells; copies = handed_tells unaltered B sg said; agenda = fair }
+  tells_sent A sg e ds said tells fair = record { a = tells; b = h.b; copies = handed_tells A sg said; agenda = fair }
+  tells_sent B sg e ds said tells fair = record { a = h.a; b = tells; copies = handed_tells B sg said; agenda = fair }

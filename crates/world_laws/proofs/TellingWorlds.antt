@@ -8,6 +8,7 @@ use Rattle.outside_kit.specs.declared.side.Side.{Side}
 use Rattle.outside_kit.specs.declared.side.Side.TheVariants.{A, B}
 use Rattle.link_model.specs.declared.flight.Flight.{Flight}
 use Rattle.link_model.specs.Steps.{arriving}
+use Rattle.link_model.specs.Fate.{is_altered}
 use Rattle.reassembly_book.specs.declared.call.ReassemblyCall.{ReassemblyCall}
 use Rattle.reassembly_book.specs.declared.call.ReassemblyCall.TheVariants as calls
 use Rattle.reassembly_book.specs.State.{Arriving}
@@ -21,7 +22,7 @@ use Rattle.stream_lanes.specs.Holding.{Holds}
 use Rattle.stream_lanes.specs.Lane.{Lane}
 use Rattle.stream_lanes.specs.Streams.{Reader}
 use Rattle.stream_lanes.specs.Words.{Every, From}
-use Rattle.stream_lanes.proofs.Duos.{all_held}
+use Rattle.stream_lanes.proofs.Duos.{any_held}
 use Rattle.stream_lanes.proofs.Lists.{Every-nil, in_map, in_set}
 use Rattle.actor_desk.specs.declared.ask.Ask.{Ask}
 use Rattle.actor_desk.specs.declared.ask.Ask.TheVariants as asks
@@ -36,7 +37,7 @@ use Rattle.path_agenda.specs.Agenda.{start_of_turn}
 use Rattle.path_core.specs.Arriving.{expected_by}
 use Rattle.path_core.specs.Duties.{stands, ask_for, answered}
 use Rattle.path_core.specs.Ends.{opening_end}
-use Rattle.path_core.specs.Shown.{IsFreshCopy, NextIsFresh}
+use Rattle.path_core.specs.Shown.{IsFreshCopy, NextIsFresh, AltersNothing}
 use Rattle.path_core.specs.Starts.{first_state, first_turn}
 use Rattle.path_core.specs.State.{PathState, Profile, end_at, with_agenda}
 use Rattle.path_core.specs.Steps.{asks_first, answers, takes, settles_down, next_round}
@@ -46,14 +47,14 @@ use Rattle.world_laws.specs.declared.member.Member.TheVariants.{App, Path}
 use Rattle.world_laws.specs.Actors.{Actor, ActorCrew}
 use Rattle.world_laws.specs.Fresh.{IsFreshPath, IsFreshCrew, IsFreshTurn, AreFresh}
 use Rattle.world_laws.specs.Openings.{PathPlan, Start, path_begins, opened_world}
-use Rattle.world_laws.specs.Promises.{IsPlain, NumbersFit, EveryListIsFresh}
+use Rattle.world_laws.specs.Promises.{NumbersFit, EveryListIsFresh}
 use Rattle.world_laws.specs.Worlds.{WorldState, Turn, asked, all_over, greatest, begins, end_round, after_turn, world_run}
 use Rattle.world_laws.proofs.Steady.{always_steady}
 use Rattle.world_laws.proofs.Applying.{Reads, Writes}
 use Rattle.world_laws.proofs.Beginning.{first_lane, waiting, six, waiting_shows, alone, alone_holds, turn_reached, opened_reached}
 use Rattle.world_laws.proofs.Joining.{beside, beside_is, begun_path, readied, readied_holds}
 use Rattle.world_laws.proofs.Journaling.{books_after}
-use Rattle.world_laws.proofs.Lanes.{duo_of, Others, duo_at, PathThere, WorldShows, PathIsSteady, IsSteady, first_duo, Reached}
+use Rattle.world_laws.proofs.Lanes.{Carries, plainly, duo_of, Others, duo_at, PathThere, WorldShows, PathIsSteady, IsSteady, first_duo, Reached}
 use Rattle.world_laws.proofs.Opened.{opened_actors}
 use Rattle.world_laws.proofs.Showing.{PathShows}
 use Rattle.world_laws.proofs.Sides.{Answered}
@@ -67,7 +68,7 @@ use Rattle.world_laws.proofs.IdsFit.{opening_fits}
 use Rattle.world_laws.proofs.TellingAsks.{AskTells, BooksKeepShort, kept_at, ask_short, asks_tell}
 use Rattle.world_laws.proofs.CastLifting.{each_actor, path_actor}
 use Rattle.world_laws.proofs.Casts.{Walker, Cast, Fare, world_of, walking, seated, walked, map_there, after_a, after_b, after_path, path_asked, path_stepped, path_step_is, fare_after_path, walks_on, next_cast, next_is}
-use Rattle.std.proofs.lemmas.Bool.{and_parts}
+use Rattle.std.proofs.lemmas.Bool.{and_parts, both_ways}
 use Rattle.std.specs.List.{list_all}
 use Rattle.world_laws.proofs.Saying.{every_one}
 
@@ -179,7 +180,7 @@ app_tells app_duties.Close a = tt
 app_tells app_duties.Read a = tt
 app_tells app_duties.End a = tt
 
-module _ (start : Start) (plain : IsPlain start) (fit : NumbersFit start) where
+module _ (start : Start) (plain : Carries start) (none : plain.links.alters ≡ false) (fit : NumbersFit start) where
   books_short : (t : Cast Carried) → Fare start t → RoomsAre start.buffer (books_in t.books) → BooksKeepShort (books_in t.books) → BooksAreShort (books_in t.books)
   books_short t fare rooms keys = record { written = written; room = room; control = kept_at (books_in t.books) keys }
     where
@@ -193,7 +194,7 @@ module _ (start : Start) (plain : IsPlain start) (fit : NumbersFit start) where
 
   module _ (t : Cast Carried) (fare : Fare start t) (settled_paths : Every (λ x. IsSettled x.path) t.paths) (lanes_ab lanes_ba : List Lane) (reader_a reader_b : Reader)
       (reads_a : Reads t.a.told t.at_a.list reader_a) (reads_b : Reads t.b.told t.at_b.list reader_b) (paths : From (λ n x. PathThere start lanes_ab lanes_ba n x.path) 0 t.paths)
-      (steady : IsSteady (world_of t)) (holds : Holds (duo_of (books_in t.books) lanes_ab lanes_ba reader_a reader_b)) (tells : WorldTells start (world_of t)) where
+      (steady : IsSteady (world_of t)) (holds : Holds (duo_of plain.links (books_in t.books) lanes_ab lanes_ba reader_a reader_b)) (tells : WorldTells start (world_of t)) where
     abbrev books : SixBooks
     books = books_in t.books
 
@@ -275,7 +276,7 @@ module _ (start : Start) (plain : IsPlain start) (fit : NumbersFit start) where
       begun_tells : PathTells p.profile (next_round p)
       begun_tells =
           settled_tells books others p.profile (books_short t fare tells.rooms tells.keys) start_of_turn (begun_path start plain p) path.ab path.ba
-          (record { profile = refl; unchanged = path.shows.unchanged; a = shows.a; b = shows.b; copies = path.shows.copies }) at_holds
+          (record { profile = refl; may = path.shows.may; a = shows.a; b = shows.b; copies = path.shows.copies }) at_holds
           (record { a = own_tells.a; b = own_tells.b; copies = own_tells.copies; agenda = refl }) refl
         where
           shows : PathShows p.profile p path.ab path.ba
@@ -285,8 +286,20 @@ module _ (start : Start) (plain : IsPlain start) (fit : NumbersFit start) where
       planned : (q : PathState Carried) → PathTells p.profile q → TellsAt start number q
       planned q told plan at = subst (λ y. PathTells (path_begins start number y).profile q) (same_Some path.plan plan (sym path.plan_there ∙ at)) (subst (λ d. PathTells d q) profile told)
 
+      -- nothing is altered there
+      unaltered : AltersNothing p.link.lines
+      unaltered = record { alters = λ from n. by from n (is_altered from n p.link.lines) refl }
+        where
+          lane_alters : (path.ab.alters ≡ false) × (path.ba.alters ≡ false)
+          lane_alters = ((holds.ab.lanes.each number number path.ab (omega arith) path.ab_there).link.alters_is ∙ none, (holds.ba.lanes.each number number path.ba (omega arith) path.ba_there).link.alters_is ∙ none)
+
+          by : (from : Side) (n : ℕ) (b : Bool) → is_altered from n p.link.lines ≡ b → is_altered from n p.link.lines ≡ false
+          by from n false is = is
+          by A n true is = absurd (both_ways _ lane_alters.0 (path.shows.may.a n is))
+          by B n true is = absurd (both_ways _ lane_alters.1 (path.shows.may.b n is))
+
       path_fresh_now : IsFreshPath p
-      path_fresh_now = record { next = path_fresh p own_tells; unaltered = path.shows.unchanged }
+      path_fresh_now = record { next = path_fresh p own_tells; unaltered = unaltered }
 
     duty_told : (number : ℕ) (x : Walker Carried) → slice_get t.paths number ≡ Some x → (duty : Duty) (ds : List Duty) → x.path.agenda ≡ duty ∷ ds
         → WorldTells start (world_of (after_path values number x (ask_for values duty x.path) t))
@@ -358,7 +371,7 @@ module _ (start : Start) (plain : IsPlain start) (fit : NumbersFit start) where
     fresh : IsFreshTurn turn w
     tells : WorldTells start (after_turn values turn w)
 
-  goes : (turn : Turn) (d : Duo) (w : WorldState Carried) → IsSteady w → Holds d → WorldShows start d w → WorldTells start w → Going turn w
+  goes : (turn : Turn) (d : Duo) (w : WorldState Carried) → IsSteady w → Holds d → WorldShows plain.links start d w → WorldTells start w → Going turn w
   goes turn d w steady holds h tells =
       let t = h.cast in
       let here : WorldTells start (world_of t) = subst (WorldTells start) h.is tells in
@@ -369,10 +382,10 @@ module _ (start : Start) (plain : IsPlain start) (fit : NumbersFit start) where
         tells = turn_told t h.fare h.settled h.lanes_ab h.lanes_ba h.reader_a h.reader_b h.reads_a h.reads_b h.paths steadily held here turn;
       })
 
-  run_fresh : (turns : List Turn) (w : WorldState Carried) → ((more : List Turn) → IsSteady (world_run values more w)) → Reached start w → WorldTells start w → AreFresh turns w
+  run_fresh : (turns : List Turn) (w : WorldState Carried) → ((more : List Turn) → IsSteady (world_run values more w)) → Reached plain.links start w → WorldTells start w → AreFresh turns w
   run_fresh [] w steady r tells = tt
   run_fresh (turn ∷ turns) w steady r tells =
-      let g : Going turn w = goes turn (after_events r.events (first_duo start)) w (steady []) (all_held (length start.paths) start.buffer start.buffer r.events) r.shows tells in
+      let g : Going turn w = goes turn (after_events r.events (first_duo plain.links start)) w (steady []) (any_held plain.links.alters plain.links.checked (length start.paths) start.buffer start.buffer r.events) r.shows tells in
       (g.fresh, run_fresh turns (after_turn values turn w) (λ more. steady (turn ∷ more)) (turn_reached start plain turn w (steady []) r) g.tells)
 
   waiting_tells : (number : ℕ) (plan : PathPlan) → slice_get start.paths number ≡ Some plan → PathTells (path_begins start number plan).profile (with_agenda start_of_turn (waiting start plain number plan))
@@ -402,7 +415,7 @@ module _ (start : Start) (plain : IsPlain start) (fit : NumbersFit start) where
   first_tells : (number : ℕ) (plan : PathPlan) → slice_get start.paths number ≡ Some plan → PathTells (path_begins start number plan).profile (first_turn (path_begins start number plan) start.lines)
   first_tells number plan there =
       settled_tells (six start plain) (alone start plain number) (path_begins start number plan).profile opened_short start_of_turn (with_agenda start_of_turn (waiting start plain number plan))
-      (first_lane number) (first_lane number) (waiting_shows start plain number plan) (alone_holds start plain number) (waiting_tells number plan there) refl
+      (first_lane plain.links number) (first_lane plain.links number) (waiting_shows start plain number plan) (alone_holds start plain number) (waiting_tells number plan there) refl
 
   opened_tells : WorldTells start (opened_world start)
   opened_tells = record {
@@ -416,4 +429,6 @@ module _ (start : Start) (plain : IsPlain start) (fit : NumbersFit start) where
   }
 
 pub every_list_is_fresh : EveryListIsFresh
-every_list_is_fresh start turns plain fit = run_fresh start plain fit turns (opened_world start) (always_steady start) (opened_reached start plain) (opened_tells start plain fit)
+every_list_is_fresh start turns plain fit =
+    let can = plainly start plain in
+    run_fresh start can refl fit turns (opened_world start) (always_steady start) (opened_reached start can) (opened_tells start can refl fit)

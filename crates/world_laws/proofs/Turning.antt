@@ -29,7 +29,7 @@ use Rattle.path_core.specs.Steps.{settled}
 use Rattle.path_core.specs.Values.{Carried}
 use Rattle.world_laws.proofs.Applying.{Reads, settled_app, reads_more, reads_on}
 use Rattle.world_laws.proofs.Falling.{control_moves}
-use Rattle.world_laws.proofs.Lanes.{duo_of, Others, duo_at, CallIs, silent_append, call_events, TurnShows, events_append, Moved, then_moved}
+use Rattle.world_laws.proofs.Lanes.{Links, duo_of, Others, duo_at, CallIs, silent_append, call_events, TurnShows, events_append, Moved, then_moved}
 use Rattle.world_laws.proofs.Settling.{then_strolled, settles}
 use Rattle.world_laws.proofs.Showing.{PathShows}
 use Rattle.world_laws.proofs.Sides.{Answered}
@@ -120,11 +120,11 @@ reads_if : (b : Bool) (most : ℕ) (d : Direction) → b ≡ false → (if b the
 reads_if true most d is = cc
 reads_if false most d is = refl
 
-module _ (six : SixBooks) (lanes_ab lanes_ba : List Lane) (reader_a reader_b : Reader) (x : AppState) (notes : List Note) (n : Note) where
+module _ (links : Links) (six : SixBooks) (lanes_ab lanes_ba : List Lane) (reader_a reader_b : Reader) (x : AppState) (notes : List Note) (n : Note) where
   -- that of A reads from B, and writes to it
   pub record TurnOfA (a : AppState) (d : AppDuty) : Type 0 where
     pub reader : Reader
-    pub turn : TurnShows (Some (app_ask d a)) (duo_of six lanes_ab lanes_ba reader_a reader_b) (duo_of (after_ask (app_ask d a) six) lanes_ab lanes_ba reader reader_b)
+    pub turn : TurnShows (Some (app_ask d a)) (duo_of links six lanes_ab lanes_ba reader_a reader_b) (duo_of links (after_ask (app_ask d a) six) lanes_ab lanes_ba reader reader_b)
     pub reads : Reads (app_answered d (reply_of six (app_ask d a)) a).told (notes ++ n ∷ []) reader
 
   abbrev a_at : AppState
@@ -133,7 +133,7 @@ module _ (six : SixBooks) (lanes_ab lanes_ba : List Lane) (reader_a reader_b : R
   as_a : (d : AppDuty) → app_stands d a_at ≡ true → n.reply ≡ reply_of six (app_ask d a_at) → Reads x.told notes reader_a → TurnOfA a_at d
   as_a app_duties.FastClose stands is h = record {
     reader = reader_a;
-    turn = control_turn A control_calls.FastClose _ _ (control_moves A control_calls.FastClose six tt lanes_ab lanes_ba reader_a reader_b);
+    turn = control_turn A control_calls.FastClose _ _ (control_moves links A control_calls.FastClose six tt lanes_ab lanes_ba reader_a reader_b);
     reads = reads_on x.told notes reader_a n (rw is refl) (rw is refl) (rw is refl) h;
   }
   as_a app_duties.AbortSend stands is h = record {
@@ -162,7 +162,7 @@ module _ (six : SixBooks) (lanes_ab lanes_ba : List Lane) (reader_a reader_b : R
       record {
         reader = takes_read reply reader_a;
         turn = call_turn _ (Some (ToA (Read 65536))) _ _ (Read 65536, refl, (refl, open_reader))
-            (sym (ap (λ d. record (duo_of six lanes_ab lanes_ba reader_a reader_b) { ba = d }) (reads_if (is_done reader_a) 65536 (duo_of six lanes_ab lanes_ba reader_a reader_b).ba open_reader)));
+            (sym (ap (λ d. record (duo_of links six lanes_ab lanes_ba reader_a reader_b) { ba = d }) (reads_if (is_done reader_a) 65536 (duo_of links six lanes_ab lanes_ba reader_a reader_b).ba open_reader)));
         reads = reads_more x.told notes reader_a reply n is h;
       }
   as_a app_duties.End stands is h = record {
@@ -174,7 +174,7 @@ module _ (six : SixBooks) (lanes_ab lanes_ba : List Lane) (reader_a reader_b : R
   -- that of B the other way round
   pub record TurnOfB (a : AppState) (d : AppDuty) : Type 0 where
     pub reader : Reader
-    pub turn : TurnShows (Some (app_ask d a)) (duo_of six lanes_ab lanes_ba reader_a reader_b) (duo_of (after_ask (app_ask d a) six) lanes_ab lanes_ba reader_a reader)
+    pub turn : TurnShows (Some (app_ask d a)) (duo_of links six lanes_ab lanes_ba reader_a reader_b) (duo_of links (after_ask (app_ask d a) six) lanes_ab lanes_ba reader_a reader)
     pub reads : Reads (app_answered d (reply_of six (app_ask d a)) a).told (notes ++ n ∷ []) reader
 
   abbrev b_at : AppState
@@ -183,7 +183,7 @@ module _ (six : SixBooks) (lanes_ab lanes_ba : List Lane) (reader_a reader_b : R
   as_b : (d : AppDuty) → app_stands d b_at ≡ true → n.reply ≡ reply_of six (app_ask d b_at) → Reads x.told notes reader_b → TurnOfB b_at d
   as_b app_duties.FastClose stands is h = record {
     reader = reader_b;
-    turn = control_turn B control_calls.FastClose _ _ (control_moves B control_calls.FastClose six tt lanes_ab lanes_ba reader_a reader_b);
+    turn = control_turn B control_calls.FastClose _ _ (control_moves links B control_calls.FastClose six tt lanes_ab lanes_ba reader_a reader_b);
     reads = reads_on x.told notes reader_b n (rw is refl) (rw is refl) (rw is refl) h;
   }
   as_b app_duties.AbortSend stands is h = record {
@@ -212,7 +212,7 @@ module _ (six : SixBooks) (lanes_ab lanes_ba : List Lane) (reader_a reader_b : R
       record {
         reader = takes_read reply reader_b;
         turn = call_turn _ (Some (ToB (Read 65536))) _ _ (Read 65536, refl, (refl, open_reader))
-            (sym (ap (λ d. record (duo_of six lanes_ab lanes_ba reader_a reader_b) { ab = d }) (reads_if (is_done reader_b) 65536 (duo_of six lanes_ab lanes_ba reader_a reader_b).ab open_reader)));
+            (sym (ap (λ d. record (duo_of links six lanes_ab lanes_ba reader_a reader_b) { ab = d }) (reads_if (is_done reader_b) 65536 (duo_of links six lanes_ab lanes_ba reader_a reader_b).ab open_reader)));
         reads = reads_more x.told notes reader_b reply n is h;
       }
   as_b app_duties.End stands is h = record {

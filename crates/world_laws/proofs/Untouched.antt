@@ -13,10 +13,10 @@ use Rattle.reassembly_book.specs.Steps.{reply_to as arrival_reply}
 use Rattle.stream_lanes.specs.Lane.{Cell, Ask as LaneAsk, Lane}
 use Rattle.stream_lanes.specs.Lane.Ask.{AskAckIn, AskPlace, AskFin, AskAckOut}
 use Rattle.stream_lanes.specs.Moves.{Flags, Move}
-use Rattle.stream_lanes.specs.Streams.{Direction, StreamEvent, moves, reads, asks, asks_at, after, is_done}
+use Rattle.stream_lanes.specs.Streams.{with_send, Direction, StreamEvent, moves, reads, asks, asks_at, after, is_done}
 use Rattle.stream_lanes.specs.Streams.StreamEvent.{Write, Close, Return, AbortSend, Read, AbortRead, Moves, GoIdentity}
 use Rattle.stream_lanes.specs.Duo.{Duo, Event, flags_ab, after_event, after_events}
-use Rattle.stream_lanes.specs.Duo.Event.{ToB, ToA, BeginJoin, SendJoin, HearJoin, FallA, FallB}
+use Rattle.stream_lanes.specs.Duo.Event.{ToB, ToA, BeginJoin, SendJoin, HearJoin, FallA, FallB, LoosenA, LoosenB}
 use Rattle.stream_lanes.proofs.Directions.{moved_sent, acked_sent, placed_sent, fin_sent}
 use Rattle.stream_lanes.proofs.Lists.{set_same, set_other}
 use Rattle.actor_desk.specs.declared.ask.Ask.{Ask}
@@ -80,13 +80,17 @@ module _ (f : Flags) (number : ℕ) (sent : List Cell) (d : Direction) (h : Gran
   event_is : (x y : StreamEvent) → x ≡ y → Granted number sent (after f y d) → Granted number sent (after f x d)
   event_is x y same so = subst (λ e. Granted number sent (after f e d)) (sym same) so
 
+  identity_so : (fell : Bool) → Granted number sent (if fell then with_send send_calls.GoIdentity d else d)
+  identity_so true = stays_so _ refl
+  identity_so false = h
+
   send_so : (c : SendCall) (event : StreamEvent) → asks_grant A (desk.Send A c) ≡ false → SendCallIs c d event → Granted number sent (after f event d)
   send_so (send_calls.Write bytes) event none is = event_is event (Write bytes) is (stays_so _ refl)
   send_so send_calls.Close event none is = event_is event Close is (stays_so _ refl)
   send_so (send_calls.Grant path most standby) event none is = absurd (false≢true (sym none))
   send_so (send_calls.AckIn next window) event none is = asked_so (AskAckIn next window) (λ path q there. ack_so path next window q there) event is
   send_so (send_calls.Return path) event none is = event_is event (Return path) is (stays_so _ refl)
-  send_so send_calls.GoIdentity event none is = event_is event GoIdentity is (stays_so _ refl)
+  send_so send_calls.GoIdentity event none is = event_is event GoIdentity is (identity_so f.sender)
   send_so (send_calls.GoInfinite path) event none is = absurd is
   send_so send_calls.Abort event none is = event_is event AbortSend is (stays_so _ refl)
 
@@ -109,6 +113,8 @@ module _ (number : ℕ) (sent : List Cell) where
   silent_one (ToA (Moves path m)) is d h = h
   silent_one FallA is d h = h
   silent_one FallB is d h = h
+  silent_one LoosenA is d h = h
+  silent_one LoosenB is d h = h
   silent_one BeginJoin is d h = h
   silent_one SendJoin is d h = h
   silent_one HearJoin is d h = h

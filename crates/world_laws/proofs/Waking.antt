@@ -36,6 +36,7 @@ opened_lane p = record p { opened = true }
 -- nothing was sent by that
 opens_longer : (acks : List AckCopy) (p : Lane) → Longer acks acks p (opened_lane p)
 opens_longer acks p = record {
+  alters_is = refl;
   more_acks = [];
   acks_are = sym (append-nil acks);
   datas = [];
@@ -61,7 +62,7 @@ end_opens c s e out back h = record {
   };
   receiver = record {
     same_mode = h.receiver.same_mode;
-    edge = same_edge refl refl refl h.receiver.edge;
+    edge = same_edge refl refl refl (λ position octets has. has) h.receiver.edge;
     fin = h.receiver.fin;
     mapped = h.receiver.mapped;
   };
@@ -78,7 +79,7 @@ flight_opens ab ba A sg h = segment_longer (opens_longer ab.acks ba) sg h
 pub path_opens : (c : Profile) (p : PathState Carried) (ab ba : Lane) → PathShows c p ab ba → PathShows c p (opened_lane ab) (opened_lane ba)
 path_opens c p ab ba h = record {
   profile = h.profile;
-  unchanged = h.unchanged;
+  may = h.may;
   a = end_opens c A p.a ab ba h.a;
   b = end_opens c B p.b ba ab h.b;
   copies = Every-map (λ f shows. flight_opens ab ba f.to f.carried.segment shows) h.copies;
@@ -90,10 +91,11 @@ abbrev pub looked_out : Lane → Lane
 looked_out p = record p { sender_plain = true }
 
 abbrev pub looked_back : Lane → Lane
-looked_back p = record p { receiver_plain = true }
+looked_back p = record p { receiver_plain = true; receiver_loose = false }
 
-looks_longer : (acks : List AckCopy) (p q : Lane) → q.datas ≡ p.datas → q.data_fins ≡ p.data_fins → q.fins ≡ p.fins → Longer acks acks p q
-looks_longer acks p q datas data_fins fins = record {
+looks_longer : (acks : List AckCopy) (p q : Lane) → q.alters ≡ p.alters → q.datas ≡ p.datas → q.data_fins ≡ p.data_fins → q.fins ≡ p.fins → Longer acks acks p q
+looks_longer acks p q alters datas data_fins fins = record {
+  alters_is = alters;
   more_acks = [];
   acks_are = sym (append-nil acks);
   datas = [];
@@ -118,10 +120,10 @@ own_looks c s e out back h = record {
     granted = h.sender.granted;
     fin_acked = h.sender.fin_acked;
   };
-  receiver = record { same_mode = refl; edge = same_edge refl refl refl h.receiver.edge; fin = h.receiver.fin; mapped = h.receiver.mapped };
+  receiver = record { same_mode = refl; edge = same_edge refl refl refl (λ position octets has. has) h.receiver.edge; fin = h.receiver.fin; mapped = h.receiver.mapped };
   acks = record { windows = h.acks.windows; latest = h.acks.latest; due = h.acks.due; sub = h.acks.sub };
   told = h.told;
-  treated = treated_longer (looks_longer out.acks back (looked_back back) refl refl refl) e.treated h.treated;
+  treated = treated_longer (looks_longer out.acks back (looked_back back) refl refl refl refl) e.treated h.treated;
   held = h.held;
 }
 
@@ -139,33 +141,33 @@ peer_looks c s e out back h = record {
     granted = h.sender.granted;
     fin_acked = h.sender.fin_acked;
   };
-  receiver = record { same_mode = h.receiver.same_mode; edge = same_edge refl refl refl h.receiver.edge; fin = h.receiver.fin; mapped = h.receiver.mapped };
+  receiver = record { same_mode = h.receiver.same_mode; edge = same_edge refl refl refl (λ position octets has. has) h.receiver.edge; fin = h.receiver.fin; mapped = h.receiver.mapped };
   acks = record { windows = h.acks.windows; latest = h.acks.latest; due = h.acks.due; sub = h.acks.sub };
   told = h.told;
-  treated = treated_longer (looks_longer out.acks back (looked_out back) refl refl refl) e.treated h.treated;
+  treated = treated_longer (looks_longer out.acks back (looked_out back) refl refl refl refl) e.treated h.treated;
   held = h.held;
 }
 
 flight_a : (ab ba : Lane) (to : Side) (sg : PlainSegment) → FlightShows ab ba to sg → FlightShows (looked_out ab) (looked_back ba) to sg
-flight_a ab ba B sg h = segment_longer (looks_longer ba.acks ab (looked_out ab) refl refl refl) sg h
-flight_a ab ba A sg h = segment_longer (looks_longer ab.acks ba (looked_back ba) refl refl refl) sg h
+flight_a ab ba B sg h = segment_longer (looks_longer ba.acks ab (looked_out ab) refl refl refl refl) sg h
+flight_a ab ba A sg h = segment_longer (looks_longer ab.acks ba (looked_back ba) refl refl refl refl) sg h
 
 flight_b : (ab ba : Lane) (to : Side) (sg : PlainSegment) → FlightShows ab ba to sg → FlightShows (looked_back ab) (looked_out ba) to sg
-flight_b ab ba B sg h = segment_longer (looks_longer ba.acks ab (looked_back ab) refl refl refl) sg h
-flight_b ab ba A sg h = segment_longer (looks_longer ab.acks ba (looked_out ba) refl refl refl) sg h
+flight_b ab ba B sg h = segment_longer (looks_longer ba.acks ab (looked_back ab) refl refl refl refl) sg h
+flight_b ab ba A sg h = segment_longer (looks_longer ab.acks ba (looked_out ba) refl refl refl refl) sg h
 
 pub path_looks : (c : Profile) (s : Side) (p : PathState Carried) (ab ba : Lane) (ds : List Duty) → PathShows c p ab ba
     → PathShows c (goes_on s (in_identity (end_at s p)) ds p) (pick s (looked_out ab) (looked_back ab)) (pick s (looked_back ba) (looked_out ba))
 path_looks c A p ab ba ds h = record {
   profile = h.profile;
-  unchanged = h.unchanged;
+  may = h.may;
   a = own_looks c A p.a ab ba h.a;
   b = peer_looks c B p.b ba ab h.b;
   copies = Every-map (λ f shows. flight_a ab ba f.to f.carried.segment shows) h.copies;
 }
 path_looks c B p ab ba ds h = record {
   profile = h.profile;
-  unchanged = h.unchanged;
+  may = h.may;
   a = peer_looks c A p.a ab ba h.a;
   b = own_looks c B p.b ba ab h.b;
   copies = Every-map (λ f shows. flight_b ab ba f.to f.carried.segment shows) h.copies;
@@ -199,9 +201,9 @@ open_moves six others ab ba = record {
   silent = refl;
   to = sym (
       ap (λ d. after_event (ToA (Moves others.number Open)) (record (duo_at six ab ba others) { ab = d }))
-      (opens_there (flags_of A six) others.lanes_ab six.send_a six.reassembly_b others.reader_b others.number ab (put_there others.lanes_ab others.number ab others.within_ab))
+      (opens_there (flags_of others.links A six) others.lanes_ab six.send_a six.reassembly_b others.reader_b others.number ab (put_there others.lanes_ab others.number ab others.within_ab))
       ∙ ap (λ d. record (duo_at six (lane_if (may_open six others.number) ab) ba others) { ba = d })
-      (opens_there (flags_of B six) others.lanes_ba six.send_b six.reassembly_a others.reader_a others.number ba (put_there others.lanes_ba others.number ba others.within_ba)));
+      (opens_there (flags_of others.links B six) others.lanes_ba six.send_b six.reassembly_a others.reader_a others.number ba (put_there others.lanes_ba others.number ba others.within_ba)));
 }
 
 -- the ends of a side that fell back look at it
@@ -212,11 +214,12 @@ module _ (f : Flags) (lanes : List Lane) (send : Sending) (arrived : Arriving) (
       ∙ ap (λ xs. direction send arrived xs reader) (set-set lanes number p (record p { sender_plain = f.sender }))
       ∙ ap (λ (b : Bool). direction send arrived (set lanes number (record p { sender_plain = b })) reader) plain
 
-  looks_back : f.receiver ≡ true → after f (Moves number LookAtReceiver) (direction send arrived (set lanes number p) reader) ≡ direction send arrived (set lanes number (looked_back p)) reader
-  looks_back plain =
+  looks_back : f.receiver ≡ true → f.loose ≡ false → after f (Moves number LookAtReceiver) (direction send arrived (set lanes number p) reader) ≡ direction send arrived (set lanes number (looked_back p)) reader
+  looks_back plain tight =
       ap (λ o. moves f number LookAtReceiver o (direction send arrived (set lanes number p) reader)) there
-      ∙ ap (λ xs. direction send arrived xs reader) (set-set lanes number p (record p { receiver_plain = f.receiver }))
-      ∙ ap (λ (b : Bool). direction send arrived (set lanes number (record p { receiver_plain = b })) reader) plain
+      ∙ ap (λ xs. direction send arrived xs reader) (set-set lanes number p (record p { receiver_plain = f.receiver; receiver_loose = f.loose }))
+      ∙ ap (λ (b : Bool). direction send arrived (set lanes number (record p { receiver_plain = b; receiver_loose = f.loose })) reader) plain
+      ∙ ap (λ (b : Bool). direction send arrived (set lanes number (record p { receiver_plain = true; receiver_loose = b })) reader) tight
 
 pub look_moves : (s : Side) (six : SixBooks) (others : Others) (ab ba : Lane) → is_plain (control_of s six).fall ≡ true
     → Moved (duo_at six ab ba others) (duo_at six (pick s (looked_out ab) (looked_back ab)) (pick s (looked_back ba) (looked_out ba)) others)
@@ -225,16 +228,16 @@ look_moves A six others ab ba plain = record {
   silent = refl;
   to = sym (
       ap (λ d. after_event (ToA (Moves others.number LookAtReceiver)) (record (duo_at six ab ba others) { ab = d }))
-      (looks_out (flags_of A six) others.lanes_ab six.send_a six.reassembly_b others.reader_b others.number ab (put_there others.lanes_ab others.number ab others.within_ab) plain)
+      (looks_out (flags_of others.links A six) others.lanes_ab six.send_a six.reassembly_b others.reader_b others.number ab (put_there others.lanes_ab others.number ab others.within_ab) plain)
       ∙ ap (λ d. record (duo_at six (looked_out ab) ba others) { ba = d })
-      (looks_back (flags_of B six) others.lanes_ba six.send_b six.reassembly_a others.reader_a others.number ba (put_there others.lanes_ba others.number ba others.within_ba) plain));
+      (looks_back (flags_of others.links B six) others.lanes_ba six.send_b six.reassembly_a others.reader_a others.number ba (put_there others.lanes_ba others.number ba others.within_ba) plain refl));
 }
 look_moves B six others ab ba plain = record {
   events = ToB (Moves others.number LookAtReceiver) ∷ ToA (Moves others.number LookAtSender) ∷ [];
   silent = refl;
   to = sym (
       ap (λ d. after_event (ToA (Moves others.number LookAtSender)) (record (duo_at six ab ba others) { ab = d }))
-      (looks_back (flags_of A six) others.lanes_ab six.send_a six.reassembly_b others.reader_b others.number ab (put_there others.lanes_ab others.number ab others.within_ab) plain)
+      (looks_back (flags_of others.links A six) others.lanes_ab six.send_a six.reassembly_b others.reader_b others.number ab (put_there others.lanes_ab others.number ab others.within_ab) plain refl)
       ∙ ap (λ d. record (duo_at six (looked_back ab) ba others) { ba = d })
-      (looks_out (flags_of B six) others.lanes_ba six.send_b six.reassembly_a others.reader_a others.number ba (put_there others.lanes_ba others.number ba others.within_ba) plain));
+      (looks_out (flags_of others.links B six) others.lanes_ba six.send_b six.reassembly_a others.reader_a others.number ba (put_there others.lanes_ba others.number ba others.within_ba) plain));
 }

@@ -71,7 +71,7 @@ sent_within v path p h identity (suc n) is = last (slice_get p.sent n) refl
     last None there = absurd (in_range p.sent n there (omega (arith, is)))
 
 module _ (six : SixBooks) (others : Others) where
-  alone_at : (s : Side) (ab ba : Lane) → Holds (duo_at six ab ba others) → (flags_of s six).sender || (flags_of s six).receiver ≡ true → not (flags_of s six).answered ≡ true
+  alone_at : (s : Side) (ab ba : Lane) → Holds (duo_at six ab ba others) → (flags_of others.links s six).sender || (flags_of others.links s six).receiver ≡ true → not (flags_of others.links s six).answered ≡ true
   alone_at A ab ba holds fallen = fallen_ab (duo_at six ab ba others).modes holds.modes fallen
   alone_at B ab ba holds fallen =
       let m : Modes = (duo_at six ab ba others).modes in
@@ -86,7 +86,7 @@ module _ (six : SixBooks) (others : Others) where
       out = pick s ab ba
 
       v : View
-      v = view_of (flags_of s six) (send_of s six) (reassembly_of (peer s) six)
+      v = view_of (flags_of others.links s six) (send_of s six) (reassembly_of (peer s) six)
 
       lane : LaneHolds v others.number out
       lane = out_holds six others s ab ba holds

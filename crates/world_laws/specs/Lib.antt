@@ -23,4 +23,5 @@ pub mod Laws
 pub mod RoundDone
 pub mod Stopping
 pub mod AbortCause
+pub mod Altered
 pub mod Announcing

@@ -8,6 +8,7 @@ use Rattle.link_script.specs.Scripts.{HasRanges}
 use Rattle.path_core.specs.Octets.{octets}
 use Rattle.path_core.specs.Values.{values}
 use Rattle.world_laws.specs.AbortCause.{AbortsHaveCause}
+use Rattle.world_laws.specs.Announcing.{AnnouncementsEnd}
 use Rattle.world_laws.specs.Agreement.{MappingsAgree}
 use Rattle.world_laws.specs.FallsRight.{FallsAreRight, FallsLast, PositionsArePlaces}
 use Rattle.world_laws.specs.Fresh.{shown_world}
@@ -53,6 +54,7 @@ pub record KeepsAllPromises (w : WorldState (List ℕ)) : Type 0 where
   pub places : PositionsArePlaces w
   pub granted : GrantedOnce w
   pub standbys : BackupsGetNothing w
+  pub announcements : AnnouncementsEnd w
   pub aborts : AbortsHaveCause w
 
 -- so it keeps all promises, whatever the order of the steps

@@ -1,6 +1,7 @@
 //! What holds of every connection, as clauses of functions that do nothing.
 ghost use Rattle.world_laws.specs.AbortCause.{AbortsHaveCause};
 ghost use Rattle.world_laws.specs.Agreement.{MappingsAgree};
+ghost use Rattle.world_laws.specs.Altered.{BothKeepCount, HoldsAnyway};
 ghost use Rattle.world_laws.specs.Announcing.{AnnouncementsEnd};
 ghost use Rattle.world_laws.specs.FallsRight.{FallsAreRight, FallsLast, PositionsArePlaces};
 ghost use Rattle.world_laws.specs.Granted.{GrantedOnce};
@@ -224,10 +225,11 @@ pub fn nothing_is_refused()
 
 /// A law: a connection by a script that alters no payload, with files shorter than 2^31 - 2 octets, starts plainly, with
 /// numbers that fit; so over octets it keeps every promise, in whatever order its actors go: both sides keep their word, nothing
-/// follows the end, each turn is on each pipe one step or none, nothing is refused, keys never differ, joins and the HMACs of addresses are
-/// right, no copy is refused for what it says of a join, mappings agree, falls are right and last, positions are places after one,
-/// each byte is granted to a path once at most, and none to one that stands by, and an abort that a reader is told of has its cause.
-/// And it is the connection over segments as values, shown in octets, whose short data numbers go short.
+/// follows the end, each turn is on each pipe one step or none, nothing is refused, keys never differ, joins and the HMACs of
+/// addresses are right, no copy is refused for what it says of a join, mappings agree, falls are right and last, positions are places
+/// after one, each byte is granted to a path once at most, and none to one that stands by, no announcement goes out in a turn after it
+/// ended, and an abort that a reader is told of has its cause. And it is the connection over segments as values, shown in octets,
+/// whose short data numbers go short.
 pub fn plain_scripts_keep_all_promises()
     ensures starts { PlainScriptsStartPlainly }
     ensures promises { PlainScriptsKeepAllPromises }
@@ -289,4 +291,15 @@ pub fn short_numbers_are_low_halves()
 pub fn joins_wait_for_their_answer()
     ensures octets { Always octets (λ start w. JoinsWait w) }
     ensures values { Always values (λ start w. JoinsWait w) }
+{}
+
+/// A law: whatever payload the links alter, and whether mappings are checked or not, what is acknowledged was received, and that
+/// was written; a reader is told the end only where the stream is closed and it has as many octets as were written, and nothing
+/// follows then; each turn is on each pipe one step that it allows, or none; and no mapping that an end hears gives a position
+/// another place than the one that it learned. That is said of segments as values, and which octets a reader gets isn't.
+pub fn counts_are_kept_whatever_is_altered()
+    ensures counts { HoldsAnyway BothKeepCount }
+    ensures nothing_follows { HoldsAnyway (NothingFollows values) }
+    ensures one_step { HoldsAnyway (EachTurnIsOneStep values) }
+    ensures mappings { HoldsAnyway MappingsAgree }
 {}
