@@ -38,9 +38,13 @@ impl Model for Books {
 
     ghost Value = { StampedBooks };
 
-    ghost view = { λ b. all_six b.send_a b.send_b b.reassembly_a b.reassembly_b b.control_a b.control_b };
+    ghost view = { λ b.
+        all_six b.send_a b.send_b b.reassembly_a b.reassembly_b b.control_a b.control_b };
 
-    ghost invariant = { λ b. AreSmall (books_in (all_six b.send_a b.send_b b.reassembly_a b.reassembly_b b.control_a b.control_b)) };
+    ghost invariant = { λ b.
+        AreSmall
+        (books_in
+        (all_six b.send_a b.send_b b.reassembly_a b.reassembly_b b.control_a b.control_b)) };
 }
 
 impl Books {
@@ -87,10 +91,14 @@ impl Books {
         call: &SendCall,
     ) -> Result<SendReply, Refusal>
         requires { sending.CanAsk call.now }
-        ensures reply { IfOk result (λ reply. reply ≡ sending.reply_to (send_of side (books_in self.old)) call.now) }
+        ensures reply { IfOk result (λ reply. reply ≡
+            sending.reply_to (send_of side (books_in self.old)) call.now) }
         ensures ok { OnOk result (self.new ≡ after_send_entry side call.now pass.old self.old) }
-        ensures pass { OnOk result (pass.new ≡ record pass.old { stamp = next_stamp (pick side self.old.send_a self.old.send_b) pass.old }) }
-        ensures stamps { (result ≡ Err refusals.Stamps) ↔ (2 ^ 62 ≤ next_stamp (pick side self.old.send_a self.old.send_b) pass.old) }
+        ensures pass { OnOk result (pass.new ≡
+            record pass.old
+            { stamp = next_stamp (pick side self.old.send_a self.old.send_b) pass.old }) }
+        ensures stamps { (result ≡ Err refusals.Stamps) ↔
+            (2 ^ 62 ≤ next_stamp (pick side self.old.send_a self.old.send_b) pass.old) }
         ensures err { OnErr result (self.new ≡ self.old) }
         ensures pass_err { OnErr result (pass.new ≡ pass.old) }
     {
@@ -107,10 +115,17 @@ impl Books {
         call: &ReassemblyCall,
     ) -> Result<ReassemblyReply, Refusal>
         requires { arriving.CanAsk call.now }
-        ensures reply { IfOk result (λ reply. reply ≡ arriving.reply_to (reassembly_of side (books_in self.old)) call.now) }
-        ensures ok { OnOk result (self.new ≡ after_reassembly_entry side call.now pass.old self.old) }
-        ensures pass { OnOk result (pass.new ≡ record pass.old { stamp = next_stamp (pick side self.old.reassembly_a self.old.reassembly_b) pass.old }) }
-        ensures stamps { (result ≡ Err refusals.Stamps) ↔ (2 ^ 62 ≤ next_stamp (pick side self.old.reassembly_a self.old.reassembly_b) pass.old) }
+        ensures reply { IfOk result (λ reply. reply ≡
+            arriving.reply_to (reassembly_of side (books_in self.old)) call.now) }
+        ensures ok { OnOk result (self.new ≡
+            after_reassembly_entry side call.now pass.old self.old) }
+        ensures pass { OnOk result (pass.new ≡
+            record pass.old {
+              stamp = next_stamp (pick side self.old.reassembly_a self.old.reassembly_b)
+                  pass.old;
+            }) }
+        ensures stamps { (result ≡ Err refusals.Stamps) ↔
+            (2 ^ 62 ≤ next_stamp (pick side self.old.reassembly_a self.old.reassembly_b) pass.old) }
         ensures err { OnErr result (self.new ≡ self.old) }
         ensures pass_err { OnErr result (pass.new ≡ pass.old) }
     {
@@ -127,10 +142,14 @@ impl Books {
         call: &ControlCall,
     ) -> Result<ControlReply, Refusal>
         requires { controlling.can_ask call.now }
-        ensures reply { IfOk result (λ reply. reply ≡ control_replies.reply_to (control_of side (books_in self.old)) call.now) }
+        ensures reply { IfOk result (λ reply. reply ≡
+            control_replies.reply_to (control_of side (books_in self.old)) call.now) }
         ensures ok { OnOk result (self.new ≡ after_control_entry side call.now pass.old self.old) }
-        ensures pass { OnOk result (pass.new ≡ record pass.old { stamp = next_stamp (pick side self.old.control_a self.old.control_b) pass.old }) }
-        ensures stamps { (result ≡ Err refusals.Stamps) ↔ (2 ^ 62 ≤ next_stamp (pick side self.old.control_a self.old.control_b) pass.old) }
+        ensures pass { OnOk result (pass.new ≡
+            record pass.old
+            { stamp = next_stamp (pick side self.old.control_a self.old.control_b) pass.old }) }
+        ensures stamps { (result ≡ Err refusals.Stamps) ↔
+            (2 ^ 62 ≤ next_stamp (pick side self.old.control_a self.old.control_b) pass.old) }
         ensures err { OnErr result (self.new ≡ self.old) }
         ensures pass_err { OnErr result (pass.new ≡ pass.old) }
     {
@@ -146,8 +165,10 @@ impl Books {
         requires conditions { CanBeAsked ask.now }
         ensures reply { IfOk result (λ reply. reply ≡ reply_of (books_in self.old) ask.now) }
         ensures ok { OnOk result (self.new ≡ after_entry ask.now pass.old self.old) }
-        ensures pass { OnOk result (pass.new ≡ record pass.old { stamp = stamp_of ask.now self.old pass.old }) }
-        ensures stamps { (result ≡ Err refusals.Stamps) ↔ (2 ^ 62 ≤ stamp_of ask.now self.old pass.old) }
+        ensures pass { OnOk result (pass.new ≡
+            record pass.old { stamp = stamp_of ask.now self.old pass.old }) }
+        ensures stamps { (result ≡ Err refusals.Stamps) ↔
+            (2 ^ 62 ≤ stamp_of ask.now self.old pass.old) }
         ensures err { OnErr result (self.new ≡ self.old) }
         ensures pass_err { OnErr result (pass.new ≡ pass.old) }
     {
@@ -187,14 +208,17 @@ impl Desk for Books {
         requires conditions { CanBeAsked ask.now }
         ensures reply { IfOk result (λ reply. reply ≡ reply_of (books_in self.old) ask.now) }
         ensures ok { OnOk result (self.new ≡ after_entry ask.now pass.old self.old) }
-        ensures pass { OnOk result (pass.new ≡ record pass.old { stamp = stamp_of ask.now self.old pass.old }) }
-        ensures stamps { (result ≡ Err refusals.Stamps) ↔ (2 ^ 62 ≤ stamp_of ask.now self.old pass.old) }
+        ensures pass { OnOk result (pass.new ≡
+            record pass.old { stamp = stamp_of ask.now self.old pass.old }) }
+        ensures stamps { (result ≡ Err refusals.Stamps) ↔
+            (2 ^ 62 ≤ stamp_of ask.now self.old pass.old) }
         ensures err { OnErr result (self.new ≡ self.old) }
         ensures pass_err { OnErr result (pass.new ≡ pass.old) }
         ensures kind { IfOk result (λ reply. IsOfKind ask.now reply) }
         ensures bounds { IfOk result (λ reply. IsBounded ask.now reply) }
         ensures rises { OnOk result (Rises pass.old pass.new) }
-        ensures notes { IfOk result (λ reply. Some (notes_in self.new) ≡ noted (Some (notes_in self.old)) (note_of pass.old pass.new ask.now reply)) }
+        ensures notes { IfOk result (λ reply. Some (notes_in self.new) ≡
+            noted (Some (notes_in self.old)) (note_of pass.old pass.new ask.now reply)) }
         ensures origin { origin_of self.new ≡ origin_of self.old }
     {
         self.sound();

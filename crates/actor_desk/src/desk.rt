@@ -38,7 +38,8 @@ pub trait Desk {
         ensures kind { IfOk result (λ reply. IsOfKind ask.now reply) }
         ensures bounds { IfOk result (λ reply. IsBounded ask.now reply) }
         ensures rises { OnOk result (Rises pass.old pass.new) }
-        ensures notes { IfOk result (λ reply. notes self.new ≡ noted (notes self.old) (note_of pass.old pass.new ask.now reply)) }
+        ensures notes { IfOk result (λ reply. notes self.new ≡
+            noted (notes self.old) (note_of pass.old pass.new ask.now reply)) }
         ensures origin { origin self.new ≡ origin self.old }
         ensures root { root self.new ≡ root self.old }
         ensures serving { (actor : ℕ) → serves self.old actor → serves self.new actor }

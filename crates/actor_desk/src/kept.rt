@@ -15,7 +15,8 @@ pub trait Kept: Book {
 
     /// A law: no call ends it.
     fn stays()
-        ensures { (book : Self) (call : Self.Call) → Self.can_ask call → sound book → sound (Self.after book call) };
+        ensures { (book : Self) (call : Self.Call) → Self.can_ask call → sound book →
+            sound (Self.after book call) };
 }
 
 /// No more than 2^62 - 3 octets are written.

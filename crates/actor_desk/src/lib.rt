@@ -17,7 +17,6 @@ mod ordering;
 pub use actor::{Actor, Crew};
 pub use ask::{Ask, LocalStep, Note, Reply};
 pub use books::Books;
-pub use copies::{copy_reassembly, copy_send};
 pub use desk::Desk;
 pub use kept::Kept;
 pub use laws::{books_answer_in_kind, books_answer_within_bounds};

@@ -35,7 +35,13 @@ impl<A> Model for AddressManager<A> {
 
     ghost Value = { Addresses A };
 
-    ghost view = { λ m. record { announced = m.announced.entries; kept = m.kept.entries; due = m.due; backups = m.backups } };
+    ghost view = { λ m.
+        record {
+          announced = m.announced.entries;
+          kept = m.kept.entries;
+          due = m.due;
+          backups = m.backups;
+        } };
 }
 
 impl<A: Copy + Eq> AddressManager<A> {

@@ -35,11 +35,13 @@ impl Model for BytePieces {
     ghost view = { λ kept. record {
       from = kept.from;
       places = spread kept.from kept.pieces.items;
-      incoming = option_map (λ parts. spread kept.from (with_pieces parts.items kept.pieces.items)) kept.incoming;
+      incoming = option_map (λ parts. spread kept.from (with_pieces parts.items kept.pieces.items))
+          kept.incoming;
     } };
 
     ghost invariant = { λ kept. AreOrdered kept.from (2 ^ 62) kept.pieces.items
-        × IfSome kept.incoming (λ parts. AreOrdered kept.from (2 ^ 62) (with_pieces parts.items kept.pieces.items)
+        × IfSome kept.incoming
+        (λ parts. AreOrdered kept.from (2 ^ 62) (with_pieces parts.items kept.pieces.items)
         × (deque_len kept.pieces + deque_len parts ≤ deque_capacity kept.pieces)) };
 }
 
@@ -88,7 +90,8 @@ impl BytePieces {
     pub fn put(&mut self, at: u64, bytes: &[u8]) -> Result<u64, AllocError>
         requires { at + length bytes.now ≤ 2 ^ 62 }
         ensures ok { OnOk result (self.new ≡ after_put at bytes.now self.old) }
-        ensures count { IfOk result (λ count. count + kept_count self.old.places ≡ kept_count self.new.places) }
+        ensures count { IfOk result (λ count. count + kept_count self.old.places ≡
+            kept_count self.new.places) }
         ensures few { IfOk result (λ count. count ≤ length bytes.now) }
         ensures err { OnErr result (self.new ≡ self.old) }
     {
@@ -141,7 +144,8 @@ impl BytePieces {
     /// How many of these bytes [`BytePieces::put`] would keep, in time proportional to the number of pieces that they meet.
     pub fn count_new(&self, at: u64, bytes: &[u8]) -> u64
         requires { at + length bytes.now ≤ 2 ^ 62 }
-        ensures { result + kept_count self.now.places ≡ kept_count (after_put at bytes.now self.now).places }
+        ensures { result + kept_count self.now.places ≡
+            kept_count (after_put at bytes.now self.now).places }
     {
         let passed = bytes.len().min(self.from.saturating_sub(at) as usize);
         let first = self.from.max(at);

@@ -59,7 +59,15 @@ impl Model for ControlBook {
 
     ghost Value = { Control };
 
-    ghost view = { λ b. record { side = b.side; keys = b.keys; fall = b.fall; paths = b.paths; addresses = b.addresses; notices = b.notices } };
+    ghost view = { λ b.
+        record {
+          side = b.side;
+          keys = b.keys;
+          fall = b.fall;
+          paths = b.paths;
+          addresses = b.addresses;
+          notices = b.notices;
+        } };
 }
 
 impl ControlBook {

@@ -44,7 +44,13 @@ impl Model for Mappings {
     ghost use Rattle.dss_mapping.specs.Learning.{IsWithin};
 
     ghost view = { λ m. record {
-      mappings = record { places = places_of m.runs.items; tail = m.tail; live = m.live.items; forgotten = m.forgotten; held = m.held.items };
+      mappings = record {
+        places = places_of m.runs.items;
+        tail = m.tail;
+        live = m.live.items;
+        forgotten = m.forgotten;
+        held = m.held.items;
+      };
       ready = min (vec_capacity m.runs - vec_len m.runs) (vec_capacity m.live - vec_len m.live);
     } };
 
@@ -80,9 +86,16 @@ impl Mappings {
     /// a search by halves of the runs for each run that the mapping meets. A new one moves the runs behind it.
     pub fn learn(&mut self, pos: Pos, place: u64, mapping: &Mapping) -> Result<Learn, AllocError>
         requires { place + mapping.now.length ≤ 2 ^ 62 }
-        ensures value { IfOk result (λ answer. answer ≡ learn_of (record { pos = pos; place = place; mapping = mapping.now; fin = false }) self.old.mappings) }
-        ensures answer { IfOk result (λ answer. IsAnswer (run_of (record { pos = pos; place = place; mapping = mapping.now; fin = false })) self.old.mappings answer) }
-        ensures after { IfOk result (λ answer. self.new.mappings ≡ after_learn (record { pos = pos; place = place; mapping = mapping.now; fin = false }) answer self.old.mappings) }
+        ensures value { IfOk result (λ answer. answer ≡
+            learn_of (record { pos = pos; place = place; mapping = mapping.now; fin = false })
+            self.old.mappings) }
+        ensures answer { IfOk result (λ answer.
+            IsAnswer
+            (run_of (record { pos = pos; place = place; mapping = mapping.now; fin = false }))
+            self.old.mappings answer) }
+        ensures after { IfOk result (λ answer. self.new.mappings ≡
+            after_learn (record { pos = pos; place = place; mapping = mapping.now; fin = false })
+            answer self.old.mappings) }
         ensures err { OnErr result (self.new.mappings ≡ self.old.mappings) }
     {
         let kept = KeptMapping {
@@ -114,7 +127,8 @@ impl Mappings {
     pub fn hold(&mut self, told: Vec<KeptMapping>)
         requires room { length told.items ≤ self.old.ready }
         requires within { All IsWithin told.items }
-        ensures { self.new ≡ record self.old { mappings = after_hold told.items self.old.mappings } }
+        ensures { self.new ≡
+            record self.old { mappings = after_hold told.items self.old.mappings } }
     {
         self.held = told;
     }
@@ -160,7 +174,8 @@ impl Mappings {
     pub fn infinite(&mut self, pos: Pos, place: u64) -> Learn
         requires { place ≤ 2 ^ 62 }
         ensures answer { IsAnswer (infinite_run pos place) self.old.mappings result }
-        ensures after { self.new ≡ record self.old { mappings = after_infinite pos place result self.old.mappings } }
+        ensures after { self.new ≡
+            record self.old { mappings = after_infinite pos place result self.old.mappings } }
     {
         let told = Run::infinite(pos, place);
         let answer = self.answer(told);
@@ -210,7 +225,8 @@ impl Mappings {
     fn answer(&self, told: Run) -> Learn
         requires { IsSound told }
         ensures answer { IsAnswer told self.now.mappings result }
-        ensures value { result ≡ answer_by (clash_of told self.now.mappings) told self.now.mappings }
+        ensures value { result ≡
+            answer_by (clash_of told self.now.mappings) told self.now.mappings }
     {
         self.first_answer(told)
     }

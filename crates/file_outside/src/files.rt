@@ -127,7 +127,8 @@ impl<R: Files + Print + Alloc<A = Global>> Outside for FileOutside<'_, R> {
 
     ghost load_faults = { λ outside. outside.load_faults };
 
-    ghost port_faults = { λ outside port. count_of outside.read_by_a_faults outside.read_by_b_faults outside.log_faults port };
+    ghost port_faults = { λ outside port.
+        count_of outside.read_by_a_faults outside.read_by_b_faults outside.log_faults port };
 
     ghost calls = { λ _. None };
 

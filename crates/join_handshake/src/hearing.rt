@@ -35,7 +35,8 @@ pub struct JoinAnswer {
 /// of 12 octets (RFC 8684, section 3.2).
 pub fn server_syn(heard: Option<&MpOption<'_>>) -> Result<JoinSyn, JoinFault>
     ensures asked { result_ok result ≡ syn_heard (value_heard heard.entry) }
-    ensures no_option { (result ≡ Err JoinFault.NoOption) ↔ IsNone (syn_heard (value_heard heard.entry)) }
+    ensures no_option { (result ≡ Err JoinFault.NoOption) ↔
+        IsNone (syn_heard (value_heard heard.entry)) }
 {
     match heard {
         Some(
@@ -110,10 +111,13 @@ pub fn server_third(
     heard: Option<&MpOption<'_>>,
 ) -> Result<(), JoinFault>
     ensures right { IsOk result
-        ↔ (third_heard (value_heard heard.entry) ≡ Some (join_a160_of key_a key_b nonce_a nonce_b)) }
+        ↔
+        (third_heard (value_heard heard.entry) ≡ Some (join_a160_of key_a key_b nonce_a nonce_b)) }
     ensures bad_hmac { (result ≡ Err JoinFault.BadHmac)
-        ↔ IsSomeAnd (third_heard (value_heard heard.entry)) (λ hmac. hmac ≢ join_a160_of key_a key_b nonce_a nonce_b) }
-    ensures no_option { (result ≡ Err JoinFault.NoOption) ↔ IsNone (third_heard (value_heard heard.entry)) }
+        ↔ IsSomeAnd (third_heard (value_heard heard.entry))
+        (λ hmac. hmac ≢ join_a160_of key_a key_b nonce_a nonce_b) }
+    ensures no_option { (result ≡ Err JoinFault.NoOption) ↔
+        IsNone (third_heard (value_heard heard.entry)) }
 {
     let hmac = match heard {
         Some(

@@ -66,7 +66,8 @@ pub fn woven_round<G: Gate + Sync, R: Threads + Wait + Sync>(
     books: Books,
     gate: &G,
 ) -> (Books, Result<Vec<u8>, Refusal>)
-    requires begins { Begins (greatest 0 crew.old.items) (record { crew = crew.old.items; books = books }) }
+    requires begins { Begins (greatest 0 crew.old.items)
+        (record { crew = crew.old.items; books = books }) }
     ensures many { length crew.new.items ≡ length crew.old.items }
     ensures turned { OnOk result.1 (HaveTurned crew.old.items crew.new.items) }
     ensures order { IfOk result.1 (λ order. WeavesTo

@@ -21,7 +21,8 @@ fn may_have(path: &[u8], options: &[&[u8]]) -> bool
 /// `[join TICK] [backup]`: the word of the tick, and whether the path is a backup.
 #[tactic(auto, unfolding(crate::specs::Lines::path_options))]
 fn read_options<'a>(options: &[&'a [u8]]) -> Result<(&'a [u8], bool), ScriptKind>
-    ensures { Shows (λ x. (x.0.now, x.1)) result (path_options (map (λ word. word.now) options.now)) }
+    ensures { Shows (λ x. (x.0.now, x.1)) result
+        (path_options (map (λ word. word.now) options.now)) }
 {
     match options {
         [] => Ok((b"0", false)),

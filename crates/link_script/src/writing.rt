@@ -135,7 +135,8 @@ fn put(text: &mut String, line: &Line) -> Result<(), AllocError>
 }
 
 fn put_seed(text: &mut String, seed: u64) -> Result<(), AllocError>
-    ensures { OnOk result (string_bytes text.new ≡ string_bytes text.old ++ flat_map ended (seed_lines seed)) }
+    ensures { OnOk result (string_bytes text.new ≡
+        string_bytes text.old ++ flat_map ended (seed_lines seed)) }
 {
     if seed == DEFAULT_SEED {
         return Ok(());
@@ -144,7 +145,8 @@ fn put_seed(text: &mut String, seed: u64) -> Result<(), AllocError>
 }
 
 fn put_checksum(text: &mut String, checksum: bool) -> Result<(), AllocError>
-    ensures { OnOk result (string_bytes text.new ≡ string_bytes text.old ++ flat_map ended (checksum_lines checksum)) }
+    ensures { OnOk result (string_bytes text.new ≡
+        string_bytes text.old ++ flat_map ended (checksum_lines checksum)) }
 {
     if !checksum {
         return Ok(());
@@ -153,7 +155,8 @@ fn put_checksum(text: &mut String, checksum: bool) -> Result<(), AllocError>
 }
 
 fn put_short(text: &mut String, short: bool) -> Result<(), AllocError>
-    ensures { OnOk result (string_bytes text.new ≡ string_bytes text.old ++ flat_map ended (short_lines short)) }
+    ensures { OnOk result (string_bytes text.new ≡
+        string_bytes text.old ++ flat_map ended (short_lines short)) }
 {
     if !short {
         return Ok(());
@@ -162,7 +165,8 @@ fn put_short(text: &mut String, short: bool) -> Result<(), AllocError>
 }
 
 fn put_buffer(text: &mut String, buffer: u64) -> Result<(), AllocError>
-    ensures { OnOk result (string_bytes text.new ≡ string_bytes text.old ++ flat_map ended (buffer_lines buffer)) }
+    ensures { OnOk result (string_bytes text.new ≡
+        string_bytes text.old ++ flat_map ended (buffer_lines buffer)) }
 {
     if buffer == DEFAULT_BUFFER {
         return Ok(());
@@ -171,7 +175,8 @@ fn put_buffer(text: &mut String, buffer: u64) -> Result<(), AllocError>
 }
 
 fn put_paths(text: &mut String, paths: &[PathLine]) -> Result<(), AllocError>
-    ensures { OnOk result (string_bytes text.new ≡ string_bytes text.old ++ flat_map ended (path_lines 0 paths.now)) }
+    ensures { OnOk result (string_bytes text.new ≡
+        string_bytes text.old ++ flat_map ended (path_lines 0 paths.now)) }
 {
     for (i, path) in paths.iter().enumerate() {
         let line = *path;
@@ -182,7 +187,8 @@ fn put_paths(text: &mut String, paths: &[PathLine]) -> Result<(), AllocError>
 }
 
 fn put_events(text: &mut String, events: &[ScriptLine]) -> Result<(), AllocError>
-    ensures { OnOk result (string_bytes text.new ≡ string_bytes text.old ++ flat_map ended (event_lines events.now)) }
+    ensures { OnOk result (string_bytes text.new ≡
+        string_bytes text.old ++ flat_map ended (event_lines events.now)) }
 {
     for event in events {
         put(text, &Line::Event(*event))?;

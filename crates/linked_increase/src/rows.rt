@@ -1,6 +1,7 @@
 //! What is known of the paths of a connection: a row for each.
-ghost use Rattle.std.specs.Prelude.{◌≡◌, ◌<◌, ◌≤◌, ◌*◌, ◌↔◌, IsTrue, [], ◌∷◌, ◌++◌, length};
+ghost use Rattle.std.specs.Prelude.{◌≡◌, ◌<◌, ◌≤◌, ◌*◌, ◌↔◌, IsTrue, ◌==◌, [], ◌∷◌, ◌++◌, length, slice_index_or};
 
+use arrayvec::ArrayVec;
 use std::marker::Model;
 
 /// The most rows that are linked.
@@ -13,7 +14,7 @@ pub const MAX_WINDOW: u32 = 1_048_576;
 pub const MAX_RTT: u32 = 60_000;
 
 /// What one path tells of itself.
-#[derive(Clone, Copy, Debug, PartialEq, Eq)]
+#[derive(Clone, Copy, Debug, Default, PartialEq, Eq)]
 pub struct Row {
     /// The number of the path.
     pub path: u8,
@@ -57,38 +58,43 @@ impl Row {
     }
 }
 
-/// What stands in a place of [`Rows`] that no row has.
-const BLANK: Row = Row {
-    path: 0,
-    window: 0,
-    rtt: 0,
-};
-
-/// At most [`MAX_ROWS`] rows, which lie in the value itself.
+/// At most [`MAX_ROWS`] rows, which lie in the value itself: each number of a row in a list of its own, so that they take
+/// 148 octets.
 #[derive(Clone, Copy, Debug)]
 pub struct Rows {
-    /// The rows, and behind them blank places.
-    places: [Row; MAX_ROWS],
+    /// The paths of the rows, and behind them zeros.
+    paths: [u8; MAX_ROWS],
+    /// Their windows, and behind them zeros.
+    windows: [u32; MAX_ROWS],
+    /// Their round-trip times, and behind them zeros.
+    rtts: [u32; MAX_ROWS],
     /// How many rows there are.
-    len: usize,
+    len: u8,
 }
 
 impl Model for Rows {
-    ghost use Rattle.std.specs.Prelude.{List, length, take};
+    ghost use Rattle.std.specs.Prelude.{List, length, map, take};
     ghost use Rattle.linked_increase.specs.declared.rows.Row.{Row};
-    ghost use Rattle.linked_increase.specs.Places.{IsPadded, padded, padded-take, length-take_places};
+    ghost use Rattle.linked_increase.specs.Places.{ArePadded, path_in, window_in, rtt_in, rows_of, padded, padded_paths, padded_windows, padded_rtts, padded_len};
 
     ghost Value = { List Row };
 
-    ghost view = { λ r. take r.len r.places };
+    ghost view = { λ r. take r.len (rows_of r.paths r.windows r.rtts) };
 
-    ghost invariant = { λ r. IsPadded r.places r.len };
+    ghost invariant = { λ r. ArePadded r.paths r.windows r.rtts r.len };
 
-    ghost inverse = { λ rows. record { places = padded rows; len = length rows } };
+    ghost inverse = { λ rows. record {
+      paths = map path_in (padded rows);
+      windows = map window_in (padded rows);
+      rtts = map rtt_in (padded rows);
+      len = length rows;
+    } };
 
     ghost inverse_ok = { λ r is i. record {
-      places = padded-take r.places r.len is i;
-      len = length-take_places r.places r.len is i;
+      paths = padded_paths r.paths r.windows r.rtts r.len is i;
+      windows = padded_windows r.paths r.windows r.rtts r.len is i;
+      rtts = padded_rtts r.paths r.windows r.rtts r.len is i;
+      len = padded_len r.paths r.windows r.rtts r.len is i;
     } };
 }
 
@@ -98,9 +104,26 @@ impl Rows {
         ensures { result ≡ [] }
     {
         Rows {
-            places: [BLANK; MAX_ROWS],
+            paths: [0; MAX_ROWS],
+            windows: [0; MAX_ROWS],
+            rtts: [0; MAX_ROWS],
             len: 0,
         }
+    }
+
+    /// How many rows there are.
+    pub fn len(&self) -> usize
+        ensures count { result ≡ length self.now }
+        ensures bound { result ≤ 16 }
+    {
+        usize::from(self.len)
+    }
+
+    /// Whether there is no row.
+    pub fn is_empty(&self) -> bool
+        ensures { result ≡ (length self.now == 0) }
+    {
+        self.len() == 0
     }
 
     /// Whether there is no place for another row.
@@ -108,7 +131,7 @@ impl Rows {
         ensures full { IsTrue result ↔ (length self.now ≡ 16) }
         ensures bound { length self.now ≤ 16 }
     {
-        self.len == MAX_ROWS
+        self.len() == MAX_ROWS
     }
 
     /// Appends a row.
@@ -116,16 +139,35 @@ impl Rows {
         requires { length self.old < 16 }
         ensures { self.new ≡ self.old ++ row ∷ [] }
     {
-        self.places[self.len] = row;
+        let place = self.len();
+        self.paths[place] = row.path;
+        self.windows[place] = row.window;
+        self.rtts[place] = row.rtt;
         self.len += 1;
     }
 
-    /// The rows, in the order that they were pushed.
-    pub fn as_slice(&self) -> &[Row]
-        ensures value { result.now ≡ self.now }
-        ensures bound { length result.now ≤ 16 }
+    /// The row in a place that is taken.
+    fn row(&self, place: usize) -> Row
+        requires { place < length self.now }
+        ensures { result ≡ slice_index_or self.now place result }
     {
-        &self.places[..self.len]
+        Row {
+            path: self.paths[place],
+            window: self.windows[place],
+            rtt: self.rtts[place],
+        }
+    }
+
+    /// The rows, in the order that they were pushed.
+    pub fn listed(&self) -> ArrayVec<Row, MAX_ROWS>
+        ensures value { result.items ≡ self.now }
+        ensures bound { length result.items ≤ 16 }
+    {
+        let mut rows = ArrayVec::new();
+        for place in 0..self.len() {
+            rows.push(self.row(place));
+        }
+        rows
     }
 }
 
@@ -143,7 +185,7 @@ impl PartialEq for Rows {
         ensures value { result ≡ pointwise ⟦<Row as PartialEq>⟧.eq self.now other.now }
         ensures exact { IsTrue result ↔ (self.now ≡ other.now) }
     {
-        self.as_slice() == other.as_slice()
+        self.listed().as_slice() == other.listed().as_slice()
     }
 }
 

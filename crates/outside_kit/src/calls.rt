@@ -88,7 +88,8 @@ impl CallRecord {
     /// Notes a call at the end. Where memory for it is wanting that is answered, and no call is told any more; where none is told
     /// nothing is noted.
     fn note(&mut self, call: Result<OutsideCall, AllocError>, ok: bool) -> Result<(), AllocError>
-        ensures recorded { (asked : Call) → IfOk call (λ call. call_of call ≡ asked) → AreCallsAfter asked ok self.old self.new }
+        ensures recorded { (asked : Call) → IfOk call (λ call. call_of call ≡ asked) →
+            AreCallsAfter asked ok self.old self.new }
         ensures told { OnOk result (IsSome self.old → IsSome self.new) }
         ensures lost { OnErr result (self.new ≡ None) }
     {
@@ -147,7 +148,8 @@ fn with_call(
     call: OutsideCall,
     ok: bool,
 ) -> Result<Vec<RecordedCall>, AllocError>
-    ensures { IfOk result (λ after. map made_of after.items ≡ map made_of made.items ++ record { call = call_of call; ok = ok } ∷ []) }
+    ensures { IfOk result (λ after. map made_of after.items ≡
+        map made_of made.items ++ record { call = call_of call; ok = ok } ∷ []) }
 {
     made.push(RecordedCall { call, ok })?;
     Ok(made)

@@ -1,9 +1,10 @@
 //! What is still to be done in a turn, one duty after the other.
 
 ghost use Rattle.std.specs.Prelude.{◌≡◌, ◌≤◌, ◌+◌, ◌++◌, drop, length};
+ghost use Rattle.path_agenda.specs.Agenda.{rest_of_turn};
 ghost use Rattle.path_agenda.specs.Words.{first_of, replaced};
 
-use crate::duty::Duty;
+use crate::duty::{Duty, StepDuty};
 use arrayvec::ArrayVec;
 use std::marker::Model;
 
@@ -40,15 +41,20 @@ impl Agenda {
         }
     }
 
-    /// These duties in three parts, one behind the other: at most 72 in all. Takes no memory.
-    pub(crate) fn of_parts(first: &[Duty], second: &[Duty], third: &[Duty]) -> Self
-        requires { length first.now + length second.now + length third.now ≤ 72 }
-        ensures { result ≡ first.now ++ (second.now ++ third.now) }
+    /// These duties in four parts, one behind the other, and then the rest of the turn: at most 70 in all before it. Takes no memory.
+    pub(crate) fn of_parts(first: &[Duty], second: &[Duty], third: &[Duty], fourth: &[Duty]) -> Self
+        requires { length first.now + length second.now + length third.now + length fourth.now ≤
+            70 }
+        ensures { result ≡
+            first.now ++ (second.now ++ (third.now ++ (fourth.now ++ rest_of_turn))) }
     {
         let mut listed = ArrayVec::new();
         listed.try_extend_from_slice(first).unwrap();
         listed.try_extend_from_slice(second).unwrap();
         listed.try_extend_from_slice(third).unwrap();
+        listed.try_extend_from_slice(fourth).unwrap();
+        listed.push(Duty::Step(StepDuty::Events));
+        listed.push(Duty::End);
         Agenda {
             duties: listed,
             done: 0,

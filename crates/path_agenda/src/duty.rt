@@ -53,7 +53,7 @@ pub enum AskDuty {
     /// Places the bytes that are in order and mapped: as long as there are some.
     Edge(Side),
     /// Tells the end of the stream that a DATA_FIN said, the first being 0.
-    HeardFin { side: Side, index: u64 },
+    HeardFin { side: Side, index: u8 },
     /// The side fell back to plain TCP: tells the peer's FIN in the place of a DATA_FIN.
     SubflowFin(Side),
     /// Asks what is to be acknowledged, where bytes or an end were told.
@@ -94,7 +94,7 @@ pub enum StepDuty {
     /// Takes the earliest event that is due before the round's end.
     Events,
     /// Treats one of the things that a copy said, the first being 0: tells it, or breaks the path.
-    Heard { side: Side, index: u64 },
+    Heard { side: Side, index: u8 },
     /// An acknowledgement of data came without a Data ACK: tells it, or breaks the path, where it joined and no Data ACK ever
     /// came, or where this is the third time in a row.
     PlainAck(Side),

@@ -1,7 +1,7 @@
 //! What is to be done in a turn, and after each kind of event. A rule that is added to one of them has to be a duty.
 
-ghost use Rattle.std.specs.Prelude.{◌≡◌, ◌≤◌, ◌∷◌, []};
-ghost use Rattle.path_agenda.specs.Agenda.{heard_and, rest_of_turn, emission, start_of_turn, syn_came, syn_ack_came, join_came, refuses, join_answered, payload_came, copy_came, syn_again, answers, answers_dead, expired, expired_for_ever, announces, withdraws, stops, leaves, breaks, resets};
+ghost use Rattle.std.specs.Prelude.{◌≡◌, ◌≤◌, ◌++◌, ◌∷◌, [], length};
+ghost use Rattle.path_agenda.specs.Agenda.{heard_and, rest_of_turn, emission, emission_and, start_of_turn, syn_came, syn_ack_came, join_came, refuses, join_answered, payload_came, copy_came, syn_again, answers, answers_dead, expired, expired_for_ever, announces, withdraws, stops, leaves, breaks, resets};
 
 use crate::agenda::Agenda;
 use crate::duty::{AskDuty, Duty, SendDuty, SilentDuty, StepDuty};
@@ -20,17 +20,7 @@ impl Agenda {
     pub fn emission(side: Side) -> Self
         ensures { result ≡ emission side }
     {
-        Agenda::of(&[
-            Duty::Send(SendDuty::Syn(side)),
-            Duty::Send(SendDuty::FastClose(side)),
-            Duty::Send(SendDuty::Notice(side)),
-            Duty::Step(StepDuty::Data(side)),
-            Duty::Send(SendDuty::DataFin(side)),
-            Duty::Send(SendDuty::Fin(side)),
-            Duty::Silent(SilentDuty::Timer(side)),
-            Duty::Step(StepDuty::Events),
-            Duty::End,
-        ])
+        Agenda::before_emission(&[], side)
     }
 
     /// A turn, from its start: a path that had to wait asks to join, and both ends look at how their sides stand, tell their windows, and send what they may.
@@ -38,53 +28,33 @@ impl Agenda {
         ensures { result ≡ start_of_turn }
     {
         let (a, b) = (Side::A, Side::B);
-        Agenda::of(&[
-            Duty::Ask(AskDuty::JoinAgain),
-            Duty::Step(StepDuty::Look(a)),
-            Duty::Step(StepDuty::Look(b)),
-            Duty::Ask(AskDuty::Window(a)),
-            Duty::Send(SendDuty::Update(a)),
-            Duty::Ask(AskDuty::Window(b)),
-            Duty::Send(SendDuty::Update(b)),
-            Duty::Ask(AskDuty::LeaveNoted(a)),
-            Duty::Send(SendDuty::ResetNoted(a)),
-            Duty::Send(SendDuty::Syn(a)),
-            Duty::Send(SendDuty::FastClose(a)),
-            Duty::Send(SendDuty::Notice(a)),
-            Duty::Step(StepDuty::Data(a)),
-            Duty::Send(SendDuty::DataFin(a)),
-            Duty::Send(SendDuty::Fin(a)),
-            Duty::Silent(SilentDuty::Timer(a)),
-            Duty::Ask(AskDuty::LeaveNoted(b)),
-            Duty::Send(SendDuty::ResetNoted(b)),
-            Duty::Send(SendDuty::Syn(b)),
-            Duty::Send(SendDuty::FastClose(b)),
-            Duty::Send(SendDuty::Notice(b)),
-            Duty::Step(StepDuty::Data(b)),
-            Duty::Send(SendDuty::DataFin(b)),
-            Duty::Send(SendDuty::Fin(b)),
-            Duty::Silent(SilentDuty::Timer(b)),
-            Duty::Step(StepDuty::Events),
-            Duty::End,
-        ])
+        Agenda::of_parts(
+            &[
+                Duty::Ask(AskDuty::JoinAgain),
+                Duty::Step(StepDuty::Look(a)),
+                Duty::Step(StepDuty::Look(b)),
+                Duty::Ask(AskDuty::Window(a)),
+                Duty::Send(SendDuty::Update(a)),
+                Duty::Ask(AskDuty::Window(b)),
+                Duty::Send(SendDuty::Update(b)),
+                Duty::Ask(AskDuty::LeaveNoted(a)),
+                Duty::Send(SendDuty::ResetNoted(a)),
+            ],
+            &sends(a),
+            &[
+                Duty::Ask(AskDuty::LeaveNoted(b)),
+                Duty::Send(SendDuty::ResetNoted(b)),
+            ],
+            &sends(b),
+        )
     }
 
-    /// One duty, and then what an end sends.
-    fn before_emission(duty: Duty, side: Side) -> Self
-        ensures { result ≡ duty ∷ emission side }
+    /// These duties, 63 at most, and then what an end sends.
+    fn before_emission(first: &[Duty], side: Side) -> Self
+        requires { length first.now ≤ 63 }
+        ensures { result ≡ first.now ++ emission side }
     {
-        Agenda::of(&[
-            duty,
-            Duty::Send(SendDuty::Syn(side)),
-            Duty::Send(SendDuty::FastClose(side)),
-            Duty::Send(SendDuty::Notice(side)),
-            Duty::Step(StepDuty::Data(side)),
-            Duty::Send(SendDuty::DataFin(side)),
-            Duty::Send(SendDuty::Fin(side)),
-            Duty::Silent(SilentDuty::Timer(side)),
-            Duty::Step(StepDuty::Events),
-            Duty::End,
-        ])
+        Agenda::of_parts(first, &[], &[], &sends(side))
     }
 
     /// One duty, and then the rest of the turn.
@@ -98,74 +68,56 @@ impl Agenda {
     pub fn syn_came(side: Side) -> Self
         ensures { result ≡ syn_came side }
     {
-        Agenda::of(&[
-            Duty::Ask(AskDuty::SynHeard(side)),
-            Duty::Ask(AskDuty::PlainHandshake(side)),
-            Duty::Send(SendDuty::SynAck(side)),
-            Duty::Send(SendDuty::Syn(side)),
-            Duty::Send(SendDuty::FastClose(side)),
-            Duty::Send(SendDuty::Notice(side)),
-            Duty::Step(StepDuty::Data(side)),
-            Duty::Send(SendDuty::DataFin(side)),
-            Duty::Send(SendDuty::Fin(side)),
-            Duty::Silent(SilentDuty::Timer(side)),
-            Duty::Step(StepDuty::Events),
-            Duty::End,
-        ])
+        Agenda::before_emission(
+            &[
+                Duty::Ask(AskDuty::SynHeard(side)),
+                Duty::Ask(AskDuty::PlainHandshake(side)),
+                Duty::Send(SendDuty::SynAck(side)),
+            ],
+            side,
+        )
     }
 
     /// The SYN/ACK came: its window is told, the peer's key, and that the path lives; then it is acknowledged.
     pub fn syn_ack_came(side: Side) -> Self
         ensures { result ≡ syn_ack_came side }
     {
-        Agenda::of(&[
-            Duty::Ask(AskDuty::SynAnswered(side)),
-            Duty::Ask(AskDuty::PeerKey(side)),
-            Duty::Ask(AskDuty::Live(side)),
-            Duty::Send(SendDuty::Acknowledge(side)),
-            Duty::Send(SendDuty::Syn(side)),
-            Duty::Send(SendDuty::FastClose(side)),
-            Duty::Send(SendDuty::Notice(side)),
-            Duty::Step(StepDuty::Data(side)),
-            Duty::Send(SendDuty::DataFin(side)),
-            Duty::Send(SendDuty::Fin(side)),
-            Duty::Silent(SilentDuty::Timer(side)),
-            Duty::Step(StepDuty::Events),
-            Duty::End,
-        ])
+        Agenda::before_emission(
+            &[
+                Duty::Ask(AskDuty::SynAnswered(side)),
+                Duty::Ask(AskDuty::PeerKey(side)),
+                Duty::Ask(AskDuty::Live(side)),
+                Duty::Send(SendDuty::Acknowledge(side)),
+            ],
+            side,
+        )
     }
 
     /// The SYN of a path that joins came, with an MP_JOIN: it is asked whether it may (RFC 8684, section 3.2).
     pub fn join_came(side: Side) -> Self
         ensures { result ≡ join_came side }
     {
-        Agenda::before_emission(Duty::Ask(AskDuty::JoinHeard(side)), side)
+        Agenda::before_emission(&[Duty::Ask(AskDuty::JoinHeard(side))], side)
     }
 
     /// The SYN of a path that joins came without an MP_JOIN: it is refused.
     pub fn refuses(side: Side) -> Self
         ensures { result ≡ refuses side }
     {
-        Agenda::before_emission(Duty::Send(SendDuty::Refuse(side)), side)
+        Agenda::before_emission(&[Duty::Send(SendDuty::Refuse(side))], side)
     }
 
     /// The SYN/ACK of a path that joins came: it is told that the path lives, and then the SYN/ACK is acknowledged.
     pub fn join_answered(side: Side) -> Self
         ensures { result ≡ join_answered side }
     {
-        Agenda::of(&[
-            Duty::Ask(AskDuty::Live(side)),
-            Duty::Send(SendDuty::Acknowledge(side)),
-            Duty::Send(SendDuty::Syn(side)),
-            Duty::Send(SendDuty::FastClose(side)),
-            Duty::Send(SendDuty::Notice(side)),
-            Duty::Step(StepDuty::Data(side)),
-            Duty::Send(SendDuty::DataFin(side)),
-            Duty::Send(SendDuty::Fin(side)),
-            Duty::Silent(SilentDuty::Timer(side)),
-            Duty::Step(StepDuty::Events),
-            Duty::End,
-        ])
+        Agenda::before_emission(
+            &[
+                Duty::Ask(AskDuty::Live(side)),
+                Duty::Send(SendDuty::Acknowledge(side)),
+            ],
+            side,
+        )
     }
 
     /// A copy is taken, which says so many things, 37 at most.
@@ -181,6 +133,7 @@ impl Agenda {
             ],
             things_heard(side, count).as_slice(),
             &payload_came(side),
+            &sends(side),
         )
     }
 
@@ -188,14 +141,14 @@ impl Agenda {
     pub fn syn_again(side: Side) -> Self
         ensures { result ≡ syn_again side }
     {
-        Agenda::before_emission(Duty::Send(SendDuty::SynAck(side)), side)
+        Agenda::before_emission(&[Duty::Send(SendDuty::SynAck(side))], side)
     }
 
     /// A copy came that is answered.
     pub fn answers(side: Side) -> Self
         ensures { result ≡ answers side }
     {
-        Agenda::before_emission(Duty::Send(SendDuty::Answer(side)), side)
+        Agenda::before_emission(&[Duty::Send(SendDuty::Answer(side))], side)
     }
 
     /// A copy came at a dead end, which answers by a reset.
@@ -209,19 +162,13 @@ impl Agenda {
     pub fn expired(side: Side) -> Self
         ensures { result ≡ expired side }
     {
-        Agenda::of(&[
-            Duty::Ask(AskDuty::Return(side)),
-            Duty::Send(SendDuty::Resend(side)),
-            Duty::Send(SendDuty::Syn(side)),
-            Duty::Send(SendDuty::FastClose(side)),
-            Duty::Send(SendDuty::Notice(side)),
-            Duty::Step(StepDuty::Data(side)),
-            Duty::Send(SendDuty::DataFin(side)),
-            Duty::Send(SendDuty::Fin(side)),
-            Duty::Silent(SilentDuty::Timer(side)),
-            Duty::Step(StepDuty::Events),
-            Duty::End,
-        ])
+        Agenda::before_emission(
+            &[
+                Duty::Ask(AskDuty::Return(side)),
+                Duty::Send(SendDuty::Resend(side)),
+            ],
+            side,
+        )
     }
 
     /// The timer ran out for the sixth time in a row: a reset, and nothing more is sent.
@@ -235,14 +182,14 @@ impl Agenda {
     pub fn announces(side: Side, id: u8) -> Self
         ensures { result ≡ announces side id }
     {
-        Agenda::before_emission(Duty::Ask(AskDuty::Announce { side, id }), side)
+        Agenda::before_emission(&[Duty::Ask(AskDuty::Announce { side, id })], side)
     }
 
     /// The side takes the address of this id back (RFC 8684, section 3.4.2): it is told, and then the side's end sends what it may.
     pub fn withdraws(side: Side, id: u8) -> Self
         ensures { result ≡ withdraws side id }
     {
-        Agenda::before_emission(Duty::Ask(AskDuty::Withdraw { side, id }), side)
+        Agenda::before_emission(&[Duty::Ask(AskDuty::Withdraw { side, id })], side)
     }
 
     /// The peer closed the connection at once (RFC 8684, section 3.5): both books are told, and the end is reset.
@@ -289,15 +236,30 @@ fn things_heard(side: Side, count: usize) -> ArrayVec<Duty, 37>
     for index in 0..count {
         things.push(Duty::Step(StepDuty::Heard {
             side,
-            index: index as u64,
+            index: index as u8,
         }));
     }
     things
 }
 
+/// What an end sends, in its order; then its timer is settled.
+fn sends(side: Side) -> [Duty; 7]
+    ensures { result ≡ emission_and side [] }
+{
+    [
+        Duty::Send(SendDuty::Syn(side)),
+        Duty::Send(SendDuty::FastClose(side)),
+        Duty::Send(SendDuty::Notice(side)),
+        Duty::Step(StepDuty::Data(side)),
+        Duty::Send(SendDuty::DataFin(side)),
+        Duty::Send(SendDuty::Fin(side)),
+        Duty::Silent(SilentDuty::Timer(side)),
+    ]
+}
+
 /// What follows what a copy says: its acknowledgement, its payload, and the answers.
-fn payload_came(side: Side) -> [Duty; 24]
-    ensures { result ≡ payload_came side }
+fn payload_came(side: Side) -> [Duty; 15]
+    ensures { result ++ emission side ≡ payload_came side }
 {
     [
         Duty::Step(StepDuty::PlainAck(side)),
@@ -315,14 +277,5 @@ fn payload_came(side: Side) -> [Duty; 24]
         Duty::Ask(AskDuty::Rate(side)),
         Duty::Send(SendDuty::Acknowledge(side)),
         Duty::Send(SendDuty::Again(side)),
-        Duty::Send(SendDuty::Syn(side)),
-        Duty::Send(SendDuty::FastClose(side)),
-        Duty::Send(SendDuty::Notice(side)),
-        Duty::Step(StepDuty::Data(side)),
-        Duty::Send(SendDuty::DataFin(side)),
-        Duty::Send(SendDuty::Fin(side)),
-        Duty::Silent(SilentDuty::Timer(side)),
-        Duty::Step(StepDuty::Events),
-        Duty::End,
     ]
 }

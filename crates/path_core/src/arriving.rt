@@ -23,7 +23,7 @@ use crate::judged::Judged;
 use crate::machine::Machine;
 use crate::modes::Modes;
 use crate::options_in::{
-    asks_capable, edge_held, has_option, is_plain_ack, items_of, opens_by, options_heard, owes_by,
+    asks_capable, edge_held, fill_items, has_option, is_plain_ack, opens_by, options_heard, owes_by,
 };
 use crate::profile::{peer, spelled_by};
 use crate::treated::Treated;
@@ -179,16 +179,17 @@ fn owe_by(tcp: &mut Subflow, meaning: Meaning, items: &[Heard])
 }
 
 /// What is still to be treated of a copy that was taken so, but for its positions.
-fn treated_with(
-    items: Items,
+fn treat(
+    treated: &mut Treated,
+    items: &Items,
     opened: bool,
     heard: &HeardSegment<'_>,
     answer: Outgoing,
     arrival: Arrival,
-) -> Treated
-    requires { All IsFair items.items }
-    ensures { result ≡ record nothing_treated {
-      items = items.items;
+)
+    requires { All IsFair items.now.items }
+    ensures { treated.new ≡ record nothing_treated {
+      items = items.now.items;
       opened = opened;
       has_option = not (is_nil (heard_value heard.now).options);
       answer = Some answer;
@@ -196,9 +197,8 @@ fn treated_with(
       plain_ack = is_plain_ack arrival (heard_value heard.now);
     } }
 {
-    let mut treated = Treated::of(items, opened, has_option(heard), answer, heard.window);
+    treated.begin(items, opened, has_option(heard), answer, heard.window);
     treated.note_plain_ack(is_plain_ack(arrival, heard));
-    treated
 }
 
 /// What B's end knows of a SYN that opens it: whether that asks for Multipath TCP.
@@ -268,28 +268,28 @@ impl PathEnd {
     /// still to be treated.
     fn take_copy_meant(
         &mut self,
-        items: Items,
+        items: &Items,
         now: u64,
         heard: &HeardSegment<'_>,
         meaning: Meaning,
         acknowledged: Pos,
         answer: Outgoing,
     )
-        requires fair { All IsFair items.items }
+        requires fair { All IsFair items.now.items }
         requires acknowledged { acknowledged ≡
             (if is_taken meaning then unwrap_or (copy_of (heard_value heard.now)).acknowledged 0
             else 0) }
         requires near { acknowledged ≤ 2 ^ 62 }
         requires meaning { IsTakenAs meaning (copy_of (heard_value heard.now)) self.old.tcp }
         ensures { self.new ≡
-            after_copy items.items answer now (heard_value heard.now) meaning self.old }
+            after_copy items.now.items answer now (heard_value heard.now) meaning self.old }
     {
         let opened = opens_by(meaning, self.tcp.state());
         let held_edge = edge_held(meaning, heard.payload, self.tcp.edge());
         let place = place_in_first(items.as_slice());
         let arrival = take_as(&mut self.tcp, meaning, &arriving_of(heard), place, now);
         owe_by(&mut self.tcp, meaning, items.as_slice());
-        self.treated = treated_with(items, opened, heard, answer, arrival);
+        treat(&mut self.treated, items, opened, heard, answer, arrival);
         self.treated.note_positions(acknowledged, held_edge);
         self.modes = asked_in(meaning, heard, self.modes);
     }
@@ -299,7 +299,7 @@ impl PathEnd {
     fn take_judged(
         &mut self,
         joined: bool,
-        items: Items,
+        items: &Items,
         now: u64,
         heard: &HeardSegment<'_>,
         meaning: Meaning,
@@ -308,12 +308,12 @@ impl PathEnd {
     ) -> Result<(), AllocError>
         requires small { length heard.now.payload.now ≤ 65535 }
         requires within { All IsWithin told.items }
-        requires fair { All IsFair items.items }
+        requires fair { All IsFair items.now.items }
         requires meaning { IsTakenAs meaning (copy_of (heard_value heard.now)) self.old.tcp }
         requires below { IsBelow meaning }
         ensures ok { OnOk result (self.new ≡
-            after_copy items.items answer now (heard_value heard.now) meaning
-            (after_join joined items.items meaning
+            after_copy items.now.items answer now (heard_value heard.now) meaning
+            (after_join joined items.now.items meaning
             (with_held told.items (heard_value heard.now) meaning self.old))) }
         ensures err { OnErr result (self.new ≡ self.old) }
     {
@@ -335,19 +335,22 @@ impl PathEnd {
         self.judged_of(joined, heard.rst, items, meaning)
     }
 
-    /// A segment is heard, which says these mappings, and is answered so at a dead end. At an error all is as it was.
+    /// A segment is heard, which says these things and these mappings, and is answered so at a dead end. At an error all is as it
+    /// was.
     fn take_segment(
         &mut self,
         joined: bool,
         side: Side,
         now: u64,
         heard: &HeardSegment<'_>,
+        items: &Items,
         told: Vec<KeptMapping>,
         answer: Outgoing,
     ) -> Result<Agenda, AllocError>
         requires small { length heard.now.payload.now ≤ 65535 }
         requires within { All IsWithin told.items }
-        requires few { SaysFew (heard_value heard.now).options }
+        requires items { items.now.items ≡ items_of joined side (heard_value heard.now) }
+        requires fair { All IsFair items.now.items }
         ensures agenda { IfOk result (λ agenda. agenda ≡
             template_of joined side (items_of joined side (heard_value heard.now))
             (judged_in joined side (heard_value heard.now) self.old)) }
@@ -355,7 +358,6 @@ impl PathEnd {
             segment_heard joined told.items answer side now (heard_value heard.now) self.old) }
         ensures err { OnErr result (self.new ≡ self.old) }
     {
-        let items = items_of(joined, side, heard);
         let judged = self.judge(joined, heard, items.as_slice());
         let count = items.len();
         let meaning = judged.taken_as();
@@ -380,10 +382,19 @@ impl Machine {
         let answer = self.profile.reset_for(side, heard);
         let told = self.profile.held_of(self.alloc, side, heard)?;
         let joined = self.profile.is_joined();
-        let agenda = self
-            .end_mut(side)
-            .take_segment(joined, side, now, heard, told, answer)?;
-        self.sets_about(agenda);
+        fill_items(&mut self.items, joined, side, heard);
+        match side {
+            Side::A => {
+                self.agenda = self
+                    .a
+                    .take_segment(joined, side, now, heard, &self.items, told, answer)?;
+            }
+            Side::B => {
+                self.agenda = self
+                    .b
+                    .take_segment(joined, side, now, heard, &self.items, told, answer)?;
+            }
+        }
         Ok(())
     }
 

@@ -24,6 +24,14 @@ use seq_units::Pos;
 use std::alloc::AllocError;
 use subflow_tcp::Occasion;
 
+/// A segment as it is handed over: its octets, the edge of the window that it tells, and what the end knows after it.
+#[derive(Drop)]
+struct Handed {
+    octets: Vec<u8>,
+    told_edge: u64,
+    modes: Modes,
+}
+
 /// The position behind a segment of data or FIN.
 fn end_of(said: &Said<'_>) -> Pos
     ensures { result ≡ end_of (plain_said said.now) }
@@ -161,6 +169,46 @@ impl Machine {
         said.octets(self.alloc, self.profile.spelling(), side)
     }
 
+    /// What is handed over with the segment of this kind.
+    fn handed(&self, side: Side, kind: SegmentKind) -> Result<Handed, AllocError>
+        ensures octets { IfOk result (λ handed. handed.octets.items ≡
+            made self.now.profile.spelling side
+            (said_by kind self.now.profile side (end_at side self.now))) }
+        ensures edge { IfOk result (λ handed. handed.told_edge ≡
+            edge_told (said_by kind self.now.profile side (end_at side self.now))
+            (end_at side self.now)) }
+        ensures bound { IfOk result (λ handed. handed.told_edge ≤ 2 ^ 62 + 2 ^ 21) }
+        ensures modes { IfOk result (λ handed. handed.modes ≡
+            (with_mapping_told (said_by kind self.now.profile side (end_at side self.now))
+            (end_at side self.now)).modes) }
+    {
+        let said = self.said(side, kind);
+        let told_edge = self.end(side).edge_told(&said);
+        let modes = self.end(side).modes_after(&said);
+        let octets = said.octets(self.alloc, self.profile.spelling(), side)?;
+        Ok(Handed {
+            octets,
+            told_edge,
+            modes,
+        })
+    }
+
+    /// The link takes the octets of the segment of this kind. At an error all is as it was.
+    fn hand_octets(&mut self, side: Side, kind: SegmentKind, text: &[u8]) -> Result<(), AllocError>
+        requires { text.now ≡
+            made self.old.profile.spelling side
+            (said_by kind self.old.profile side (end_at side self.old)) }
+        ensures ok { OnOk result (self.new ≡
+            record self.old {
+              link = handed octets side (said_by kind self.old.profile side (end_at side self.old))
+                  self.old;
+            }) }
+        ensures err { OnErr result (self.new ≡ self.old) }
+    {
+        self.link.send(side, text, self.clock.now())?;
+        Ok(())
+    }
+
     /// The link takes the segment of this kind. At an error all is as it was.
     pub(crate) fn hand(&mut self, side: Side, kind: SegmentKind) -> Result<(), AllocError>
         ensures ok { OnOk result (self.new ≡
@@ -170,10 +218,8 @@ impl Machine {
             }) }
         ensures err { OnErr result (self.new ≡ self.old) }
     {
-        let said = self.said(side, kind);
-        let octets = said.octets(self.alloc, self.profile.spelling(), side)?;
-        self.link.send(side, octets.as_slice(), self.clock.now())?;
-        Ok(())
+        let handed = self.handed(side, kind)?;
+        self.hand_octets(side, kind, handed.octets.as_slice())
     }
 
     /// The link takes octets from a side at the path's tick, as a segment that the side's end doesn't know of. At an error all is
@@ -212,9 +258,12 @@ impl Machine {
         ensures ok { OnOk result (self.new ≡ sent_kind occasion kind side self.old) }
         ensures err { OnErr result (self.new ≡ self.old) }
     {
-        let told_edge = self.edge_told(side, kind);
-        let modes = self.modes_after(side, kind);
-        self.hand(side, kind)?;
+        let Handed {
+            octets,
+            told_edge,
+            modes,
+        } = self.handed(side, kind)?;
+        self.hand_octets(side, kind, octets.as_slice())?;
         let now = self.clock.now();
         self.end_mut(side)
             .having_sent(occasion, now, told_edge, modes);

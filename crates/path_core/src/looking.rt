@@ -114,7 +114,7 @@ impl Machine {
     }
 
     /// What the thing of this number sends.
-    fn heard_sends(&self, side: Side, index: u64) -> Option<ToSend>
+    fn heard_sends(&self, side: Side, index: u8) -> Option<ToSend>
         ensures { result ≡ heard_sends side (item_of index (end_at side self.now)) self.now }
     {
         match self.end(side).item(index) {

@@ -11,7 +11,7 @@ use crate::lines::LineLeft;
 use crate::profile::Profile;
 use link_model::Link;
 use outside_kit::Side;
-use path_agenda::{Agenda, Clock, Duty};
+use path_agenda::{Agenda, Clock, Duty, Items};
 use std::alloc::Global;
 use std::collections::VecDeque;
 use std::marker::Model;
@@ -30,6 +30,8 @@ pub(crate) struct Machine {
     pub(crate) a: PathEnd,
     pub(crate) b: PathEnd,
     pub(crate) agenda: Agenda,
+    /// What the copy that was taken last says. It is read anew from each copy, and nothing of it is left over.
+    pub(crate) items: Items,
 }
 
 impl Model for Machine {

@@ -255,17 +255,16 @@ fn put_option(items: &mut Items, joined: bool, side: Side, window: u32, option: 
     }
 }
 
-/// All that a copy says to the end of this side, in the order of its options.
-pub(crate) fn items_of(joined: bool, side: Side, heard: &HeardSegment<'_>) -> Items
+/// All that a copy says to the end of this side, in the order of its options, in the place of what stood there.
+pub(crate) fn fill_items(items: &mut Items, joined: bool, side: Side, heard: &HeardSegment<'_>)
     requires few { SaysFew (heard_value heard.now).options }
-    ensures value { result.items ≡ items_of joined side (heard_value heard.now) }
-    ensures fair { All IsFair result.items }
+    ensures value { items.new.items ≡ items_of joined side (heard_value heard.now) }
+    ensures fair { All IsFair items.new.items }
 {
-    let mut items = Items::new();
+    items.clear();
     for option in heard.options {
-        put_option(&mut items, joined, side, heard.window, &option);
+        put_option(items, joined, side, heard.window, &option);
     }
-    items
 }
 
 /// The same segment without its options.

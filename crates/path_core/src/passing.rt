@@ -46,7 +46,7 @@ fn growth_by(path: u8, rows: &Rows, mss: u16, acked: u32) -> u32
     requires mss { mss ≤ 1460 }
     ensures { result ≡ growth_by (find (is_row_of path) rows.now) rows.now mss (min 1048576 acked) }
 {
-    match row_of(path, rows.as_slice()) {
+    match row_of(path, rows.listed().as_slice()) {
         Some(row) => growth(&row, rows, u32::from(mss), acked.min(1_048_576)),
         None => 0,
     }
@@ -147,7 +147,7 @@ impl Machine {
     }
 
     /// The end of the stream that the DATA_FIN of this number told.
-    pub(crate) fn fin_ask(&self, side: Side, index: u64) -> Ask
+    pub(crate) fn fin_ask(&self, side: Side, index: u8) -> Ask
         ensures value { result ≡ fin_ask side (data_fin_of index (end_at side self.now)) }
         ensures able { CanBeAsked result }
     {

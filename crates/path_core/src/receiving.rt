@@ -55,7 +55,8 @@ impl Model for Receiving {
       ready = v.mappings.ready;
     } };
 
-    ghost invariant = { λ v. (v.next ≤ 2 ^ 62 + 2 ^ 20) × (v.window ≤ 2 ^ 20) × (v.told_edge ≤ 2 ^ 62 + 2 ^ 21)
+    ghost invariant = { λ v. (v.next ≤ 2 ^ 62 + 2 ^ 20) × (v.window ≤ 2 ^ 20) ×
+        (v.told_edge ≤ 2 ^ 62 + 2 ^ 21)
         × IfSome v.mapped_data_fin (λ fin. fin.place ≤ 2 ^ 62) };
 }
 
@@ -163,7 +164,8 @@ impl Receiving {
             record self.old {
               receiving = record self.old.receiving {
                 mapped_data_fin =
-                    (if is_some (data_fin_reached self.old.receiving.mapped_data_fin edge) then None else
+                    (if is_some (data_fin_reached self.old.receiving.mapped_data_fin edge) then None
+                    else
                     self.old.receiving.mapped_data_fin);
               };
             } }

@@ -194,7 +194,8 @@ impl Sending {
 
     /// The last piece that was granted is granted no more.
     pub fn pop_granted(&mut self)
-        ensures { (before : List GrantedPiece) (last : GrantedPiece) → self.old.granted ≡ before ++ last ∷ []
+        ensures { (before : List GrantedPiece) (last : GrantedPiece) → self.old.granted ≡
+            before ++ last ∷ []
             → self.new ≡ record self.old { granted = before } }
     {
         self.granted.pop();

@@ -91,26 +91,38 @@ impl Treated {
         }
     }
 
-    /// What the copy said, with the answer to it and the window that it told, is to be treated.
-    pub fn of(items: Items, opened: bool, has_option: bool, answer: Outgoing, window: u32) -> Self
-        requires { All IsFair items.items }
-        ensures { result ≡
+    /// What a copy said, with the answer to it and the window that it told, is to be treated, and nothing of an earlier one.
+    pub fn begin(
+        &mut self,
+        items: &Items,
+        opened: bool,
+        has_option: bool,
+        answer: Outgoing,
+        window: u32,
+    )
+        requires { All IsFair items.now.items }
+        ensures { self.new ≡
             record nothing_treated {
-              items = items.items;
+              items = items.now.items;
               opened = opened;
               has_option = has_option;
               answer = Some answer;
               window = window;
             } }
     {
-        Treated {
-            items,
-            opened,
-            has_option,
-            answer: Some(answer),
-            window,
-            ..Treated::nothing()
-        }
+        self.items.clear();
+        self.items.try_extend_from_slice(items.as_slice()).unwrap();
+        self.opened = opened;
+        self.keys_told = false;
+        self.has_option = has_option;
+        self.fins.clear();
+        self.asked = false;
+        self.answer = Some(answer);
+        self.window = window;
+        self.plain_ack = false;
+        self.acknowledged = 0;
+        self.data_ack_taken = false;
+        self.held_edge = None;
     }
 
     /// Whether it acknowledges data for the first time without a Data ACK.
@@ -181,11 +193,11 @@ impl Treated {
     }
 
     /// The thing of this number that it said, the first being 0.
-    pub fn item(&self, index: u64) -> Option<Heard>
+    pub fn item(&self, index: u8) -> Option<Heard>
         ensures value { result ≡ item_at index self.now.items }
         ensures fair { IfSome result IsFair }
     {
-        self.items.as_slice().get(index as usize).copied()
+        self.items.as_slice().get(usize::from(index)).copied()
     }
 
     /// The things that it said.
@@ -210,11 +222,11 @@ impl Treated {
     }
 
     /// The end of the stream of this number that is to be told, the first being 0.
-    pub fn fin(&self, index: u64) -> Option<u64>
+    pub fn fin(&self, index: u8) -> Option<u64>
         ensures value { result ≡ item_at index self.now.fins }
         ensures bound { IfSome result (λ place. place ≤ 2 ^ 62) }
     {
-        self.fins.as_slice().get(index as usize).copied()
+        self.fins.as_slice().get(usize::from(index)).copied()
     }
 
     /// This end of the stream, at most 2^62, is to be told; a fourth one counts no more.

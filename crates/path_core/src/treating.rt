@@ -91,7 +91,7 @@ impl PathEnd {
     }
 
     /// The thing of this number; after a fallback nothing more is heard.
-    pub fn item(&self, index: u64) -> Option<Heard>
+    pub fn item(&self, index: u8) -> Option<Heard>
         ensures value { result ≡ item_of index self.now }
         ensures fair { IfSome result IsFair }
     {
@@ -103,7 +103,7 @@ impl PathEnd {
     }
 
     /// The thing of this number comes to something.
-    pub fn item_stands(&self, index: u64) -> bool
+    pub fn item_stands(&self, index: u8) -> bool
         ensures { result ≡ item_stands (item_of index self.now) self.now }
     {
         match self.item(index) {
@@ -184,7 +184,7 @@ impl PathEnd {
     }
 
     /// The thing of this number is passed in silence.
-    fn pass_item(&mut self, side: Side, index: u64)
+    fn pass_item(&mut self, side: Side, index: u8)
         ensures { self.new ≡ item_passed side (item_of index self.old) self.old }
     {
         if let Some(item) = self.item(index) {
@@ -260,7 +260,7 @@ impl Machine {
     }
 
     /// What the thing of this number asks.
-    pub(crate) fn item_ask(&self, side: Side, index: u64) -> Ask
+    pub(crate) fn item_ask(&self, side: Side, index: u8) -> Ask
         ensures value { result ≡
             item_ask octets side (item_of index (end_at side self.now)) self.now }
         ensures able { CanBeAsked result }
@@ -365,7 +365,7 @@ impl Machine {
     pub(crate) fn answer_item(
         &mut self,
         side: Side,
-        index: u64,
+        index: u8,
         reply: &Reply,
     ) -> Result<(), AllocError>
         requires { IsAckBounded reply.now }
@@ -383,7 +383,7 @@ impl Machine {
     }
 
     /// The thing of this number is passed in silence.
-    pub(crate) fn pass_item(&mut self, side: Side, index: u64)
+    pub(crate) fn pass_item(&mut self, side: Side, index: u8)
         ensures { self.new ≡
             with_end side
             (item_passed side (item_of index (end_at side self.old)) (end_at side self.old))

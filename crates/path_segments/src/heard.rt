@@ -63,7 +63,9 @@ impl<'a> HeardOptions<'a> {
         expected: &Expected,
     ) -> Self
         requires { IsExpected expected.now }
-        ensures { heard_left result ≡ heard_options spelling.now from expected.now (octets_alone (options_left options.entry)) }
+        ensures { heard_left result ≡
+            heard_options spelling.now from expected.now
+            (octets_alone (options_left options.entry)) }
     {
         HeardOptions {
             left: options,
@@ -76,7 +78,8 @@ impl<'a> HeardOptions<'a> {
 
 /// The next option that is known.
 fn next_known<'a>(left: &mut PlainOptions<'a>, checksums: bool) -> Option<MpOption<'a>>
-    ensures { YieldsFirstBy value_of (λ options. known_in checksums (octets_alone (options_left options))) left.old result left.new }
+    ensures { YieldsFirstBy value_of (λ options.
+        known_in checksums (octets_alone (options_left options))) left.old result left.new }
 {
     while let Some(octets) = left.next() {
         if let Read::Known(option) = read(octets, checksums) {

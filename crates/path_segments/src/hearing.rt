@@ -118,7 +118,8 @@ impl Spelling {
     ) -> Option<HeardMapping>
         requires place { expected.now.place ≤ 2 ^ 62 + 2 ^ 20 }
         requires edge { expected.now.edge ≤ 2 ^ 62 + 2 ^ 20 }
-        ensures { result ≡ option_map (λ map. heard_mapping self.now from expected.now map fin) mapping }
+        ensures { result ≡
+            option_map (λ map. heard_mapping self.now from expected.now map fin) mapping }
     {
         match mapping {
             None => None,
@@ -134,7 +135,8 @@ impl Spelling {
         option: &MpOption<'a>,
     ) -> HeardOption<'a>
         requires { IsExpected expected.now }
-        ensures { heard_plain result ≡ heard_option self.now from expected.now (value_of option.now) }
+        ensures { heard_plain result ≡
+            heard_option self.now from expected.now (value_of option.now) }
     {
         match *option {
             MpOption::Capable {

@@ -26,7 +26,8 @@ pub fn parse_segment<'a>(
     octets: &'a [u8],
 ) -> Option<HeardSegment<'a>>
     requires { IsExpected expected.now }
-    ensures value { option_map heard_value result ≡ heard_in spelling.now from expected.now octets.now }
+    ensures value { option_map heard_value result ≡
+        heard_in spelling.now from expected.now octets.now }
     ensures short { IfSome result (λ heard. IsHeardShort (heard_value heard)) }
 {
     match parse(octets, &spelling.addresses(from)) {
@@ -43,7 +44,8 @@ fn heard_segment<'a>(
 ) -> HeardSegment<'a>
     requires expected { IsExpected expected.now }
     requires payload { length (segment_of segment.now).payload ≤ 65515 }
-    ensures value { heard_value result ≡ heard_segment spelling.now from expected.now (segment_of segment.now) }
+    ensures value { heard_value result ≡
+        heard_segment spelling.now from expected.now (segment_of segment.now) }
     ensures short { IsHeardShort (heard_value result) }
 {
     let head = segment.head;
@@ -68,7 +70,9 @@ fn acknowledged_heard(
     ack: u32,
 ) -> Option<HeardPosition>
     requires { IsExpected expected.now }
-    ensures { result ≡ (if ack_set then Some (number_means spelling.now (peer_of from) expected.now.unacknowledged ack) else None) }
+    ensures { result ≡
+        (if ack_set then Some
+        (number_means spelling.now (peer_of from) expected.now.unacknowledged ack) else None) }
 {
     if ack_set {
         Some(spelling.number_means(from.peer(), expected.unacknowledged, ack))
@@ -88,7 +92,8 @@ fn window_heard(syn: bool, window: u16) -> u32
 }
 
 fn mss_heard(syn: bool, segment: &SegmentRef<'_>) -> Option<u16>
-    ensures { result ≡ (if syn then first_mss (option_octets (segment_of segment.now).options) else None) }
+    ensures { result ≡
+        (if syn then first_mss (option_octets (segment_of segment.now).options) else None) }
 {
     if syn { first_mss(segment) } else { None }
 }

@@ -37,7 +37,8 @@ fn can_say_each(spelling: &Spelling, from: Side, options: &[PathOption<u64, &[u8
 /// Whether the options, each of which can be said, have at most 40 octets with those of a SYN.
 fn have_room(spelling: &Spelling, from: Side, segment: &SaidSegment<'_>) -> bool
     requires { All (CanSayOption spelling.now from) (plain segment.now).options }
-    ensures { IsTrue result ↔ (length (unpadded_options spelling.now from (plain segment.now)) ≤ 40) }
+    ensures { IsTrue result ↔
+        (length (unpadded_options spelling.now from (plain segment.now)) ≤ 40) }
 {
     let room = if segment.mss.is_some() { 32 } else { 40 };
     are_within(spelling, from, segment.options, room)
@@ -51,7 +52,8 @@ fn are_within(
     room: usize,
 ) -> bool
     requires { All (CanSayOption spelling.now from) (map plain_option options.now) }
-    ensures { IsTrue result ↔ (length (options_text spelling.now from (map plain_option options.now)) ≤ room) }
+    ensures { IsTrue result ↔
+        (length (options_text spelling.now from (map plain_option options.now)) ≤ room) }
 {
     let mut left = room;
     for option in options {
@@ -83,7 +85,9 @@ impl Spelling {
 
     /// Whether the mapping, if any, can be said.
     fn can_map(&self, from: Side, mapping: &Option<PathMapping<u64>>) -> bool
-        ensures { IsTrue result ↔ IfSome mapping.now (λ m. is_some (said_mapping self.now from m).checksum ≡ self.now.checksums) }
+        ensures { IsTrue result ↔
+            IfSome mapping.now
+            (λ m. is_some (said_mapping self.now from m).checksum ≡ self.now.checksums) }
     {
         match *mapping {
             Some(PathMapping::Bytes { checksum, .. } | PathMapping::End { checksum, .. }) => {

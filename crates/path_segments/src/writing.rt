@@ -29,7 +29,8 @@ pub fn write(
     segment: &SaidSegment<'_>,
 ) -> Result<Vec<u8>, AllocError>
     requires { CanSay spelling.now from (plain segment.now) }
-    ensures { IfOk result (λ octets. octets.items ≡ spelled_text spelling.now from (plain segment.now)) }
+    ensures { IfOk result (λ octets. octets.items ≡
+        spelled_text spelling.now from (plain segment.now)) }
 {
     segment_wire::write(
         alloc,
@@ -114,8 +115,10 @@ fn put_options(
     options: &[PathOption<u64, &[u8]>],
 )
     requires can { All (CanSayOption spelling.now from) (map plain_option options.now) }
-    requires room { length (octets.old.items ++ options_text spelling.now from (map plain_option options.now)) ≤ 40 }
-    ensures { octets.new.items ≡ octets.old.items ++ options_text spelling.now from (map plain_option options.now) }
+    requires room { length
+        (octets.old.items ++ options_text spelling.now from (map plain_option options.now)) ≤ 40 }
+    ensures { octets.new.items ≡
+        octets.old.items ++ options_text spelling.now from (map plain_option options.now) }
 {
     for option in options {
         let said = octets_of(&spelling.said_option(from, option), spelling.checksums);

@@ -157,7 +157,8 @@ fn read(pipe: &mut Pipe, count: u64) -> Result<(), PipeFault>
 fn acknowledge(pipe: &mut Pipe, to: u64, received: u64) -> Result<(), PipeFault>
     ensures allowed { OnOk result (refusal (PipeStep.Ack to received) pipe.old ≡ None) }
     ensures after { OnOk result (pipe.new ≡ after (PipeStep.Ack to received) pipe.old) }
-    ensures refused { IfErr result (λ fault. refusal (PipeStep.Ack to received) pipe.old ≡ Some fault) }
+    ensures refused { IfErr result (λ fault. refusal (PipeStep.Ack to received) pipe.old ≡
+        Some fault) }
     ensures err { OnErr result (pipe.new ≡ pipe.old) }
 {
     if to < pipe.acked || received < to || received > pipe.written.len() as u64 {

@@ -12,8 +12,11 @@ pub(crate) fn append<M: Mark>(runs: &mut Vec<Run<M>>, run: Run<M>) -> Result<(),
     ensures places { (from : ℕ) → LieSideBySide from run.from runs.old.items
         → OnOk result (LieSideBySide from run.to runs.new.items) }
     ensures marks { (from : ℕ) → LieSideBySide from run.from runs.old.items
-        → OnOk result (marks_of runs.new.items ≡ marks_of runs.old.items ++ replicate (run.to - run.from) run.mark) }
-    ensures fewest { NeighboursDiffer runs.old.items → OnOk result (NeighboursDiffer runs.new.items) }
+        → OnOk result
+        (marks_of runs.new.items ≡ marks_of runs.old.items ++ replicate (run.to - run.from)
+        run.mark) }
+    ensures fewest { NeighboursDiffer runs.old.items →
+        OnOk result (NeighboursDiffer runs.new.items) }
     ensures err { OnErr result (runs.new.items ≡ runs.old.items) }
 {
     if run.from == run.to {

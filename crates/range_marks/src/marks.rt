@@ -136,7 +136,8 @@ impl<M: Mark> RangeMarks<M> {
         requires begins { other.now.forgotten ≤ marks_len self.old }
         requires order { marks_len self.old ≤ to }
         requires within { to ≤ marks_len other.now }
-        ensures { OnOk result (self.new ≡ followed_by (part (marks_len self.old) to other.now) self.old) }
+        ensures { OnOk result (self.new ≡
+            followed_by (part (marks_len self.old) to other.now) self.old) }
     {
         for run in &other.runs {
             let end = run.to.min(to).max(self.len());
@@ -162,7 +163,8 @@ impl<M: Mark> RangeMarks<M> {
     /// The first place at or after `from` that has this mark. `None` where there is none.
     pub fn first_where(&self, from: u64, test: &M) -> Option<u64>
         ensures found { IfSome result (λ place. IsFirstWhere self.now from test.now place) }
-        ensures none { IfNone result ((place : ℕ) → from ≤ place → mark_at self.now place ≢ Some test.now) }
+        ensures none { IfNone result ((place : ℕ) → from ≤ place →
+            mark_at self.now place ≢ Some test.now) }
     {
         for run in &self.runs {
             if from < run.to && run.mark == *test {

@@ -21,8 +21,10 @@ fn move_parts(ring: &mut HeapCircularBuffer<u8>, beyond: &BytePieces)
 // Leaves the places from the first empty one on, and puts the bytes before it into the ring.
 fn close_gap(ring: &mut HeapCircularBuffer<u8>, beyond: &mut BytePieces)
     requires { length ring.old.items + length beyond.old.places ≤ ring.old.capacity }
-    ensures ring { ring.new ≡ buffer (ring.old.items ++ filled beyond.old.places) ring.old.capacity }
-    ensures rest { beyond.new ≡ after_drop_front (beyond.old.from + length (filled beyond.old.places)) beyond.old }
+    ensures ring { ring.new ≡
+        buffer (ring.old.items ++ filled beyond.old.places) ring.old.capacity }
+    ensures rest { beyond.new ≡
+        after_drop_front (beyond.old.from + length (filled beyond.old.places)) beyond.old }
 {
     move_parts(ring, beyond);
     let end = beyond.in_order_end();
@@ -33,10 +35,13 @@ fn close_gap(ring: &mut HeapCircularBuffer<u8>, beyond: &mut BytePieces)
 fn append(ring: &mut HeapCircularBuffer<u8>, beyond: &mut BytePieces, at: u64, bytes: &[u8])
     requires begun { at ≤ beyond.old.from }
     requires places { at + length bytes.now ≤ 2 ^ 62 }
-    requires room { length ring.old.items + at + length bytes.now ≤ beyond.old.from + ring.old.capacity }
+    requires room { length ring.old.items + at + length bytes.now ≤ beyond.old.from +
+        ring.old.capacity }
     requires fits { length ring.old.items ≤ ring.old.capacity }
-    ensures ring { ring.new ≡ buffer (ring.old.items ++ drop (beyond.old.from - at) bytes.now) ring.old.capacity }
-    ensures rest { beyond.new ≡ after_drop_front (max beyond.old.from (at + length bytes.now)) beyond.old }
+    ensures ring { ring.new ≡
+        buffer (ring.old.items ++ drop (beyond.old.from - at) bytes.now) ring.old.capacity }
+    ensures rest { beyond.new ≡
+        after_drop_front (max beyond.old.from (at + length bytes.now)) beyond.old }
 {
     let known = bytes.len().min((beyond.from() - at) as usize);
     ring.fill_from_slice(&bytes[known..]);
@@ -72,10 +77,13 @@ fn fill_gap(
     requires gap { filled beyond.old.places ≡ [] }
     requires places { at + length bytes.now ≤ 2 ^ 62 }
     requires fits { length ring.old.items + length beyond.old.places ≤ ring.old.capacity }
-    requires room { length ring.old.items + at + length bytes.now ≤ beyond.old.from + ring.old.capacity }
+    requires room { length ring.old.items + at + length bytes.now ≤ beyond.old.from +
+        ring.old.capacity }
     ensures places { OnOk result (map Some ring.new.items ++ beyond.new.places
-        ≡ map Some ring.old.items ++ merged beyond.old.places (drop beyond.old.from (by_place at bytes.now))) }
-    ensures from { OnOk result (beyond.new.from + length ring.old.items ≡ beyond.old.from + length ring.new.items) }
+        ≡ map Some ring.old.items ++ merged beyond.old.places
+        (drop beyond.old.from (by_place at bytes.now))) }
+    ensures from { OnOk result (beyond.new.from + length ring.old.items ≡
+        beyond.old.from + length ring.new.items) }
     ensures gap { OnOk result (filled beyond.new.places ≡ []) }
     ensures capacity { ring.new.capacity ≡ ring.old.capacity }
     ensures err { OnErr result ((ring.new ≡ ring.old) × (beyond.new ≡ beyond.old)) }
@@ -98,10 +106,13 @@ pub(crate) fn take_in(
     requires gap { filled beyond.old.places ≡ [] }
     requires places { at + length bytes.now ≤ 2 ^ 62 }
     requires fits { length ring.old.items + length beyond.old.places ≤ ring.old.capacity }
-    requires room { length ring.old.items + at + length bytes.now ≤ beyond.old.from + ring.old.capacity }
+    requires room { length ring.old.items + at + length bytes.now ≤ beyond.old.from +
+        ring.old.capacity }
     ensures places { OnOk result (map Some ring.new.items ++ beyond.new.places
-        ≡ map Some ring.old.items ++ merged beyond.old.places (drop beyond.old.from (by_place at bytes.now))) }
-    ensures from { OnOk result (beyond.new.from + length ring.old.items ≡ beyond.old.from + length ring.new.items) }
+        ≡ map Some ring.old.items ++ merged beyond.old.places
+        (drop beyond.old.from (by_place at bytes.now))) }
+    ensures from { OnOk result (beyond.new.from + length ring.old.items ≡
+        beyond.old.from + length ring.new.items) }
     ensures gap { OnOk result (filled beyond.new.places ≡ []) }
     ensures capacity { ring.new.capacity ≡ ring.old.capacity }
     ensures err { OnErr result ((ring.new ≡ ring.old) × (beyond.new ≡ beyond.old)) }

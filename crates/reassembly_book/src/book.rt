@@ -32,9 +32,11 @@ impl Model for ReassemblyBook {
 
     ghost use Rattle.reassembly_book.specs.Kept.{as_arriving, IsKept};
 
-    ghost view = { λ b. as_arriving b.read b.ring.items b.ring.capacity b.beyond.places b.known_end b.aborted };
+    ghost view = { λ b.
+        as_arriving b.read b.ring.items b.ring.capacity b.beyond.places b.known_end b.aborted };
 
-    ghost invariant = { λ b. IsKept b.read b.ring.items b.ring.capacity b.beyond b.known_end b.aborted };
+    ghost invariant = { λ b.
+        IsKept b.read b.ring.items b.ring.capacity b.beyond b.known_end b.aborted };
 }
 
 impl ReassemblyBook {
@@ -125,7 +127,9 @@ impl ReassemblyBook {
     // How many of the bytes are new.
     fn count_new(&self, at: u64, bytes: &[u8]) -> u64
         requires { at + length bytes.now ≤ 2 ^ 62 }
-        ensures { result ≡ count_by is_some (places_after at bytes.now self.now) - count_by is_some self.now.places }
+        ensures { result ≡
+            count_by is_some (places_after at bytes.now self.now) - count_by is_some
+            self.now.places }
     {
         self.beyond.count_new(at, bytes)
     }
@@ -150,7 +154,8 @@ impl ReassemblyBook {
     fn put(&mut self, at: u64, bytes: &[u8]) -> Result<(), AllocError>
         requires places { at + length bytes.now ≤ 2 ^ 62 }
         requires taken { is_taken at bytes.now self.old ≡ true }
-        ensures ok { OnOk result (self.new ≡ with_places (places_after at bytes.now self.old) self.old) }
+        ensures ok { OnOk result (self.new ≡
+            with_places (places_after at bytes.now self.old) self.old) }
         ensures err { OnErr result (self.new ≡ self.old) }
     {
         if bytes.is_empty() {
@@ -212,7 +217,8 @@ impl ReassemblyBook {
 
     // The bytes before the first gap, or why there are none.
     fn bytes_reply(&self, max: u32) -> Result<ReassemblyReply, AllocError>
-        ensures { IfOk result (λ reply. reply ≡ bytes_reply (take max (filled self.now.places)) self.now) }
+        ensures { IfOk result (λ reply. reply ≡
+            bytes_reply (take max (filled self.now.places)) self.now) }
     {
         let count = self.waiting().min(max as usize);
         if count > 0 {
@@ -315,6 +321,16 @@ impl Book for ReassemblyBook {
 
     fn apply(&mut self, call: &ReassemblyCall) -> Result<ReassemblyReply, AllocError> {
         let reply = self.answer(call)?;
+        self.change(call)?;
+        Ok(reply)
+    }
+
+    fn apply_answered(
+        &mut self,
+        call: &ReassemblyCall,
+        answered: &ReassemblyReply,
+    ) -> Result<ReassemblyReply, AllocError> {
+        let reply = answered.copy()?;
         self.change(call)?;
         Ok(reply)
     }

@@ -1,4 +1,7 @@
+ghost use Rattle.std.specs.Prelude.{◌≡◌, IfOk};
+
 use pipe_model::Text;
+use std::alloc::AllocError;
 
 /// What a reassembly book can be asked.
 #[derive(Debug, Drop, PartialEq)]
@@ -68,4 +71,30 @@ pub enum ReassemblyReply {
     },
     /// The call was noted.
     Noted,
+}
+
+impl ReassemblyReply {
+    /// An equal reply. Bytes that are read are shared with it where they are shared, and else copied.
+    pub fn copy(&self) -> Result<Self, AllocError>
+        ensures { IfOk result (λ copy. copy ≡ self.now) }
+    {
+        Ok(match self {
+            ReassemblyReply::Placed(count) => ReassemblyReply::Placed(*count),
+            ReassemblyReply::Beyond { edge } => ReassemblyReply::Beyond { edge: *edge },
+            ReassemblyReply::FinSet => ReassemblyReply::FinSet,
+            ReassemblyReply::FinClash { fin, at } => ReassemblyReply::FinClash {
+                fin: *fin,
+                at: *at,
+            },
+            ReassemblyReply::Bytes(bytes) => ReassemblyReply::Bytes(bytes.copy()?),
+            ReassemblyReply::End => ReassemblyReply::End,
+            ReassemblyReply::NoneYet => ReassemblyReply::NoneYet,
+            ReassemblyReply::Aborted { by_peer } => ReassemblyReply::Aborted { by_peer: *by_peer },
+            ReassemblyReply::Ack { next, window } => ReassemblyReply::Ack {
+                next: *next,
+                window: *window,
+            },
+            ReassemblyReply::Noted => ReassemblyReply::Noted,
+        })
+    }
 }

@@ -27,11 +27,25 @@ impl Model for Reno {
 
     ghost use Rattle.reno_window.specs.Rules.{IsSound};
 
-    ghost view = { λ w. record { mss = w.mss; window = w.window; ssthresh = w.ssthresh; in_fast_recovery = w.in_fast_recovery } };
+    ghost view = { λ w.
+        record {
+          mss = w.mss;
+          window = w.window;
+          ssthresh = w.ssthresh;
+          in_fast_recovery =
+              w.in_fast_recovery;
+        } };
 
     ghost invariant = { λ w. IsSound w.mss w.window w.ssthresh };
 
-    ghost inverse = { λ w. record { mss = w.mss; window = w.window; ssthresh = w.ssthresh; in_fast_recovery = w.in_fast_recovery } };
+    ghost inverse = { λ w.
+        record {
+          mss = w.mss;
+          window = w.window;
+          ssthresh = w.ssthresh;
+          in_fast_recovery =
+              w.in_fast_recovery;
+        } };
 }
 
 /// How many segments of so many octets the first window has.

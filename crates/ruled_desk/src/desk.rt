@@ -109,7 +109,8 @@ fn open_both<O: Answering + Drop>(
     requires second { O.sound (book_of O.reply_to O.after second) }
     ensures first { IfOk result (λ opened. opened.first.start ≡ first) }
     ensures second { IfOk result (λ opened. opened.second.start ≡ second) }
-    ensures fresh { IfOk result (λ opened. AreFresh opened.first opened.first_seat opened.second opened.second_seat) }
+    ensures fresh { IfOk result (λ opened.
+        AreFresh opened.first opened.first_seat opened.second opened.second_seat) }
     ensures back { IfErr result (λ back. (back.0 ≡ first) × (back.1 ≡ second)) }
 {
     let (first, first_seat) = match RuledLock::open(alloc, first) {
@@ -148,7 +149,8 @@ fn given_back(
     reassembly: (Stamped<ReassemblyBook>, Stamped<ReassemblyBook>),
     control: (Stamped<ControlBook>, Stamped<ControlBook>),
 ) -> OpenFault
-    requires { AreSmall (books_in (all_six send.0 send.1 reassembly.0 reassembly.1 control.0 control.1)) }
+    requires { AreSmall (books_in
+        (all_six send.0 send.1 reassembly.0 reassembly.1 control.0 control.1)) }
     ensures { result.books ≡ all_six send.0 send.1 reassembly.0 reassembly.1 control.0 control.1 }
 {
     let (send_a, send_b) = send;
@@ -174,9 +176,13 @@ fn desk_of(
     control: Opened<ControlBook>,
 ) -> (RuledDesk, RootPass)
     requires send { AreFresh send.first send.first_seat send.second send.second_seat }
-    requires reassembly { AreFresh reassembly.first reassembly.first_seat reassembly.second reassembly.second_seat }
-    requires control { AreFresh control.first control.first_seat control.second control.second_seat }
-    ensures given { given_to result.0 ≡ all_six send.first.start send.second.start reassembly.first.start reassembly.second.start control.first.start control.second.start }
+    requires reassembly { AreFresh reassembly.first reassembly.first_seat
+        reassembly.second reassembly.second_seat }
+    requires control { AreFresh control.first control.first_seat
+        control.second control.second_seat }
+    ensures given { given_to result.0 ≡
+        all_six send.first.start send.second.start reassembly.first.start reassembly.second.start
+        control.first.start control.second.start }
     ensures root { result.1 ≡ record { out = nobody_out; books = nothing_known result.0 } }
 {
     (
@@ -206,7 +212,8 @@ impl RuledDesk {
     /// Puts each book into a table of its own. Where there is no memory for the tables, the books come back as they were.
     pub fn open(alloc: Global, books: Books) -> Result<(RuledDesk, RootPass), OpenFault>
         ensures given { IfOk result (λ opened. given_to opened.0 ≡ books) }
-        ensures root { IfOk result (λ opened. opened.1 ≡ record { out = nobody_out; books = nothing_known opened.0 }) }
+        ensures root { IfOk result (λ opened.
+            opened.1 ≡ record { out = nobody_out; books = nothing_known opened.0 }) }
         ensures back { IfErr result (λ fault. fault.books ≡ books) }
     {
         let Books {
@@ -309,7 +316,10 @@ impl RuledDesk {
     pub fn join(&self, root: &mut RootPass, pass: RuledPass)
         requires root { AreOf self.now root.old.books }
         requires pass { AreOf self.now pass.books }
-        ensures { root.new ≡ record { out = slice_set root.old.out pass.actor false; books = all_known root.old.books pass.books } }
+        ensures { root.new ≡ record {
+          out = slice_set root.old.out pass.actor false;
+          books = all_known root.old.books pass.books;
+        } }
     {
         let RuledPass { actor, seats } = pass;
         self.join_seats(&mut root.seats, seats);

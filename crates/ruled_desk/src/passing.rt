@@ -21,7 +21,8 @@ impl RuledDesk {
     fn take_pass<A>(&self, root: &mut RootPass, rider: &mut Rider<A>)
         requires root { AreOf self.now root.old.books }
         requires pass { HasPass self.now rider.old }
-        ensures root { root.new ≡ passed_back rider.old.crew.pass.actor (joined_with root.old rider.old.pass) }
+        ensures root { root.new ≡
+            passed_back rider.old.crew.pass.actor (joined_with root.old rider.old.pass) }
         ensures rider { rider.new ≡ pass_taken rider.old }
     {
         match rider.pass.take() {
@@ -37,7 +38,8 @@ impl RuledDesk {
         requires numbered { AreNumbered 0 riders.old }
         ensures riders { riders.new ≡ map (given_pass self.now) riders.old }
         ensures books { root.new.books ≡ root.old.books }
-        ensures others { (actor : ℕ) → length riders.old ≤ actor → is_out root.new.out actor ≡ false }
+        ensures others { (actor : ℕ) → length riders.old ≤ actor →
+            is_out root.new.out actor ≡ false }
     {
         for rider in riders.iter_mut() {
             self.give_pass(root, rider);
@@ -49,7 +51,8 @@ impl RuledDesk {
         requires root { AreOf self.now root.old.books }
         requires passes { All (HasPass self.now) riders.old }
         requires numbered { AreNumbered 0 riders.old }
-        requires others { (actor : ℕ) → length riders.old ≤ actor → is_out root.old.out actor ≡ false }
+        requires others { (actor : ℕ) → length riders.old ≤ actor →
+            is_out root.old.out actor ≡ false }
         ensures riders { riders.new ≡ map pass_taken riders.old }
         ensures books { root.new.books ≡ all_joined root.old.books riders.old }
         ensures root { AreOf self.now root.new.books }

@@ -34,8 +34,11 @@ fn one_lacks_stamps<A>(riders: &[Rider<A>]) -> bool
 /// Want of memory before want of stamps.
 pub(crate) fn outcome_of<A>(riders: &[Rider<A>]) -> Result<(), Refusal>
     ensures done { OnOk result (All (λ rider. rider.crew.refused ≡ None) riders.now) }
-    ensures memory { (result ≡ Err Memory) ↔ (list_any (is_rider_refused Memory) riders.now ≡ true) }
-    ensures stamps { (result ≡ Err Stamps) ↔ ((list_any (is_rider_refused Memory) riders.now ≡ false) × (list_any (is_rider_refused Stamps) riders.now ≡ true)) }
+    ensures memory { (result ≡ Err Memory) ↔
+        (list_any (is_rider_refused Memory) riders.now ≡ true) }
+    ensures stamps { (result ≡ Err Stamps) ↔
+        ((list_any (is_rider_refused Memory) riders.now ≡ false) ×
+        (list_any (is_rider_refused Stamps) riders.now ≡ true)) }
 {
     if one_lacks_memory(riders) {
         return Err(Refusal::Memory);

@@ -95,13 +95,18 @@ impl RuledPass {
         requires of { AreOf desk.now self.old.books }
         ensures kind { IfOk result (λ reply. IsSendKind call.now reply) }
         ensures bounds { IfOk result (λ reply. IsSmallSend reply) }
-        ensures notes { IfOk result (λ reply. notes_by self.new.books ≡ with_note (asks.Send side call.now) (note_of pass.old pass.new (asks.Send side call.now) (replies.Send reply)) (notes_by self.old.books)) }
+        ensures notes { IfOk result (λ reply. notes_by self.new.books ≡
+            with_note (asks.Send side call.now)
+            (note_of pass.old pass.new (asks.Send side call.now) (replies.Send reply))
+            (notes_by self.old.books)) }
         ensures rises { OnOk result (Rises pass.old pass.new) }
         ensures err { OnErr result (notes_by self.new.books ≡ notes_by self.old.books) }
         ensures pass_err { OnErr result (pass.new ≡ pass.old) }
         ensures actor { self.new.actor ≡ self.old.actor }
         ensures of { AreOf desk.now self.new.books }
-        ensures stamps { result ≡ Err refusals.Stamps → (2 ^ 62 - 1 ≤ pass.old.stamp) ⊎ (notes_full (asks.Send side call.now) self.new.books ≡ true) }
+        ensures stamps { result ≡ Err refusals.Stamps →
+            (2 ^ 62 - 1 ≤ pass.old.stamp) ⊎
+            (notes_full (asks.Send side call.now) self.new.books ≡ true) }
     {
         let object = Object::Send(side);
         match side {
@@ -128,13 +133,18 @@ impl RuledPass {
         requires of { AreOf desk.now self.old.books }
         ensures kind { IfOk result (λ reply. IsReassemblyKind call.now reply) }
         ensures bounds { IfOk result (λ reply. IsSmallReassembly reply) }
-        ensures notes { IfOk result (λ reply. notes_by self.new.books ≡ with_note (asks.Reassembly side call.now) (note_of pass.old pass.new (asks.Reassembly side call.now) (replies.Reassembly reply)) (notes_by self.old.books)) }
+        ensures notes { IfOk result (λ reply. notes_by self.new.books ≡
+            with_note (asks.Reassembly side call.now)
+            (note_of pass.old pass.new (asks.Reassembly side call.now) (replies.Reassembly reply))
+            (notes_by self.old.books)) }
         ensures rises { OnOk result (Rises pass.old pass.new) }
         ensures err { OnErr result (notes_by self.new.books ≡ notes_by self.old.books) }
         ensures pass_err { OnErr result (pass.new ≡ pass.old) }
         ensures actor { self.new.actor ≡ self.old.actor }
         ensures of { AreOf desk.now self.new.books }
-        ensures stamps { result ≡ Err refusals.Stamps → (2 ^ 62 - 1 ≤ pass.old.stamp) ⊎ (notes_full (asks.Reassembly side call.now) self.new.books ≡ true) }
+        ensures stamps { result ≡ Err refusals.Stamps →
+            (2 ^ 62 - 1 ≤ pass.old.stamp) ⊎
+            (notes_full (asks.Reassembly side call.now) self.new.books ≡ true) }
     {
         let object = Object::Reassembly(side);
         match side {
@@ -161,13 +171,18 @@ impl RuledPass {
         requires of { AreOf desk.now self.old.books }
         ensures kind { IfOk result (λ reply. IsControlKind call.now reply) }
         ensures bounds { IfOk result (λ reply. IsSmallControl call.now reply) }
-        ensures notes { IfOk result (λ reply. notes_by self.new.books ≡ with_note (asks.Control side call.now) (note_of pass.old pass.new (asks.Control side call.now) (replies.Control reply)) (notes_by self.old.books)) }
+        ensures notes { IfOk result (λ reply. notes_by self.new.books ≡
+            with_note (asks.Control side call.now)
+            (note_of pass.old pass.new (asks.Control side call.now) (replies.Control reply))
+            (notes_by self.old.books)) }
         ensures rises { OnOk result (Rises pass.old pass.new) }
         ensures err { OnErr result (notes_by self.new.books ≡ notes_by self.old.books) }
         ensures pass_err { OnErr result (pass.new ≡ pass.old) }
         ensures actor { self.new.actor ≡ self.old.actor }
         ensures of { AreOf desk.now self.new.books }
-        ensures stamps { result ≡ Err refusals.Stamps → (2 ^ 62 - 1 ≤ pass.old.stamp) ⊎ (notes_full (asks.Control side call.now) self.new.books ≡ true) }
+        ensures stamps { result ≡ Err refusals.Stamps →
+            (2 ^ 62 - 1 ≤ pass.old.stamp) ⊎
+            (notes_full (asks.Control side call.now) self.new.books ≡ true) }
     {
         let object = Object::Control(side);
         match side {
@@ -189,9 +204,11 @@ impl<G: Gate, R: Wait> Desk for RuledSeat<'_, G, R> {
     ghost use Rattle.actor_desk.specs.Noted.{Rises, note_of, noted};
     ghost use Rattle.ruled_desk.specs.SixSeats.{AreOf, names_of, notes_by, notes_full, origin_at};
 
-    ghost serves = { λ seat actor. (seat.pass.actor ≡ actor) × AreOf seat.desk.now seat.pass.books };
+    ghost serves = { λ seat actor.
+        (seat.pass.actor ≡ actor) × AreOf seat.desk.now seat.pass.books };
 
-    ghost is_full = { λ seat ask pass. (2 ^ 62 - 1 ≤ pass.stamp) ⊎ (notes_full ask seat.pass.books ≡ true) };
+    ghost is_full = { λ seat ask pass.
+        (2 ^ 62 - 1 ≤ pass.stamp) ⊎ (notes_full ask seat.pass.books ≡ true) };
 
     ghost notes = { λ seat. Some (notes_by seat.pass.books) };
 
@@ -232,7 +249,9 @@ fn turn_with<A: Actor, G: Gate, R: Wait>(
 ) -> RuledPass
     requires actor { pass.actor ≡ crew.old.pass.actor }
     requires of { AreOf desk.now pass.books }
-    ensures { Rode A.asks A.takes desk.now (record { crew = crew.old; pass = Some pass }) (record { crew = crew.new; pass = Some result }) }
+    ensures { Rode A.asks A.takes desk.now
+        (record { crew = crew.old; pass = Some pass })
+        (record { crew = crew.new; pass = Some result }) }
 {
     let mut seat = desk.seat(rt, pass, gate);
     let _told = turn(alloc, crew, &mut seat, gate);
@@ -274,10 +293,15 @@ pub fn ruled_round<A: Actor + Send, G: Gate + Sync, R: Threads + Wait + Sync>(
 ) -> Result<(), Refusal>
     requires { All (HasPass desk.now) riders.old }
     ensures many { length riders.new ≡ length riders.old }
-    ensures rode { (i : ℕ) (d : Rider A) → i < length riders.old → Rode A.asks A.takes desk.now (slice_index_or riders.old i d) (slice_index_or riders.new i d) }
+    ensures rode { (i : ℕ) (d : Rider A) → i < length riders.old →
+        Rode A.asks A.takes desk.now
+        (slice_index_or riders.old i d) (slice_index_or riders.new i d) }
     ensures done { OnOk result (All (λ rider. rider.crew.refused ≡ None) riders.new) }
-    ensures memory { (result ≡ Err Memory) ↔ (list_any (is_rider_refused Memory) riders.new ≡ true) }
-    ensures stamps { (result ≡ Err Stamps) ↔ ((list_any (is_rider_refused Memory) riders.new ≡ false) × (list_any (is_rider_refused Stamps) riders.new ≡ true)) }
+    ensures memory { (result ≡ Err Memory) ↔
+        (list_any (is_rider_refused Memory) riders.new ≡ true) }
+    ensures stamps { (result ≡ Err Stamps) ↔
+        ((list_any (is_rider_refused Memory) riders.new ≡ false) ×
+        (list_any (is_rider_refused Stamps) riders.new ≡ true)) }
     ensures used_up { result ≡ Err Stamps → OneIsUsedUp riders.new }
 {
     let threads = riders.len().max(1);
@@ -305,8 +329,11 @@ fn ride_at<A: Actor + Send, G: Gate + Sync, R: Threads + Wait + Sync>(
 ) -> (Result<(), Refusal>, Books)
     requires numbered { AreNumbered 0 riders.old }
     requires root { root ≡ record { out = nobody_out; books = nothing_known desk } }
-    ensures ok { OnOk result.0 (IsWholeRound A.asks A.takes (crew_of riders.old) (crew_of riders.new) (given_to desk) result.1) }
-    ensures used_up { result.0 ≡ Err Stamps → OneKnowsLast (crew_of riders.new) ⊎ OneIsFull result.1 }
+    ensures ok { OnOk result.0
+        (IsWholeRound A.asks A.takes (crew_of riders.old) (crew_of riders.new)
+        (given_to desk) result.1) }
+    ensures used_up { result.0 ≡ Err Stamps →
+        OneKnowsLast (crew_of riders.new) ⊎ OneIsFull result.1 }
     ensures many { length riders.new ≡ length riders.old }
 {
     let mut root = root;
@@ -325,8 +352,10 @@ fn ride_all<A: Actor + Send, G: Gate + Sync, R: Threads + Wait + Sync>(
     gate: &G,
 ) -> (Result<(), Refusal>, Books)
     requires { AreNumbered 0 riders.old }
-    ensures ok { OnOk result.0 (IsWholeRound A.asks A.takes (crew_of riders.old) (crew_of riders.new) books result.1) }
-    ensures used_up { result.0 ≡ Err Stamps → OneKnowsLast (crew_of riders.new) ⊎ OneIsFull result.1 }
+    ensures ok { OnOk result.0
+        (IsWholeRound A.asks A.takes (crew_of riders.old) (crew_of riders.new) books result.1) }
+    ensures used_up { result.0 ≡ Err Stamps →
+        OneKnowsLast (crew_of riders.new) ⊎ OneIsFull result.1 }
     ensures many { length riders.new ≡ length riders.old }
 {
     match RuledDesk::open(alloc, books) {
@@ -352,7 +381,8 @@ pub fn round_at_tables<A: Actor + Drop + Send, G: Gate + Sync, R: Threads + Wait
 ) -> (Result<(), Refusal>, Books)
     requires { AreActors 0 crew.old.items }
     ensures many { length crew.new.items ≡ length crew.old.items }
-    ensures ok { OnOk result.0 (IsWholeRound A.asks A.takes crew.old.items crew.new.items books result.1) }
+    ensures ok { OnOk result.0
+        (IsWholeRound A.asks A.takes crew.old.items crew.new.items books result.1) }
     ensures used_up { result.0 ≡ Err Stamps → OneKnowsLast crew.new.items ⊎ OneIsFull result.1 }
 {
     let mut riders = match mount(alloc, crew) {

@@ -13,7 +13,8 @@ pub trait Answering: Kept {
 
     /// A law: whatever it is asked.
     fn answers(&self)
-        ensures { (call : Self.Call) → Self.can_ask call → Self.sound self.now → meets call (Self.reply_to self.now call) };
+        ensures { (call : Self.Call) → Self.can_ask call → Self.sound self.now →
+            meets call (Self.reply_to self.now call) };
 }
 
 impl Answering for SendBook {
@@ -25,7 +26,8 @@ impl Answering for SendBook {
     ghost meets = { λ call reply. IsSendKind call reply × IsSmallSend reply };
 
     fn answers(&self)
-        ensures { (call : SendCall) → CanAsk call → IsWrittenSmall self.now → IsSendKind call (reply_to self.now call) × IsSmallSend (reply_to self.now call) }
+        ensures { (call : SendCall) → CanAsk call → IsWrittenSmall self.now →
+            IsSendKind call (reply_to self.now call) × IsSmallSend (reply_to self.now call) }
     {
         marks_tile(self);
     }
@@ -40,7 +42,9 @@ impl Answering for ReassemblyBook {
     ghost meets = { λ call reply. IsReassemblyKind call reply × IsSmallReassembly reply };
 
     fn answers(&self)
-        ensures { (call : ReassemblyCall) → CanAsk call → IsReceivedSmall self.now → IsReassemblyKind call (reply_to self.now call) × IsSmallReassembly (reply_to self.now call) }
+        ensures { (call : ReassemblyCall) → CanAsk call → IsReceivedSmall self.now →
+            IsReassemblyKind call (reply_to self.now call) ×
+            IsSmallReassembly (reply_to self.now call) }
     {}
 }
 
@@ -55,6 +59,8 @@ impl Answering for ControlBook {
     ghost meets = { λ call reply. IsControlKind call reply × IsSmallControl call reply };
 
     fn answers(&self)
-        ensures { (call : ControlCall) → can_ask call → HasRightRows self.now → IsControlKind call (reply_to self.now call) × IsSmallControl call (reply_to self.now call) }
+        ensures { (call : ControlCall) → can_ask call → HasRightRows self.now →
+            IsControlKind call (reply_to self.now call) ×
+            IsSmallControl call (reply_to self.now call) }
     {}
 }

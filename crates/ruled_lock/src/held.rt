@@ -48,9 +48,11 @@ impl<O: Answering> Held<O> {
     pub fn enter(&mut self, pass: &mut Pass, call: &O::Call) -> Result<O::Reply, Refusal>
         requires { O.can_ask call.now }
         ensures meets { IfOk result (λ reply. O.meets call.now reply) }
-        ensures grown { IfOk result (λ reply. self.new ≡ grown self.old (entry_by pass.old pass.new call.now reply ∷ [])) }
+        ensures grown { IfOk result (λ reply. self.new ≡
+            grown self.old (entry_by pass.old pass.new call.now reply ∷ [])) }
         ensures rises { OnOk result (Rises pass.old pass.new) }
-        ensures stamps { result ≡ Err refusals.Stamps → (2 ^ 62 - 1 ≤ pass.old.stamp) ⊎ HasLastStamp self.new.journal }
+        ensures stamps { result ≡ Err refusals.Stamps →
+            (2 ^ 62 - 1 ≤ pass.old.stamp) ⊎ HasLastStamp self.new.journal }
         ensures err { OnErr result (self.new ≡ self.old) }
         ensures pass_err { OnErr result (pass.new ≡ pass.old) }
     {

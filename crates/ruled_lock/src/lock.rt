@@ -29,9 +29,13 @@ impl<O: Kept + Drop> Model for RuledLock<O> {
 
     ghost Value = { Locked O O.Call O.Reply };
 
-    ghost view = { λ l. record { table = l.table.shared.table_id; start = l.table.shared.key.value } };
+    ghost view = { λ l. record {
+      table = l.table.shared.table_id;
+      start = l.table.shared.key.value;
+    } };
 
-    ghost invariant = { λ l. (l.table.shared.table_id.words ≡ 3) × (l.table.shared.table_id.slots ≡ 1) };
+    ghost invariant = { λ l. (l.table.shared.table_id.words ≡ 3) ×
+        (l.table.shared.table_id.slots ≡ 1) };
 }
 
 /// A seat that neither waits nor has the book. Contracts see which table it is at, its parts of 1,024, the entries that it
@@ -106,7 +110,9 @@ impl<O: Answering + Drop> RuledLock<O> {
         requires table { seat.old.table ≡ self.now.table }
         requires other { other.table ≡ self.now.table }
         requires parts { 1 ≤ seat.old.parts }
-        ensures { seat.new ≡ seated seat.old.table (seat.old.parts + other.parts) (seat.old.own ++ other.own) (seat.old.full || other.full) }
+        ensures { seat.new ≡
+            seated seat.old.table (seat.old.parts + other.parts) (seat.old.own ++ other.own)
+            (seat.old.full || other.full) }
     {
         let RestingSeat { seat: ended } = other;
         self.table
@@ -165,7 +171,8 @@ impl<O: Answering + Drop> RuledLock<O> {
     /// Takes the book out of the slot.
     pub(crate) fn take_out(&self, seat: &mut BookSeat<O>) -> Held<O>
         requires table { seat.old.table_id ≡ self.now.table }
-        requires slot { (book : Journaled O O.Call O.Reply) × (seat.old.me.0.took ≡ book ∷ []) × (seat.old.me.1 ≡ (0, Some book) ∷ []) }
+        requires slot { (book : Journaled O O.Call O.Reply) × (seat.old.me.0.took ≡ book ∷ []) ×
+            (seat.old.me.1 ≡ (0, Some book) ∷ []) }
         ensures table { seat.new.table_id ≡ seat.old.table_id }
         ensures view { seat.new.me.0 ≡ seat.old.me.0 }
         ensures turn { HasTurn seat.new.me result }
@@ -195,7 +202,9 @@ impl<O: Answering + Drop> RuledLock<O> {
         requires table { seat.old.table_id ≡ self.now.table }
         requires more { HasOneMore seat.old.me held }
         ensures table { seat.new.table_id ≡ seat.old.table_id }
-        ensures done { (book : Journaled O O.Call O.Reply) (entry : Entry O.Call O.Reply) → HasTurn seat.old.me book → held ≡ grown book (entry ∷ []) → IsDone (entry ∷ []) false seat.old.me seat.new.me }
+        ensures done { (book : Journaled O O.Call O.Reply) (entry : Entry O.Call O.Reply) →
+            HasTurn seat.old.me book → held ≡ grown book (entry ∷ []) →
+            IsDone (entry ∷ []) false seat.old.me seat.new.me }
     {
         self.table.shared.exchange(seat, 0, Some(held));
         self.table.shared.fetch_add::<Add>(seat, 2, 1);
@@ -218,7 +227,8 @@ impl<O: Answering + Drop> RuledLock<O> {
         requires table { seat.old.table_id ≡ self.now.table }
         requires turn { HasTurn seat.old.me held }
         ensures table { seat.new.table_id ≡ seat.old.table_id }
-        ensures done { (full : Bool) × IsDone [] full seat.old.me seat.new.me × (HasLastStamp held.journal → full ≡ true) }
+        ensures done { (full : Bool) × IsDone [] full seat.old.me seat.new.me ×
+            (HasLastStamp held.journal → full ≡ true) }
     {
         if held.is_full() {
             self.put_back_full(seat, held);

@@ -63,12 +63,15 @@ impl<O: Answering + Drop> RuledLock<O> {
         requires parts { 1 ≤ seat.old.me.0.parts }
         requires can_ask { O.can_ask call.now }
         ensures meets { IfOk result (λ reply. O.meets call.now reply) }
-        ensures done { IfOk result (λ reply. IsCalled (entry_by pass.old pass.new call.now reply ∷ []) false seat.old.me seat.new.me) }
+        ensures done { IfOk result (λ reply.
+            IsCalled (entry_by pass.old pass.new call.now reply ∷ []) false
+            seat.old.me seat.new.me) }
         ensures rises { OnOk result (Rises pass.old pass.new) }
         ensures err { OnErr result (IsRefused seat.old.me seat.new.me) }
         ensures pass_err { OnErr result (pass.new ≡ pass.old) }
         ensures table { seat.new.table_id ≡ seat.old.table_id }
-        ensures stamps { result ≡ Err refusals.Stamps → (2 ^ 62 - 1 ≤ pass.old.stamp) ⊎ (seat.new.me.0.full ≡ true) }
+        ensures stamps { result ≡ Err refusals.Stamps →
+            (2 ^ 62 - 1 ≤ pass.old.stamp) ⊎ (seat.new.me.0.full ≡ true) }
     {
         let mut held = self.take(rt, seat);
         gate.held(pass.actor, object);
@@ -103,13 +106,16 @@ impl<O: Answering + Drop> RuledLock<O> {
         requires parts { 1 ≤ seat.old.parts }
         requires can_ask { O.can_ask call.now }
         ensures meets { IfOk result (λ reply. O.meets call.now reply) }
-        ensures own { IfOk result (λ reply. seat.new ≡ record seat.old { own = seat.old.own ++ entry_by pass.old pass.new call.now reply ∷ [] }) }
+        ensures own { IfOk result (λ reply. seat.new ≡ record seat.old {
+          own = seat.old.own ++ entry_by pass.old pass.new call.now reply ∷ [];
+        }) }
         ensures rises { OnOk result (Rises pass.old pass.new) }
         ensures err { OnErr result (seat.new.own ≡ seat.old.own) }
         ensures pass_err { OnErr result (pass.new ≡ pass.old) }
         ensures table { seat.new.table ≡ seat.old.table }
         ensures parts { seat.new.parts ≡ seat.old.parts }
-        ensures stamps { result ≡ Err refusals.Stamps → (2 ^ 62 - 1 ≤ pass.old.stamp) ⊎ (seat.new.full ≡ true) }
+        ensures stamps { result ≡ Err refusals.Stamps →
+            (2 ^ 62 - 1 ≤ pass.old.stamp) ⊎ (seat.new.full ≡ true) }
     {
         self.call_at(rt, gate, object, &mut seat.seat, pass, call)
     }

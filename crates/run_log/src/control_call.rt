@@ -16,7 +16,8 @@ use key_material::Address;
 use std::alloc::AllocError;
 
 fn put_fell(text: &mut String, path: u8, event: Event) -> Result<(), AllocError>
-    ensures text { OnOk result (string_bytes text.new ≡ string_bytes text.old ++ spaced (control_call_words (Fell path event))) }
+    ensures text { OnOk result (string_bytes text.new ≡
+        string_bytes text.old ++ spaced (control_call_words (Fell path event))) }
     ensures fits { OnOk result (IsLong path) }
 {
     write!(text, "fell {path} ")?;
@@ -25,7 +26,8 @@ fn put_fell(text: &mut String, path: u8, event: Event) -> Result<(), AllocError>
 
 /// Each octet of an address, behind a space.
 fn put_octets(text: &mut String, octets: &[u8]) -> Result<(), AllocError>
-    ensures text { OnOk result (string_bytes text.new ≡ string_bytes text.old ++ flat_map (λ octet. 32 ∷ decimal octet) octets.now) }
+    ensures text { OnOk result (string_bytes text.new ≡
+        string_bytes text.old ++ flat_map (λ octet. 32 ∷ decimal octet) octets.now) }
     ensures fits { OnOk result (AllByRecursion IsByte octets.now) }
 {
     for octet in octets {
@@ -36,7 +38,8 @@ fn put_octets(text: &mut String, octets: &[u8]) -> Result<(), AllocError>
 
 /// The octets of an address.
 fn put_address(text: &mut String, address: Address) -> Result<(), AllocError>
-    ensures text { OnOk result (string_bytes text.new ≡ string_bytes text.old ++ flat_map (λ octet. 32 ∷ decimal octet) (octets_of address)) }
+    ensures text { OnOk result (string_bytes text.new ≡
+        string_bytes text.old ++ flat_map (λ octet. 32 ∷ decimal octet) (octets_of address)) }
     ensures fits { OnOk result (AddressFits address) }
 {
     match address {
@@ -53,7 +56,8 @@ fn put_heard(
     port: u16,
     hmac: u64,
 ) -> Result<(), AllocError>
-    ensures text { OnOk result (string_bytes text.new ≡ string_bytes text.old ++ spaced (heard_words id (octets_of address) port hmac)) }
+    ensures text { OnOk result (string_bytes text.new ≡
+        string_bytes text.old ++ spaced (heard_words id (octets_of address) port hmac)) }
     ensures fits { OnOk result (HeardFits id address port hmac) }
 {
     write!(text, "heard {id}")?;
@@ -63,7 +67,8 @@ fn put_heard(
 }
 
 pub fn put_control_call(text: &mut String, call: &ControlCall) -> Result<(), AllocError>
-    ensures text { OnOk result (string_bytes text.new ≡ string_bytes text.old ++ spaced (control_call_words call.now)) }
+    ensures text { OnOk result (string_bytes text.new ≡
+        string_bytes text.old ++ spaced (control_call_words call.now)) }
     ensures fits { OnOk result (ControlCallFits call.now) }
 {
     match *call {

@@ -20,7 +20,9 @@ fn put_standing(
     sole: bool,
     notice: Notice,
 ) -> Result<(), AllocError>
-    ensures text { OnOk result (string_bytes text.new ≡ string_bytes text.old ++ spaced (control_reply_words (replies.Standing mode standby sole notice))) }
+    ensures text { OnOk result (string_bytes text.new ≡
+        string_bytes text.old ++ spaced
+        (control_reply_words (replies.Standing mode standby sole notice))) }
     ensures fits { OnOk result (NoticeFits notice) }
 {
     let mode = mode_name(mode);
@@ -29,7 +31,8 @@ fn put_standing(
 }
 
 fn put_answered_verdict(text: &mut String, verdict: Verdict) -> Result<(), AllocError>
-    ensures text { OnOk result (string_bytes text.new ≡ string_bytes text.old ++ spaced (control_reply_words (replies.Verdict verdict))) }
+    ensures text { OnOk result (string_bytes text.new ≡
+        string_bytes text.old ++ spaced (control_reply_words (replies.Verdict verdict))) }
     ensures fits { OnOk result (VerdictFits verdict) }
 {
     write!(text, "verdict ")?;
@@ -38,7 +41,8 @@ fn put_answered_verdict(text: &mut String, verdict: Verdict) -> Result<(), Alloc
 
 /// The numbers of a row, behind a space.
 fn put_row(text: &mut String, row: Row) -> Result<(), AllocError>
-    ensures text { OnOk result (string_bytes text.new ≡ string_bytes text.old ++ 32 ∷ spaced (row_words row)) }
+    ensures text { OnOk result (string_bytes text.new ≡
+        string_bytes text.old ++ 32 ∷ spaced (row_words row)) }
     ensures fits { OnOk result (RowFits row) }
 {
     let Row { path, window, rtt } = row;
@@ -47,7 +51,8 @@ fn put_row(text: &mut String, row: Row) -> Result<(), AllocError>
 
 /// The numbers of each row.
 fn put_each_row(text: &mut String, rows: &[Row]) -> Result<(), AllocError>
-    ensures text { OnOk result (string_bytes text.new ≡ string_bytes text.old ++ flat_map (λ row. 32 ∷ spaced (row_words row)) rows.now) }
+    ensures text { OnOk result (string_bytes text.new ≡
+        string_bytes text.old ++ flat_map (λ row. 32 ∷ spaced (row_words row)) rows.now) }
     ensures fits { OnOk result (All RowFits rows.now) }
 {
     for row in rows {
@@ -58,7 +63,8 @@ fn put_each_row(text: &mut String, rows: &[Row]) -> Result<(), AllocError>
 
 fn put_rows(text: &mut String, rows: &[Row]) -> Result<(), AllocError>
     requires { length rows.now ≤ 16 }
-    ensures text { OnOk result (string_bytes text.new ≡ string_bytes text.old ++ spaced (control_reply_words (replies.Rows rows.now))) }
+    ensures text { OnOk result (string_bytes text.new ≡
+        string_bytes text.old ++ spaced (control_reply_words (replies.Rows rows.now))) }
     ensures fits { OnOk result (RowsFit rows.now) }
 {
     write!(text, "rows")?;
@@ -67,7 +73,8 @@ fn put_rows(text: &mut String, rows: &[Row]) -> Result<(), AllocError>
 }
 
 pub fn put_control_reply(text: &mut String, reply: &ControlReply) -> Result<(), AllocError>
-    ensures text { OnOk result (string_bytes text.new ≡ string_bytes text.old ++ spaced (control_reply_words reply.now)) }
+    ensures text { OnOk result (string_bytes text.new ≡
+        string_bytes text.old ++ spaced (control_reply_words reply.now)) }
     ensures fits { OnOk result (ControlReplyFits reply.now) }
 {
     match *reply {
@@ -86,7 +93,7 @@ pub fn put_control_reply(text: &mut String, reply: &ControlReply) -> Result<(), 
         ControlReply::UnknownToken { own } => write!(text, "unknowntoken {own}"),
         ControlReply::NotConfirmed => write!(text, "notconfirmed"),
         ControlReply::Fallen(mode) => write!(text, "fallen {}", mode_name(mode)),
-        ControlReply::Rows(ref rows) => put_rows(text, rows.as_slice()),
+        ControlReply::Rows(ref rows) => put_rows(text, rows.listed().as_slice()),
         ControlReply::Echo => write!(text, "echo"),
         ControlReply::BadHmac => write!(text, "badhmac"),
         ControlReply::Known => write!(text, "known"),

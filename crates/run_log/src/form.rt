@@ -166,7 +166,8 @@ impl Expected {
         line: &[u8],
     ) -> Result<Option<Taken>, AllocError>
         requires { HasRoundBelow (2 ^ 64 - 1) self }
-        ensures { IfOk result (λ line_taken. line_taken ≡ taken_line setting.actors setting.width self line.now) }
+        ensures { IfOk result (λ line_taken. line_taken ≡
+            taken_line setting.actors setting.width self line.now) }
     {
         match self {
             Expected::Format => Ok(Expected::take_format(line)),

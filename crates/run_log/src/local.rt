@@ -10,7 +10,8 @@ use actor_desk::LocalStep;
 use std::alloc::AllocError;
 
 pub fn put_local(text: &mut String, step: LocalStep) -> Result<(), AllocError>
-    ensures text { OnOk result (string_bytes text.new ≡ string_bytes text.old ++ spaced (local_words step)) }
+    ensures text { OnOk result (string_bytes text.new ≡
+        string_bytes text.old ++ spaced (local_words step)) }
     ensures fits { OnOk result (LocalFits step) }
 {
     match step {

@@ -68,7 +68,8 @@ pub fn mode_name(mode: Mode) -> &'static str
 
 /// A number, or `-` where there is none.
 pub fn put_optional(text: &mut String, number: Option<u64>) -> Result<(), AllocError>
-    ensures text { OnOk result (string_bytes text.new ≡ string_bytes text.old ++ optional_word number) }
+    ensures text { OnOk result (string_bytes text.new ≡
+        string_bytes text.old ++ optional_word number) }
     ensures fits { OnOk result (OptionFits number) }
 {
     match number {
@@ -78,7 +79,8 @@ pub fn put_optional(text: &mut String, number: Option<u64>) -> Result<(), AllocE
 }
 
 pub fn put_event(text: &mut String, event: Event) -> Result<(), AllocError>
-    ensures { OnOk result (string_bytes text.new ≡ string_bytes text.old ++ spaced (event_words event)) }
+    ensures { OnOk result (string_bytes text.new ≡
+        string_bytes text.old ++ spaced (event_words event)) }
 {
     match event {
         Event::PlainHandshake => write!(text, "plainhandshake"),
@@ -95,7 +97,8 @@ pub fn put_event(text: &mut String, event: Event) -> Result<(), AllocError>
 }
 
 pub fn put_verdict(text: &mut String, verdict: Verdict) -> Result<(), AllocError>
-    ensures text { OnOk result (string_bytes text.new ≡ string_bytes text.old ++ spaced (verdict_words verdict)) }
+    ensures text { OnOk result (string_bytes text.new ≡
+        string_bytes text.old ++ spaced (verdict_words verdict)) }
     ensures fits { OnOk result (VerdictFits verdict) }
 {
     match verdict {
@@ -107,7 +110,8 @@ pub fn put_verdict(text: &mut String, verdict: Verdict) -> Result<(), AllocError
 }
 
 pub fn put_notice(text: &mut String, notice: Notice) -> Result<(), AllocError>
-    ensures text { OnOk result (string_bytes text.new ≡ string_bytes text.old ++ spaced (notice_words notice)) }
+    ensures text { OnOk result (string_bytes text.new ≡
+        string_bytes text.old ++ spaced (notice_words notice)) }
     ensures fits { OnOk result (NoticeFits notice) }
 {
     match notice {

@@ -48,7 +48,9 @@ fn take_line(
     line: &[u8],
 ) -> Result<(), LogFault>
     requires { HasRoundBelow (2 ^ 64 - 1) expected.old }
-    ensures { Gives (λ _. (expected.new, turns.new.items)) result (after_line number turns.old.items (taken_line setting.actors setting.width expected.old line.now)) }
+    ensures { Gives (λ _. (expected.new, turns.new.items)) result
+        (after_line number turns.old.items
+        (taken_line setting.actors setting.width expected.old line.now)) }
 {
     let Some(taken) = expected.take(alloc, setting, line)? else {
         return Err(LogFault::Line(number));

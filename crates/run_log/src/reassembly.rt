@@ -11,7 +11,8 @@ use reassembly_book::{ReassemblyCall, ReassemblyReply};
 use std::alloc::AllocError;
 
 pub fn put_reassembly_call(text: &mut String, call: &ReassemblyCall) -> Result<(), AllocError>
-    ensures text { OnOk result (string_bytes text.new ≡ string_bytes text.old ++ spaced (reassembly_call_words call.now)) }
+    ensures text { OnOk result (string_bytes text.new ≡
+        string_bytes text.old ++ spaced (reassembly_call_words call.now)) }
     ensures fits { OnOk result (ReassemblyCallFits call.now) }
 {
     match *call {
@@ -24,7 +25,8 @@ pub fn put_reassembly_call(text: &mut String, call: &ReassemblyCall) -> Result<(
 }
 
 pub fn put_reassembly_reply(text: &mut String, reply: &ReassemblyReply) -> Result<(), AllocError>
-    ensures text { OnOk result (string_bytes text.new ≡ string_bytes text.old ++ spaced (reassembly_reply_words reply.now)) }
+    ensures text { OnOk result (string_bytes text.new ≡
+        string_bytes text.old ++ spaced (reassembly_reply_words reply.now)) }
     ensures fits { OnOk result (ReassemblyReplyFits reply.now) }
 {
     match *reply {

@@ -12,7 +12,8 @@ use send_book::{SendCall, SendReply, Why};
 use std::alloc::AllocError;
 
 pub fn put_send_call(text: &mut String, call: &SendCall) -> Result<(), AllocError>
-    ensures text { OnOk result (string_bytes text.new ≡ string_bytes text.old ++ spaced (send_call_words call.now)) }
+    ensures text { OnOk result (string_bytes text.new ≡
+        string_bytes text.old ++ spaced (send_call_words call.now)) }
     ensures fits { OnOk result (SendCallFits call.now) }
 {
     match *call {
@@ -31,7 +32,8 @@ pub fn put_send_call(text: &mut String, call: &SendCall) -> Result<(), AllocErro
 
 /// The places of a piece.
 fn put_granted(text: &mut String, from: u64, to: u64) -> Result<(), AllocError>
-    ensures text { OnOk result (string_bytes text.new ≡ string_bytes text.old ++ spaced (granted_words from to)) }
+    ensures text { OnOk result (string_bytes text.new ≡
+        string_bytes text.old ++ spaced (granted_words from to)) }
     ensures fits { OnOk result (IsLong from × IsLong to) }
 {
     write!(text, "granted {from} {to}")
@@ -39,7 +41,8 @@ fn put_granted(text: &mut String, from: u64, to: u64) -> Result<(), AllocError>
 
 /// The reason that no bytes are granted, and how many there are in all.
 fn put_no_grant(text: &mut String, why: Why, end: Option<u64>) -> Result<(), AllocError>
-    ensures text { OnOk result (string_bytes text.new ≡ string_bytes text.old ++ spaced (send_reply_words (NoGrant why end))) }
+    ensures text { OnOk result (string_bytes text.new ≡
+        string_bytes text.old ++ spaced (send_reply_words (NoGrant why end))) }
     ensures fits { OnOk result (OptionFits end) }
 {
     write!(text, "none {} ", reason_name(why))?;
@@ -47,7 +50,8 @@ fn put_no_grant(text: &mut String, why: Why, end: Option<u64>) -> Result<(), All
 }
 
 pub fn put_send_reply(text: &mut String, reply: &SendReply) -> Result<(), AllocError>
-    ensures text { OnOk result (string_bytes text.new ≡ string_bytes text.old ++ spaced (send_reply_words reply.now)) }
+    ensures text { OnOk result (string_bytes text.new ≡
+        string_bytes text.old ++ spaced (send_reply_words reply.now)) }
     ensures fits { OnOk result (SendReplyFits reply.now) }
 {
     match *reply {

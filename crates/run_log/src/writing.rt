@@ -33,7 +33,8 @@ fn object_of(ask: &Ask) -> Object
 }
 
 fn put_ask(text: &mut String, ask: &Ask) -> Result<(), AllocError>
-    ensures text { OnOk result (string_bytes text.new ≡ string_bytes text.old ++ spaced (ask_words ask.now)) }
+    ensures text { OnOk result (string_bytes text.new ≡
+        string_bytes text.old ++ spaced (ask_words ask.now)) }
     ensures fits { OnOk result (AskFits ask.now) }
 {
     match ask {
@@ -46,7 +47,8 @@ fn put_ask(text: &mut String, ask: &Ask) -> Result<(), AllocError>
 
 /// Puts a book's reply behind ` = `.
 fn put_reply(text: &mut String, reply: &Reply) -> Result<(), AllocError>
-    ensures text { OnOk result (string_bytes text.new ≡ string_bytes text.old ++ reply_text reply.now) }
+    ensures text { OnOk result (string_bytes text.new ≡
+        string_bytes text.old ++ reply_text reply.now) }
     ensures fits { OnOk result (ReplyFits reply.now) }
 {
     match reply {

@@ -14,7 +14,8 @@ use std::alloc::Global;
 ///
 /// `Usage` where the words break the form of the command line, and `Memory` where memory runs out.
 pub fn read_words<'a>(alloc: Global, words: &'a [String]) -> Result<CommandLine<'a>, Status>
-    ensures line { IfOk result (λ line. line_of (map string_bytes words.entry.now) ≡ Some (as_line line)) }
+    ensures line { IfOk result (λ line. line_of (map string_bytes words.entry.now) ≡
+        Some (as_line line)) }
     ensures ranges { IfOk result (λ line. HasRanges (shown_work line.mode)) }
     ensures fault { IfErr result (IsWordsFault (map string_bytes words.entry.now)) }
 {

@@ -16,14 +16,16 @@ fn with_option<'a>(
     form: Command<'a>,
     option: &'a str,
 ) -> Result<Command<'a>, AllocError>
-    ensures { IfOk result (λ made. app_of made ≡ form_is.with_option option.entry.now (app_of form.entry)) }
+    ensures { IfOk result (λ made. app_of made ≡
+        form_is.with_option option.entry.now (app_of form.entry)) }
 {
     form.arg(Arg::new(alloc, option).long(option))
 }
 
 /// The form with one name more.
 fn with_name<'a>(alloc: Global, form: Command<'a>, name: &'a str) -> Result<Command<'a>, AllocError>
-    ensures { IfOk result (λ made. app_of made ≡ form_is.with_name name.entry.now (app_of form.entry)) }
+    ensures { IfOk result (λ made. app_of made ≡
+        form_is.with_name name.entry.now (app_of form.entry)) }
 {
     form.arg(Arg::new(alloc, name))
 }
@@ -86,8 +88,10 @@ fn fault_by(error: &Error) -> WordsFault
 /// Takes the words apart.
 pub fn matches<'a>(alloc: Global, words: &'a [String]) -> Result<ArgMatches<'a>, WordsFault>
     ensures ok { IfOk result (λ matches.
-        line_of (map string_bytes words.entry.now) ≡ form_is.line_by (first_value (found_of matches))) }
-    ensures usage { result ≡ Err WordsFault.Usage → line_of (map string_bytes words.entry.now) ≡ None }
+        line_of (map string_bytes words.entry.now) ≡ form_is.line_by
+        (first_value (found_of matches))) }
+    ensures usage { result ≡ Err WordsFault.Usage → line_of (map string_bytes words.entry.now) ≡
+        None }
 {
     let Ok(form) = line_form(alloc) else {
         return Err(WordsFault::Memory);

@@ -14,4 +14,5 @@ mod reading;
 
 pub use command_line::{CommandLine, Mode};
 pub use fault::WordsFault;
+pub use number::read_number;
 pub use reading::read;

@@ -15,7 +15,8 @@ use std::alloc::Global;
 
 /// A name that isn't empty.
 fn given_name<'a>(matches: &ArgMatches<'a>, id: &str) -> Option<&'a str>
-    ensures { option_map (λ name. name.now) result ≡ given_name (first_value (found_of matches.now) id.now) }
+    ensures { option_map (λ name. name.now) result ≡
+        given_name (first_value (found_of matches.now) id.now) }
 {
     let name = matches.get_str(id)?;
     if name.is_empty() { None } else { Some(name) }
@@ -50,7 +51,8 @@ fn mode_of<'a>(
     order: Option<&'a str>,
     number: Option<&str>,
 ) -> Option<Mode<'a>>
-    ensures exact { option_map shown_work result ≡ work_in mode.now (option_map (λ text. text.now) rounds.entry)
+    ensures exact { option_map shown_work result ≡
+        work_in mode.now (option_map (λ text. text.now) rounds.entry)
         (option_map (λ text. text.now) order.entry) (option_map (λ text. text.now) number.entry) }
     ensures ranges { IfSome result (λ mode. HasRanges (shown_work mode)) }
 {
@@ -106,8 +108,10 @@ fn command_line<'a>(matches: &ArgMatches<'a>) -> Option<CommandLine<'a>>
 ///
 /// `Usage` comes only where the words break the line form, and `Memory` where memory runs out; other words are read.
 pub fn read<'a>(alloc: Global, words: &'a [String]) -> Result<CommandLine<'a>, WordsFault>
-    ensures ok { IfOk result (λ line. line_of (map string_bytes words.entry.now) ≡ Some (as_line line)) }
-    ensures usage { result ≡ Err WordsFault.Usage → line_of (map string_bytes words.entry.now) ≡ None }
+    ensures ok { IfOk result (λ line. line_of (map string_bytes words.entry.now) ≡
+        Some (as_line line)) }
+    ensures usage { result ≡ Err WordsFault.Usage → line_of (map string_bytes words.entry.now) ≡
+        None }
     ensures ranges { IfOk result (λ line. HasRanges (shown_work line.mode)) }
 {
     let matches = form::matches(alloc, words)?;

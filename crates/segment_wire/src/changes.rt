@@ -53,7 +53,8 @@ fn write_stripped(
     addresses: &Addresses,
 ) -> Result<Vec<u8>, AllocError>
     requires { CanWrite (segment_of segment.now) }
-    ensures { IfOk result (λ octets. octets.items ≡ segment_text addresses.now (stripped (segment_of segment.now))) }
+    ensures { IfOk result (λ octets. octets.items ≡
+        segment_text addresses.now (stripped (segment_of segment.now))) }
 {
     let mut options = kept_options(alloc, segment)?;
     pad(&mut options)?;
@@ -66,7 +67,8 @@ fn write_altered(
     addresses: &Addresses,
 ) -> Result<Vec<u8>, AllocError>
     requires { CanWrite (segment_of segment.now) }
-    ensures { IfOk result (λ octets. octets.items ≡ segment_text addresses.now (altered (segment_of segment.now))) }
+    ensures { IfOk result (λ octets. octets.items ≡
+        segment_text addresses.now (altered (segment_of segment.now))) }
 {
     let mut payload = Vec::from_slice(alloc, segment.payload())?;
     turn_bit(&mut payload);
@@ -75,7 +77,10 @@ fn write_altered(
 
 /// The options but those of Multipath TCP, one after the other.
 fn kept_options(alloc: Global, segment: &SegmentRef<'_>) -> Result<Vec<u8>, AllocError>
-    ensures { IfOk result (λ kept. kept.items ≡ packed (filter (λ option. not (is_multipath option)) (option_octets (segment_of segment.now).options))) }
+    ensures { IfOk result (λ kept. kept.items ≡
+        packed
+        (filter (λ option. not (is_multipath option))
+        (option_octets (segment_of segment.now).options))) }
 {
     let mut kept = Vec::with_capacity(alloc, 40)?;
     for option in segment.options() {

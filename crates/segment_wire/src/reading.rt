@@ -38,8 +38,10 @@ pub struct SegmentRef<'a> {
 impl<'a> SegmentRef<'a> {
     /// The options in their order, kinds 0 and 1 left out, as they stand in the input.
     pub fn options(&self) -> PlainOptions<'a>
-        ensures octets { octets_alone (options_left result) ≡ option_octets (segment_of self.now).options }
-        ensures place { options_left result ≡ placed_options (options_place self.now) (segment_of self.now).options }
+        ensures octets { octets_alone (options_left result) ≡
+            option_octets (segment_of self.now).options }
+        ensures place { options_left result ≡
+            placed_options (options_place self.now) (segment_of self.now).options }
     {
         PlainOptions::of(self.options)
     }
@@ -62,7 +64,8 @@ impl<'a> SegmentRef<'a> {
 pub fn parse<'a>(bytes: &'a [u8], addresses: &Addresses) -> Result<SegmentRef<'a>, SegmentFault>
     ensures exact { as_segment result ≡ segment_meaning addresses.now bytes.now }
     // What is written between the same addresses is read again.
-    ensures written { (segment : Segment) → CanWrite segment → bytes.now ≡ segment_text addresses.now segment
+    ensures written { (segment : Segment) → CanWrite segment → bytes.now ≡
+        segment_text addresses.now segment
         → as_segment result ≡ Ok segment }
     ensures lent { IfOk result (StandsIn bytes.entry) }
 {

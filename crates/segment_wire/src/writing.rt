@@ -23,9 +23,12 @@ pub fn write(
     payload: &[u8],
 ) -> Result<Vec<u8>, AllocError>
     requires { CanCarry options.now payload.now }
-    ensures text { IfOk result (λ octets. octets.items ≡ segment_text addresses.now (record { head = head.now; options = options.now; payload = payload.now })) }
+    ensures text { IfOk result (λ octets. octets.items ≡
+        segment_text addresses.now
+        (record { head = head.now; options = options.now; payload = payload.now })) }
     // They can be read again.
-    ensures readable { OnOk result (CanWrite (record { head = head.now; options = options.now; payload = payload.now })) }
+    ensures readable { OnOk result
+        (CanWrite (record { head = head.now; options = options.now; payload = payload.now })) }
 {
     let checksum = checksum_field(head, addresses, options, payload);
     put_together(alloc, checksum, *head, options, payload)
@@ -34,7 +37,9 @@ pub fn write(
 /// The checksum field of the octets that [`write`] makes of these, without making them. Takes no memory.
 pub fn checksum_field(head: &Head, addresses: &Addresses, options: &[u8], payload: &[u8]) -> u16
     requires { CanCarry options.now payload.now }
-    ensures { result ≡ checksum_field addresses.now (record { head = head.now; options = options.now; payload = payload.now }) }
+    ensures { result ≡
+        checksum_field addresses.now
+        (record { head = head.now; options = options.now; payload = payload.now }) }
 {
     let header = fixed_header(0, head, options.len());
     0xffff - covered_sum_of_parts(addresses, &header, options, payload)
@@ -49,7 +54,9 @@ fn put_together(
     payload: &[u8],
 ) -> Result<Vec<u8>, AllocError>
     requires { CanCarry options.now payload.now }
-    ensures text { IfOk result (λ octets. octets.items ≡ octets_with checksum (record { head = head; options = options.now; payload = payload.now })) }
+    ensures text { IfOk result (λ octets. octets.items ≡
+        octets_with checksum
+        (record { head = head; options = options.now; payload = payload.now })) }
     ensures fits { IsHead head }
 {
     let mut octets = Vec::with_capacity(alloc, FIXED_HEADER_LEN + options.len() + payload.len())?;

@@ -43,7 +43,8 @@ impl Model for SendBook {
 
     ghost use Rattle.send_book.specs.Kept.{as_sending, IsKept};
 
-    ghost view = { λ b. as_sending b.buffer b.written b.marks b.closed b.aborted b.edge b.fin b.owner };
+    ghost view = { λ b.
+        as_sending b.buffer b.written b.marks b.closed b.aborted b.edge b.fin b.owner };
 
     ghost invariant = { λ b. IsKept b.written b.marks };
 }
@@ -169,7 +170,8 @@ impl SendBook {
     fn decide(&self, path: u8, max: u32, standby: bool) -> Result<Span, Why>
         requires { path < 16 }
         ensures value { result ≡ decision path max standby self.now }
-        ensures within { IfOk result (λ span. LiesWithin span (acked_len self.now.marks) (length self.now.written)) }
+        ensures within { IfOk result (λ span.
+            LiesWithin span (acked_len self.now.marks) (length self.now.written)) }
     {
         if self.aborted || (self.closed && self.acked_len() == self.written_len()) {
             return Err(Why::Ended);
@@ -343,7 +345,8 @@ impl SendBook {
 /// its byte. So the acknowledged, held and free bytes add up to all.
 pub fn marks_tile(book: &SendBook)
     ensures tile { Tile book.now }
-    ensures sum { count_by is_acked book.now.marks + count_by is_held book.now.marks + count_by is_free book.now.marks
+    ensures sum { count_by is_acked book.now.marks + count_by is_held book.now.marks + count_by
+        is_free book.now.marks
         ≡ length book.now.written }
 {
     let _marks = &book.marks;
@@ -404,6 +407,16 @@ impl Book for SendBook {
 
     fn apply(&mut self, call: &SendCall) -> Result<SendReply, AllocError> {
         let reply = self.answer(call)?;
+        self.change(call)?;
+        Ok(reply)
+    }
+
+    fn apply_answered(
+        &mut self,
+        call: &SendCall,
+        answered: &SendReply,
+    ) -> Result<SendReply, AllocError> {
+        let reply = answered.copy()?;
         self.change(call)?;
         Ok(reply)
     }

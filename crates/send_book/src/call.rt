@@ -1,4 +1,7 @@
+ghost use Rattle.std.specs.Prelude.{◌≡◌, IfOk};
+
 use pipe_model::Text;
+use std::alloc::AllocError;
 
 /// A range of places: `from`, and all after it below `to`.
 #[derive(Clone, Copy, Debug, PartialEq, Eq)]
@@ -111,4 +114,34 @@ pub enum SendReply {
     /// The book was given to a path alone before, or the bytes that aren't acknowledged are not those that this path
     /// tried and then those that no path tried.
     Scattered,
+}
+
+impl SendReply {
+    /// An equal reply. Bytes that are granted are shared with it where they are shared, and else copied.
+    pub fn copy(&self) -> Result<Self, AllocError>
+        ensures { IfOk result (λ copy. copy ≡ self.now) }
+    {
+        Ok(match self {
+            SendReply::Taken(count) => SendReply::Taken(*count),
+            SendReply::Closed => SendReply::Closed,
+            SendReply::Shut => SendReply::Shut,
+            SendReply::Granted { span, piece } => SendReply::Granted {
+                span: *span,
+                piece: piece.copy()?,
+            },
+            SendReply::NoGrant { why, end } => SendReply::NoGrant {
+                why: *why,
+                end: *end,
+            },
+            SendReply::Acked { bytes, fin } => SendReply::Acked {
+                bytes: *bytes,
+                fin: *fin,
+            },
+            SendReply::AckFuture { written } => SendReply::AckFuture { written: *written },
+            SendReply::Returned(count) => SendReply::Returned(*count),
+            SendReply::Noted => SendReply::Noted,
+            SendReply::Infinite { from } => SendReply::Infinite { from: *from },
+            SendReply::Scattered => SendReply::Scattered,
+        })
+    }
 }

@@ -20,7 +20,8 @@ fn append_part(
     requires kept { marks.now.forgotten ≤ marks_len new.old }
     requires order { marks_len new.old ≤ to }
     requires within { to ≤ marks_len marks.now }
-    ensures marks { OnOk result (new.new ≡ followed_by (map (moved change) (part (marks_len new.old) to marks.now)) new.old) }
+    ensures marks { OnOk result (new.new ≡
+        followed_by (map (moved change) (part (marks_len new.old) to marks.now)) new.old) }
     ensures len { OnOk result (marks_len new.new ≡ to) }
 {
     let _len = marks.len();

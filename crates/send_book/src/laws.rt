@@ -9,12 +9,14 @@ ghost use Rattle.send_book.specs.Laws.{after_calls, times_granted, IsAckedAt, is
 
 /// A law: over every list of calls a byte is granted to a path at most once.
 pub fn granted_at_most_once()
-    ensures { (calls : List SendCall) (b : Sending) (path place : ℕ) → times_granted path place calls b ≤ 1 }
+    ensures { (calls : List SendCall) (b : Sending) (path place : ℕ) →
+        times_granted path place calls b ≤ 1 }
 {}
 
 /// A law: what was acknowledged stays so, whatever is called.
 pub fn acknowledged_stays()
-    ensures { (calls : List SendCall) (b : Sending) (place : ℕ) → IsAckedAt place b → IsAckedAt place (after_calls calls b) }
+    ensures { (calls : List SendCall) (b : Sending) (place : ℕ) → IsAckedAt place b →
+        IsAckedAt place (after_calls calls b) }
 {}
 
 /// A law: after an abort nothing is granted, whatever was called since.
@@ -25,6 +27,7 @@ pub fn nothing_after_an_abort()
 
 /// A law: what is granted has as many bytes as the span has places, at least one, and no more than were asked for.
 pub fn granted_pieces_are_whole()
-    ensures { (b : Sending) (path max : ℕ) (standby : Bool) (span : Span) (piece : List ℕ) → Tile b → 1 ≤ max
+    ensures { (b : Sending) (path max : ℕ) (standby : Bool) (span : Span) (piece : List ℕ) →
+        Tile b → 1 ≤ max
         → reply_to b (Grant path max standby) ≡ Granted span piece → IsPieceOf span piece max }
 {}

@@ -107,7 +107,8 @@ pub(crate) fn append_moved(
     requires path { HasPath change }
     requires below { to < 2 ^ 63 }
     requires begins { marks_len marks.old ≤ to }
-    ensures { OnOk result (marks.new ≡ followed_by (moved_in change (marks_len marks.old) to runs.entry) marks.old) }
+    ensures { OnOk result (marks.new ≡
+        followed_by (moved_in change (marks_len marks.old) to runs.entry) marks.old) }
 {
     for run in runs {
         let end = run.to.min(to).max(marks.len());

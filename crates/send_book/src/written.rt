@@ -60,7 +60,8 @@ impl Written {
         requires whole { length self.old ≡ marks_len marks.old }
         requires few { marks_len marks.old + length octets < 2 ^ 63 }
         ensures written { OnOk result (self.new ≡ self.old ++ octets) }
-        ensures marks { OnOk result (marks.new ≡ after_extend (length octets) (Free no_paths) marks.old) }
+        ensures marks { OnOk result (marks.new ≡
+            after_extend (length octets) (Free no_paths) marks.old) }
         ensures written_err { OnErr result (self.new ≡ self.old) }
         ensures marks_err { OnErr result (marks.new ≡ marks.old) }
     {

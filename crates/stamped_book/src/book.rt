@@ -37,6 +37,24 @@ pub trait Book {
         ensures after { IfOk result (λ _. self.new ≡ after self.old call.now) }
         ensures err { OnErr result (self.new ≡ self.old) };
 
+    /// Takes the call as [`Book::apply`] does, where its reply was just answered. The reply that is given may share the
+    /// octets of that one.
+    fn apply_answered(
+        &mut self,
+        call: &Self::Call,
+        answered: &Self::Reply,
+    ) -> Result<Self::Reply, AllocError>
+        requires can_ask { can_ask call.now }
+        requires answered { answered.now ≡ reply_to self.old call.now }
+        ensures reply { IfOk result (λ reply. reply ≡ reply_to self.old call.now) }
+        ensures after { IfOk result (λ _. self.new ≡ after self.old call.now) }
+        ensures err { OnErr result (self.new ≡ self.old) }
+    {
+        let _answered = answered;
+        self.apply(call)
+    }
+
     /// No call changes what the book was opened with.
-    ghost opening_stays: { (book : Self) (call : Self.Call) → opening (after book call) ≡ opening book };
+    ghost opening_stays: { (book : Self) (call : Self.Call) → opening (after book call) ≡
+        opening book };
 }

@@ -78,7 +78,8 @@ impl<O: Book> Model for Stamped<O> {
 
     ghost view = { λ s. record { opening = O.opening s.book; journal = s.journal.items } };
 
-    ghost invariant = { λ s. IsReplay O.reply_to O.after (O.opening s.book) s.journal.items s.book };
+    ghost invariant = { λ s.
+        IsReplay O.reply_to O.after (O.opening s.book) s.journal.items s.book };
 }
 
 // The stamp that follows this one.
@@ -122,9 +123,12 @@ impl<O: Book> Stamped<O> {
     /// pass are as before. Stamps are 1 to 2^62 - 1.
     pub fn enter(&mut self, pass: &mut Pass, call: &O::Call) -> Result<O::Reply, Refusal>
         requires { O.can_ask call.now }
-        ensures reply { IfOk result (λ reply. reply ≡ O.reply_to (book_of O.reply_to O.after self.old) call.now) }
-        ensures entry { OnOk result (self.new ≡ after_entering O.reply_to O.after self.old pass.old call.now) }
-        ensures pass { OnOk result (pass.new ≡ record pass.old { stamp = next_stamp self.old pass.old }) }
+        ensures reply { IfOk result (λ reply. reply ≡
+            O.reply_to (book_of O.reply_to O.after self.old) call.now) }
+        ensures entry { OnOk result (self.new ≡
+            after_entering O.reply_to O.after self.old pass.old call.now) }
+        ensures pass { OnOk result (pass.new ≡
+            record pass.old { stamp = next_stamp self.old pass.old }) }
         ensures stamps { (result ≡ Err Refusal.Stamps) ↔ (2 ^ 62 ≤ next_stamp self.old pass.old) }
         ensures err { OnErr result (self.new ≡ self.old) }
         ensures pass_err { OnErr result (pass.new ≡ pass.old) }
@@ -142,14 +146,16 @@ impl<O: Book> Stamped<O> {
         requires can_ask { O.can_ask call.now }
         requires next { stamp ≡ next_stamp self.old pass }
         requires small { stamp < 2 ^ 62 }
-        ensures reply { IfOk result (λ reply. reply ≡ O.reply_to (book_of O.reply_to O.after self.old) call.now) }
-        ensures entry { OnOk result (self.new ≡ after_entering O.reply_to O.after self.old pass call.now) }
+        ensures reply { IfOk result (λ reply. reply ≡
+            O.reply_to (book_of O.reply_to O.after self.old) call.now) }
+        ensures entry { OnOk result (self.new ≡
+            after_entering O.reply_to O.after self.old pass call.now) }
         ensures err { OnErr result (self.new ≡ self.old) }
     {
         let kept_call = O::copy(call)?;
         let kept_reply = self.book.answer(call)?;
         self.journal.reserve(1)?;
-        let reply = self.book.apply(call)?;
+        let reply = self.book.apply_answered(call, &kept_reply)?;
         push_reserved(
             &mut self.journal,
             Entry {

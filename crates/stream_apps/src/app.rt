@@ -48,7 +48,8 @@ impl Model for App {
 
     ghost Value = { AppState };
 
-    ghost view = { λ a. as_app_state a.side a.buffer a.file a.written a.closed a.told a.count a.stops_in a.due };
+    ghost view = { λ a.
+        as_app_state a.side a.buffer a.file a.written a.closed a.told a.count a.stops_in a.due };
 
     ghost invariant = { λ a. IsKept a.buffer a.file a.written a.count a.due };
 }
@@ -65,7 +66,8 @@ impl App {
     /// writes. It takes no memory.
     pub fn new(script: &Script, side: Side, file: Text) -> Self
         requires { HasRanges script.now }
-        ensures { result ≡ first_app_turn side script.now.buffer file (fast_close_of side script.now.lines) }
+        ensures { result ≡
+            first_app_turn side script.now.buffer file (fast_close_of side script.now.lines) }
     {
         let stops_in = rounds_before_stop(side, script.lines.as_slice());
         App::untouched(side, script.buffer, file, stops_in).begun()
@@ -75,7 +77,17 @@ impl App {
     fn untouched(side: Side, buffer: u64, file: Text, stops_in: Option<u64>) -> Self
         requires some { 1 ≤ buffer }
         requires most { buffer ≤ 1048576 }
-        ensures { result ≡ record { side = side; buffer = buffer; rest = file; closed = false; told = false; count = 0; stops_in = stops_in; agenda = [] } }
+        ensures { result ≡
+            record {
+              side = side;
+              buffer = buffer;
+              rest = file;
+              closed = false;
+              told = false;
+              count = 0;
+              stops_in = stops_in;
+              agenda = [];
+            } }
     {
         App {
             side,
@@ -174,7 +186,8 @@ impl App {
 
     // The turn begins.
     fn begin(&mut self)
-        ensures { self.new ≡ app_settles_down (record self.old { count = 0; agenda = start_of_app }) }
+        ensures { self.new ≡
+            app_settles_down (record self.old { count = 0; agenda = start_of_app }) }
     {
         self.count = 0;
         self.due = Some(self.from_fast_close());
@@ -200,7 +213,8 @@ impl App {
 
     // What it does from the abort of its send book on.
     fn from_abort_send(&self) -> AppDuty
-        ensures { agenda_from (Some result) ≡ (app_settled (agenda_from (Some duty.AbortSend)) self.now).agenda }
+        ensures { agenda_from (Some result) ≡
+            (app_settled (agenda_from (Some duty.AbortSend)) self.now).agenda }
     {
         if self.is_due() {
             AppDuty::AbortSend
@@ -211,7 +225,8 @@ impl App {
 
     // What it does from the abort of its reassembly book on.
     fn from_abort_receive(&self) -> AppDuty
-        ensures { agenda_from (Some result) ≡ (app_settled (agenda_from (Some duty.AbortReceive)) self.now).agenda }
+        ensures { agenda_from (Some result) ≡
+            (app_settled (agenda_from (Some duty.AbortReceive)) self.now).agenda }
     {
         if self.is_due() {
             AppDuty::AbortReceive
@@ -238,7 +253,8 @@ impl App {
 
     // What it does from a read on.
     fn from_read(&self) -> AppDuty
-        ensures { agenda_from (Some result) ≡ (app_settled (duty.Read ∷ duty.End ∷ []) self.now).agenda }
+        ensures { agenda_from (Some result) ≡
+            (app_settled (duty.Read ∷ duty.End ∷ []) self.now).agenda }
     {
         if self.told {
             AppDuty::End
@@ -249,7 +265,8 @@ impl App {
 
     // What it does from the close on.
     fn from_close(&self) -> AppDuty
-        ensures { agenda_from (Some result) ≡ (app_settled (duty.Close ∷ duty.Read ∷ duty.End ∷ []) self.now).agenda }
+        ensures { agenda_from (Some result) ≡
+            (app_settled (duty.Close ∷ duty.Read ∷ duty.End ∷ []) self.now).agenda }
     {
         if self.is_written() && !self.closed {
             AppDuty::Close
@@ -260,7 +277,8 @@ impl App {
 
     // What it does from a write on.
     fn from_write(&self) -> AppDuty
-        ensures { agenda_from (Some result) ≡ (app_settled (duty.Write ∷ duty.Close ∷ duty.Read ∷ duty.End ∷ []) self.now).agenda }
+        ensures { agenda_from (Some result) ≡
+            (app_settled (duty.Write ∷ duty.Close ∷ duty.Read ∷ duty.End ∷ []) self.now).agenda }
     {
         if self.is_written() {
             self.from_close()

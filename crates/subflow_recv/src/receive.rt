@@ -85,7 +85,8 @@ impl SubflowRecv {
     /// Only where there is no memory for them; then all is as it was.
     pub fn accept(&mut self, pos: Pos, payload: &[u8]) -> Result<Acceptance, AllocError>
         requires { pos + length payload.now ≤ 2 ^ 62 }
-        ensures acceptance { IfOk result (λ acceptance. acceptance ≡ acceptance_of pos payload.now self.old) }
+        ensures acceptance { IfOk result (λ acceptance. acceptance ≡
+            acceptance_of pos payload.now self.old) }
         ensures few { IfOk result (λ acceptance. new_octets acceptance ≤ length payload.now) }
         ensures after { OnOk result (self.new ≡ after_accept pos payload.now self.old) }
         ensures err { OnErr result (self.new ≡ self.old) }
@@ -150,7 +151,8 @@ impl SubflowRecv {
         requires bound { pos + length octets.now ≤ 2 ^ 62 }
         requires within { pos + length octets.now ≤ window_end self.old }
         ensures ok { OnOk result (self.new ≡ with_octets pos octets.now self.old) }
-        ensures count { IfOk result (λ count. count ≡ kept_count self.new.places - kept_count self.old.places) }
+        ensures count { IfOk result (λ count. count ≡
+            kept_count self.new.places - kept_count self.old.places) }
         ensures few { IfOk result (λ count. count ≤ length octets.now) }
         ensures err { OnErr result (self.new ≡ self.old) }
     {

@@ -94,10 +94,13 @@ impl Sending {
 /// The place of the first piece from the place `from` on that is to be sent, and the number of pieces where there is none.
 pub(crate) fn next_unsent(pieces: &VecDeque<Piece>, from: usize) -> usize
     requires within { from ≤ length pieces.now.items }
-    requires sent { (k : ℕ) (d : Piece) → k < from → is_unsent_piece (slice_index_or pieces.now.items k d) ≡ false }
+    requires sent { (k : ℕ) (d : Piece) → k < from →
+        is_unsent_piece (slice_index_or pieces.now.items k d) ≡ false }
     ensures within { result ≤ length pieces.now.items }
-    ensures before { (k : ℕ) (d : Piece) → k < result → is_unsent_piece (slice_index_or pieces.now.items k d) ≡ false }
-    ensures here { (d : Piece) → result < length pieces.now.items → is_unsent_piece (slice_index_or pieces.now.items result d) ≡ true }
+    ensures before { (k : ℕ) (d : Piece) → k < result →
+        is_unsent_piece (slice_index_or pieces.now.items k d) ≡ false }
+    ensures here { (d : Piece) → result < length pieces.now.items →
+        is_unsent_piece (slice_index_or pieces.now.items result d) ≡ true }
 {
     for index in from..pieces.len() {
         if pieces[index].sending.unsent {
@@ -109,7 +112,8 @@ pub(crate) fn next_unsent(pieces: &VecDeque<Piece>, from: usize) -> usize
 
 /// The piece at this position, lent.
 pub(crate) fn piece_at(pieces: &VecDeque<Piece>, pos: Pos) -> Option<RecordRef<'_>>
-    ensures value { option_map record_of result ≡ find (stands_at pos) (map piece_record pieces.now.items) }
+    ensures value { option_map record_of result ≡
+        find (stands_at pos) (map piece_record pieces.now.items) }
     ensures bound { IfSome result (λ found. length found.piece.now ≤ 65475) }
 {
     for index in 0..pieces.len() {
@@ -123,7 +127,8 @@ pub(crate) fn piece_at(pieces: &VecDeque<Piece>, pos: Pos) -> Option<RecordRef<'
 
 /// Marks each piece from this index on as to be sent.
 pub(crate) fn unsend_from(pieces: &mut VecDeque<Piece>, from: usize)
-    ensures { pieces.new.items ≡ take from pieces.old.items ++ map unsent_piece (drop from pieces.old.items) }
+    ensures { pieces.new.items ≡
+        take from pieces.old.items ++ map unsent_piece (drop from pieces.old.items) }
 {
     for index in from..pieces.len() {
         pieces[index].sending.unsent = true;
@@ -132,7 +137,8 @@ pub(crate) fn unsend_from(pieces: &mut VecDeque<Piece>, from: usize)
 
 /// How the last of the pieces that end at or before this position was sent; `None` where there is none.
 pub(crate) fn last_covered(pieces: &VecDeque<Piece>, pos: Pos) -> Option<Sending>
-    ensures { result ≡ option_map sending_of (last_covered pos (map piece_record pieces.now.items)) }
+    ensures { result ≡
+        option_map sending_of (last_covered pos (map piece_record pieces.now.items)) }
 {
     let mut last = None;
     for index in 0..pieces.len() {

@@ -114,7 +114,8 @@ impl PieceQueue {
 
     /// The piece at this position, lent.
     pub(crate) fn at(&self, pos: Pos) -> Option<RecordRef<'_>>
-        ensures value { option_map record_of result ≡ find (stands_at pos) (map piece_record self.now) }
+        ensures value { option_map record_of result ≡
+            find (stands_at pos) (map piece_record self.now) }
         ensures bound { IfSome result (λ found. length found.piece.now ≤ 65475) }
     {
         piece_at(&self.items, pos)
@@ -157,9 +158,11 @@ impl PieceQueue {
     /// Sends the piece at this place, before which none is to be sent.
     fn send_at(&mut self, index: usize, now: u64)
         requires within { index < length self.old }
-        requires before { (k : ℕ) (d : Piece) → k < index → is_unsent_piece (slice_index_or self.old k d) ≡ false }
+        requires before { (k : ℕ) (d : Piece) → k < index →
+            is_unsent_piece (slice_index_or self.old k d) ≡ false }
         requires bound { sum_by piece_len self.old < 2 ^ 63 }
-        ensures { (d : Piece) → self.new ≡ set self.old index (sent_piece now (slice_index_or self.old index d)) }
+        ensures { (d : Piece) → self.new ≡
+            set self.old index (sent_piece now (slice_index_or self.old index d)) }
     {
         let piece = &mut self.items[index];
         self.under_way -= piece.under_way();

@@ -49,7 +49,14 @@ impl Model for SubflowSend {
     ghost use Rattle.std.specs.Prelude.{◌-◌};
     ghost use Rattle.subflow_send.specs.Pieces.{all_records, IsKept};
 
-    ghost view = { λ s. record { una = s.una; nxt = s.nxt; records = all_records s.syn s.pieces (s.nxt - 1) s.fin; finished = s.finished } };
+    ghost view = { λ s.
+        record {
+          una = s.una;
+          nxt = s.nxt;
+          records = all_records s.syn s.pieces (s.nxt - 1) s.fin;
+          finished
+              = s.finished;
+        } };
 
     ghost invariant = { λ s. IsKept s.una s.nxt s.syn s.pieces s.fin s.finished };
 }

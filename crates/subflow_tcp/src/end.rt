@@ -216,7 +216,8 @@ impl Subflow {
         requires room { self.old.send.nxt < 2 ^ 61 }
         requires open { self.old.send.finished ≡ false }
         ensures pos { IfOk result (λ pos. pos ≡ self.old.send.nxt) }
-        ensures ok { OnOk result (self.new ≡ record self.old { send = after_push piece.now mapping.now self.old.send }) }
+        ensures ok { OnOk result (self.new ≡
+            record self.old { send = after_push piece.now mapping.now self.old.send }) }
         ensures err { OnErr result (self.new ≡ self.old) }
     {
         self.send.push(piece, mapping)
@@ -264,7 +265,8 @@ impl Subflow {
 
     /// The congestion window grows by so many octets.
     pub fn grow(&mut self, growth: u32)
-        ensures { self.new ≡ record self.old { congestion = after_growth growth self.old.congestion } }
+        ensures { self.new ≡
+            record self.old { congestion = after_growth growth self.old.congestion } }
     {
         self.congestion.grow(growth);
     }

@@ -67,7 +67,8 @@ impl Subflow {
 
     /// The segment by positions, as this end reads its numbers: beside the receive edge and SND.UNA.
     pub fn read<'a>(&self, segment: &SegmentRef<'a>) -> Arriving<'a>
-        ensures { copy_of result ≡ heard self.now.numbers self.now.recv.edge self.now.send.una (segment_of segment.now) }
+        ensures { copy_of result ≡
+            heard self.now.numbers self.now.recv.edge self.now.send.una (segment_of segment.now) }
     {
         let _bound = self.send.nxt();
         self.numbers

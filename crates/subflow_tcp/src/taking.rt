@@ -81,8 +81,10 @@ impl Subflow {
         now: u64,
     ) -> Result<Arrival, AllocError>
         requires { length (segment_of segment.now).payload ≤ 65535 }
-        ensures arrival { IfOk result (λ arrival. arrival ≡ arrival_in hint.now (segment_of segment.now) self.old) }
-        ensures ok { OnOk result (self.new ≡ after_segment hint.now now (segment_of segment.now) self.old) }
+        ensures arrival { IfOk result (λ arrival. arrival ≡
+            arrival_in hint.now (segment_of segment.now) self.old) }
+        ensures ok { OnOk result (self.new ≡
+            after_segment hint.now now (segment_of segment.now) self.old) }
         ensures err { OnErr result (self.new ≡ self.old) }
     {
         let arriving = self.read(segment);
@@ -107,8 +109,10 @@ impl Subflow {
     ) -> Result<Arrival, AllocError>
         requires small { length arriving.now.payload.now ≤ 65535 }
         requires meaning { meaning ≡ meaning_of (copy_of arriving.now) self.old }
-        ensures arrival { IfOk result (λ arrival. arrival ≡ arrival_of meaning hint.now (copy_of arriving.now) self.old) }
-        ensures ok { OnOk result (self.new ≡ after_arrival meaning hint.now now (copy_of arriving.now) self.old) }
+        ensures arrival { IfOk result (λ arrival. arrival ≡
+            arrival_of meaning hint.now (copy_of arriving.now) self.old) }
+        ensures ok { OnOk result (self.new ≡
+            after_arrival meaning hint.now now (copy_of arriving.now) self.old) }
         ensures err { OnErr result (self.new ≡ self.old) }
     {
         let new = self.keep_for(meaning, hint.keep, arriving.payload)?;
@@ -126,8 +130,10 @@ impl Subflow {
         now: u64,
     ) -> Arrival
         requires { meaning ≡ meaning_of (copy_of arriving.now) self.old }
-        ensures arrival { result ≡ arrival_of meaning (unkept data_ack) (copy_of arriving.now) self.old }
-        ensures after { self.new ≡ after_arrival meaning (unkept data_ack) now (copy_of arriving.now) self.old }
+        ensures arrival { result ≡
+            arrival_of meaning (unkept data_ack) (copy_of arriving.now) self.old }
+        ensures after { self.new ≡
+            after_arrival meaning (unkept data_ack) now (copy_of arriving.now) self.old }
     {
         // The state of an end that opens tells that its FIN wasn't pushed.
         let _state = self.state;
@@ -173,7 +179,8 @@ impl Subflow {
     fn accept_by(&mut self, acknowledged: Pos, arriving: &Arriving<'_>, now: u64) -> Arrival
         requires { self.old.send.finished ≡ false }
         ensures arrival { result ≡ Opened }
-        ensures after { self.new ≡ after_syn_ack acknowledged (unkept None) now (copy_of arriving.now) self.old }
+        ensures after { self.new ≡
+            after_syn_ack acknowledged (unkept None) now (copy_of arriving.now) self.old }
     {
         self.take_fin(1, arriving);
         self.timing.heard();
@@ -202,8 +209,10 @@ impl Subflow {
         now: u64,
     ) -> Arrival
         requires { pos < 2 ^ 61 + 2 ^ 20 }
-        ensures arrival { result ≡ arrival_of (Taken pos acknowledged) (unkept data_ack) (copy_of arriving.now) self.old }
-        ensures after { self.new ≡ after_taken pos acknowledged (unkept data_ack) now (copy_of arriving.now) self.old }
+        ensures arrival { result ≡
+            arrival_of (Taken pos acknowledged) (unkept data_ack) (copy_of arriving.now) self.old }
+        ensures after { self.new ≡
+            after_taken pos acknowledged (unkept data_ack) now (copy_of arriving.now) self.old }
     {
         let half_open = matches!(self.state, State::SynReceived);
         self.take_fin(pos, arriving);
@@ -229,7 +238,8 @@ impl Subflow {
         now: u64,
     ) -> AckKind
         ensures kind { result ≡ ack_kind acknowledged self.old.send }
-        ensures after { self.new ≡ after_heard_ack acknowledged (unkept data_ack) now (copy_of arriving.now) self.old }
+        ensures after { self.new ≡
+            after_heard_ack acknowledged (unkept data_ack) now (copy_of arriving.now) self.old }
     {
         let told = told_by(data_ack, arriving);
         let kind = self.take_acknowledgement(acknowledged, now);

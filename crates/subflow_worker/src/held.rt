@@ -67,7 +67,8 @@ impl<O: Kept, S: Start<O>> Held<O, S> {
     /// Asks the book. After a refusal the pass is as before.
     pub fn enter(&mut self, pass: &mut Pass, call: &O::Call) -> Result<O::Reply, Refusal>
         requires { O.can_ask call.now }
-        ensures reply { IfOk result (λ reply. reply ≡ O.reply_to (book_of O.reply_to O.after self.old) call.now) }
+        ensures reply { IfOk result (λ reply. reply ≡
+            O.reply_to (book_of O.reply_to O.after self.old) call.now) }
         ensures rises { OnOk result (Rises pass.old pass.new) }
         ensures pass_err { OnErr result (pass.new ≡ pass.old) }
     {

@@ -35,7 +35,9 @@ fn one_lacks_stamps<A>(crew: &[Crew<A>]) -> bool
 pub(crate) fn outcome_of<A>(crew: &[Crew<A>]) -> Result<(), Refusal>
     ensures done { OnOk result (All (λ c. c.refused ≡ None) crew.now) }
     ensures memory { (result ≡ Err Memory) ↔ (list_any (is_refused Memory) crew.now ≡ true) }
-    ensures stamps { (result ≡ Err Stamps) ↔ ((list_any (is_refused Memory) crew.now ≡ false) × (list_any (is_refused Stamps) crew.now ≡ true)) }
+    ensures stamps { (result ≡ Err Stamps) ↔
+        ((list_any (is_refused Memory) crew.now ≡ false) ×
+        (list_any (is_refused Stamps) crew.now ≡ true)) }
 {
     if one_lacks_memory(crew) {
         return Err(Refusal::Memory);

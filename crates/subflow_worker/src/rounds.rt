@@ -2,20 +2,30 @@
 ghost use Rattle.std.specs.Prelude.{◌≡◌, ◌<◌, ◌↔◌, ℕ, true, false, None, [], All, length, IfOk, OnOk, OnErr};
 ghost use Rattle.std.specs.List.{list_any, slice_index_or};
 ghost use Rattle.stamped_book.specs.declared.stamped.Refusal.TheVariants.{Memory, Stamps};
+ghost use Rattle.send_book.specs.Steps as sending;
+ghost use Rattle.reassembly_book.specs.Steps as arriving;
+ghost use Rattle.control_book.specs.Calls as controlling;
 ghost use Rattle.actor_desk.specs.declared.actor.Crew.{Crew};
+ghost use Rattle.actor_desk.specs.Bounds.{IsSmallSend, IsSmallReassembly, IsSmallControl};
+ghost use Rattle.actor_desk.specs.Kinds.{IsSendKind, IsReassemblyKind, IsControlKind};
+ghost use Rattle.actor_desk.specs.Noted.{Rises};
 ghost use Rattle.subflow_worker.specs.Turns.{Turned, is_refused};
 ghost use Rattle.subflow_worker.specs.Extending.{BooksExtend};
 
 use crate::asking::{ask_control, ask_reassembly, ask_send};
 use crate::desk::{LockedDesk, Naming};
+use crate::held::{Held, Start};
 use crate::refusing::outcome_of;
 use crate::turning::turn;
 use actor_desk::{Actor, Ask, Books, Crew, Desk, Reply};
+use control_book::{ControlBook, ControlCall, ControlReply};
 use outside_kit::{Gate, Object, Side};
+use reassembly_book::{ReassemblyBook, ReassemblyCall, ReassemblyReply};
+use send_book::{SendBook, SendCall, SendReply};
 use stamped_book::{Pass, Refusal};
 use std::alloc::Global;
 use std::marker::Brand;
-use std::sync::Wait;
+use std::sync::{Mutex, Wait};
 use std::thread;
 use std::thread::Threads;
 
@@ -35,6 +45,65 @@ impl<N: Naming> LockedDesk<N> {
             gate,
             rt,
         }
+    }
+}
+
+impl<N: Naming, G: Gate, R: Wait> LockedSeat<'_, N, G, R> {
+    // One call at a send book, whose lock is held no longer than that.
+    fn at_send<S: Start<SendBook>>(
+        &self,
+        lock: &Mutex<Held<SendBook, S>>,
+        side: Side,
+        pass: &mut Pass,
+        call: &SendCall,
+    ) -> Result<SendReply, Refusal>
+        requires { sending.CanAsk call.now }
+        ensures kind { IfOk result (λ reply. IsSendKind call.now reply) }
+        ensures bounds { IfOk result (λ reply. IsSmallSend reply) }
+        ensures rises { OnOk result (Rises pass.old pass.new) }
+        ensures pass_err { OnErr result (pass.new ≡ pass.old) }
+    {
+        let mut held = lock.lock(self.rt);
+        self.gate.held(pass.actor, Object::Send(side));
+        ask_send(&mut held, pass, call)
+    }
+
+    // The same at a reassembly book.
+    fn at_reassembly<S: Start<ReassemblyBook>>(
+        &self,
+        lock: &Mutex<Held<ReassemblyBook, S>>,
+        side: Side,
+        pass: &mut Pass,
+        call: &ReassemblyCall,
+    ) -> Result<ReassemblyReply, Refusal>
+        requires { arriving.CanAsk call.now }
+        ensures kind { IfOk result (λ reply. IsReassemblyKind call.now reply) }
+        ensures bounds { IfOk result (λ reply. IsSmallReassembly reply) }
+        ensures rises { OnOk result (Rises pass.old pass.new) }
+        ensures pass_err { OnErr result (pass.new ≡ pass.old) }
+    {
+        let mut held = lock.lock(self.rt);
+        self.gate.held(pass.actor, Object::Reassembly(side));
+        ask_reassembly(&mut held, pass, call)
+    }
+
+    // The same at a control book.
+    fn at_control<S: Start<ControlBook>>(
+        &self,
+        lock: &Mutex<Held<ControlBook, S>>,
+        side: Side,
+        pass: &mut Pass,
+        call: &ControlCall,
+    ) -> Result<ControlReply, Refusal>
+        requires { controlling.can_ask call.now }
+        ensures kind { IfOk result (λ reply. IsControlKind call.now reply) }
+        ensures bounds { IfOk result (λ reply. IsSmallControl call.now reply) }
+        ensures rises { OnOk result (Rises pass.old pass.new) }
+        ensures pass_err { OnErr result (pass.new ≡ pass.old) }
+    {
+        let mut held = lock.lock(self.rt);
+        self.gate.held(pass.actor, Object::Control(side));
+        ask_control(&mut held, pass, call)
     }
 }
 
@@ -64,40 +133,35 @@ impl<N: Naming, G: Gate, R: Wait> Desk for LockedSeat<'_, N, G, R> {
         ensures kind { IfOk result (λ reply. IsOfKind ask.now reply) }
         ensures bounds { IfOk result (λ reply. IsBounded ask.now reply) }
         ensures rises { OnOk result (Rises pass.old pass.new) }
-        ensures notes { IfOk result (λ reply. unnoted ≡ noted unnoted (note_of pass.old pass.new ask.now reply)) }
+        ensures notes { IfOk result (λ reply. unnoted ≡
+            noted unnoted (note_of pass.old pass.new ask.now reply)) }
         ensures err { OnErr result (unnoted ≡ unnoted) }
         ensures pass_err { OnErr result (pass.new ≡ pass.old) }
     {
         match ask {
             Ask::Send(Side::A, call) => {
-                let mut held = self.desk.send_a.lock(self.rt);
-                self.gate.held(pass.actor, Object::Send(Side::A));
-                Ok(Reply::Send(ask_send(&mut held, pass, call)?))
+                let reply = self.at_send(&self.desk.send_a, Side::A, pass, call)?;
+                Ok(Reply::Send(reply))
             }
             Ask::Send(Side::B, call) => {
-                let mut held = self.desk.send_b.lock(self.rt);
-                self.gate.held(pass.actor, Object::Send(Side::B));
-                Ok(Reply::Send(ask_send(&mut held, pass, call)?))
+                let reply = self.at_send(&self.desk.send_b, Side::B, pass, call)?;
+                Ok(Reply::Send(reply))
             }
             Ask::Reassembly(Side::A, call) => {
-                let mut held = self.desk.reassembly_a.lock(self.rt);
-                self.gate.held(pass.actor, Object::Reassembly(Side::A));
-                Ok(Reply::Reassembly(ask_reassembly(&mut held, pass, call)?))
+                let reply = self.at_reassembly(&self.desk.reassembly_a, Side::A, pass, call)?;
+                Ok(Reply::Reassembly(reply))
             }
             Ask::Reassembly(Side::B, call) => {
-                let mut held = self.desk.reassembly_b.lock(self.rt);
-                self.gate.held(pass.actor, Object::Reassembly(Side::B));
-                Ok(Reply::Reassembly(ask_reassembly(&mut held, pass, call)?))
+                let reply = self.at_reassembly(&self.desk.reassembly_b, Side::B, pass, call)?;
+                Ok(Reply::Reassembly(reply))
             }
             Ask::Control(Side::A, call) => {
-                let mut held = self.desk.control_a.lock(self.rt);
-                self.gate.held(pass.actor, Object::Control(Side::A));
-                Ok(Reply::Control(ask_control(&mut held, pass, call)?))
+                let reply = self.at_control(&self.desk.control_a, Side::A, pass, call)?;
+                Ok(Reply::Control(reply))
             }
             Ask::Control(Side::B, call) => {
-                let mut held = self.desk.control_b.lock(self.rt);
-                self.gate.held(pass.actor, Object::Control(Side::B));
-                Ok(Reply::Control(ask_control(&mut held, pass, call)?))
+                let reply = self.at_control(&self.desk.control_b, Side::B, pass, call)?;
+                Ok(Reply::Control(reply))
             }
             Ask::Local(_) => unreachable!(),
         }
@@ -131,10 +195,13 @@ pub fn round<A: Actor + Send, N: Naming + Send + Sync, G: Gate + Sync, R: Thread
     desk: &LockedDesk<N>,
     gate: &G,
 ) -> Result<(), Refusal>
-    ensures turned { (i : ℕ) (d : Crew A) → i < length crew.old → Turned A.asks A.takes (slice_index_or crew.old i d) (slice_index_or crew.new i d) }
+    ensures turned { (i : ℕ) (d : Crew A) → i < length crew.old →
+        Turned A.asks A.takes (slice_index_or crew.old i d) (slice_index_or crew.new i d) }
     ensures done { OnOk result (All (λ c. c.refused ≡ None) crew.new) }
     ensures memory { (result ≡ Err Memory) ↔ (list_any (is_refused Memory) crew.new ≡ true) }
-    ensures stamps { (result ≡ Err Stamps) ↔ ((list_any (is_refused Memory) crew.new ≡ false) × (list_any (is_refused Stamps) crew.new ≡ true)) }
+    ensures stamps { (result ≡ Err Stamps) ↔
+        ((list_any (is_refused Memory) crew.new ≡ false) ×
+        (list_any (is_refused Stamps) crew.new ≡ true)) }
 {
     let threads = crew.len().max(1);
     thread::for_each_mut(
@@ -155,10 +222,13 @@ fn round_at<A: Actor + Send, N: Naming + Send + Sync, G: Gate + Sync, R: Threads
     gate: &G,
 ) -> (Result<(), Refusal>, Books)
     requires { books ≡ N.given }
-    ensures turned { (i : ℕ) (d : Crew A) → i < length crew.old → Turned A.asks A.takes (slice_index_or crew.old i d) (slice_index_or crew.new i d) }
+    ensures turned { (i : ℕ) (d : Crew A) → i < length crew.old →
+        Turned A.asks A.takes (slice_index_or crew.old i d) (slice_index_or crew.new i d) }
     ensures done { OnOk result.0 (All (λ c. c.refused ≡ None) crew.new) }
     ensures memory { (result.0 ≡ Err Memory) ↔ (list_any (is_refused Memory) crew.new ≡ true) }
-    ensures stamps { (result.0 ≡ Err Stamps) ↔ ((list_any (is_refused Memory) crew.new ≡ false) × (list_any (is_refused Stamps) crew.new ≡ true)) }
+    ensures stamps { (result.0 ≡ Err Stamps) ↔
+        ((list_any (is_refused Memory) crew.new ≡ false) ×
+        (list_any (is_refused Stamps) crew.new ≡ true)) }
     ensures books { BooksExtend N.given result.1 }
 {
     let desk: LockedDesk<N> = LockedDesk::new(books);
@@ -175,10 +245,13 @@ fn round_of<A: Actor + Send, G: Gate + Sync, R: Threads + Wait + Sync>(
     gate: &G,
 ) -> (Result<(), Refusal>, Books)
     ensures many { length crew.new ≡ length crew.old }
-    ensures turned { (i : ℕ) (d : Crew A) → i < length crew.old → Turned A.asks A.takes (slice_index_or crew.old i d) (slice_index_or crew.new i d) }
+    ensures turned { (i : ℕ) (d : Crew A) → i < length crew.old →
+        Turned A.asks A.takes (slice_index_or crew.old i d) (slice_index_or crew.new i d) }
     ensures done { OnOk result.0 (All (λ c. c.refused ≡ None) crew.new) }
     ensures memory { (result.0 ≡ Err Memory) ↔ (list_any (is_refused Memory) crew.new ≡ true) }
-    ensures stamps { (result.0 ≡ Err Stamps) ↔ ((list_any (is_refused Memory) crew.new ≡ false) × (list_any (is_refused Stamps) crew.new ≡ true)) }
+    ensures stamps { (result.0 ≡ Err Stamps) ↔
+        ((list_any (is_refused Memory) crew.new ≡ false) ×
+        (list_any (is_refused Stamps) crew.new ≡ true)) }
     ensures books { BooksExtend books result.1 }
 {
     round_at::<A, Brand, G, R>(rt, alloc, crew, books, gate)
@@ -194,10 +267,15 @@ pub fn threaded_round<A: Actor + Send, G: Gate + Sync, R: Threads + Wait + Sync>
     gate: &G,
 ) -> (Result<(), Refusal>, Books)
     ensures many { length crew.new.items ≡ length crew.old.items }
-    ensures turned { (i : ℕ) (d : Crew A) → i < length crew.old.items → Turned A.asks A.takes (slice_index_or crew.old.items i d) (slice_index_or crew.new.items i d) }
+    ensures turned { (i : ℕ) (d : Crew A) → i < length crew.old.items →
+        Turned A.asks A.takes (slice_index_or crew.old.items i d)
+        (slice_index_or crew.new.items i d) }
     ensures done { OnOk result.0 (All (λ c. c.refused ≡ None) crew.new.items) }
-    ensures memory { (result.0 ≡ Err Memory) ↔ (list_any (is_refused Memory) crew.new.items ≡ true) }
-    ensures stamps { (result.0 ≡ Err Stamps) ↔ ((list_any (is_refused Memory) crew.new.items ≡ false) × (list_any (is_refused Stamps) crew.new.items ≡ true)) }
+    ensures memory { (result.0 ≡ Err Memory) ↔
+        (list_any (is_refused Memory) crew.new.items ≡ true) }
+    ensures stamps { (result.0 ≡ Err Stamps) ↔
+        ((list_any (is_refused Memory) crew.new.items ≡ false) ×
+        (list_any (is_refused Stamps) crew.new.items ≡ true)) }
     ensures books { BooksExtend books result.1 }
 {
     round_of(rt, alloc, crew, books, gate)

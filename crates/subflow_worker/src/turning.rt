@@ -41,10 +41,12 @@ fn answered<D: Desk>(desk: &mut D, pass: &mut Pass, ask: &Ask) -> Result<Reply, 
     ensures takes { IfOk result (λ reply. TakesReply (Some ask.now) reply) }
     ensures rises { OnOk result (Rises pass.old pass.new) }
     ensures local { OnOk result (is_local ask.now ≡ true → pass.new.stamp ≡ pass.old.stamp + 1) }
-    ensures notes { IfOk result (λ reply. D.notes desk.new ≡ noted (D.notes desk.old) (note_of pass.old pass.new ask.now reply)) }
+    ensures notes { IfOk result (λ reply. D.notes desk.new ≡
+        noted (D.notes desk.old) (note_of pass.old pass.new ask.now reply)) }
     ensures err { OnErr result (D.notes desk.new ≡ D.notes desk.old) }
     ensures pass_err { OnErr result (pass.new ≡ pass.old) }
-    ensures full { result ≡ Err refusals.Stamps → (2 ^ 62 - 1 ≤ pass.old.stamp) ⊎ D.is_full desk.new ask.now pass.old }
+    ensures full { result ≡ Err refusals.Stamps →
+        (2 ^ 62 - 1 ≤ pass.old.stamp) ⊎ D.is_full desk.new ask.now pass.old }
     ensures origin { D.origin desk.new ≡ D.origin desk.old }
     ensures root { D.root desk.new ≡ D.root desk.old }
     ensures serving { (actor : ℕ) → D.serves desk.old actor → D.serves desk.new actor }
@@ -77,7 +79,8 @@ fn take_back(list: &mut Notes)
 // The actor takes the reply of a note of its list.
 fn take_at<A: Actor>(member: &mut A, list: &Notes, at: usize) -> Result<(), AllocError>
     requires { IfSome (slice_get list.now at) (λ note. TakesReply (A.asks member.old) note.reply) }
-    ensures ok { OnOk result (IfSome (slice_get list.now at) (λ note. member.new ≡ A.takes note.reply member.old)) }
+    ensures ok { OnOk result (IfSome (slice_get list.now at) (λ note. member.new ≡
+        A.takes note.reply member.old)) }
     ensures err { OnErr result (member.new ≡ member.old) }
 {
     match list.get(at) {
@@ -89,7 +92,9 @@ fn take_at<A: Actor>(member: &mut A, list: &Notes, at: usize) -> Result<(), Allo
 // Notes a step, and takes its reply, which is the last that can fail: the actor is then as it was.
 fn keep<A: Actor>(crew: &mut Crew<A>, note: Note) -> Result<(), AllocError>
     requires { TakesReply (A.asks crew.old.member) note.reply }
-    ensures ok { OnOk result (crew.new ≡ record crew.old { member = A.takes note.reply crew.old.member; list = crew.old.list ++ note ∷ [] }) }
+    ensures ok { OnOk result (crew.new ≡
+        record crew.old
+        { member = A.takes note.reply crew.old.member; list = crew.old.list ++ note ∷ [] }) }
     ensures err { OnErr result (crew.new ≡ crew.old) }
 {
     let at = crew.list.len();
@@ -104,7 +109,9 @@ fn keep<A: Actor>(crew: &mut Crew<A>, note: Note) -> Result<(), AllocError>
 // One step; false where nothing is left to ask, and then nothing changes.
 fn step<A: Actor, D: Desk>(alloc: Global, crew: &mut Crew<A>, desk: &mut D) -> Result<bool, Refusal>
     requires { D.serves desk.old crew.old.pass.actor }
-    ensures made { IfOk result (λ went. went ≡ true → DoesStep A.asks A.takes crew.old crew.new (λ note. D.notes desk.new ≡ noted (D.notes desk.old) note)) }
+    ensures made { IfOk result (λ went. went ≡ true →
+        DoesStep A.asks A.takes crew.old crew.new
+        (λ note. D.notes desk.new ≡ noted (D.notes desk.old) note)) }
     ensures over { IfOk result (λ went. went ≡ false → A.asks crew.old.member ≡ None) }
     ensures rests { IfOk result (λ went. went ≡ false → crew.new ≡ crew.old) }
     ensures quiet { IfOk result (λ went. went ≡ false → D.notes desk.new ≡ D.notes desk.old) }
@@ -142,9 +149,11 @@ fn step<A: Actor, D: Desk>(alloc: Global, crew: &mut Crew<A>, desk: &mut D) -> R
 // All steps to the end of the turn.
 fn steps<A: Actor, D: Desk>(alloc: Global, crew: &mut Crew<A>, desk: &mut D) -> Result<(), Refusal>
     requires { D.serves desk.old crew.old.pass.actor }
-    ensures ok { OnOk result (Went A.asks A.takes crew.old crew.new (D.notes desk.old) (D.notes desk.new)) }
+    ensures ok { OnOk result
+        (Went A.asks A.takes crew.old crew.new (D.notes desk.old) (D.notes desk.new)) }
     ensures over { OnOk result (A.asks crew.new.member ≡ None) }
-    ensures err { OnErr result (Stopped A.asks A.takes crew.old crew.new (D.notes desk.old) (D.notes desk.new)) }
+    ensures err { OnErr result
+        (Stopped A.asks A.takes crew.old crew.new (D.notes desk.old) (D.notes desk.new)) }
     ensures full { result ≡ Err refusals.Stamps → IsUsedUp A.asks (D.is_full desk.new) crew.new }
     ensures few { length crew.old.list < 2 ^ 57 → length crew.new.list < 2 ^ 57 }
     ensures origin { D.origin desk.new ≡ D.origin desk.old }
@@ -175,10 +184,13 @@ pub fn turn<A: Actor, D: Desk, G: Gate>(
     gate: &G,
 ) -> Result<(), Refusal>
     requires { D.serves desk.old crew.old.pass.actor }
-    ensures ok { OnOk result (Went A.asks A.takes crew.old crew.new (D.notes desk.old) (D.notes desk.new)) }
+    ensures ok { OnOk result
+        (Went A.asks A.takes crew.old crew.new (D.notes desk.old) (D.notes desk.new)) }
     ensures over { OnOk result (A.asks crew.new.member ≡ None) }
-    ensures err { OnErr result (Stopped A.asks A.takes crew.old crew.new (D.notes desk.old) (D.notes desk.new)) }
-    ensures refused { MatchResult result (λ _. crew.new.refused ≡ None) (λ refusal. crew.new.refused ≡ Some refusal) }
+    ensures err { OnErr result
+        (Stopped A.asks A.takes crew.old crew.new (D.notes desk.old) (D.notes desk.new)) }
+    ensures refused { MatchResult result (λ _. crew.new.refused ≡
+        None) (λ refusal. crew.new.refused ≡ Some refusal) }
     ensures full { result ≡ Err refusals.Stamps → IsUsedUp A.asks (D.is_full desk.new) crew.new }
     ensures few { length crew.old.list < 2 ^ 57 → length crew.new.list < 2 ^ 57 }
     ensures origin { D.origin desk.new ≡ D.origin desk.old }

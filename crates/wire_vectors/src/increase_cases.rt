@@ -43,7 +43,8 @@ fn growths(alloc: Global, mss: u32, acked: u32, rows: &Rows) -> Result<String, C
     requires mss { mss ≤ 1460 }
     requires acked { acked ≤ 1048576 }
 {
-    let slice = rows.as_slice();
+    let listed = rows.listed();
+    let slice = listed.as_slice();
     if slice.is_empty() {
         return Err(CaseFault::Form);
     }

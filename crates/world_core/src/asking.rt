@@ -31,7 +31,8 @@ fn answered(books: &mut Books, pass: &mut Pass, ask: &Ask) -> Result<Reply, Refu
     requires { CanBeAsked ask.now }
     ensures reply { IfOk result (λ reply. reply ≡ answer_to books.old ask.now) }
     ensures books { OnOk result (books.new ≡ after_entry ask.now pass.old books.old) }
-    ensures pass { OnOk result (pass.new ≡ record pass.old { stamp = stamp_of ask.now books.old pass.old }) }
+    ensures pass { OnOk result (pass.new ≡
+        record pass.old { stamp = stamp_of ask.now books.old pass.old }) }
     ensures answers { IfOk result (λ reply. TakesReply (Some ask.now) reply) }
     ensures rises { OnOk result (Rises pass.old pass.new) }
 {
@@ -52,7 +53,8 @@ pub(crate) fn serve(books: &mut Books, pass: &mut Pass, ask: Ask) -> Result<Note
     requires { CanBeAsked ask }
     ensures note { IfOk result (λ note. note ≡ note_of books.old pass.old ask) }
     ensures books { OnOk result (books.new ≡ after_entry ask pass.old books.old) }
-    ensures pass { OnOk result (pass.new ≡ record pass.old { stamp = stamp_of ask books.old pass.old }) }
+    ensures pass { OnOk result (pass.new ≡
+        record pass.old { stamp = stamp_of ask books.old pass.old }) }
     ensures answers { IfOk result (λ note. TakesReply (Some ask) note.reply) }
     ensures rises { OnOk result (Rises pass.old pass.new) }
 {

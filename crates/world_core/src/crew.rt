@@ -4,7 +4,7 @@ ghost use Rattle.std.specs.Prelude.{◌≡◌, ◌^◌, ◌<◌, ◌++◌, [], �
 ghost use Rattle.std.specs.List.{slice_get};
 ghost use Rattle.actor_desk.specs.declared.ask.Note.{Note};
 ghost use Rattle.path_core.specs.Octets.{octets};
-ghost use Rattle.world_core.specs.Hearing.{told_in};
+ghost use Rattle.world_core.specs.Hearing.{told_in, told_of};
 ghost use Rattle.world_core.specs.Steps.{GoesUp, note_if, crew_if, books_if};
 ghost use Rattle.actor_desk.specs.Bounds.{TakesReply};
 ghost use Rattle.world_laws.specs.Actors.{member_asks, member_takes, is_over};
@@ -33,28 +33,48 @@ fn take_back(list: &mut Notes)
     list.pop();
 }
 
-// The actor takes the reply of its note of this number, the first being 0.
-fn take_reply(member: &mut Member, list: &Notes, index: usize) -> Result<(), AllocError>
-    requires { IfSome (slice_get list.now index) (λ note. TakesReply (member_asks octets member.old) note.reply) }
+// The actor takes the reply of its note of this number, the first being 0, and what is wanted of the note is answered. Where there is
+// no such note nothing is done.
+fn take_noted<R: Report + Drop>(
+    member: &mut Member,
+    list: &Notes,
+    index: usize,
+) -> Result<Option<R>, AllocError>
+    requires { IfSome (slice_get list.now index)
+        (λ note. TakesReply (member_asks octets member.old) note.reply) }
+    ensures report { IfOk result
+        (λ report. report ≡ option_map R.of (slice_get list.now index)) }
+    ensures told { IfOk result
+        (λ report. option_map R.told report ≡ told_in (slice_get list.now index)) }
     ensures ok { (note : Note) → slice_get list.now index ≡ Some note
         → OnOk result (member.new ≡ member_takes octets note.reply member.old) }
     ensures err { OnErr result (member.new ≡ member.old) }
 {
     match list.get(index) {
-        Some(note) => member.take(&note.reply),
-        None => Ok(()),
+        Some(note) => {
+            let report = R::of(note)?;
+            member.take(&note.reply)?;
+            Ok(Some(report))
+        }
+        None => Ok(None),
     }
 }
 
-// Notes a step, and takes its reply, which is the last that can fail: the actor is then as it was.
-fn keep(crew: &mut Crew, note: Note) -> Result<(), AllocError>
+// Notes a step, answers what is wanted of it, and takes its reply, which is the last that can fail: the actor is then as it was.
+fn keep<R: Report + Drop>(crew: &mut Crew, note: Note) -> Result<Option<R>, AllocError>
     requires { TakesReply (member_asks octets crew.old.member) note.reply }
-    ensures ok { OnOk result (crew.new ≡ record crew.old { member = member_takes octets note.reply crew.old.member; list = crew.old.list ++ note ∷ [] }) }
+    ensures report { IfOk result (λ report. report ≡ Some (R.of note)) }
+    ensures told { IfOk result
+        (λ report. option_map R.told report ≡ Some (told_of note.reply)) }
+    ensures ok { OnOk result (crew.new ≡ record crew.old {
+      member = member_takes octets note.reply crew.old.member;
+      list = crew.old.list ++ note ∷ [];
+    }) }
     ensures err { OnErr result (crew.new ≡ crew.old) }
 {
     let index = crew.list.len();
     crew.list.push(note)?;
-    let taken = take_reply(&mut crew.member, &crew.list, index);
+    let taken = take_noted::<R>(&mut crew.member, &crew.list, index);
     if taken.is_err() {
         take_back(&mut crew.list);
     }
@@ -68,11 +88,16 @@ pub(crate) fn step<R: Report + Drop>(
     crew: &mut Crew,
     books: &mut Books,
 ) -> Result<Option<R>, Refusal>
-    ensures report { IfOk result (λ report. report ≡ option_map R.of (note_if (member_asks octets crew.old.member) books.old crew.old.pass)) }
-    ensures told { IfOk result (λ report. option_map R.told report ≡ told_in (note_if (member_asks octets crew.old.member) books.old crew.old.pass)) }
-    ensures crew { OnOk result (crew.new ≡ crew_if (member_asks octets crew.old.member) books.old crew.old) }
-    ensures books { OnOk result (books.new ≡ books_if (member_asks octets crew.old.member) crew.old.pass books.old) }
-    ensures rises { OnOk result (is_over crew.old.member ≡ false → GoesUp crew.old.pass.stamp crew.new.pass.stamp) }
+    ensures report { IfOk result (λ report. report ≡
+        option_map R.of (note_if (member_asks octets crew.old.member) books.old crew.old.pass)) }
+    ensures told { IfOk result (λ report. option_map R.told report ≡
+        told_in (note_if (member_asks octets crew.old.member) books.old crew.old.pass)) }
+    ensures crew { OnOk result (crew.new ≡
+        crew_if (member_asks octets crew.old.member) books.old crew.old) }
+    ensures books { OnOk result (books.new ≡
+        books_if (member_asks octets crew.old.member) crew.old.pass books.old) }
+    ensures rises { OnOk result (is_over crew.old.member ≡ false →
+        GoesUp crew.old.pass.stamp crew.new.pass.stamp) }
     ensures few { OnOk result (length crew.old.list < 2 ^ 57 → length crew.new.list < 2 ^ 57) }
     ensures member_err { OnErr result (crew.new.member ≡ crew.old.member) }
     ensures list_err { OnErr result (crew.new.list ≡ crew.old.list) }
@@ -84,7 +109,5 @@ pub(crate) fn step<R: Report + Drop>(
         return Err(Refusal::Memory);
     }
     let note = serve(books, &mut crew.pass, ask)?;
-    let report = R::of(&note)?;
-    keep(crew, note)?;
-    Ok(Some(report))
+    Ok(keep::<R>(crew, note)?)
 }

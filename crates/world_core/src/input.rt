@@ -25,7 +25,9 @@ use stream_apps::App;
 // The books before the first call.
 fn opened_books(alloc: Global, script: &Script) -> Result<Books, AllocError>
     requires { HasRanges script.now }
-    ensures { IfOk result (λ books. books ≡ unasked (opened_books script.now.buffer (key_of script.now.seed 0) (key_of script.now.seed 2))) }
+    ensures { IfOk result (λ books. books ≡
+        unasked
+        (opened_books script.now.buffer (key_of script.now.seed 0) (key_of script.now.seed 2))) }
 {
     let (key_a, key_b) = (key_of(script.seed, 0), key_of(script.seed, 2));
     Books::open(alloc, script.buffer, key_a, key_b)
@@ -34,7 +36,9 @@ fn opened_books(alloc: Global, script: &Script) -> Result<Books, AllocError>
 // The application of a side, which has made no step.
 fn new_app(script: &Script, side: Side, file: &Text) -> Result<Member, AllocError>
     requires { HasRanges script.now }
-    ensures { IfOk result (λ member. member ≡ members.App (first_app_turn side script.now.buffer file.now (fast_close_of side script.now.lines))) }
+    ensures { IfOk result (λ member. member ≡
+        members.App
+        (first_app_turn side script.now.buffer file.now (fast_close_of side script.now.lines))) }
 {
     let file = file.copy()?;
     Ok(Member::App(App::new(script, side, file)))
@@ -67,7 +71,8 @@ fn new_crew(alloc: Global, number: u8, member: Member) -> Crew
 // The two applications and the paths of the script.
 fn opened_crew(alloc: Global, input: &Input) -> Result<Vec<Crew>, AllocError>
     requires { HasRanges input.now.script }
-    ensures { IfOk result (λ crew. crew.items ≡ (opened_world (start_of input.now.script input.now.file_a input.now.file_b)).crew) }
+    ensures { IfOk result (λ crew. crew.items ≡
+        (opened_world (start_of input.now.script input.now.file_a input.now.file_b)).crew) }
 {
     let a = new_app(&input.script, Side::A, &input.file_a)?;
     let b = new_app(&input.script, Side::B, &input.file_b)?;
@@ -88,7 +93,8 @@ impl World {
     /// Only where there is no memory.
     pub fn open(alloc: Global, input: &Input) -> Result<World, AllocError>
         requires { HasRanges input.now.script }
-        ensures { IfOk result (λ world. world ≡ standing (opened_world (start_of input.now.script input.now.file_a input.now.file_b))) }
+        ensures { IfOk result (λ world. world ≡
+            standing (opened_world (start_of input.now.script input.now.file_a input.now.file_b))) }
     {
         let crew = opened_crew(alloc, input)?;
         let books = opened_books(alloc, &input.script)?;

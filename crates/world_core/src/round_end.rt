@@ -78,7 +78,9 @@ fn begin_all(crew: &mut Vec<Crew>, stamp: u64)
 fn end(crew: &mut Vec<Crew>) -> bool
     requires { AreTimely crew.old.items }
     ensures over { result ≡ all_over crew.old.items }
-    ensures crew { crew.new.items ≡ (if all_over crew.old.items then map (begins (greatest 0 crew.old.items)) crew.old.items else crew.old.items) }
+    ensures crew { crew.new.items ≡
+        (if all_over crew.old.items then map (begins (greatest 0 crew.old.items)) crew.old.items
+        else crew.old.items) }
 {
     if !all_over(crew) {
         return false;

@@ -28,14 +28,20 @@ fn advance<R: Report + Drop>(
     books: &mut Books,
     actor: u8,
 ) -> Result<Option<R>, Refusal>
-    ensures report { IfOk result (λ report. report ≡ option_map R.of (next_note actor (world crew.old.items books.old))) }
-    ensures going { IfOk result (λ report. is_some report ≡ is_going actor (world crew.old.items books.old)) }
-    ensures ok { OnOk result (world crew.new.items books.new ≡ world_step octets actor (world crew.old.items books.old)) }
-    ensures still { IfOk result (λ report. report ≡ None → world crew.new.items books.new ≡ world crew.old.items books.old) }
-    ensures rises { OnOk result (StampRises actor (world crew.old.items books.old) (world crew.new.items books.new)) }
+    ensures report { IfOk result (λ report. report ≡
+        option_map R.of (next_note actor (world crew.old.items books.old))) }
+    ensures going { IfOk result (λ report. is_some report ≡
+        is_going actor (world crew.old.items books.old)) }
+    ensures ok { OnOk result (world crew.new.items books.new ≡
+        world_step octets actor (world crew.old.items books.old)) }
+    ensures still { IfOk result (λ report. report ≡ None → world crew.new.items books.new ≡
+        world crew.old.items books.old) }
+    ensures rises { OnOk result
+        (StampRises actor (world crew.old.items books.old) (world crew.new.items books.new)) }
     ensures hears { IfOk result (λ report. heard_by crew.new.items
         ≡ heard_report (option_map R.told report) actor (heard_by crew.old.items)) }
-    ensures sound { OnOk result (IsSound (world crew.old.items books.old) → IsSound (world crew.new.items books.new)) }
+    ensures sound { OnOk result (IsSound (world crew.old.items books.old) →
+        IsSound (world crew.new.items books.new)) }
     ensures many { length crew.new.items ≡ length crew.old.items }
     ensures err { OnErr result (ShowsTheSame crew.old.items crew.new.items) }
 {
@@ -53,7 +59,8 @@ impl World {
     /// Where there is no memory. The world has failed then: every later step answers so too, and the outcome stays, and the list
     /// of each actor.
     pub fn step(&mut self, actor: u8) -> Result<Stepped, AllocError>
-        ensures told { IfOk result (λ stepped. stepped ≡ stepped_by (next_note actor self.old.state)) }
+        ensures told { IfOk result (λ stepped. stepped ≡
+            stepped_by (next_note actor self.old.state)) }
         ensures going { IfOk result (λ stepped. is_made stepped ≡ is_going actor self.old.state) }
         ensures ok { OnOk result (self.new ≡ standing (world_step octets actor self.old.state)) }
         ensures values { OnOk result (StepsAsValues actor self.old.state self.new.state) }
@@ -61,7 +68,8 @@ impl World {
         ensures rises { OnOk result (StampRises actor self.old.state self.new.state) }
         ensures was { OnOk result (self.old.failed ≡ false) }
         ensures err { OnErr result (self.new.failed ≡ true) }
-        ensures outcome { OnErr result (outcome_of self.new.state.crew ≡ outcome_of self.old.state.crew) }
+        ensures outcome { OnErr result (outcome_of self.new.state.crew ≡
+            outcome_of self.old.state.crew) }
         ensures lists { OnErr result (lists_of self.new.state.crew ≡ lists_of self.old.state.crew) }
     {
         if self.failed {
@@ -118,7 +126,8 @@ impl World {
     ///
     /// Where there is no memory. The world has failed then.
     pub fn run(&mut self, order: &[u8]) -> Result<u64, AllocError>
-        ensures ok { IfOk result (λ count. RunTo octets order.now count self.old.state self.new.state) }
+        ensures ok { IfOk result (λ count.
+            RunTo octets order.now count self.old.state self.new.state) }
         ensures was { OnOk result (self.old.failed ≡ false) }
         ensures stands { OnOk result (self.new.failed ≡ false) }
         ensures err { OnErr result (self.new.failed ≡ true) }

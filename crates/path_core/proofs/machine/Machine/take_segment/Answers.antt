@@ -1,6 +1,10 @@
 use Rattle.std.proofs.Common.{refl}
 use Rattle.path_core.proofs.machine.Machine.take_segment.Goals as goal
 
-pub returns-clause-ok : goal.returns-clause-ok
-returns-clause-ok c =
-    rw (c.sets_about.ensures, c.in_ok-agenda.ensures.agenda, c.in_ok-agenda.ensures.ok, c.in_ok-told.ensures.value, c.reset_for-answer.ensures, c.is_joined-joined.ensures, c.end_mut.ensures.value, ← c.self.view_is) refl
+pub returns-in_ok-self-inside-in-A-clause-ok : goal.returns-in_ok-self-inside-in-A-clause-ok
+returns-in_ok-self-inside-in-A-clause-ok c =
+    rw (c.in_ok-self-inside-in-A.ensures.agenda, c.in_ok-self-inside-in-A.ensures.ok, c.in_ok-told.ensures.value, c.reset_for-answer.ensures, c.is_joined-joined.ensures, ← c.self.view_is, c.in-A.is) refl
+
+pub returns-in_ok-self-inside-in-B-clause-ok : goal.returns-in_ok-self-inside-in-B-clause-ok
+returns-in_ok-self-inside-in-B-clause-ok c =
+    rw (c.in_ok-self-inside-in-B.ensures.agenda, c.in_ok-self-inside-in-B.ensures.ok, c.in_ok-told.ensures.value, c.reset_for-answer.ensures, c.is_joined-joined.ensures, ← c.self.view_is, c.in-B.is) refl

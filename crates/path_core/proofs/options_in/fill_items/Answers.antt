@@ -7,7 +7,7 @@ use Rattle.path_core.specs.Arriving.{HeardOption, items_in}
 use Rattle.path_core.proofs.Fair.{items_are_fair}
 use Rattle.path_core.proofs.FewThings.{room_left}
 use Rattle.path_core.proofs.Filling.{append-nil}
-use Rattle.path_core.proofs.options_in.items_of.Goals as goal
+use Rattle.path_core.proofs.options_in.fill_items.Goals as goal
 
 pub put_option-requires : goal.put_option-requires
 put_option-requires c =

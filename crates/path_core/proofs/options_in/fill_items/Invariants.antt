@@ -2,7 +2,7 @@ use Rattle.std.proofs.Common.{◌≡◌, ◌++◌}
 use Rattle.std.specs.List.{flat_map}
 use Rattle.path_segments.specs.HeardSegments.{heard_left}
 use Rattle.path_core.specs.Arriving.{items_in}
-use Rattle.path_core.proofs.options_in.items_of.Given as goal
+use Rattle.path_core.proofs.options_in.fill_items.Given as goal
 
 abbrev pub invariant-loop-option : goal.invariant-loop-option
 invariant-loop-option l =
