@@ -62,7 +62,8 @@ heard_and s from (suc count) ds = duties.Step (step_duties.Heard s from) ∷ hea
 abbrev pub payload_came : Side → List Duty
 payload_came s =
     duties.Step (step_duties.PlainAck s) ∷ duties.Ask (ask_duties.SubflowAck s) ∷ duties.Ask (ask_duties.PlainData s)
-    ∷ duties.Silent (silent_duties.Keep s) ∷ duties.Ask (ask_duties.Edge s) ∷ duties.Step (step_duties.Unmapped s)
+    ∷ duties.Silent (silent_duties.Keep s) ∷ duties.Ask (ask_duties.Edge s) ∷ duties.Ask (ask_duties.CheckFailed s)
+    ∷ duties.Step (step_duties.Unmapped s)
     ∷ duties.Ask (ask_duties.HeardFin s 0) ∷ duties.Ask (ask_duties.HeardFin s 1) ∷ duties.Ask (ask_duties.HeardFin s 2)
     ∷ duties.Silent (silent_duties.PassFin s) ∷ duties.Ask (ask_duties.SubflowFin s) ∷ duties.Ask (ask_duties.AckOut s)
     ∷ duties.Ask (ask_duties.Rate s) ∷ duties.Send (send_duties.Acknowledge s) ∷ duties.Send (send_duties.Again s)

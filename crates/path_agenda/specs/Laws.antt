@@ -35,11 +35,13 @@ pub record ChainsEnd (s : Side) (index reason : ℕ) : Type 0 where
   -- a break in the place of what a copy said, or of bytes, or of the end of the stream
   pub heard : weights (breaks s reason) < weights (duties.Step (step_duties.Heard s index) ∷ [])
   pub edge : weights (breaks s reason) < weights (duties.Ask (ask_duties.Edge s) ∷ [])
+  pub check_failed : weights (breaks s reason) < weights (duties.Ask (ask_duties.CheckFailed s) ∷ [])
   pub unmapped : weights (breaks s reason) < weights (duties.Step (step_duties.Unmapped s) ∷ [])
   pub heard_fin : weights (breaks s reason) < weights (duties.Ask (ask_duties.HeardFin s index) ∷ [])
   pub subflow_fin : weights (breaks s reason) < weights (duties.Ask (ask_duties.SubflowFin s) ∷ [])
   -- in the place of what told that Multipath TCP is there, or isn't
   pub ack_told : weights (breaks s reason) < weights (duties.Ask (ask_duties.AckHeard s) ∷ [])
+  pub fail_told : weights (breaks s reason) < weights (duties.Ask (ask_duties.FailHeard s) ∷ [])
   pub plain_handshake : weights (breaks s reason) < weights (duties.Ask (ask_duties.PlainHandshake s) ∷ [])
   pub peer_key : weights (breaks s reason) < weights (duties.Ask (ask_duties.PeerKey s) ∷ [])
   pub opened : weights (breaks s reason) < weights (duties.Ask (ask_duties.Opened s) ∷ [])
@@ -48,17 +50,21 @@ pub record ChainsEnd (s : Side) (index reason : ℕ) : Type 0 where
   -- a fall in the same places
   pub heard_falls : weights (duties.Ask (ask_duties.GoIdentity s) ∷ []) < weights (duties.Step (step_duties.Heard s index) ∷ [])
   pub ack_falls : weights (duties.Ask (ask_duties.GoIdentity s) ∷ []) < weights (duties.Ask (ask_duties.AckHeard s) ∷ [])
+  pub fail_falls : weights (duties.Ask (ask_duties.GoIdentity s) ∷ []) < weights (duties.Ask (ask_duties.FailHeard s) ∷ [])
   pub handshake_falls : weights (duties.Ask (ask_duties.GoIdentity s) ∷ []) < weights (duties.Ask (ask_duties.PlainHandshake s) ∷ [])
   pub key_falls : weights (duties.Ask (ask_duties.GoIdentity s) ∷ []) < weights (duties.Ask (ask_duties.PeerKey s) ∷ [])
   pub opened_falls : weights (duties.Ask (ask_duties.GoIdentity s) ∷ []) < weights (duties.Ask (ask_duties.Opened s) ∷ [])
   pub plain_ack_falls : weights (duties.Ask (ask_duties.GoIdentity s) ∷ []) < weights (duties.Step (step_duties.PlainAck s) ∷ [])
   pub plain_data_falls : weights (duties.Ask (ask_duties.GoIdentity s) ∷ []) < weights (duties.Ask (ask_duties.PlainData s) ∷ [])
+  pub check_falls : weights (duties.Ask (ask_duties.GoIdentity s) ∷ []) < weights (duties.Ask (ask_duties.CheckFailed s) ∷ [])
   -- the answer to a SYN that joins, and the death of an end that may not join any more
   pub join_taken : weights (duties.Send (send_duties.SynAck s) ∷ []) < weights (duties.Ask (ask_duties.JoinHeard s) ∷ [])
   pub join_refused : weights (duties.Send (send_duties.Refuse s) ∷ []) < weights (duties.Ask (ask_duties.JoinHeard s) ∷ [])
   pub join_ended : weights (duties.Ask (ask_duties.Leave s) ∷ []) < weights ((duties.Ask ask_duties.JoinAgain) ∷ [])
   -- a Data ACK that covers something
   pub ack_heard : weights (duties.Ask (ask_duties.AckHeard s) ∷ []) < weights (duties.Step (step_duties.Heard s index) ∷ [])
+  -- an MP_FAIL, where the send book is asked first
+  pub fail_heard : weights (duties.Ask (ask_duties.FailHeard s) ∷ []) < weights (duties.Step (step_duties.Heard s index) ∷ [])
   -- the peer's fast close, and the reset that the side told
   pub stopped : weights (stops s) < weights (duties.Step (step_duties.Heard s index) ∷ [])
   pub leave_noted : weights (duties.Ask (ask_duties.Dead s) ∷ []) < weights (duties.Ask (ask_duties.LeaveNoted s) ∷ [])

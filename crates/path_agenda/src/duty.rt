@@ -44,7 +44,9 @@ pub enum AskDuty {
     // ---- a copy
     /// A Data ACK that covers something was taken: tells it.
     AckHeard(Side),
-    /// The side fell back to plain TCP: tells the acknowledgement of the subflow in the place of a Data ACK.
+    /// The peer's MP_FAIL came, and the send book was asked for an infinite mapping: tells it (RFC 8684, section 3.7).
+    FailHeard(Side),
+    /// The side sends without mappings: tells the acknowledgement of the subflow in the place of a Data ACK.
     SubflowAck(Side),
     /// The next byte came without an option of Multipath TCP: tells it.
     PlainData(Side),
@@ -52,9 +54,11 @@ pub enum AskDuty {
     GoIdentity(Side),
     /// Places the bytes that are in order and mapped: as long as there are some.
     Edge(Side),
+    /// The bytes of the mapping at the edge aren't those that it was made for: tells it, and forgets them (RFC 8684, section 3.7).
+    CheckFailed(Side),
     /// Tells the end of the stream that a DATA_FIN said, the first being 0.
     HeardFin { side: Side, index: u8 },
-    /// The side fell back to plain TCP: tells the peer's FIN in the place of a DATA_FIN.
+    /// The peer sends without mappings: tells its FIN in the place of a DATA_FIN.
     SubflowFin(Side),
     /// Asks what is to be acknowledged, where bytes or an end were told.
     AckOut(Side),

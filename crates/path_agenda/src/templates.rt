@@ -258,7 +258,7 @@ fn sends(side: Side) -> [Duty; 7]
 }
 
 /// What follows what a copy says: its acknowledgement, its payload, and the answers.
-fn payload_came(side: Side) -> [Duty; 15]
+fn payload_came(side: Side) -> [Duty; 16]
     ensures { result ++ emission side ≡ payload_came side }
 {
     [
@@ -267,6 +267,7 @@ fn payload_came(side: Side) -> [Duty; 15]
         Duty::Ask(AskDuty::PlainData(side)),
         Duty::Silent(SilentDuty::Keep(side)),
         Duty::Ask(AskDuty::Edge(side)),
+        Duty::Ask(AskDuty::CheckFailed(side)),
         Duty::Step(StepDuty::Unmapped(side)),
         Duty::Ask(AskDuty::HeardFin { side, index: 0 }),
         Duty::Ask(AskDuty::HeardFin { side, index: 1 }),

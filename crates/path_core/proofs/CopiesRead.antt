@@ -1,7 +1,6 @@
 -- What the octets of a copy say, be its options still there or taken away.
-use Rattle.std.proofs.Common.{◌≡◌, refl, ◌∙◌, ap, ℕ, Bool, true, false, if◌then◌else◌, List, [], Some}
+use Rattle.std.proofs.Common.{◌≡◌, ◌∙◌, ap, ℕ, Bool, true, false, if◌then◌else◌, List, [], Some}
 use Rattle.outside_kit.specs.declared.side.Side.{Side}
-use Rattle.outside_kit.specs.declared.side.Side.TheVariants.{A, B}
 use Rattle.segment_wire.specs.declared.head.Addresses.{Addresses}
 use Rattle.segment_wire.specs.Changes.{text_stripped}
 use Rattle.link_model.specs.Octets as link_octets
@@ -18,12 +17,8 @@ use Rattle.path_core.specs.Octets.{made, octets}
 use Rattle.path_core.specs.OptionsOut.{spelled_by}
 use Rattle.path_core.specs.Shown.{octets_of, IsFarReset}
 use Rattle.path_core.specs.Values.{Carried, as_arrived}
+use Rattle.path_core.proofs.ChangedCopies.{same_addresses}
 use Rattle.path_core.proofs.FarResets.{unplaced, far_heard, far_stripped_heard}
-
--- the link has the addresses of the segments
-same_addresses : (path : ℕ) (side : Side) → link_octets.addresses_from path side ≡ spelling_words.addresses_from path (spelled_by side)
-same_addresses path A = refl
-same_addresses path B = refl
 
 module _ (spelling : Spelling) (side : Side) (expected : Expected) (s : PlainSegment) where
   same_stripped : octets.reads spelling side expected (link_octets.octets_stripped spelling.path side (made spelling side s))

@@ -19,6 +19,7 @@ pub mod Fallen
 pub mod Lowering
 pub mod TurnEnds
 pub mod FarResets
+mod ChangedCopies
 pub mod CopiesRead
 pub mod Showing
 pub mod Sayable

@@ -1,5 +1,5 @@
 -- Each reply of the asked kind lowers the numbers of a turn.
-use Rattle.std.proofs.Common.{◌≡◌, refl, subst, ℕ, ◌+◌, ◌-◌, ◌<◌, ◌≤◌, ◌&&◌, not, nat_lt, Bool, true, false, if◌then◌else◌, List, [], ◌∷◌, length, Option, Some, None, arith}
+use Rattle.std.proofs.Common.{◌≡◌, refl, ap, subst, ℕ, ◌+◌, ◌-◌, ◌<◌, ◌≤◌, ◌&&◌, not, nat_lt, is_some, Bool, true, false, if◌then◌else◌, List, [], ◌∷◌, length, Option, Some, None, arith}
 use Rattle.std.proofs.lemmas.Bool.{leb-true, ltb-true}
 use Rattle.outside_kit.specs.declared.side.Side.{Side}
 use Rattle.outside_kit.specs.declared.side.Side.TheVariants.{A, B}
@@ -44,7 +44,12 @@ use Rattle.path_core.specs.Fallback.{after_fell, fell_duties, answered_fell, in_
 use Rattle.path_core.specs.Opening.{syn_ack_of, with_peer_key, answered_peer_key, after_keys, answered_opened}
 use Rattle.path_core.specs.Passing.{having_asked, piece_of, is_placed, placed, answered_piece, is_fin_set, with_peer_data_fin, answered_fin_heard, with_fin_told, answered_plain_fin, after_rate, first_segment, answer_occasion, answer_of, dead_answer, resend_occasion, resend_of}
 use Rattle.path_core.specs.Passing as passing
-use Rattle.path_core.specs.Deliver.{Piece, some_piece, plain_piece, piece_by, mapping_here, next_piece, after_piece}
+use Rattle.path_core.specs.Deliver.{Piece, some_piece, plain_piece, infinite_piece, piece_by, mapping_here, next_piece, after_piece}
+use Rattle.path_core.specs.FailedChecks.{after_check_failed, answered_check_failed}
+use Rattle.path_core.specs.Infinite.{covers}
+use Rattle.path_core.specs.InfiniteReceiving.{is_infinite_receive, after_infinite, answered_infinite}
+use Rattle.path_core.specs.declared.infinite_mapping.InfiniteMapping.{InfiniteMapping}
+use Rattle.path_core.specs.InfiniteSending.{may_go_infinite, with_infinite, book_answered, is_infinite_send, after_fail_heard, answered_fail_heard}
 use Rattle.subflow_recv.specs.Receiving.{filled}
 use Rattle.subflow_tcp.specs.State.{EndState}
 use Rattle.path_agenda.specs.Weights.{weight, weights}
@@ -62,9 +67,9 @@ use Rattle.actor_desk.specs.Words.{is_nil, tail_of}
 use Rattle.actor_desk.proofs.Falling.{Then}
 use Rattle.path_core.proofs.Happening.{event_lowers}
 use Rattle.path_core.proofs.Ranking.{Rests, same_rests, goes_calm, sent_calm, agenda_calm, Lowers, lowers}
-use Rattle.path_core.proofs.Resting.{sent_same}
+use Rattle.path_core.proofs.Resting.{sent_same, check_failed_same, sending_same, receiving_same}
 use Rattle.path_core.proofs.Fallen.{after_a_verdict}
-use Rattle.path_core.proofs.Sendings.{Fits, sent_count, sent_outstanding, none_unsent, pushed_outstanding, pushed_count, filled_drop, piece_fits}
+use Rattle.path_core.proofs.Sendings.{Fits, sent_count, sent_outstanding, none_unsent, pushed_outstanding, pushed_count, filled_drop, piece_fits, infinite_fits}
 
 -- the record of a granted piece
 abbrev pushed : Profile → Side → Grant → PathEnd → Record
@@ -132,12 +137,15 @@ plain_fits s piece e = by (nat_lt 0 (length (filled s.recv.places))) refl e
     by false is e = cc
 
 next_fits : (c : Profile) (e : PathEnd) (piece : Piece) → next_piece c e ≡ Some piece → Fits e.tcp piece
-next_fits c e piece is = by e.modes.identity is
+next_fits c e piece is = by e.modes.identity (covers e.modes.peer_infinite e.tcp.recv.edge) is
   where
-    by : (b : Bool) → (if b then some_piece (plain_piece e.tcp) else piece_by c.spelling.checksums (mapping_here e) e.tcp) ≡ Some piece
+    by : (b covered : Bool)
+        → (if b then some_piece (plain_piece e.tcp)
+        else (if covered then infinite_piece e.modes.peer_infinite e.tcp else piece_by c.spelling.checksums (mapping_here e) e.tcp)) ≡ Some piece
         → Fits e.tcp piece
-    by true is = plain_fits e.tcp piece is
-    by false is = piece_fits c.spelling.checksums (mapping_here e) e.tcp piece is
+    by true covered is = plain_fits e.tcp piece is
+    by false true is = infinite_fits e.modes.peer_infinite e.tcp piece is
+    by false false is = piece_fits c.spelling.checksums (mapping_here e) e.tcp piece is
 
 module _ {C : Type 0} where
   -- ---- by weight
@@ -276,6 +284,32 @@ module _ {C : Type 0} where
   verdict_lowers s event r p t heavy =
       fell_less s (after_fell event r (end_at s p)) r p t (same_rests p.clock (end_at s p) (after_fell event r (end_at s p)) refl) heavy
 
+  check_lowers : (s : Side) (r : Reply) (p : PathState C) → TakesTime p → Heavy s p → Lowers p (answered_check_failed s r p)
+  check_lowers s r p t heavy =
+      let e = end_at s p in let f : PathEnd = after_check_failed p.profile.spelling.checksums r e in
+      fell_less s f r p t (same_rests p.clock e f (check_failed_same p.profile.spelling.checksums r e)) heavy
+
+  fail_heard_lowers : (s : Side) (r : Reply) (p : PathState C) → TakesTime p → Heavy s p → Lowers p (answered_fail_heard s r p)
+  fail_heard_lowers s r p t heavy =
+      let e = end_at s p in let f : PathEnd = after_fail_heard r e in let mapping : Option InfiniteMapping = e.treated.infinite_mapping in
+      fell_less s f r p t
+      (same_rests p.clock e f (ap (λ tcp. tcp.timing) (sending_same mapping (is_infinite_send r) (after_fell (events.FailHeard (is_some mapping)) r e)))) heavy
+
+  infinite_lowers : (s : Side) (place : ℕ) (position : Option ℕ) (r : Reply) (p : PathState C) → TakesTime p → Heavy s p
+      → Lowers p (answered_infinite s place position r p)
+  infinite_lowers s place position r p t heavy =
+      let e = end_at s p in let f : PathEnd = after_infinite place position r e in
+      fell_less s f r p t
+      (same_rests p.clock e f (ap (λ tcp. tcp.timing) (receiving_same place position (is_infinite_receive r) (after_fell events.InfiniteHeard r e)))) heavy
+
+  fail_less : (s : Side) (may : Bool) (r : Reply) (p : PathState C) → TakesTime p
+      → weights (replaced (duties.Ask (ask_duties.FailHeard s)) p.agenda) < weights p.agenda → Heavy s p
+      → Lowers p (if may then book_answered s r p else answered_fell s (events.FailHeard false) r p)
+  fail_less s true r p t next heavy =
+      let e = end_at s p in let f : PathEnd = with_infinite r e in
+      goes_less s f (replaced (duties.Ask (ask_duties.FailHeard s)) p.agenda) p t (same_rests p.clock e f refl) next
+  fail_less s false r p t next heavy = verdict_lowers s (events.FailHeard false) r p t heavy
+
   peer_key_lowers : (s : Side) (key : Option ℕ) (r : Reply) (p : PathState C) → TakesTime p → Heavy s p → Lowers p (answered_peer_key s key r p)
   peer_key_lowers s None r p t heavy = verdict_lowers s events.PlainHandshake r p t heavy
   peer_key_lowers s (Some key) r p t heavy =
@@ -333,27 +367,28 @@ module _ {C : Type 0} where
   told_less s false p less next = less
 
   heard_lowers : (k : Codec C) (s : Side) (item : Option Heard) (r : Reply) (p : PathState C) → TakesTime p
-      → weights (replaced (duties.Ask (ask_duties.AckHeard s)) p.agenda) < weights p.agenda → Heavy s p → Lowers p (answered_item k s item r p)
-  heard_lowers k s None r p t next heavy = agenda_less (left p) p t heavy.done
-  heard_lowers k s (Some says.Dss) r p t next heavy = agenda_less (left p) p t heavy.done
-  heard_lowers k s (Some (says.DataAck place window)) r p t next heavy =
+      → weights (replaced (duties.Ask (ask_duties.AckHeard s)) p.agenda) < weights p.agenda
+      → weights (replaced (duties.Ask (ask_duties.FailHeard s)) p.agenda) < weights p.agenda → Heavy s p → Lowers p (answered_item k s item r p)
+  heard_lowers k s None r p t next failed heavy = agenda_less (left p) p t heavy.done
+  heard_lowers k s (Some says.Dss) r p t next failed heavy = agenda_less (left p) p t heavy.done
+  heard_lowers k s (Some (says.DataAck place window)) r p t next failed heavy =
       goes_less s (with_acked place r (end_at s p)) (told_next s (is_acked r && nat_lt 0 place) p) p t
       (same_rests p.clock (end_at s p) (with_acked place r (end_at s p)) refl) (told_less s (is_acked r && nat_lt 0 place) p heavy.done next)
-  heard_lowers k s (Some (says.Mapping fin)) r p t next heavy = mapping_lowers k s r p t heavy
-  heard_lowers k s (Some (says.DataFin place)) r p t next heavy =
+  heard_lowers k s (Some (says.Mapping fin)) r p t next failed heavy = mapping_lowers k s r p t heavy
+  heard_lowers k s (Some (says.DataFin place)) r p t next failed heavy =
       let f : PathEnd = with_data_fin place (after_fell events.MappingHeard r (end_at s p)) in
       fell_less s f r p t (same_rests p.clock (end_at s p) f refl) heavy
-  heard_lowers k s (Some (says.InfiniteMapping place position)) r p t next heavy = verdict_lowers s events.InfiniteHeard r p t heavy
-  heard_lowers k s (Some (says.PeerKey key)) r p t next heavy = agenda_less (left p) p t heavy.done
-  heard_lowers k s (Some (says.Keys own peer)) r p t next heavy =
+  heard_lowers k s (Some (says.InfiniteMapping place position)) r p t next failed heavy = infinite_lowers s place position r p t heavy
+  heard_lowers k s (Some (says.PeerKey key)) r p t next failed heavy = agenda_less (left p) p t heavy.done
+  heard_lowers k s (Some (says.Keys own peer)) r p t next failed heavy =
       goes_less s (after_keys r (Some (record { own = own; peer = peer })) (end_at s p)) (left p) p t
       (same_rests p.clock (end_at s p) (after_keys r (Some (record { own = own; peer = peer })) (end_at s p)) refl) heavy.done
-  heard_lowers k s (Some (says.Join form)) r p t next heavy = agenda_less (left p) p t heavy.done
-  heard_lowers k s (Some (says.Notice notice)) r p t next heavy =
+  heard_lowers k s (Some (says.Join form)) r p t next failed heavy = agenda_less (left p) p t heavy.done
+  heard_lowers k s (Some (says.Notice notice)) r p t next failed heavy =
       goes_less s (after_peer_notice notice r (end_at s p)) (left p) p t
       (same_rests p.clock (end_at s p) (after_peer_notice notice r (end_at s p)) refl) heavy.done
-  heard_lowers k s (Some says.Fail) r p t next heavy = agenda_less (left p) p t heavy.done
-  heard_lowers k s (Some (says.FastClose key)) r p t next heavy = fast_heard_less s (is_stopped_by r) p t heavy
+  heard_lowers k s (Some says.Fail) r p t next failed heavy = fail_less s (may_go_infinite (end_at s p)) r p t failed heavy
+  heard_lowers k s (Some (says.FastClose key)) r p t next failed heavy = fast_heard_less s (is_stopped_by r) p t heavy
 
   -- ---- joins
 
@@ -425,9 +460,10 @@ module _ {C : Type 0} where
       opened_lowers s (keys_heard (end_at s p).treated.items) r p t (heavy_by _ ds s p is (omega arith))
   answered_lowers k (duties.Ask (ask_duties.Live s)) ds r p t is stands kind = agenda_less (left p) p t (left_less _ ds p is)
   answered_lowers k (duties.Step (step_duties.Heard s index)) ds r p t is stands kind =
-      heard_lowers k s (item_of index (end_at s p)) r p t (rw is (omega arith)) (heavy_by _ ds s p is (omega arith))
+      heard_lowers k s (item_of index (end_at s p)) r p t (rw is (omega arith)) (rw is (omega arith)) (heavy_by _ ds s p is (omega arith))
   answered_lowers k (duties.Ask (ask_duties.AckHeard s)) ds r p t is stands kind = verdict_lowers s events.AckHeard r p t (heavy_by _ ds s p is (omega arith))
   answered_lowers k (duties.Step (step_duties.PlainAck s)) ds r p t is stands kind = plain_ack_lowers k s r p t (heavy_by _ ds s p is (omega arith))
+  answered_lowers k (duties.Ask (ask_duties.FailHeard s)) ds r p t is stands kind = fail_heard_lowers s r p t (heavy_by _ ds s p is (omega arith))
   answered_lowers k (duties.Ask (ask_duties.SubflowAck s)) ds r p t is stands kind =
       let e = end_at s p in let f : PathEnd = with_plain_acked r e in goes_less s f (left p) p t (same_rests p.clock e f refl) (left_less _ ds p is)
   answered_lowers k (duties.Ask (ask_duties.PlainData s)) ds r p t is stands kind = verdict_lowers s events.PlainData r p t (heavy_by _ ds s p is (omega arith))
@@ -435,6 +471,7 @@ module _ {C : Type 0} where
       let e = end_at s p in let f : PathEnd = in_identity e in goes_less s f (left p) p t (same_rests p.clock e f refl) (left_less _ ds p is)
   answered_lowers k (duties.Silent (silent_duties.Keep s)) ds r p t is stands kind = agenda_less (left p) p t (left_less _ ds p is)
   answered_lowers k (duties.Ask (ask_duties.Edge s)) ds r p t is stands kind = piece_lowers s (piece_of s p) (is_placed r) p t (rw is (omega arith)) refl
+  answered_lowers k (duties.Ask (ask_duties.CheckFailed s)) ds r p t is stands kind = check_lowers s r p t (heavy_by _ ds s p is (omega arith))
   answered_lowers k (duties.Step (step_duties.Unmapped s)) ds r p t is stands kind = break_lowers k s 6 r p t (rw is (omega arith))
   answered_lowers k (duties.Ask (ask_duties.HeardFin s index)) ds r p t is stands kind =
       fin_lowers s (is_fin_set r) p t (left_less _ ds p is) (rw is (omega arith))

@@ -63,7 +63,7 @@ module _ {C : Type 0} where
       let e = end_at s p in end_calm s (after_pieces e) p t (same_rests p.clock e (after_pieces e) refl)
   passed_calm (duties.Silent (silent_duties.Keep s)) p t =
       let e = end_at s p in end_calm s (after_keep s e) p t (same_rests p.clock e (after_keep s e) (keep_same s e))
-  passed_calm (duties.Ask (ask_duties.Edge s)) p t =
+  passed_calm (duties.Ask (ask_duties.CheckFailed s)) p t =
       let e = end_at s p in
       end_calm s (after_check p.profile e) p t
       (same_rests p.clock e (after_check p.profile e) (check_same p.profile.spelling.checksums (mapping_here e) e))
@@ -93,9 +93,11 @@ module _ {C : Type 0} where
   passed_calm (duties.Ask (ask_duties.Opened s)) p t = unchanged p t
   passed_calm (duties.Ask (ask_duties.Live s)) p t = unchanged p t
   passed_calm (duties.Ask (ask_duties.AckHeard s)) p t = unchanged p t
+  passed_calm (duties.Ask (ask_duties.FailHeard s)) p t = unchanged p t
   passed_calm (duties.Ask (ask_duties.SubflowAck s)) p t = unchanged p t
   passed_calm (duties.Ask (ask_duties.PlainData s)) p t = unchanged p t
   passed_calm (duties.Ask (ask_duties.GoIdentity s)) p t = unchanged p t
+  passed_calm (duties.Ask (ask_duties.Edge s)) p t = unchanged p t
   passed_calm (duties.Ask (ask_duties.HeardFin s index)) p t = unchanged p t
   passed_calm (duties.Ask (ask_duties.SubflowFin s)) p t = unchanged p t
   passed_calm (duties.Ask (ask_duties.AckOut s)) p t = unchanged p t

@@ -1,5 +1,5 @@
 -- Which changes of an end leave its timer at rest: none that is due is set, and the timeout takes time.
-use Rattle.std.proofs.Common.{◌≡◌, refl, subst, ℕ, ◌+◌, ◌*◌, ◌≤◌, min, Bool, true, false, if◌then◌else◌, ◌||◌, is_none, Option, Some, None, List, [], ◌∷◌, arith}
+use Rattle.std.proofs.Common.{◌≡◌, refl, ap, ◌∙◌, subst, ℕ, ◌+◌, ◌*◌, ◌≤◌, min, Bool, true, false, if◌then◌else◌, ◌||◌, is_none, Option, Some, None, List, [], ◌∷◌, arith}
 use Rattle.outside_kit.specs.declared.side.Side.{Side}
 use Rattle.rtt_timer.specs.Timer.{Timer}
 use Rattle.loss_recovery.specs.declared.timers.Timing.{Timing}
@@ -25,7 +25,17 @@ use Rattle.path_core.specs.Arriving.{owing_if, with_payload}
 use Rattle.path_agenda.specs.declared.heard.Heard.{Heard}
 use Rattle.path_agenda.specs.declared.heard.Heard.TheVariants as says
 use Rattle.path_core.specs.Ends.{PathEnd}
-use Rattle.path_core.specs.Deliver.{is_wrong, forgotten_by, with_learned, with_skipped}
+use Rattle.control_book.specs.declared.call.ControlReply.TheVariants as control_replies
+use Rattle.fallback_state.specs.declared.fall.Event.TheVariants as events
+use Rattle.fallback_state.specs.declared.fall.Verdict.TheVariants as verdicts
+use Rattle.actor_desk.specs.declared.ask.Reply.{Reply}
+use Rattle.actor_desk.specs.declared.ask.Reply.TheVariants as replies
+use Rattle.path_core.specs.Deliver.{is_wrong, forgotten_by, failing_by, mapping_here, with_learned, with_skipped}
+use Rattle.path_core.specs.FailedChecks.{with_failure, after_check_failed}
+use Rattle.path_core.specs.Fallback.{after_fell}
+use Rattle.path_core.specs.declared.infinite_mapping.InfiniteMapping.{InfiniteMapping}
+use Rattle.path_core.specs.InfiniteReceiving.{receiving_infinite}
+use Rattle.path_core.specs.InfiniteSending.{sending_infinite}
 use Rattle.path_core.specs.Ranks.{one_if_due, due_timer}
 use Rattle.path_core.specs.Treating.{counts, with_data_fin, item_passed, is_dropped, after_keep}
 use Rattle.path_core.proofs.Ranking.{Rests, late_isn't}
@@ -185,3 +195,26 @@ check_same checksums (Some kept) e =
 pub pass_fin_same : (b : Bool) (s : EndState) → (if b then after_passing_fin s else s).timing ≡ s.timing
 pass_fin_same true s = refl
 pass_fin_same false s = refl
+
+-- ---- verdicts that note something
+
+pub failure_same : (failing : Option KeptMapping) (r : Reply) (e : PathEnd) → (with_failure failing r e).tcp ≡ e.tcp
+failure_same (Some kept) (replies.Control (control_replies.Verdict verdicts.SendFail)) e = refl
+failure_same (Some kept) (replies.Control (control_replies.Verdict (verdicts.BreakPath reason))) e = refl
+failure_same _ r e = refl
+
+pub check_failed_same : (checksums : Bool) (r : Reply) (e : PathEnd) → (after_check_failed checksums r e).tcp.timing ≡ e.tcp.timing
+check_failed_same checksums r e =
+    let failing = failing_by checksums (mapping_here e) e.tcp in
+    check_same checksums (mapping_here e) (with_failure failing r (after_fell events.CheckFailed r e))
+    ∙ ap (λ tcp. tcp.timing) (failure_same failing r (after_fell events.CheckFailed r e))
+
+pub sending_same : (mapping : Option InfiniteMapping) (infinite : Bool) (e : PathEnd) → (sending_infinite mapping infinite e).tcp ≡ e.tcp
+sending_same (Some mapping) true e = refl
+sending_same (Some mapping) false e = refl
+sending_same None infinite e = refl
+
+pub receiving_same : (place : ℕ) (position : Option ℕ) (infinite : Bool) (e : PathEnd) → (receiving_infinite place position infinite e).tcp ≡ e.tcp
+receiving_same place (Some position) true e = refl
+receiving_same place (Some position) false e = refl
+receiving_same place None infinite e = refl

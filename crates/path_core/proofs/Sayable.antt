@@ -19,7 +19,7 @@ use Rattle.mptcp_options.specs.Value as wire
 use Rattle.std.specs.Int.{w16, w64}
 use Rattle.key_material.specs.Address.{octets_of}
 use Rattle.mptcp_options.specs.Octets.{optional}
-use Rattle.path_segments.specs.declared.segment.PathOption.TheVariants.{Capable, Dss, Fail, FastClose, Reset}
+use Rattle.path_segments.specs.declared.segment.PathOption.TheVariants.{Capable, Dss, FastClose}
 use Rattle.path_segments.specs.declared.segment.PathMapping.TheVariants.{Infinite}
 use Rattle.path_segments.specs.declared.spelling.Spelling.{Spelling}
 use Rattle.path_segments.specs.declared.spelling.Side.{Side as SpelledSide}
@@ -38,7 +38,9 @@ use Rattle.path_agenda.specs.declared.notice.OwnNotice.TheVariants as notes
 use Rattle.path_core.specs.Ends.{PathEnd}
 use Rattle.path_core.specs.Joins.{is_joined, peer_key_of, join_options, third_options}
 use Rattle.path_core.specs.declared.modes.Modes.{Modes}
-use Rattle.path_core.specs.OptionsOut.{spelled_by, checksum_told, capable_options, syn_options, key_options, opening_options, data_fin_mapping, ack_options, is_first_piece, first_piece_options, piece_options, owes_mapping, own_reset, plain_options, fin_options, record_options, reset_options, segment_of, piece_mapping, ack_said, noted_said, carried_said, record_or_ack, syn_ack_said, notice_option, dss_and, HasAddress}
+use Rattle.path_core.specs.declared.infinite_mapping.InfiniteMapping.{InfiniteMapping}
+use Rattle.path_core.specs.Infinite.{receives_infinite}
+use Rattle.path_core.specs.OptionsOut.{fail_options, fail_beside, infinite_options, infinite_or, mapped_options, broken_options, spelled_by, checksum_told, capable_options, syn_options, key_options, opening_options, data_fin_mapping, ack_options, is_first_piece, first_piece_options, piece_options, owes_mapping, own_reset, plain_options, fin_options, record_options, reset_options, segment_of, piece_mapping, ack_said, noted_said, carried_said, record_or_ack, syn_ack_said, notice_option, dss_and, HasAddress}
 use Rattle.path_core.specs.declared.segment_kind.SegmentKind.{SegmentKind}
 use Rattle.path_core.specs.declared.segment_kind.SegmentKind.TheVariants as to_say
 use Rattle.subflow_tcp.specs.Emitting.{ack_at, record_segment, syn_ack_segment, fin_position, fin_segment, reset_segment}
@@ -126,6 +128,10 @@ fail_length : (number : ℕ) → length (option_text (wire.Fail number)) ≤ 12
 unfolding option_text
 fail_length number = omega arith
 
+short_reset : (transient : Bool) (reason : ℕ) → length (option_text (wire.Reset transient reason)) ≤ 12
+unfolding option_text
+short_reset transient reason = omega arith
+
 -- a checksum stands exactly where checksums are used
 told_form : (used : Bool) (checksum : ℕ) → is_some (if used then Some checksum else None) ≡ used
 told_form true checksum = refl
@@ -133,16 +139,32 @@ told_form false checksum = refl
 
 -- ---- options
 
--- one option at most, of 28 octets at most
+-- two of these are short
+pub record ArePair (spelling : Spelling) (from : SpelledSide) (first second : PlainOption) : Type 0 where
+  pub can_first : CanSayOption spelling from first
+  pub can_second : CanSayOption spelling from second
+  pub few : length (option_text (said_option spelling from first)) ≤ 12
+  pub less : length (option_text (said_option spelling from second)) ≤ 12
+
+-- one option of 28 octets at most, or two of 12 each
 abbrev AreShort : Spelling → SpelledSide → List PlainOption → Type 0
 AreShort spelling from [] = Unit {0}
 AreShort spelling from (o ∷ []) = CanSayOption spelling from o × (length (option_text (said_option spelling from o)) ≤ 28)
-AreShort spelling from (o ∷ other ∷ others) = ⊥
+AreShort spelling from (o ∷ other ∷ []) = ArePair spelling from o other
+AreShort spelling from (o ∷ other ∷ another ∷ others) = ⊥
 
 each_of : (spelling : Spelling) (from : SpelledSide) (options : List PlainOption) → AreShort spelling from options → All (CanSayOption spelling from) options
 each_of spelling from [] short = All-nil (CanSayOption spelling from)
 each_of spelling from (o ∷ []) short = All-cons (CanSayOption spelling from) o [] short.0 (All-nil (CanSayOption spelling from))
-each_of spelling from (o ∷ other ∷ others) short = absurd short
+each_of spelling from (o ∷ other ∷ []) short =
+    All-cons (CanSayOption spelling from) o (other ∷ []) short.can_first
+    (All-cons (CanSayOption spelling from) other [] short.can_second (All-nil (CanSayOption spelling from)))
+each_of spelling from (o ∷ other ∷ another ∷ others) short = absurd short
+
+pair_length : (spelling : Spelling) (from : SpelledSide) (first second : PlainOption) → ArePair spelling from first second
+    → length (options_text spelling from (first ∷ second ∷ [])) ≤ 24
+pair_length spelling from first second pair =
+    omega (arith, pair.few, pair.less, ap length (append-nil (option_text (said_option spelling from second))), length-append (option_text (said_option spelling from first)) (option_text (said_option spelling from second) ++ []))
 
 room_of : (syn : Bool) (mss : ℕ) (spelling : Spelling) (from : SpelledSide) (options : List PlainOption) → AreShort spelling from options
     → length (syn_text (if syn then Some mss else None) ++ options_text spelling from options) ≤ 40
@@ -150,7 +172,9 @@ room_of true mss spelling from [] short = omega arith
 room_of false mss spelling from [] short = omega arith
 room_of true mss spelling from (o ∷ []) short = omega (arith, short.1, ap length (append-nil (option_text (said_option spelling from o))))
 room_of false mss spelling from (o ∷ []) short = omega (arith, short.1, ap length (append-nil (option_text (said_option spelling from o))))
-room_of syn mss spelling from (o ∷ other ∷ others) short = absurd short
+room_of true mss spelling from (o ∷ other ∷ []) short = omega (arith, pair_length spelling from o other short)
+room_of false mss spelling from (o ∷ other ∷ []) short = omega (arith, pair_length spelling from o other short)
+room_of syn mss spelling from (o ∷ other ∷ another ∷ others) short = absurd short
 
 join_short : (c : Profile) (s : Side) (m : Modes) → AreShort c.spelling (spelled_by s) (join_options c s m)
 join_short c A m = (record { form = tt }, join_syn_length c.backup c.spelling.path (token_of (peer_key_of m)) m.own_nonce)
@@ -196,13 +220,28 @@ end_short c s (Some place) next = (
   dss_length (data_number c.spelling (peer_of (spelled_by s)) next) (data_number c.spelling (spelled_by s) place) 0 1 _ true,
 )
 
+-- MP_FAIL stands behind a DSS without a mapping
+beside_short : (c : Profile) (s : Side) (failed : Option ℕ) (next : ℕ) → AreShort c.spelling (spelled_by s) (Dss (Some next) None ∷ fail_options failed)
+beside_short c s None next = end_short c s None next
+beside_short c s (Some place) next = record {
+  can_first = record { form = (tt, refl) };
+  can_second = record { form = tt };
+  few = short_ack (data_number c.spelling (peer_of (spelled_by s)) next);
+  less = fail_length _;
+}
+
+clear_short : (c : Profile) (s : Side) (fin : Option ℕ) (next : ℕ) (m : Modes)
+    → AreShort c.spelling (spelled_by s) (Dss (Some next) (data_fin_mapping c s fin) ∷ fail_beside fin m)
+clear_short c s (Some place) next m = end_short c s (Some place) next
+clear_short c s None next m = beside_short c s (if receives_infinite m.mode then None else m.failed_mapping) next
+
 ack_short : (c : Profile) (s : Side) (fin : Option ℕ) (e : PathEnd) → AreShort c.spelling (spelled_by s) (ack_options c s fin e)
 ack_short c s fin e = by e.modes.identity e.modes.clear
   where
     by : (identity clear : Bool) → AreShort c.spelling (spelled_by s)
-        (if identity then [] else (if clear then Dss (Some e.receiving.next) (data_fin_mapping c s fin) ∷ [] else opening_options c s e))
+        (if identity then [] else (if clear then Dss (Some e.receiving.next) (data_fin_mapping c s fin) ∷ fail_beside fin e.modes else opening_options c s e))
     by true clear = tt
-    by false true = end_short c s fin e.receiving.next
+    by false true = clear_short c s fin e.receiving.next e.modes
     by false false = opening_short c s e
 
 -- after a fallback
@@ -223,26 +262,54 @@ first_short c s (Some peer) r e = (
   capable_length c.spelling.checksums false (WithData e.modes.own_key peer r.mapping.length (checksum_told c r.mapping.checksum)),
 )
 
-piece_short : (c : Profile) (s : Side) (r : Record) (e : PathEnd) → AreShort c.spelling (spelled_by s) (piece_options c s r e)
-piece_short c s r e = by e.modes.identity (is_first_piece s r e)
+-- after the peer's MP_FAIL
+infinite_short : (c : Profile) (s : Side) (mapping : InfiniteMapping) (e : PathEnd) → AreShort c.spelling (spelled_by s) (infinite_options mapping e)
+infinite_short c s mapping e = by (owes_mapping e)
   where
-    by : (identity first : Bool) → AreShort c.spelling (spelled_by s)
-        (if identity then plain_options r.pos e
-        else (if first then first_piece_options c e.modes.peer_key r e else Dss (Some e.receiving.next) (Some (piece_mapping c s r)) ∷ []))
-    by true first = plain_short c s r.pos e
-    by false true = first_short c s e.modes.peer_key r e
-    by false false = (
+    by : (owes : Bool) → AreShort c.spelling (spelled_by s)
+        (Dss (Some e.receiving.next) (if owes then Some (Infinite mapping.place mapping.position) else None) ∷ [])
+    by true = (
+      record { form = (told_form c.spelling.checksums 0, tt) },
+      dss_length (data_number c.spelling (peer_of (spelled_by s)) e.receiving.next) (data_number c.spelling (spelled_by s) mapping.place)
+          (relative_number mapping.position) 0 (if c.spelling.checksums then Some 0 else None) false,
+    )
+    by false = (record { form = (tt, refl) }, ack_length (data_number c.spelling (peer_of (spelled_by s)) e.receiving.next) false)
+
+either_short : (c : Profile) (s : Side) (mapping : Option InfiniteMapping) (options : List PlainOption) (e : PathEnd)
+    → AreShort c.spelling (spelled_by s) options → AreShort c.spelling (spelled_by s) (infinite_or mapping options e)
+either_short c s None options e short = short
+either_short c s (Some mapping) options e short = infinite_short c s mapping e
+
+mapped_short : (c : Profile) (s : Side) (r : Record) (e : PathEnd) → AreShort c.spelling (spelled_by s) (mapped_options c s r e)
+mapped_short c s r e = by (is_first_piece s r e)
+  where
+    by : (first : Bool) → AreShort c.spelling (spelled_by s)
+        (if first then first_piece_options c e.modes.peer_key r e else Dss (Some e.receiving.next) (Some (piece_mapping c s r)) ∷ [])
+    by true = first_short c s e.modes.peer_key r e
+    by false = (
       record { form = (told_form c.spelling.checksums r.mapping.checksum, tt) },
       dss_length (data_number c.spelling (peer_of (spelled_by s)) e.receiving.next) _ (relative_number r.pos) r.mapping.length
           (checksum_told c r.mapping.checksum) false,
     )
 
+piece_short : (c : Profile) (s : Side) (r : Record) (e : PathEnd) → AreShort c.spelling (spelled_by s) (piece_options c s r e)
+piece_short c s r e = by e.modes.identity
+  where
+    by : (identity : Bool) → AreShort c.spelling (spelled_by s)
+        (if identity then plain_options r.pos e else infinite_or e.modes.own_infinite (mapped_options c s r e) e)
+    by true = plain_short c s r.pos e
+    by false = either_short c s e.modes.own_infinite (mapped_options c s r e) e (mapped_short c s r e)
+
 fin_short : (c : Profile) (s : Side) (position : ℕ) (e : PathEnd) → AreShort c.spelling (spelled_by s) (fin_options position e)
 fin_short c s position e = by e.modes.identity
   where
-    by : (identity : Bool) → AreShort c.spelling (spelled_by s) (if identity then plain_options position e else Dss (Some e.receiving.next) None ∷ [])
+    by : (identity : Bool) → AreShort c.spelling (spelled_by s)
+        (if identity then plain_options position e else infinite_or e.modes.own_infinite (Dss (Some e.receiving.next) None ∷ []) e)
     by true = plain_short c s position e
-    by false = (record { form = (tt, refl) }, ack_length (data_number c.spelling (peer_of (spelled_by s)) e.receiving.next) false)
+    by false = either_short c s e.modes.own_infinite (Dss (Some e.receiving.next) None ∷ []) e plain
+      where
+        plain : AreShort c.spelling (spelled_by s) (Dss (Some e.receiving.next) None ∷ [])
+        plain = (record { form = (tt, refl) }, ack_length (data_number c.spelling (peer_of (spelled_by s)) e.receiving.next) false)
 
 record_short : (kind : RecordKind) (c : Profile) (s : Side) (r : Record) (e : PathEnd)
     → AreShort c.spelling (spelled_by s) (record_options kind c s r e)
@@ -254,10 +321,20 @@ reset_short : (c : Profile) (s : Side) (reason : Option ℕ) → AreShort c.spel
 reset_short c s None = tt
 reset_short c s (Some reason) = (record { form = tt }, reset_length false reason)
 
-own_reset_short : (c : Profile) (s : Side) (reason : Option ℕ) (identity : Bool)
-    → AreShort c.spelling (spelled_by s) (if identity then [] else reset_options reason)
-own_reset_short c s reason true = tt
-own_reset_short c s reason false = reset_short c s reason
+broken_short : (c : Profile) (s : Side) (failed reason : Option ℕ) → AreShort c.spelling (spelled_by s) (broken_options failed reason)
+broken_short c s failed None = tt
+broken_short c s None (Some reason) = reset_short c s (Some reason)
+broken_short c s (Some place) (Some reason) = record {
+  can_first = record { form = tt };
+  can_second = record { form = tt };
+  few = fail_length _;
+  less = short_reset false reason;
+}
+
+own_reset_short : (c : Profile) (s : Side) (failed reason : Option ℕ) (identity : Bool)
+    → AreShort c.spelling (spelled_by s) (if identity then [] else broken_options failed reason)
+own_reset_short c s failed reason true = tt
+own_reset_short c s failed reason false = broken_short c s failed reason
 
 -- two options, of 12 and of 28 octets at most, have room where there is no SYN
 two_room : (spelling : Spelling) (from : SpelledSide) (first second : PlainOption) → length (option_text (said_option spelling from first)) ≤ 12
@@ -344,11 +421,8 @@ module _ (c : Profile) (s : Side) (e : PathEnd) (path : c.spelling.path ≤ 15) 
   resend_can true few = record_can (first_record e) few
   resend_can false few = resent_can e.modes.owes_third e.notices.fast_closed (is_data_fin_owed e)
 
-  said_can : (kind : SegmentKind) → IfSome (first_of e.notices.queue) HasAddress → IfSome (first_unsent e) (λ r. length r.piece ≤ 65475)
+  pub said_can : (kind : SegmentKind) → IfSome (first_of e.notices.queue) HasAddress → IfSome (first_unsent e) (λ r. length r.piece ≤ 65475)
       → IfSome (first_record e) (λ r. length r.piece ≤ 65475) → CanBeSaid c.spelling s (said_by kind c s e)
-  said_can (to_say.FailReset place) has unsent first =
-      says_two (reset_segment e.tcp) (Fail place) (Reset false 6) refl (record { form = tt }) (record { form = tt })
-      (two_room c.spelling (spelled_by s) (Fail place) (Reset false 6) (fail_length _) (reset_length false 6))
   said_can to_say.Notice has unsent first = noted_can (first_of e.notices.queue) has
   said_can to_say.FastClose has unsent first = carried_can e.notices.carrier
   said_can to_say.Ack has unsent first = ack_can e.tcp.send.nxt None
@@ -363,7 +437,8 @@ module _ (c : Profile) (s : Side) (e : PathEnd) (path : c.spelling.path ≤ 15) 
   said_can to_say.Refusal has unsent first =
       says (outgoing_or e.treated.answer (reset_segment e.tcp)) (reset_options (Some 1)) [] (reset_short c s (Some 1)) (omega arith)
   said_can (to_say.Reset reason) has unsent first =
-      says (own_reset e) (if e.modes.identity then [] else reset_options reason) [] (own_reset_short c s reason e.modes.identity) (omega arith)
+      says (own_reset e) (if e.modes.identity then [] else broken_options e.treated.failed_mapping reason) []
+      (own_reset_short c s e.treated.failed_mapping reason e.modes.identity) (omega arith)
 
   -- records that are lent fit in a segment
   pub can_be_said : (kind : SegmentKind) (unsent first : Option RecordRef) → IfSome (first_of e.notices.queue) HasAddress → option_map record_of unsent ≡ first_unsent e

@@ -17,6 +17,7 @@ use Rattle.path_segments.proofs.SegmentsAgain.{four, written}
 use Rattle.path_segments.specs.Spelled.{PlainSegment, padding, padded, unpadded_options, spelled}
 use Rattle.outside_kit.specs.declared.side.Side.{Side}
 use Rattle.outside_kit.specs.declared.side.Side.TheVariants.{A, B}
+use Rattle.send_book.specs.declared.call.SendCall.TheVariants as send_calls
 use Rattle.subflow_send.specs.Records.{Record}
 use Rattle.loss_recovery.specs.declared.windows.Pending.{Pending}
 use Rattle.join_handshake.specs.declared.hearing.JoinSyn.{JoinSyn}
@@ -49,6 +50,7 @@ use Rattle.path_core.specs.Emission.{first_unsent, data_ask, answered_data}
 use Rattle.path_core.specs.Events.{next_event, step_for}
 use Rattle.path_core.specs.Fallback.{after_fell, fell_ask, fell_duties}
 use Rattle.path_core.specs.Handover.{sends, handed}
+use Rattle.path_core.specs.InfiniteSending.{may_go_infinite}
 use Rattle.path_core.specs.Joining.{join_heard_ask, asked_at}
 use Rattle.path_core.specs.Looking.{Arrived, arrived_as, to_send, broken_by, heard_sends, unsent_sends, duty_sends, first_sends, departing, departing_as, step_told, tells_a_segment, segment_sent, HandsOrTellsNone, EachSegmentIsTold, IsTold}
 use Rattle.path_core.specs.Octets.{made, octets, sum_of}
@@ -60,7 +62,7 @@ use Rattle.path_core.specs.Said.{CanBeSaid}
 use Rattle.path_core.specs.State.{PathState, end_at, goes_on, path_of, with_agenda}
 use Rattle.path_core.specs.Steps.{settled, settles_down, asks_first, answers}
 use Rattle.path_core.specs.Deliver.{with_learned}
-use Rattle.path_core.specs.Treating.{is_clash, item_of, item_ask, answered_item, breaks_by_ack, with_plain_ack}
+use Rattle.path_core.specs.Treating.{is_clash, item_of, item_ask, answered_item, breaks_by_ack, with_plain_ack, plain_next, plain_ack_in}
 
 -- ---- asks that tell no segment
 
@@ -71,6 +73,10 @@ quiet_piece s (Some piece) = refl
 quiet_fin : (s : Side) (place : Option ℕ) → tells_a_segment (Some (fin_ask s place)) ≡ false
 quiet_fin s None = refl
 quiet_fin s (Some place) = refl
+
+quiet_ack : (s : Side) (next : Option ℕ) (window : ℕ) → tells_a_segment (Some (plain_ack_in s next window)) ≡ false
+quiet_ack s None window = refl
+quiet_ack s (Some next) window = refl
 
 quiet_event : (path : ℕ) (event : Option Event) → tells_a_segment (Some (step_for path event)) ≡ false
 quiet_event path None = refl
@@ -94,9 +100,11 @@ module _ {C : Type 0} where
   passed_link (duties.Ask (ask_duties.Opened s)) p = refl
   passed_link (duties.Ask (ask_duties.Live s)) p = refl
   passed_link (duties.Ask (ask_duties.AckHeard s)) p = refl
+  passed_link (duties.Ask (ask_duties.FailHeard s)) p = refl
   passed_link (duties.Ask (ask_duties.SubflowAck s)) p = refl
   passed_link (duties.Ask (ask_duties.PlainData s)) p = refl
   passed_link (duties.Ask (ask_duties.GoIdentity s)) p = refl
+  passed_link (duties.Ask (ask_duties.CheckFailed s)) p = refl
   passed_link (duties.Ask (ask_duties.HeardFin s index)) p = refl
   passed_link (duties.Ask (ask_duties.SubflowFin s)) p = refl
   passed_link (duties.Ask (ask_duties.AckOut s)) p = refl
@@ -142,6 +150,11 @@ module _ {C : Type 0} where
   quiet_opened : (s : Side) (keys : Option KeyPair) (p : PathState C) → tells_a_segment (Some (opened_ask s keys p)) ≡ false
   quiet_opened s None p = refl
   quiet_opened s (Some keys) p = refl
+
+  quiet_fail : (s : Side) (may : Bool) (p : PathState C)
+      → tells_a_segment (Some (if may then asks.Send s (send_calls.GoInfinite (path_of p)) else fell_ask s (events.FailHeard false) p)) ≡ false
+  quiet_fail s true p = refl
+  quiet_fail s false p = refl
 
   quiet_rate : (s : Side) (pending : Option Pending) (p : PathState C) → tells_a_segment (Some (rate_ask s pending p)) ≡ false
   quiet_rate s None p = refl
@@ -190,7 +203,7 @@ module _ {C : Type 0} where
     told_item s (Some (says.Keys own peer)) p = refl
     told_item s (Some (says.Join form)) p = refl
     told_item s (Some (says.Notice notice)) p = refl
-    told_item s (Some says.Fail) p = refl
+    told_item s (Some says.Fail) p = quiet_fail s (may_go_infinite (end_at s p)) p
     told_item s (Some (says.FastClose key)) p = refl
 
     told_so : (d : Duty) (p : PathState C) → Told (duty_sends d p) (ask_for k d p) (λ r. answered k d r p) p
@@ -204,10 +217,12 @@ module _ {C : Type 0} where
     told_so (duties.Ask (ask_duties.Opened s)) p = quiet_opened s (keys_heard (end_at s p).treated.items) p
     told_so (duties.Ask (ask_duties.Live s)) p = refl
     told_so (duties.Ask (ask_duties.AckHeard s)) p = refl
-    told_so (duties.Ask (ask_duties.SubflowAck s)) p = refl
+    told_so (duties.Ask (ask_duties.FailHeard s)) p = refl
+    told_so (duties.Ask (ask_duties.SubflowAck s)) p = quiet_ack s (plain_next (end_at s p)) (end_at s p).treated.window
     told_so (duties.Ask (ask_duties.PlainData s)) p = refl
     told_so (duties.Ask (ask_duties.GoIdentity s)) p = refl
     told_so (duties.Ask (ask_duties.Edge s)) p = quiet_piece s (piece_of s p)
+    told_so (duties.Ask (ask_duties.CheckFailed s)) p = refl
     told_so (duties.Ask (ask_duties.HeardFin s index)) p = quiet_fin s (data_fin_of index (end_at s p))
     told_so (duties.Ask (ask_duties.SubflowFin s)) p = quiet_fin s (plain_fin (end_at s p))
     told_so (duties.Ask (ask_duties.AckOut s)) p = refl

@@ -1,5 +1,5 @@
 -- Records that are sent and pushed, and octets that the edge passes, by their numbers.
-use Rattle.std.proofs.Common.{◌≡◌, refl, subst, ℕ, zero, suc, ◌+◌, ◌≤◌, nat_lt, Bool, true, false, ◌&&◌, cond, if◌then◌else◌, List, [], ◌∷◌, ◌++◌, length, drop, find, Option, Some, None, arith}
+use Rattle.std.proofs.Common.{◌≡◌, refl, subst, ℕ, zero, suc, ◌+◌, ◌-◌, ◌^◌, ◌≤◌, nat_lt, Bool, true, false, ◌&&◌, cond, if◌then◌else◌, List, [], ◌∷◌, ◌++◌, length, take, drop, find, Option, Some, None, arith}
 use Rattle.std.specs.List.{sum_by}
 use Rattle.std.proofs.lemmas.List.{length-take}
 use Rattle.std.proofs.lemmas.List.Sums.{sum_by-cons}
@@ -9,7 +9,9 @@ use Rattle.subflow_recv.specs.Receiving.{filled}
 use Rattle.subflow_send.specs.Records.{Record}
 use Rattle.subflow_send.specs.Rules.{is_unsent, first_unsent_sent, octets_under_way}
 use Rattle.subflow_tcp.specs.State.{EndState}
-use Rattle.path_core.specs.Deliver.{Piece, piece_in, some_piece, is_whole, is_right, count_in, piece_by}
+use Rattle.path_core.specs.Deliver.{Piece, piece_in, some_piece, is_whole, is_right, count_in, piece_by, piece_at, infinite_piece}
+use Rattle.path_core.specs.declared.infinite_mapping.InfiniteMapping.{InfiniteMapping}
+use Rattle.path_core.specs.Infinite.{place_under}
 use Rattle.path_core.specs.Ranks.{outstanding, unsent_count}
 
 pub sent_count : (now : ℕ) (rs : List Record) (r : Record) → find is_unsent rs ≡ Some r → unsent_count (first_unsent_sent now rs) + 1 ≡ unsent_count rs
@@ -85,3 +87,24 @@ checked_fits true false kept s piece e = cc
 pub piece_fits : (checksums : Bool) (kept : Option KeptMapping) (s : EndState) (piece : Piece) → piece_by checksums kept s ≡ Some piece → Fits s piece
 piece_fits checksums None s piece e = cc
 piece_fits checksums (Some kept) s piece e = checked_fits checksums (is_whole kept s && is_right kept s) kept s piece e
+
+-- under an infinite mapping some of what is in order is placed
+pub placed_fits : (place : Option ℕ) (s : EndState) (piece : Piece) → piece_at place s ≡ Some piece → Fits s piece
+placed_fits None s piece e = cc
+placed_fits (Some place) s piece e = by (nat_lt 0 (length found.octets)) refl e
+  where
+    found : Piece
+    found = record { place = place; octets = take (2 ^ 62 - place) (filled s.recv.places) }
+
+    by : (b : Bool) → nat_lt 0 (length found.octets) ≡ b → (if b then Some found else None) ≡ Some piece → Fits s piece
+    by true is e =
+        let same : found ≡ piece = cc in
+        subst (Fits s) same (record {
+          some = omega (arith, ltb-true _ _ is);
+          within = omega (arith, length-take (2 ^ 62 - place) (filled s.recv.places));
+        })
+    by false is e = cc
+
+pub infinite_fits : (mapping : Option InfiniteMapping) (s : EndState) (piece : Piece) → infinite_piece mapping s ≡ Some piece → Fits s piece
+infinite_fits None s piece e = cc
+infinite_fits (Some mapping) s piece e = placed_fits (place_under mapping s.recv.edge) s piece e

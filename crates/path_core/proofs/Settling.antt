@@ -38,11 +38,13 @@ module _ {C : Type 0} where
   stands_anyway (duties.Step (step_duties.Heard s index)) es p = refl
   stands_anyway (duties.Ask (ask_duties.AckHeard s)) es p = refl
   stands_anyway (duties.Step (step_duties.PlainAck s)) es p = refl
+  stands_anyway (duties.Ask (ask_duties.FailHeard s)) es p = refl
   stands_anyway (duties.Ask (ask_duties.SubflowAck s)) es p = refl
   stands_anyway (duties.Ask (ask_duties.PlainData s)) es p = refl
   stands_anyway (duties.Ask (ask_duties.GoIdentity s)) es p = refl
   stands_anyway (duties.Silent (silent_duties.Keep s)) es p = refl
   stands_anyway (duties.Ask (ask_duties.Edge s)) es p = refl
+  stands_anyway (duties.Ask (ask_duties.CheckFailed s)) es p = refl
   stands_anyway (duties.Step (step_duties.Unmapped s)) es p = refl
   stands_anyway (duties.Ask (ask_duties.HeardFin s index)) es p = refl
   stands_anyway (duties.Silent (silent_duties.PassFin s)) es p = refl
@@ -93,11 +95,13 @@ module _ {C : Type 0} where
   passes_anyway (duties.Step (step_duties.Heard s index)) es p = refl
   passes_anyway (duties.Ask (ask_duties.AckHeard s)) es p = refl
   passes_anyway (duties.Step (step_duties.PlainAck s)) es p = refl
+  passes_anyway (duties.Ask (ask_duties.FailHeard s)) es p = refl
   passes_anyway (duties.Ask (ask_duties.SubflowAck s)) es p = refl
   passes_anyway (duties.Ask (ask_duties.PlainData s)) es p = refl
   passes_anyway (duties.Ask (ask_duties.GoIdentity s)) es p = refl
   passes_anyway (duties.Silent (silent_duties.Keep s)) es p = refl
   passes_anyway (duties.Ask (ask_duties.Edge s)) es p = refl
+  passes_anyway (duties.Ask (ask_duties.CheckFailed s)) es p = refl
   passes_anyway (duties.Step (step_duties.Unmapped s)) es p = refl
   passes_anyway (duties.Ask (ask_duties.HeardFin s index)) es p = refl
   passes_anyway (duties.Silent (silent_duties.PassFin s)) es p = refl

@@ -2,7 +2,7 @@
 use Rattle.std.proofs.lemmas.List.{length-map, take-map, drop-map, map-append}
 use Rattle.std.specs.List.{position_or_len}
 use Rattle.std.proofs.Common.{◌≡◌, refl, sym, ap, ◌∙◌, ℕ, ◌+◌, ◌^◌, ◌≤◌, ◌⊎◌, inl, inr, subst, nat_lt, not, ◌&&◌, Bool, true, false, cond, if◌then◌else◌, List, [], ◌∷◌, map, Option, Some, None, find, position, is_some}
-use Rattle.std.specs.Option.{IsSome, option_map}
+use Rattle.std.specs.Option.{IfSome, IsSome, option_map}
 use Rattle.outside_kit.specs.declared.side.Side.{Side}
 use Rattle.outside_kit.specs.declared.side.Side.TheVariants.{A, B}
 use Rattle.link_model.specs.declared.flight.Due.{Due}
@@ -28,6 +28,7 @@ use Rattle.path_agenda.specs.declared.duty.StepDuty.TheVariants as step_duties
 use Rattle.path_core.specs.Duties.{stands, ask_for, passed, answered}
 use Rattle.path_segments.specs.declared.expected.Expected.{Expected}
 use Rattle.path_segments.specs.Laws.{IsFresh, meant}
+use Rattle.path_core.proofs.ChangedCopies.{octets_changed}
 use Rattle.path_core.proofs.CopiesRead.{near_read, far_read}
 use Rattle.path_core.proofs.FarResets.{far_treated}
 use Rattle.path_core.specs.Arriving.{expected_by}
@@ -43,6 +44,8 @@ use Rattle.fallback_state.specs.declared.fall.Mode.TheVariants.{Identity}
 use Rattle.fallback_state.specs.declared.fall.Verdict.TheVariants as verdicts
 use Rattle.fallback_state.specs.declared.fall.Event.{Event as FallEvent}
 use Rattle.fallback_state.specs.declared.fall.Event.TheVariants as events
+use Rattle.send_book.specs.declared.call.SendCall.TheVariants as send_calls
+use Rattle.actor_desk.specs.declared.ask.Ask.TheVariants as asks
 use Rattle.subflow_send.specs.Records.{Record}
 use Rattle.path_agenda.specs.declared.heard.Heard.{Heard}
 use Rattle.path_agenda.specs.declared.heard.Heard.TheVariants as says
@@ -51,6 +54,9 @@ use Rattle.path_agenda.specs.Items.{key_heard, keys_heard}
 use Rattle.path_agenda.specs.Words.{replaced}
 use Rattle.path_agenda.specs.declared.keys.KeyPair.{KeyPair}
 use Rattle.join_handshake.specs.declared.hearing.JoinSyn.{JoinSyn}
+use Rattle.path_core.specs.FailedChecks.{after_check_failed}
+use Rattle.path_core.specs.InfiniteReceiving.{after_infinite}
+use Rattle.path_core.specs.InfiniteSending.{may_go_infinite, book_answered, after_fail_heard}
 use Rattle.path_core.specs.Joining.{is_never, keys_begun, opened_by, asked_at, join_heard_ask, join_taken, refusal_of}
 use Rattle.path_core.specs.Breaking.{reset_of, reset_on, break_ask, answered_break}
 use Rattle.path_core.specs.FastClosing.{fast_close_of, having_fast_closed}
@@ -66,9 +72,12 @@ use Rattle.path_core.specs.Standing.{ack_out_ask, answered_ack_out, ack_segment}
 use Rattle.path_core.specs.Fallback.{fell_ask, after_fell, fell_duties, answered_fell}
 use Rattle.path_core.specs.Treating.{item_of, item_ask, is_clash, is_acked, told_next, with_acked, with_data_fin, breaks_by_ack, with_plain_ack, answered_item}
 use Rattle.path_core.specs.Octets.{octets}
+use Rattle.path_core.specs.declared.segment_kind.SegmentKind.TheVariants as kinds
 use Rattle.path_core.specs.Handover.{sends, having_sent, handed, sent_on}
+use Rattle.path_core.specs.Looking.{broken_by, duty_sends, first_sends, heard_sends, to_send, unsent_sends}
+use Rattle.path_core.specs.Said.{CanBeSaid}
 use Rattle.path_core.specs.Ends.{PathEnd}
-use Rattle.path_core.specs.Shown.{octets_of, shown_path, AltersNothing, IsFarReset, IsFreshCopy, NextIsFresh}
+use Rattle.path_core.specs.Shown.{octets_of, shown_path, CanBeAltered, SentCanBeAltered, IsFarReset, IsFreshCopy, NextIsFresh}
 use Rattle.path_core.specs.State.{PathState, end_at, with_agenda, goes_on, left, path_of}
 use Rattle.path_core.specs.Steps.{settled, settles_down, asks_first, asks_of, answers, takes, next_round}
 use Rattle.path_agenda.specs.Agenda.{start_of_turn}
@@ -112,11 +121,13 @@ same_stands (duties.Ask (ask_duties.Live s)) p = refl
 same_stands (duties.Step (step_duties.Heard s index)) p = refl
 same_stands (duties.Ask (ask_duties.AckHeard s)) p = refl
 same_stands (duties.Step (step_duties.PlainAck s)) p = refl
+same_stands (duties.Ask (ask_duties.FailHeard s)) p = refl
 same_stands (duties.Ask (ask_duties.SubflowAck s)) p = refl
 same_stands (duties.Ask (ask_duties.PlainData s)) p = refl
 same_stands (duties.Ask (ask_duties.GoIdentity s)) p = refl
 same_stands (duties.Silent (silent_duties.Keep s)) p = refl
 same_stands (duties.Ask (ask_duties.Edge s)) p = refl
+same_stands (duties.Ask (ask_duties.CheckFailed s)) p = refl
 same_stands (duties.Step (step_duties.Unmapped s)) p = refl
 same_stands (duties.Ask (ask_duties.HeardFin s index)) p = refl
 same_stands (duties.Silent (silent_duties.PassFin s)) p = refl
@@ -175,6 +186,12 @@ same_rate : (s : Side) (pending : Option Pending) (p : PathState Carried) → ra
 same_rate s None p = refl
 same_rate s (Some pending) p = refl
 
+same_fail : (s : Side) (may : Bool) (p : PathState Carried)
+    → (if may then asks.Send s (send_calls.GoInfinite (path_of (shown_path p))) else fell_ask s (events.FailHeard false) (shown_path p))
+    ≡ (if may then asks.Send s (send_calls.GoInfinite (path_of p)) else fell_ask s (events.FailHeard false) p)
+same_fail s true p = refl
+same_fail s false p = refl
+
 same_item : (s : Side) (item : Option Heard) (p : PathState Carried) → item_ask octets s item (shown_path p) ≡ item_ask values s item p
 same_item s None p = refl
 same_item s (Some says.Dss) p = refl
@@ -186,7 +203,7 @@ same_item s (Some (says.PeerKey key)) p = refl
 same_item s (Some (says.Keys own peer)) p = refl
 same_item s (Some (says.Join form)) p = refl
 same_item s (Some (says.Notice notice)) p = refl
-same_item s (Some says.Fail) p = refl
+same_item s (Some says.Fail) p = same_fail s (may_go_infinite (end_at s p)) p
 same_item s (Some (says.FastClose key)) p = refl
 
 same_join : (s : Side) (asked : Option JoinSyn) (p : PathState Carried) → join_heard_ask s asked (shown_path p) ≡ join_heard_ask s asked p
@@ -220,11 +237,13 @@ same_asks (duties.Ask (ask_duties.Live s)) p = refl
 same_asks (duties.Step (step_duties.Heard s index)) p = same_item s (item_of index (end_at s p)) p
 same_asks (duties.Ask (ask_duties.AckHeard s)) p = refl
 same_asks (duties.Step (step_duties.PlainAck s)) p = same_break_or s (breaks_by_ack p.profile (end_at s p)) 6 events.PlainAck p
+same_asks (duties.Ask (ask_duties.FailHeard s)) p = refl
 same_asks (duties.Ask (ask_duties.SubflowAck s)) p = refl
 same_asks (duties.Ask (ask_duties.PlainData s)) p = refl
 same_asks (duties.Ask (ask_duties.GoIdentity s)) p = refl
 same_asks (duties.Silent (silent_duties.Keep s)) p = refl
 same_asks (duties.Ask (ask_duties.Edge s)) p = refl
+same_asks (duties.Ask (ask_duties.CheckFailed s)) p = refl
 same_asks (duties.Step (step_duties.Unmapped s)) p = same_break s (end_at s p).treated.asked 6 p
 same_asks (duties.Ask (ask_duties.HeardFin s index)) p = refl
 same_asks (duties.Silent (silent_duties.PassFin s)) p = refl
@@ -275,11 +294,13 @@ same_passed (duties.Ask (ask_duties.Live s)) p = refl
 same_passed (duties.Step (step_duties.Heard s index)) p = refl
 same_passed (duties.Ask (ask_duties.AckHeard s)) p = refl
 same_passed (duties.Step (step_duties.PlainAck s)) p = refl
+same_passed (duties.Ask (ask_duties.FailHeard s)) p = refl
 same_passed (duties.Ask (ask_duties.SubflowAck s)) p = refl
 same_passed (duties.Ask (ask_duties.PlainData s)) p = refl
 same_passed (duties.Ask (ask_duties.GoIdentity s)) p = refl
 same_passed (duties.Silent (silent_duties.Keep s)) p = refl
 same_passed (duties.Ask (ask_duties.Edge s)) p = refl
+same_passed (duties.Ask (ask_duties.CheckFailed s)) p = refl
 same_passed (duties.Step (step_duties.Unmapped s)) p = refl
 same_passed (duties.Ask (ask_duties.HeardFin s index)) p = refl
 same_passed (duties.Silent (silent_duties.PassFin s)) p = refl
@@ -324,59 +345,62 @@ begins_the_same p = same_settled start_of_turn (with_agenda start_of_turn (recor
 
 -- ---- what is sent
 
--- where nothing is altered, what the link carries of it is either the whole or what is left without its options
-stripped_alone : {C : Type 0} (strip alter : C → C) (stripped altered : Bool) (carried : C) → altered ≡ false
-    → changed strip alter stripped altered carried ≡ changed (λ c. c) (λ c. c) stripped altered (if stripped then strip carried else carried)
-stripped_alone strip alter true altered carried unaltered = rw unaltered refl
-stripped_alone strip alter false altered carried unaltered = rw unaltered refl
+-- what arrives is carried by a link that changes nothing
+arrives_alone : {C : Type 0} (strip alter : C → C) (stripped altered : Bool) (carried : C)
+    → changed strip alter stripped altered carried ≡ changed (λ c. c) (λ c. c) stripped altered (changed strip alter stripped altered carried)
+arrives_alone strip alter true true carried = refl
+arrives_alone strip alter true false carried = refl
+arrives_alone strip alter false true carried = refl
+arrives_alone strip alter false false carried = refl
 
-plain_send : {C : Type 0} (strip alter : Side → C → C) (from : Side) (carried : C) (now : ℕ) (link : LinkState C) → AltersNothing link.lines
+alone_send : {C : Type 0} (strip alter : Side → C → C) (from : Side) (carried : C) (now : ℕ) (link : LinkState C)
     → after_send strip alter from carried now link
-    ≡ after_send (λ side c. c) (λ side c. c) from (if is_stripped from (next_number from link) now link.lines then strip from carried else carried) now link
-plain_send strip alter from carried now link nothing =
+    ≡ after_send (λ side c. c) (λ side c. c) from
+    (changed (strip from) (alter from) (is_stripped from (next_number from link) now link.lines) (is_altered from (next_number from link) link.lines) carried) now link
+alone_send strip alter from carried now link =
     let number = next_number from link in
     ap (λ arriving. one_more from (record link {
       under_way =
           with_flights (peer from) number arriving (arrivals (fate_of from number link.lines) (now + link.delay)) link.under_way;
     }))
-    (stripped_alone (strip from) (alter from) (is_stripped from number now link.lines) (is_altered from number link.lines) carried (nothing.alters from number))
+    (arrives_alone (strip from) (alter from) (is_stripped from number now link.lines) (is_altered from number link.lines) carried)
 
--- the octets of what is left
-octets_left : (spelling : Spelling) (s : Side) (segment : PlainSegment) (b : Bool)
-    → octets_of spelling (if b then values.strips spelling s (values.makes spelling s segment) else values.makes spelling s segment)
-    ≡ (if b then octets.strips spelling s (octets.makes spelling s segment) else octets.makes spelling s segment)
-octets_left spelling s segment true = refl
-octets_left spelling s segment false = refl
-
-same_handed : (s : Side) (segment : PlainSegment) (p : PathState Carried) → AltersNothing p.link.lines
+same_handed : (s : Side) (segment : PlainSegment) (p : PathState Carried)
+    → (is_altered s (next_number s p.link) p.link.lines ≡ true → CanBeSaid p.profile.spelling s segment)
     → handed octets s segment (shown_path p) ≡ with_copies_shown (octets_of p.profile.spelling) (handed values s segment p)
-same_handed s segment p nothing =
+same_handed s segment p said =
     let spelling = p.profile.spelling in let show : Carried → List ℕ = octets_of spelling in
     let strips : ℕ → Bool = λ taken. is_stripped s (counted taken) p.clock p.link.lines in
-    let left : Carried = (if strips (segments_sent s p.link) then values.strips spelling s (values.makes spelling s segment) else values.makes spelling s segment) in
-    plain_send (octets.strips spelling) (octets.alters spelling) s (octets.makes spelling s segment) p.clock (with_copies_shown show p.link) (record { alters = nothing.alters })
+    let alters : ℕ → Bool = λ taken. is_altered s (counted taken) p.link.lines in
+    let taken : ℕ = segments_sent s p.link in
+    let arrives : Carried = changed (values.strips spelling s) (values.alters spelling s) (strips taken) (alters taken) (values.makes spelling s segment) in
+    alone_send (octets.strips spelling) (octets.alters spelling) s (octets.makes spelling s segment) p.clock (with_copies_shown show p.link)
     ∙ ap (λ (n : ℕ). after_send (λ side c. c) (λ side c. c) s
-    (if strips n then octets.strips spelling s (octets.makes spelling s segment) else octets.makes spelling s segment) p.clock (with_copies_shown show p.link))
+    (changed (octets.strips spelling s) (octets.alters spelling s) (strips n) (alters n) (octets.makes spelling s segment)) p.clock (with_copies_shown show p.link))
     (same_taken s spelling p.link)
-    ∙ ap (λ c. after_send (λ side c. c) (λ side c. c) s c p.clock (with_copies_shown show p.link)) (sym (octets_left spelling s segment (strips (segments_sent s p.link))))
-    ∙ sym (sent_shown show (λ side c. c) (λ side c. c) (λ side c. c) (λ side c. c) (λ side c. refl) (λ side c. refl) s left p.clock p.link)
-    ∙ ap (with_copies_shown show) (sym (plain_send (values.strips spelling) (values.alters spelling) s (values.makes spelling s segment) p.clock p.link nothing))
+    ∙ ap (λ c. after_send (λ side c. c) (λ side c. c) s c p.clock (with_copies_shown show p.link))
+    (sym (octets_changed spelling s segment (strips taken) (alters taken) said))
+    ∙ sym (sent_shown show (λ side c. c) (λ side c. c) (λ side c. c) (λ side c. c) (λ side c. refl) (λ side c. refl) s arrives p.clock p.link)
+    ∙ ap (with_copies_shown show) (sym (alone_send (values.strips spelling) (values.alters spelling) s (values.makes spelling s segment) p.clock p.link))
 
-pub same_sent : (s : Side) (segment : PlainSegment) (e : PathEnd) (ds : List Duty) (p : PathState Carried) → AltersNothing p.link.lines
+pub same_sent : (s : Side) (segment : PlainSegment) (e : PathEnd) (ds : List Duty) (p : PathState Carried)
+    → (is_altered s (next_number s p.link) p.link.lines ≡ true → CanBeSaid p.profile.spelling s segment)
     → sent_on octets s segment e ds (shown_path p) ≡ shown_path (sent_on values s segment e ds p)
-same_sent s segment e ds p nothing = ap (λ (link : LinkState (List ℕ)). record (goes_on s e ds (shown_path p)) { link = link }) (same_handed s segment p nothing)
+same_sent s segment e ds p said = ap (λ (link : LinkState (List ℕ)). record (goes_on s e ds (shown_path p)) { link = link }) (same_handed s segment p said)
 
 -- ---- what is answered
 
-same_reset : (s : Side) (reason : Option ℕ) (ds : List Duty) (p : PathState Carried) → AltersNothing p.link.lines
+same_reset : (s : Side) (reason : Option ℕ) (ds : List Duty) (p : PathState Carried)
+    → CanBeAltered p (record { from = s; kind = kinds.Reset reason })
     → reset_on octets s reason ds (shown_path p) ≡ shown_path (reset_on values s reason ds p)
-same_reset s reason ds p nothing = same_sent s (reset_of s reason p) (died (end_at s p)) ds p nothing
+same_reset s reason ds p said = same_sent s (reset_of s reason p) (died (end_at s p)) ds p said
 
-same_broken : (s : Side) (asked : Bool) (reason : ℕ) (r : Reply) (p : PathState Carried) → AltersNothing p.link.lines
+same_broken : (s : Side) (asked : Bool) (reason : ℕ) (r : Reply) (p : PathState Carried)
+    → IfSome (if asked then None else to_send s (kinds.Reset (Some reason))) (CanBeAltered p)
     → (if asked then answered_ack_out s r (resets s reason) (shown_path p) else reset_on octets s (Some reason) (leaves s) (shown_path p))
     ≡ shown_path (if asked then answered_ack_out s r (resets s reason) p else reset_on values s (Some reason) (leaves s) p)
-same_broken s true reason r p nothing = refl
-same_broken s false reason r p nothing = same_reset s (Some reason) (leaves s) p nothing
+same_broken s true reason r p said = refl
+same_broken s false reason r p said = same_reset s (Some reason) (leaves s) p said
 
 -- ---- what follows from a verdict
 
@@ -392,11 +416,12 @@ same_fallen s r e p = ap (λ (ds : List Duty). goes_on s e ds (shown_path p)) (s
 same_fell : (s : Side) (event : FallEvent) (r : Reply) (p : PathState Carried) → answered_fell s event r (shown_path p) ≡ shown_path (answered_fell s event r p)
 same_fell s event r p = same_fallen s r (after_fell event r (end_at s p)) p
 
-same_broken_or : (s : Side) (breaks : Bool) (reason : ℕ) (r : Reply) (e : PathEnd) (p : PathState Carried) → AltersNothing p.link.lines
+same_broken_or : (s : Side) (breaks : Bool) (reason : ℕ) (r : Reply) (e : PathEnd) (p : PathState Carried)
+    → IfSome (if breaks then broken_by s reason p else None) (CanBeAltered p)
     → (if breaks then answered_break octets s reason r (shown_path p) else goes_on s e (fell_duties s r (shown_path p)) (shown_path p))
     ≡ shown_path (if breaks then answered_break values s reason r p else goes_on s e (fell_duties s r p) p)
-same_broken_or s true reason r e p nothing = same_broken s (end_at s p).treated.asked reason r p nothing
-same_broken_or s false reason r e p nothing = same_fallen s r e p
+same_broken_or s true reason r e p said = same_broken s (end_at s p).treated.asked reason r p said
+same_broken_or s false reason r e p said = same_fallen s r e p
 
 same_peer_key_answered : (s : Side) (key : Option ℕ) (r : Reply) (p : PathState Carried)
     → answered_peer_key s key r (shown_path p) ≡ shown_path (answered_peer_key s key r p)
@@ -412,31 +437,37 @@ same_told : (s : Side) (covers : Bool) (p : PathState Carried) → told_next s c
 same_told s true p = refl
 same_told s false p = refl
 
-same_heard : (s : Side) (item : Option Heard) (r : Reply) (p : PathState Carried) → AltersNothing p.link.lines
+same_failed : (s : Side) (may : Bool) (r : Reply) (p : PathState Carried)
+    → (if may then book_answered s r (shown_path p) else answered_fell s (events.FailHeard false) r (shown_path p))
+    ≡ shown_path (if may then book_answered s r p else answered_fell s (events.FailHeard false) r p)
+same_failed s true r p = refl
+same_failed s false r p = same_fell s (events.FailHeard false) r p
+
+same_heard : (s : Side) (item : Option Heard) (r : Reply) (p : PathState Carried) → IfSome (heard_sends s item p) (CanBeAltered p)
     → answered_item octets s item r (shown_path p) ≡ shown_path (answered_item values s item r p)
-same_heard s None r p nothing = refl
-same_heard s (Some says.Dss) r p nothing = refl
-same_heard s (Some (says.DataAck next window)) r p nothing =
+same_heard s None r p said = refl
+same_heard s (Some says.Dss) r p said = refl
+same_heard s (Some (says.DataAck next window)) r p said =
     ap (λ ds. goes_on s (with_acked next r (end_at s p)) ds (shown_path p)) (same_told s (is_acked r && nat_lt 0 next) p)
-same_heard s (Some (says.Mapping fin)) r p nothing =
-    same_broken_or s (is_clash (end_at s p)) 1 r (with_learned (after_fell events.MappingHeard r (end_at s p))) p nothing
-same_heard s (Some (says.DataFin place)) r p nothing = same_fallen s r (with_data_fin place (after_fell events.MappingHeard r (end_at s p))) p
-same_heard s (Some (says.InfiniteMapping place position)) r p nothing = same_fell s events.InfiniteHeard r p
-same_heard s (Some (says.PeerKey key)) r p nothing = refl
-same_heard s (Some (says.Keys own peer)) r p nothing = refl
-same_heard s (Some (says.Join form)) r p nothing = refl
-same_heard s (Some (says.Notice notice)) r p nothing = refl
-same_heard s (Some says.Fail) r p nothing = refl
-same_heard s (Some (says.FastClose key)) r p nothing = refl
+same_heard s (Some (says.Mapping fin)) r p said =
+    same_broken_or s (is_clash (end_at s p)) 1 r (with_learned (after_fell events.MappingHeard r (end_at s p))) p said
+same_heard s (Some (says.DataFin place)) r p said = same_fallen s r (with_data_fin place (after_fell events.MappingHeard r (end_at s p))) p
+same_heard s (Some (says.InfiniteMapping place position)) r p said = same_fallen s r (after_infinite place position r (end_at s p)) p
+same_heard s (Some (says.PeerKey key)) r p said = refl
+same_heard s (Some (says.Keys own peer)) r p said = refl
+same_heard s (Some (says.Join form)) r p said = refl
+same_heard s (Some (says.Notice notice)) r p said = refl
+same_heard s (Some says.Fail) r p said = same_failed s (may_go_infinite (end_at s p)) r p
+same_heard s (Some (says.FastClose key)) r p said = refl
 
 same_grant : (s : Side) (o : Option Grant) (r : Reply) (p : PathState Carried) → answered_grant s o r (shown_path p) ≡ shown_path (answered_grant s o r p)
 same_grant s None r p = refl
 same_grant s (Some grant) r p = refl
 
-same_data_answered : (s : Side) (o : Option Record) (r : Reply) (p : PathState Carried) → AltersNothing p.link.lines
+same_data_answered : (s : Side) (o : Option Record) (r : Reply) (p : PathState Carried) → IfSome (unsent_sends s o) (CanBeAltered p)
     → answered_data octets s o r (shown_path p) ≡ shown_path (answered_data values s o r p)
-same_data_answered s (Some record_due) r p nothing = same_sent s (unsent_segment s p) (having_sent_unsent s p) p.agenda p nothing
-same_data_answered s None r p nothing = same_grant s (grant_in r) r p
+same_data_answered s (Some record_due) r p said = same_sent s (unsent_segment s p) (having_sent_unsent s p) p.agenda p said
+same_data_answered s None r p said = same_grant s (grant_in r) r p
 
 same_piece : (s : Side) (piece : Option Piece) (taken : Bool) (p : PathState Carried) → answered_piece s piece taken (shown_path p) ≡ shown_path (answered_piece s piece taken p)
 same_piece s None segments_sent p = refl
@@ -566,69 +597,72 @@ same_happening (Some (happenings.Fires s tick)) r p fresh = refl
 
 -- ---- every duty
 
-same_answered : (d : Duty) (r : Reply) (p : PathState Carried) → AltersNothing p.link.lines → NextIsFresh p
+same_answered : (d : Duty) (r : Reply) (p : PathState Carried) → IfSome (duty_sends d p) (CanBeAltered p) → NextIsFresh p
     → answered octets d r (shown_path p) ≡ shown_path (answered values d r p)
-same_answered (duties.Ask ask_duties.JoinAgain) r p nothing fresh = same_join_again (is_never r) r p
-same_answered (duties.Step (step_duties.Look s)) r p nothing fresh = refl
-same_answered (duties.Ask (ask_duties.LeaveNoted s)) r p nothing fresh = refl
-same_answered (duties.Send (send_duties.ResetNoted s)) r p nothing fresh = same_reset s None (replaced (duties.Ask (ask_duties.Leave s)) p.agenda) p nothing
-same_answered (duties.Ask (ask_duties.Window s)) r p nothing fresh = refl
-same_answered (duties.Send (send_duties.Update s)) r p nothing fresh = same_sent s (ack_segment s p) (having_sent to_send.Ack p.clock (ack_segment s p) (end_at s p)) (left p) p nothing
-same_answered (duties.Send (send_duties.FastClose s)) r p nothing fresh = same_sent s (fast_close_of s p) (having_fast_closed s p) (left p) p nothing
-same_answered (duties.Send (send_duties.Notice s)) r p nothing fresh = same_sent s (note_of s p) (having_noted s p) p.agenda p nothing
-same_answered (duties.Send (send_duties.Syn s)) r p nothing fresh = same_sent s (unsent_segment s p) (having_sent_unsent s p) (left p) p nothing
-same_answered (duties.Step (step_duties.Data s)) r p nothing fresh = same_data_answered s (first_unsent (end_at s p)) r p nothing
-same_answered (duties.Send (send_duties.DataFin s)) r p nothing fresh = same_sent s (data_fin_segment s p) (having_sent_data_fin s p) (left p) p nothing
-same_answered (duties.Send (send_duties.Fin s)) r p nothing fresh = same_sent s (fin_segment_of s p) (having_sent_fin s p) (left p) p nothing
-same_answered (duties.Silent (silent_duties.Timer s)) r p nothing fresh = refl
-same_answered (duties.Step step_duties.Events) r p nothing fresh =
+same_answered (duties.Ask ask_duties.JoinAgain) r p said fresh = same_join_again (is_never r) r p
+same_answered (duties.Step (step_duties.Look s)) r p said fresh = refl
+same_answered (duties.Ask (ask_duties.LeaveNoted s)) r p said fresh = refl
+same_answered (duties.Send (send_duties.ResetNoted s)) r p said fresh = same_reset s None (replaced (duties.Ask (ask_duties.Leave s)) p.agenda) p said
+same_answered (duties.Ask (ask_duties.Window s)) r p said fresh = refl
+same_answered (duties.Send (send_duties.Update s)) r p said fresh = same_sent s (ack_segment s p) (having_sent to_send.Ack p.clock (ack_segment s p) (end_at s p)) (left p) p said
+same_answered (duties.Send (send_duties.FastClose s)) r p said fresh = same_sent s (fast_close_of s p) (having_fast_closed s p) (left p) p said
+same_answered (duties.Send (send_duties.Notice s)) r p said fresh = same_sent s (note_of s p) (having_noted s p) p.agenda p said
+same_answered (duties.Send (send_duties.Syn s)) r p said fresh = same_sent s (unsent_segment s p) (having_sent_unsent s p) (left p) p said
+same_answered (duties.Step (step_duties.Data s)) r p said fresh = same_data_answered s (first_unsent (end_at s p)) r p said
+same_answered (duties.Send (send_duties.DataFin s)) r p said fresh = same_sent s (data_fin_segment s p) (having_sent_data_fin s p) (left p) p said
+same_answered (duties.Send (send_duties.Fin s)) r p said fresh = same_sent s (fin_segment_of s p) (having_sent_fin s p) (left p) p said
+same_answered (duties.Silent (silent_duties.Timer s)) r p said fresh = refl
+same_answered (duties.Step step_duties.Events) r p said fresh =
     ap (λ o. happens_if octets o r (shown_path p)) (same_event p) ∙ same_happening (next_event p) r p fresh
-same_answered (duties.Ask (ask_duties.SynHeard s)) r p nothing fresh = refl
-same_answered (duties.Ask (ask_duties.SynAnswered s)) r p nothing fresh = refl
-same_answered (duties.Ask (ask_duties.PlainHandshake s)) r p nothing fresh = same_fell s events.PlainHandshake r p
-same_answered (duties.Ask (ask_duties.PeerKey s)) r p nothing fresh = same_peer_key_answered s (key_heard (end_at s p).treated.items) r p
-same_answered (duties.Send (send_duties.SynAck s)) r p nothing fresh = same_sent s (syn_ack_of s p) (having_sent to_send.SynAck p.clock (syn_ack_of s p) (end_at s p)) (left p) p nothing
-same_answered (duties.Ask (ask_duties.JoinHeard s)) r p nothing fresh = same_join_taken s (keys_begun r) (asked_at s p) r p
-same_answered (duties.Send (send_duties.Refuse s)) r p nothing fresh = same_sent s (refusal_of s p) (end_at s p) (left p) p nothing
-same_answered (duties.Ask (ask_duties.Opened s)) r p nothing fresh = same_opened_answered s (keys_heard (end_at s p).treated.items) r p
-same_answered (duties.Ask (ask_duties.Live s)) r p nothing fresh = refl
-same_answered (duties.Step (step_duties.Heard s index)) r p nothing fresh = same_heard s (item_of index (end_at s p)) r p nothing
-same_answered (duties.Ask (ask_duties.AckHeard s)) r p nothing fresh = same_fell s events.AckHeard r p
-same_answered (duties.Step (step_duties.PlainAck s)) r p nothing fresh =
-    same_broken_or s (breaks_by_ack p.profile (end_at s p)) 6 r (with_plain_ack (after_fell events.PlainAck r (end_at s p))) p nothing
-same_answered (duties.Ask (ask_duties.SubflowAck s)) r p nothing fresh = refl
-same_answered (duties.Ask (ask_duties.PlainData s)) r p nothing fresh = same_fell s events.PlainData r p
-same_answered (duties.Ask (ask_duties.GoIdentity s)) r p nothing fresh = refl
-same_answered (duties.Silent (silent_duties.Keep s)) r p nothing fresh = refl
-same_answered (duties.Ask (ask_duties.Edge s)) r p nothing fresh = same_piece s (piece_of s p) (is_placed r) p
-same_answered (duties.Step (step_duties.Unmapped s)) r p nothing fresh = same_broken s (end_at s p).treated.asked 6 r p nothing
-same_answered (duties.Ask (ask_duties.HeardFin s index)) r p nothing fresh = same_fin s (is_fin_set r) p
-same_answered (duties.Silent (silent_duties.PassFin s)) r p nothing fresh = refl
-same_answered (duties.Ask (ask_duties.SubflowFin s)) r p nothing fresh = same_plain_fin s (is_fin_set r) p
-same_answered (duties.Ask (ask_duties.AckOut s)) r p nothing fresh = refl
-same_answered (duties.Ask (ask_duties.Rate s)) r p nothing fresh = refl
-same_answered (duties.Send (send_duties.Acknowledge s)) r p nothing fresh = same_sent s (ack_segment s p) (having_sent to_send.Ack p.clock (ack_segment s p) (end_at s p)) (left p) p nothing
-same_answered (duties.Send (send_duties.Again s)) r p nothing fresh = same_sent s (first_segment s p) (having_sent to_send.First p.clock (first_segment s p) (end_at s p)) (left p) p nothing
-same_answered (duties.Send (send_duties.Answer s)) r p nothing fresh = same_sent s (answer_of s p) (having_sent (answer_occasion (end_at s p)) p.clock (answer_of s p) (end_at s p)) (left p) p nothing
-same_answered (duties.Send (send_duties.ResetAnswer s)) r p nothing fresh = same_sent s (dead_answer s p) (end_at s p) (left p) p nothing
-same_answered (duties.Ask (ask_duties.Return s)) r p nothing fresh = refl
-same_answered (duties.Ask (ask_duties.AbortSend s)) r p nothing fresh = refl
-same_answered (duties.Ask (ask_duties.AbortReceive s)) r p nothing fresh = refl
-same_answered (duties.Ask (ask_duties.Announce s id)) r p nothing fresh = refl
-same_answered (duties.Ask (ask_duties.Withdraw s id)) r p nothing fresh = refl
-same_answered (duties.Send (send_duties.Resend s)) r p nothing fresh = same_sent s (resend_of s p) (having_sent (resend_occasion (end_at s p)) p.clock (resend_of s p) (end_at s p)) (left p) p nothing
-same_answered (duties.Ask (ask_duties.BreakAck s reason)) r p nothing fresh = refl
-same_answered (duties.Send (send_duties.BreakReset s reason)) r p nothing fresh = same_reset s (Some reason) (leaves s) p nothing
-same_answered (duties.Send (send_duties.Reset s)) r p nothing fresh = same_reset s None (replaced (duties.Ask (ask_duties.Leave s)) p.agenda) p nothing
-same_answered (duties.Ask (ask_duties.Leave s)) r p nothing fresh = refl
-same_answered (duties.Ask (ask_duties.Dead s)) r p nothing fresh = refl
-same_answered duties.End r p nothing fresh = refl
+same_answered (duties.Ask (ask_duties.SynHeard s)) r p said fresh = refl
+same_answered (duties.Ask (ask_duties.SynAnswered s)) r p said fresh = refl
+same_answered (duties.Ask (ask_duties.PlainHandshake s)) r p said fresh = same_fell s events.PlainHandshake r p
+same_answered (duties.Ask (ask_duties.PeerKey s)) r p said fresh = same_peer_key_answered s (key_heard (end_at s p).treated.items) r p
+same_answered (duties.Send (send_duties.SynAck s)) r p said fresh = same_sent s (syn_ack_of s p) (having_sent to_send.SynAck p.clock (syn_ack_of s p) (end_at s p)) (left p) p said
+same_answered (duties.Ask (ask_duties.JoinHeard s)) r p said fresh = same_join_taken s (keys_begun r) (asked_at s p) r p
+same_answered (duties.Send (send_duties.Refuse s)) r p said fresh = same_sent s (refusal_of s p) (end_at s p) (left p) p said
+same_answered (duties.Ask (ask_duties.Opened s)) r p said fresh = same_opened_answered s (keys_heard (end_at s p).treated.items) r p
+same_answered (duties.Ask (ask_duties.Live s)) r p said fresh = refl
+same_answered (duties.Step (step_duties.Heard s index)) r p said fresh = same_heard s (item_of index (end_at s p)) r p said
+same_answered (duties.Ask (ask_duties.AckHeard s)) r p said fresh = same_fell s events.AckHeard r p
+same_answered (duties.Step (step_duties.PlainAck s)) r p said fresh =
+    same_broken_or s (breaks_by_ack p.profile (end_at s p)) 6 r (with_plain_ack (after_fell events.PlainAck r (end_at s p))) p said
+same_answered (duties.Ask (ask_duties.FailHeard s)) r p said fresh = same_fallen s r (after_fail_heard r (end_at s p)) p
+same_answered (duties.Ask (ask_duties.SubflowAck s)) r p said fresh = refl
+same_answered (duties.Ask (ask_duties.PlainData s)) r p said fresh = same_fell s events.PlainData r p
+same_answered (duties.Ask (ask_duties.GoIdentity s)) r p said fresh = refl
+same_answered (duties.Silent (silent_duties.Keep s)) r p said fresh = refl
+same_answered (duties.Ask (ask_duties.Edge s)) r p said fresh = same_piece s (piece_of s p) (is_placed r) p
+same_answered (duties.Ask (ask_duties.CheckFailed s)) r p said fresh =
+    same_fallen s r (after_check_failed p.profile.spelling.checksums r (end_at s p)) p
+same_answered (duties.Step (step_duties.Unmapped s)) r p said fresh = same_broken s (end_at s p).treated.asked 6 r p said
+same_answered (duties.Ask (ask_duties.HeardFin s index)) r p said fresh = same_fin s (is_fin_set r) p
+same_answered (duties.Silent (silent_duties.PassFin s)) r p said fresh = refl
+same_answered (duties.Ask (ask_duties.SubflowFin s)) r p said fresh = same_plain_fin s (is_fin_set r) p
+same_answered (duties.Ask (ask_duties.AckOut s)) r p said fresh = refl
+same_answered (duties.Ask (ask_duties.Rate s)) r p said fresh = refl
+same_answered (duties.Send (send_duties.Acknowledge s)) r p said fresh = same_sent s (ack_segment s p) (having_sent to_send.Ack p.clock (ack_segment s p) (end_at s p)) (left p) p said
+same_answered (duties.Send (send_duties.Again s)) r p said fresh = same_sent s (first_segment s p) (having_sent to_send.First p.clock (first_segment s p) (end_at s p)) (left p) p said
+same_answered (duties.Send (send_duties.Answer s)) r p said fresh = same_sent s (answer_of s p) (having_sent (answer_occasion (end_at s p)) p.clock (answer_of s p) (end_at s p)) (left p) p said
+same_answered (duties.Send (send_duties.ResetAnswer s)) r p said fresh = same_sent s (dead_answer s p) (end_at s p) (left p) p said
+same_answered (duties.Ask (ask_duties.Return s)) r p said fresh = refl
+same_answered (duties.Ask (ask_duties.AbortSend s)) r p said fresh = refl
+same_answered (duties.Ask (ask_duties.AbortReceive s)) r p said fresh = refl
+same_answered (duties.Ask (ask_duties.Announce s id)) r p said fresh = refl
+same_answered (duties.Ask (ask_duties.Withdraw s id)) r p said fresh = refl
+same_answered (duties.Send (send_duties.Resend s)) r p said fresh = same_sent s (resend_of s p) (having_sent (resend_occasion (end_at s p)) p.clock (resend_of s p) (end_at s p)) (left p) p said
+same_answered (duties.Ask (ask_duties.BreakAck s reason)) r p said fresh = refl
+same_answered (duties.Send (send_duties.BreakReset s reason)) r p said fresh = same_reset s (Some reason) (leaves s) p said
+same_answered (duties.Send (send_duties.Reset s)) r p said fresh = same_reset s None (replaced (duties.Ask (ask_duties.Leave s)) p.agenda) p said
+same_answered (duties.Ask (ask_duties.Leave s)) r p said fresh = refl
+same_answered (duties.Ask (ask_duties.Dead s)) r p said fresh = refl
+same_answered duties.End r p said fresh = refl
 
-same_answers : (ds : List Duty) (r : Reply) (p : PathState Carried) → AltersNothing p.link.lines → NextIsFresh p
+same_answers : (ds : List Duty) (r : Reply) (p : PathState Carried) → IfSome (first_sends ds p) (CanBeAltered p) → NextIsFresh p
     → answers octets ds r (shown_path p) ≡ shown_path (answers values ds r p)
-same_answers [] r p nothing fresh = refl
-same_answers (d ∷ ds) r p nothing fresh = same_answered d r p nothing fresh
+same_answers [] r p said fresh = refl
+same_answers (d ∷ ds) r p said fresh = same_answered d r p said fresh
 
-pub takes_the_same : (r : Reply) (p : PathState Carried) → AltersNothing p.link.lines → NextIsFresh p → takes octets r (shown_path p) ≡ shown_path (takes values r p)
-takes_the_same r p nothing fresh =
-    ap settles_down (same_answers p.agenda r p nothing fresh) ∙ same_settled (answers values p.agenda r p).agenda (answers values p.agenda r p)
+pub takes_the_same : (r : Reply) (p : PathState Carried) → SentCanBeAltered p → NextIsFresh p → takes octets r (shown_path p) ≡ shown_path (takes values r p)
+takes_the_same r p said fresh =
+    ap settles_down (same_answers p.agenda r p said fresh) ∙ same_settled (answers values p.agenda r p).agenda (answers values p.agenda r p)

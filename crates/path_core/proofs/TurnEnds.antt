@@ -78,11 +78,13 @@ module _ {C : Type 0} where
   same_stands (duties.Step (step_duties.Heard s index)) ds p is = is
   same_stands (duties.Ask (ask_duties.AckHeard s)) ds p is = is
   same_stands (duties.Step (step_duties.PlainAck s)) ds p is = is
+  same_stands (duties.Ask (ask_duties.FailHeard s)) ds p is = is
   same_stands (duties.Ask (ask_duties.SubflowAck s)) ds p is = is
   same_stands (duties.Ask (ask_duties.PlainData s)) ds p is = is
   same_stands (duties.Ask (ask_duties.GoIdentity s)) ds p is = is
   same_stands (duties.Silent (silent_duties.Keep s)) ds p is = is
   same_stands (duties.Ask (ask_duties.Edge s)) ds p is = is
+  same_stands (duties.Ask (ask_duties.CheckFailed s)) ds p is = is
   same_stands (duties.Step (step_duties.Unmapped s)) ds p is = is
   same_stands (duties.Ask (ask_duties.HeardFin s index)) ds p is = is
   same_stands (duties.Silent (silent_duties.PassFin s)) ds p is = is

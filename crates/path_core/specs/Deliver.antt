@@ -12,7 +12,9 @@ use Rattle.subflow_tcp.specs.Judging.{is_at}
 use Rattle.control_book.specs.Replies.{is_sure}
 use Rattle.path_core.specs.declared.in_order.InOrder.{InOrder}
 use Rattle.path_core.specs.declared.mapped_data_fin.MappedDataFin.{MappedDataFin}
+use Rattle.path_core.specs.declared.infinite_mapping.InfiniteMapping.{InfiniteMapping}
 use Rattle.path_core.specs.Ends.{PathEnd}
+use Rattle.path_core.specs.Infinite.{place_under, covers, receives_plainly}
 use Rattle.path_core.specs.State.{Profile}
 use Rattle.path_core.specs.OptionsOut.{bare_mapping}
 use Rattle.path_core.specs.Words.{one_more}
@@ -93,14 +95,29 @@ piece_by checksums (Some kept) s = checked_piece checksums kept s
 abbrev pub plain_piece : EndState → Piece
 plain_piece s = record { place = s.recv.edge - 1; octets = filled s.recv.places }
 
--- the mapping of the position at the edge; after a fallback none counts
+-- under the peer's infinite mapping: all that is in order, with places below 2^62
+abbrev pub piece_at : Option ℕ → EndState → Option Piece
+piece_at None s = None
+piece_at (Some place) s = some_piece (record { place = place; octets = take (2 ^ 62 - place) (filled s.recv.places) })
+
+abbrev pub infinite_piece : Option InfiniteMapping → EndState → Option Piece
+infinite_piece None s = None
+infinite_piece (Some mapping) s = piece_at (place_under mapping s.recv.edge) s
+
+-- the mapping of the position at the edge; where the peer sends without mappings none counts
 abbrev pub mapping_here : PathEnd → Option KeptMapping
-mapping_here e = if e.modes.identity then None else mapping_at e.receiving.mappings e.tcp.recv.edge
+mapping_here e =
+    if receives_plainly e.modes e.tcp.recv.edge then None else mapping_at e.receiving.mappings e.tcp.recv.edge
+
+-- the next bytes to be placed, where the side didn't fall back
+abbrev pub mapped_piece : Profile → PathEnd → Option Piece
+mapped_piece c e =
+    if covers e.modes.peer_infinite e.tcp.recv.edge then infinite_piece e.modes.peer_infinite e.tcp
+    else piece_by c.spelling.checksums (mapping_here e) e.tcp
 
 -- the next bytes to be placed
 abbrev pub next_piece : Profile → PathEnd → Option Piece
-next_piece c e =
-    if e.modes.identity then some_piece (plain_piece e.tcp) else piece_by c.spelling.checksums (mapping_here e) e.tcp
+next_piece c e = if e.modes.identity then some_piece (plain_piece e.tcp) else mapped_piece c e
 
 -- the edge is behind them
 abbrev pub passed_to : ℕ → PathEnd → PathEnd
@@ -117,6 +134,14 @@ after_piece piece e = passed_to (e.tcp.recv.edge + length piece.octets) e
 abbrev pub is_wrong : Bool → KeptMapping → EndState → Bool
 is_wrong checksums kept s = checksums && (is_whole kept s && not (is_right kept s))
 
+-- the mapping at the edge, where its octets are all there and aren't those that it was made for
+abbrev pub failing_by : Bool → Option KeptMapping → EndState → Option KeptMapping
+failing_by checksums None s = None
+failing_by checksums (Some kept) s = if is_wrong checksums kept s then Some kept else None
+
+abbrev pub failing_mapping : Profile → PathEnd → Option KeptMapping
+failing_mapping c e = failing_by c.spelling.checksums (mapping_here e) e.tcp
+
 -- every octet from the mapping's first position on is forgotten, so that what comes for it is kept again
 abbrev pub forgotten_by : Bool → Option KeptMapping → PathEnd → PathEnd
 forgotten_by checksums None e = e
@@ -130,7 +155,8 @@ after_check c e = forgotten_by c.spelling.checksums (mapping_here e) e
 
 -- the copy has the byte at the edge, which has no mapping
 abbrev pub is_unmapped : PathEnd → Bool
-is_unmapped e = is_at e.tcp.recv.edge e.treated.held_edge && (not e.modes.identity && is_none (mapping_here e))
+is_unmapped e =
+    is_at e.tcp.recv.edge e.treated.held_edge && (not (receives_plainly e.modes e.tcp.recv.edge) && is_none (mapping_here e))
 
 -- how often it came so, this copy among them
 abbrev pub times_unmapped : PathEnd → ℕ

@@ -25,7 +25,9 @@ use Rattle.path_core.specs.Events.{next_event, step_for, happens_if, answered_jo
 use Rattle.path_core.specs.Joining.{is_join_pending, join_begin_ask, asked_at, join_heard_ask, answered_join_heard, refusal_of, answered_refusal}
 use Rattle.path_agenda.specs.Items.{key_heard, keys_heard}
 use Rattle.path_core.specs.FastClosing.{leaves_silently, resets_noted, answered_leave_noted, is_fast_close_due, fast_close_of, answered_fast_close, abort_send_ask, abort_receive_ask}
+use Rattle.path_core.specs.InfiniteSending.{fail_heard_ask, answered_fail_heard}
 use Rattle.path_core.specs.Addressing.{is_note_due, note_of, answered_note, announce_ask, withdraw_ask}
+use Rattle.path_core.specs.FailedChecks.{check_failed_stands, check_failed_ask, answered_check_failed}
 use Rattle.path_core.specs.Fallback.{fell_ask, answered_fell, identity_ask, answered_identity}
 use Rattle.path_core.specs.Opening.{syn_window_ask, syn_ack_of, answered_syn_ack, is_plain_syn, peer_key_stands, peer_key_ask, answered_peer_key, is_opened_by_keys, is_opened_plainly, opened_ask, answered_opened, live_ask}
 use Rattle.path_core.specs.Passing.{piece_of, piece_ask, is_placed, answered_piece, is_fin_set, data_fin_of, fin_ask, answered_fin_heard, after_pass_fin, plain_fin, answered_plain_fin, rate_ask, answered_rate, first_segment, answered_again, answer_of, answered_answer, dead_answer, answered_dead, resend_of, answered_resend}
@@ -50,10 +52,12 @@ stands (duties.Ask (ask_duties.JoinHeard s)) p = is_some (asked_at s p)
 stands (duties.Ask (ask_duties.Opened s)) p = is_opened_by_keys (end_at s p) || is_opened_plainly (end_at s p)
 stands (duties.Ask (ask_duties.Live s)) p = (end_at s p).treated.opened
 stands (duties.Ask (ask_duties.AckHeard s)) p = is_starting (end_at s p).modes.mode
+stands (duties.Ask (ask_duties.FailHeard s)) p = true
 stands (duties.Ask (ask_duties.SubflowAck s)) p = subflow_ack_stands (end_at s p)
 stands (duties.Ask (ask_duties.PlainData s)) p = plain_data_stands (end_at s p)
 stands (duties.Ask (ask_duties.GoIdentity s)) p = true
 stands (duties.Ask (ask_duties.Edge s)) p = is_some (piece_of s p)
+stands (duties.Ask (ask_duties.CheckFailed s)) p = check_failed_stands p.profile (end_at s p)
 stands (duties.Ask (ask_duties.HeardFin s index)) p = is_some (data_fin_of index (end_at s p))
 stands (duties.Ask (ask_duties.SubflowFin s)) p = is_some (plain_fin (end_at s p))
 stands (duties.Ask (ask_duties.AckOut s)) p = (end_at s p).treated.asked
@@ -105,10 +109,12 @@ ask_for k (duties.Ask (ask_duties.JoinHeard s)) p = join_heard_ask s (asked_at s
 ask_for k (duties.Ask (ask_duties.Opened s)) p = opened_ask s (keys_heard (end_at s p).treated.items) p
 ask_for k (duties.Ask (ask_duties.Live s)) p = live_ask s p
 ask_for k (duties.Ask (ask_duties.AckHeard s)) p = fell_ask s events.AckHeard p
+ask_for k (duties.Ask (ask_duties.FailHeard s)) p = fail_heard_ask s p
 ask_for k (duties.Ask (ask_duties.SubflowAck s)) p = subflow_ack_ask s (end_at s p)
 ask_for k (duties.Ask (ask_duties.PlainData s)) p = fell_ask s events.PlainData p
 ask_for k (duties.Ask (ask_duties.GoIdentity s)) p = identity_ask s
 ask_for k (duties.Ask (ask_duties.Edge s)) p = piece_ask s (piece_of s p)
+ask_for k (duties.Ask (ask_duties.CheckFailed s)) p = check_failed_ask s p
 ask_for k (duties.Ask (ask_duties.HeardFin s index)) p = fin_ask s (data_fin_of index (end_at s p))
 ask_for k (duties.Ask (ask_duties.SubflowFin s)) p = fin_ask s (plain_fin (end_at s p))
 ask_for k (duties.Ask (ask_duties.AckOut s)) p = ack_out_ask s
@@ -150,7 +156,7 @@ ask_for k duties.End p = asks.Local steps.End
 -- ---- what it changes where it comes to nothing
 
 abbrev pub passed : {C : Type 0} → Duty → PathState C → PathState C
-passed (duties.Ask (ask_duties.Edge s)) p = with_end s (after_check p.profile (end_at s p)) p
+passed (duties.Ask (ask_duties.CheckFailed s)) p = with_end s (after_check p.profile (end_at s p)) p
 passed (duties.Ask ask_duties.JoinAgain) p = p
 passed (duties.Ask (ask_duties.Window s)) p = p
 passed (duties.Ask (ask_duties.SynHeard s)) p = p
@@ -161,9 +167,11 @@ passed (duties.Ask (ask_duties.JoinHeard s)) p = p
 passed (duties.Ask (ask_duties.Opened s)) p = p
 passed (duties.Ask (ask_duties.Live s)) p = p
 passed (duties.Ask (ask_duties.AckHeard s)) p = p
+passed (duties.Ask (ask_duties.FailHeard s)) p = p
 passed (duties.Ask (ask_duties.SubflowAck s)) p = p
 passed (duties.Ask (ask_duties.PlainData s)) p = p
 passed (duties.Ask (ask_duties.GoIdentity s)) p = p
+passed (duties.Ask (ask_duties.Edge s)) p = p
 passed (duties.Ask (ask_duties.HeardFin s index)) p = p
 passed (duties.Ask (ask_duties.SubflowFin s)) p = p
 passed (duties.Ask (ask_duties.AckOut s)) p = p
@@ -222,10 +230,12 @@ answered k (duties.Ask (ask_duties.PeerKey s)) r p = answered_peer_key s (key_he
 answered k (duties.Ask (ask_duties.JoinHeard s)) r p = answered_join_heard s r p
 answered k (duties.Ask (ask_duties.Opened s)) r p = answered_opened s (keys_heard (end_at s p).treated.items) r p
 answered k (duties.Ask (ask_duties.AckHeard s)) r p = answered_fell s events.AckHeard r p
+answered k (duties.Ask (ask_duties.FailHeard s)) r p = answered_fail_heard s r p
 answered k (duties.Ask (ask_duties.SubflowAck s)) r p = answered_subflow_ack s r p
 answered k (duties.Ask (ask_duties.PlainData s)) r p = answered_fell s events.PlainData r p
 answered k (duties.Ask (ask_duties.GoIdentity s)) r p = answered_identity s p
 answered k (duties.Ask (ask_duties.Edge s)) r p = answered_piece s (piece_of s p) (is_placed r) p
+answered k (duties.Ask (ask_duties.CheckFailed s)) r p = answered_check_failed s r p
 answered k (duties.Ask (ask_duties.HeardFin s index)) r p = answered_fin_heard s (is_fin_set r) p
 answered k (duties.Ask (ask_duties.SubflowFin s)) r p = answered_plain_fin s (is_fin_set r) p
 answered k (duties.Ask (ask_duties.AckOut s)) r p = answered_ack_out s r (left p) p

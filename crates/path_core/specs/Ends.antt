@@ -8,6 +8,7 @@ use Rattle.subflow_tcp.specs.State.{EndState}
 use Rattle.path_agenda.specs.declared.heard.Heard.{Heard}
 use Rattle.path_agenda.specs.declared.notice.OwnNotice.{OwnNotice}
 use Rattle.path_core.specs.declared.granted_piece.GrantedPiece.{GrantedPiece}
+use Rattle.path_core.specs.declared.infinite_mapping.InfiniteMapping.{InfiniteMapping}
 use Rattle.path_core.specs.declared.mapped_data_fin.MappedDataFin.{MappedDataFin}
 use Rattle.path_core.specs.declared.modes.Modes.{Modes}
 
@@ -77,6 +78,10 @@ pub record Treated : Type 0 where
   pub data_ack_taken : Bool
   -- the receive edge at its arrival, where its payload has the octet there and isn't dropped
   pub held_edge : Option ℕ
+  -- the place of the mapping whose failed check broke the path
+  pub failed_mapping : Option ℕ
+  -- the infinite mapping by which the side may send, where the send book gave its bytes to this path alone as an MP_FAIL came
+  pub infinite_mapping : Option InfiniteMapping
 
 -- what the end has to tell its peer beside its streams, or to do
 pub record Notices : Type 0 where
@@ -128,6 +133,8 @@ nothing_treated = record {
   acknowledged = 0;
   data_ack_taken = false;
   held_edge = None;
+  failed_mapping = None;
+  infinite_mapping = None;
 }
 
 abbrev pub no_notices : Notices
@@ -148,8 +155,11 @@ first_modes own_key own_nonce = record {
   covered = false;
   capable_asked = false;
   identity = false;
+  own_infinite = None;
+  peer_infinite = None;
   owes_mapping = false;
   mapped_to = None;
+  failed_mapping = None;
   plain_acks = 0;
 }
 

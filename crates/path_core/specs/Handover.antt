@@ -13,6 +13,7 @@ use Rattle.actor_desk.specs.declared.ask.LocalStep.TheVariants as steps
 use Rattle.path_agenda.specs.declared.duty.Duty.{Duty}
 use Rattle.path_core.specs.Codec.{Codec}
 use Rattle.path_core.specs.Ends.{PathEnd}
+use Rattle.path_core.specs.Infinite.{sends_plainly}
 use Rattle.path_core.specs.OptionsOut.{owes_mapping}
 use Rattle.path_core.specs.State.{PathState, goes_on}
 
@@ -34,9 +35,9 @@ edge_told segment e =
 abbrev pub with_edge_told : PlainSegment → PathEnd → PathEnd
 with_edge_told segment e = record e { receiving = record e.receiving { told_edge = edge_told segment e } }
 
--- after a fallback a segment with data or FIN has the infinite mapping, as long as that is owed
+-- a segment with data or FIN has an infinite mapping, as long as that is owed
 abbrev pub has_mapping : PlainSegment → PathEnd → Bool
-has_mapping segment e = e.modes.identity && (owes_mapping e && (segment.fin || nat_lt 0 (length segment.payload)))
+has_mapping segment e = sends_plainly e.modes && (owes_mapping e && (segment.fin || nat_lt 0 (length segment.payload)))
 
 -- the position behind a segment of data or FIN; those from 2 ^ 64 - 1 on count as one
 abbrev pub end_of : PlainSegment → ℕ

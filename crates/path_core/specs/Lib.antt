@@ -2,6 +2,7 @@ pub mod Words
 pub mod Codec
 pub mod Ends
 pub mod State
+pub mod Infinite
 pub mod Joins
 pub mod OptionsOut
 pub mod Handover
@@ -19,6 +20,9 @@ pub mod Fallback
 pub mod Opening
 pub mod Joining
 pub mod Breaking
+pub mod FailedChecks
+pub mod InfiniteSending
+pub mod InfiniteReceiving
 pub mod FastClosing
 pub mod Addressing
 pub mod Treating

@@ -1,4 +1,4 @@
--- What the next step of a path hands to its link, and what it takes from it.
+-- What is seen of a path from outside: its ends' measures, what its next step hands to the link, and what it takes from it.
 use Rattle.std.specs.Prelude.{◌≡◌, ℕ, if◌then◌else◌, Bool, true, false, IfSome, IsOk, Option, Some, None, option_map, List, [], ◌∷◌, length, drop}
 use Rattle.std.specs.Int.{w16}
 use Rattle.outside_kit.specs.declared.side.Side.{Side}
@@ -10,6 +10,7 @@ use Rattle.link_model.specs.Octets.{addresses_from}
 use Rattle.link_model.specs.Steps.{peer, next_number, arriving}
 use Rattle.segment_wire.specs.declared.head.Addresses.{Addresses}
 use Rattle.segment_wire.specs.Reading.{header_len, segment_meaning}
+use Rattle.rtt_timer.specs.Estimates.{srtt_of}
 use Rattle.subflow_send.specs.Records.{Record}
 use Rattle.path_segments.specs.Spelled.{PlainSegment}
 use Rattle.actor_desk.specs.declared.ask.Ask.{Ask}
@@ -40,6 +41,16 @@ use Rattle.path_core.specs.Said.{said_by}
 use Rattle.path_core.specs.State.{PathState, end_at, path_of}
 use Rattle.path_core.specs.Steps.{asks_of, takes}
 use Rattle.path_core.specs.Treating.{is_clash, item_of, breaks_by_ack}
+
+-- ---- what an end measured, and how much it may have under way
+
+-- SRTT in whole ticks; none before the first measurement (RFC 6298, section 2)
+abbrev pub smoothed_rtt : {C : Type 0} → Side → PathState C → Option ℕ
+smoothed_rtt s p = option_map srtt_of (end_at s p).tcp.timing.rtt.estimate
+
+-- cwnd in octets (RFC 5681, section 3.1)
+abbrev pub congestion_window : {C : Type 0} → Side → PathState C → ℕ
+congestion_window s p = (end_at s p).tcp.congestion.reno.window
 
 -- ---- a segment that is sent
 

@@ -1,5 +1,5 @@
 -- The segments that an end sends: their options, their windows, and the mapping of a piece (RFC 8684, section 3).
-use Rattle.std.specs.Prelude.{ℕ, ◌+◌, ◌-◌, ◌%◌, ◌^◌, ◌≤◌, ◌==◌, ◌&&◌, not, nat_le, is_some, Bool, true, false, if◌then◌else◌, Option, Some, None, List, [], ◌∷◌, length, find}
+use Rattle.std.specs.Prelude.{ℕ, ◌+◌, ◌-◌, ◌%◌, ◌^◌, ◌≤◌, ◌==◌, ◌&&◌, not, nat_le, is_some, Bool, true, false, if◌then◌else◌, Option, Some, None, List, [], ◌∷◌, ◌++◌, length, find}
 use Rattle.outside_kit.specs.declared.side.Side.{Side}
 use Rattle.outside_kit.specs.declared.side.Side.TheVariants.{A, B}
 use Rattle.seq_units.specs.declared.mapping.Mapping.{Mapping}
@@ -26,7 +26,9 @@ use Rattle.subflow_tcp.specs.States.{is_opening}
 use Rattle.path_agenda.specs.declared.notice.OwnNotice.{OwnNotice}
 use Rattle.path_agenda.specs.declared.notice.OwnNotice.TheVariants as notes
 use Rattle.path_core.specs.declared.modes.Modes.{Modes}
+use Rattle.path_core.specs.declared.infinite_mapping.InfiniteMapping.{InfiniteMapping}
 use Rattle.path_core.specs.Ends.{PathEnd}
+use Rattle.path_core.specs.Infinite.{receives_infinite}
 use Rattle.path_core.specs.Joins.{is_joined, peer_key_of, join_options, third_options}
 use Rattle.path_core.specs.State.{Profile}
 use Rattle.path_core.specs.Words.{is_side_a}
@@ -68,7 +70,7 @@ checksum_told c checksum = if c.spelling.checksums then Some checksum else None
 
 -- ---- plain TCP
 
--- a segment with the infinite mapping is acknowledged
+-- a segment with an infinite mapping is acknowledged
 abbrev pub is_reached : Option ℕ → ℕ → Bool
 is_reached None una = false
 is_reached (Some to) una = nat_le to una
@@ -79,6 +81,18 @@ owes_mapping e = e.modes.owes_mapping && not (is_reached e.modes.mapped_to e.tcp
 -- on data and FIN after a fallback: the infinite mapping from this position on, as long as it is owed (RFC 8684, section 3.7)
 abbrev pub plain_options : ℕ → PathEnd → List PlainOption
 plain_options position e = if owes_mapping e then Dss None (Some (Infinite (position - 1) position)) ∷ [] else []
+
+-- ---- after the peer's MP_FAIL
+
+-- on data and FIN: the infinite mapping, as long as it is owed
+abbrev pub infinite_options : InfiniteMapping → PathEnd → List PlainOption
+infinite_options mapping e =
+    Dss (Some e.receiving.next) (if owes_mapping e then Some (Infinite mapping.place mapping.position) else None) ∷ []
+
+-- those, or else the options that an end has without such a mapping
+abbrev pub infinite_or : Option InfiniteMapping → List PlainOption → PathEnd → List PlainOption
+infinite_or None options e = options
+infinite_or (Some mapping) options e = infinite_options mapping e
 
 -- ---- options
 
@@ -106,13 +120,23 @@ data_fin_mapping c s (Some place) = Some (End place (checksum_told c (checksum_i
 abbrev pub opening_options : Profile → Side → PathEnd → List PlainOption
 opening_options c s e = if e.modes.owes_third then third_options e.modes else key_options c s e.modes.peer_key e
 
+-- the check of the mapping at this place of the peer's stream failed (RFC 8684, section 3.7)
+abbrev pub fail_options : Option ℕ → List PlainOption
+fail_options None = []
+fail_options (Some place) = Fail place ∷ []
+
+-- it is told by each acknowledgement that has no DATA_FIN, until the peer's infinite mapping came
+abbrev pub fail_beside : Option ℕ → Modes → List PlainOption
+fail_beside (Some fin) m = []
+fail_beside None m = fail_options (if receives_infinite m.mode then None else m.failed_mapping)
+
 -- on an acknowledgement, perhaps with the DATA_FIN; none after a fallback
 abbrev pub ack_options : Profile → Side → Option ℕ → PathEnd → List PlainOption
 ack_options c s fin e =
     if e.modes.identity then []
-    else (if e.modes.clear then Dss (Some e.receiving.next) (data_fin_mapping c s fin) ∷ [] else opening_options c s e)
+    else (if e.modes.clear then Dss (Some e.receiving.next) (data_fin_mapping c s fin) ∷ fail_beside fin e.modes else opening_options c s e)
 
--- on data: the mapping that the piece was granted with
+-- the mapping that a piece was granted with
 abbrev pub piece_mapping : Profile → Side → Record → PathMapping ℕ
 piece_mapping c s r =
     Bytes (place_numbered c s r.mapping.number) r.pos r.mapping.length false (checksum_told c r.mapping.checksum)
@@ -126,25 +150,35 @@ first_piece_options c (Some peer) r e =
     Capable c.spelling.checksums false (WithData e.modes.own_key peer r.mapping.length (checksum_told c r.mapping.checksum)) ∷ []
 first_piece_options c None r e = []
 
+abbrev pub mapped_options : Profile → Side → Record → PathEnd → List PlainOption
+mapped_options c s r e =
+    if is_first_piece s r e then first_piece_options c e.modes.peer_key r e
+    else Dss (Some e.receiving.next) (Some (piece_mapping c s r)) ∷ []
+
 abbrev pub piece_options : Profile → Side → Record → PathEnd → List PlainOption
 piece_options c s r e =
-    if e.modes.identity then plain_options r.pos e
-    else (if is_first_piece s r e then first_piece_options c e.modes.peer_key r e
-    else Dss (Some e.receiving.next) (Some (piece_mapping c s r)) ∷ [])
+    if e.modes.identity then plain_options r.pos e else infinite_or e.modes.own_infinite (mapped_options c s r e) e
 
 -- on the FIN at this position
 abbrev pub fin_options : ℕ → PathEnd → List PlainOption
-fin_options position e = if e.modes.identity then plain_options position e else Dss (Some e.receiving.next) None ∷ []
+fin_options position e =
+    if e.modes.identity then plain_options position e
+    else infinite_or e.modes.own_infinite (Dss (Some e.receiving.next) None ∷ []) e
 
 abbrev pub record_options : RecordKind → Profile → Side → Record → PathEnd → List PlainOption
 record_options Syn c s r e = syn_options c s e
 record_options Data c s r e = piece_options c s r e
 record_options Fin c s r e = fin_options r.pos e
 
--- why the path is reset, where there is a reason; the fault doesn't pass (RFC 8684, section 3.6). After a fallback no option is sent.
+-- why the path is reset, where there is a reason; the fault doesn't pass (RFC 8684, section 3.6)
 abbrev pub reset_options : Option ℕ → List PlainOption
 reset_options None = []
 reset_options (Some reason) = Reset false reason ∷ []
+
+-- MP_FAIL stands before the reason, where a failed check broke the path
+abbrev pub broken_options : Option ℕ → Option ℕ → List PlainOption
+broken_options failed None = []
+broken_options failed (Some reason) = fail_options failed ++ reset_options (Some reason)
 
 -- The own address of an id is 10.0.id.2, without a port. An announcement shows the HMAC of both keys (RFC 8684, section 3.4.1).
 abbrev pub announcement : ℕ → Modes → PlainOption
@@ -203,12 +237,10 @@ is_syn_unsent e = is_opening e.tcp.state && is_some (find is_unsent e.tcp.send.r
 abbrev pub own_reset : PathEnd → Outgoing
 own_reset e = record (reset_segment e.tcp) { position = if is_syn_unsent e then 0 else e.tcp.send.nxt }
 
+-- after a fallback it has no option
 abbrev pub reset_said : Profile → Option ℕ → PathEnd → PlainSegment
-reset_said c reason e = segment_of c (own_reset e) (if e.modes.identity then [] else reset_options reason) [] e
-
--- the check of the mapping at this place of the peer's stream failed: MP_FAIL stands before the reason (RFC 8684, sections 3.6, 3.7)
-abbrev pub fail_reset_said : Profile → ℕ → PathEnd → PlainSegment
-fail_reset_said c place e = segment_of c (reset_segment e.tcp) (Fail place ∷ Reset false 6 ∷ []) [] e
+reset_said c reason e =
+    segment_of c (own_reset e) (if e.modes.identity then [] else broken_options e.treated.failed_mapping reason) [] e
 
 -- an acknowledgement with a DSS, and this option behind it
 abbrev pub dss_and : Profile → PlainOption → PathEnd → PlainSegment

@@ -1,6 +1,6 @@
 -- What the payload of a copy makes of an end: bytes and ends that are told, the window's growth, answers, and what an expiry
 -- sends again.
-use Rattle.std.specs.Prelude.{ℕ, ◌-◌, min, max, Bool, true, false, not, nat_lt, ◌&&◌, ◌||◌, ◌==◌, if◌then◌else◌, Option, Some, None, List, [], find, slice_get}
+use Rattle.std.specs.Prelude.{ℕ, ◌-◌, min, max, Bool, true, false, nat_lt, ◌||◌, ◌==◌, if◌then◌else◌, Option, Some, None, List, [], find, slice_get}
 use Rattle.outside_kit.specs.declared.side.Side.{Side}
 use Rattle.path_segments.specs.Spelled.{PlainSegment}
 use Rattle.reassembly_book.specs.declared.call.ReassemblyCall.TheVariants as reassembly_calls
@@ -26,7 +26,9 @@ use Rattle.actor_desk.specs.declared.ask.Reply.TheVariants as replies
 use Rattle.path_agenda.specs.Agenda.{breaks}
 use Rattle.path_core.specs.StreamEnds.{after_peer_data_fin, is_data_fin_owed}
 use Rattle.path_core.specs.Codec.{Codec}
+use Rattle.path_core.specs.declared.modes.Modes.{Modes}
 use Rattle.path_core.specs.Ends.{PathEnd}
+use Rattle.path_core.specs.Infinite.{fin_place}
 use Rattle.path_core.specs.Deliver.{Piece, next_piece, after_piece}
 use Rattle.path_core.specs.OptionsOut.{ack_said, carried_said, syn_ack_said, segment_of, record_or_ack}
 use Rattle.path_core.specs.Handover.{having_sent, sent_on}
@@ -87,15 +89,14 @@ answered_fin_heard s set p = if set then fin_set s p else refused s p
 abbrev pub after_pass_fin : PathEnd → PathEnd
 after_pass_fin e = record e { tcp = (if is_fin_next e.tcp then after_passing_fin e.tcp else e.tcp) }
 
--- the place of a FIN that the edge passed, whose position has the place before it
-abbrev pub place_passed : Option ℕ → ℕ → Option ℕ
-place_passed None edge = None
-place_passed (Some position) edge = if nat_lt position edge then Some (position - 1) else None
+-- the end of the stream that a FIN stands for which the edge passed, where the peer sends without mappings
+abbrev pub place_passed : Modes → Option ℕ → ℕ → Option ℕ
+place_passed m None edge = None
+place_passed m (Some position) edge = if nat_lt position edge then fin_place m position else None
 
--- after a fallback it is the end of the stream, and told once, also where it was passed before
+-- it is told once, also where it was passed before
 abbrev pub plain_fin : PathEnd → Option ℕ
-plain_fin e =
-    if e.modes.identity && not e.receiving.fin_told then place_passed e.tcp.fin_at e.tcp.recv.edge else None
+plain_fin e = if e.receiving.fin_told then None else place_passed e.modes e.tcp.fin_at e.tcp.recv.edge
 
 abbrev pub with_fin_told : PathEnd → PathEnd
 with_fin_told e = record e { receiving = record e.receiving { fin_told = true } }

@@ -14,7 +14,7 @@ use Rattle.path_core.specs.declared.segment_kind.SegmentKind.TheVariants as to_s
 use Rattle.path_core.specs.Emission.{first_unsent}
 use Rattle.path_core.specs.Ends.{PathEnd}
 use Rattle.path_core.specs.Passing.{outgoing_or, first_record, answer_said, resend_said}
-use Rattle.path_core.specs.OptionsOut.{spelled_by, reset_options, segment_of, ack_said, noted_said, carried_said, fin_said, syn_ack_said, reset_said, fail_reset_said, record_or_ack}
+use Rattle.path_core.specs.OptionsOut.{spelled_by, reset_options, segment_of, ack_said, noted_said, carried_said, fin_said, syn_ack_said, reset_said, record_or_ack}
 use Rattle.path_core.specs.Octets.{octets}
 use Rattle.path_core.specs.Handover.{having_sent, sent_on}
 use Rattle.path_core.specs.State.{PathState, Profile, end_at}
@@ -62,7 +62,6 @@ said_by to_say.DeadAnswer c s e = segment_of c (outgoing_or e.treated.answer (re
 said_by to_say.Resend c s e = resend_said c s e
 said_by to_say.Refusal c s e = segment_of c (outgoing_or e.treated.answer (reset_segment e.tcp)) (reset_options (Some 1)) [] e
 said_by (to_say.Reset reason) c s e = reset_said c reason e
-said_by (to_say.FailReset place) c s e = fail_reset_said c place e
 said_by to_say.Notice c s e = noted_said c s (first_of e.notices.queue) e
 said_by to_say.FastClose c s e = carried_said c s e.notices.carrier e
 

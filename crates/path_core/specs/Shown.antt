@@ -1,5 +1,5 @@
 -- A path over segments as values, shown over octets.
-use Rattle.std.specs.Prelude.{ℕ, ◌≡◌, ◌+◌, ◌^◌, ◌<◌, ◌≤◌, ◌⊎◌, true, false, if◌then◌else◌, IsSome, Some, List}
+use Rattle.std.specs.Prelude.{ℕ, ◌≡◌, ◌+◌, ◌^◌, ◌<◌, ◌≤◌, ◌⊎◌, true, false, if◌then◌else◌, IfSome, IsSome, Some, List}
 use Rattle.outside_kit.specs.declared.side.Side.{Side}
 use Rattle.link_script.specs.declared.script.ScriptLine.{ScriptLine}
 use Rattle.link_model.specs.declared.flight.Due.{Due}
@@ -7,7 +7,7 @@ use Rattle.link_model.specs.declared.flight.Flight.{Flight}
 use Rattle.link_model.specs.Fate.{is_altered}
 use Rattle.link_model.specs.Laws.{with_copies_shown}
 use Rattle.link_model.specs.Octets.{octets_stripped}
-use Rattle.link_model.specs.Steps.{peer, arriving}
+use Rattle.link_model.specs.Steps.{next_number, peer, arriving}
 use Rattle.path_segments.specs.declared.expected.Expected.{Expected}
 use Rattle.path_segments.specs.declared.spelling.Side.{Side as SpelledSide}
 use Rattle.path_segments.specs.declared.spelling.Spelling.{Spelling}
@@ -18,8 +18,11 @@ use Rattle.actor_desk.specs.declared.ask.Reply.{Reply}
 use Rattle.path_core.specs.Arriving.{expected_by}
 use Rattle.path_core.specs.Events.{next_event}
 use Rattle.path_core.specs.declared.event.Event.TheVariants as happenings
+use Rattle.path_core.specs.declared.looking.ToSend.{ToSend}
+use Rattle.path_core.specs.Looking.{first_sends, segment_sent}
 use Rattle.path_core.specs.Octets.{made, octets}
 use Rattle.path_core.specs.OptionsOut.{spelled_by}
+use Rattle.path_core.specs.Said.{CanBeSaid}
 use Rattle.path_core.specs.State.{PathState, end_at}
 use Rattle.path_core.specs.Steps.{asks_of, takes, next_round}
 use Rattle.path_core.specs.Values.{Carried, values}
@@ -71,13 +74,22 @@ abbrev pub NextIsFresh : PathState Carried → Type 0
 NextIsFresh p = (due : Due) (flight : Flight Carried) → next_event p ≡ Some (happenings.Arrives due) → arriving due p.link ≡ Some flight
     → IsFreshCopy p due.to flight.carried
 
+-- where a bit of its payload is turned on its way, the segment can be said
+abbrev pub CanBeAltered : PathState Carried → ToSend → Type 0
+CanBeAltered p t = is_altered t.from (next_number t.from p.link) p.link.lines ≡ true
+    → CanBeSaid p.profile.spelling t.from (segment_sent p t)
+
+-- the segment that the next step sends, where it sends one
+abbrev pub SentCanBeAltered : PathState Carried → Type 0
+SentCanBeAltered p = IfSome (first_sends p.agenda p) (CanBeAltered p)
+
 -- what a path over octets asks is what the path over values asks
 abbrev pub AsksTheSame : Type 0
 AsksTheSame = (p : PathState Carried) → asks_of octets (shown_path p) ≡ asks_of values p
 
 -- and it takes each reply as that one does, shown over octets
 abbrev pub TakesTheSame : Type 0
-TakesTheSame = (r : Reply) (p : PathState Carried) → AltersNothing p.link.lines → NextIsFresh p
+TakesTheSame = (r : Reply) (p : PathState Carried) → SentCanBeAltered p → NextIsFresh p
     → takes octets r (shown_path p) ≡ shown_path (takes values r p)
 
 abbrev pub BeginsTheSame : Type 0

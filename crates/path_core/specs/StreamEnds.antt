@@ -7,6 +7,7 @@ use Rattle.data_close.specs.Closing as closing
 use Rattle.subflow_tcp.specs.States.{may_finish}
 use Rattle.path_core.specs.declared.granted_piece.GrantedPiece.{GrantedPiece}
 use Rattle.path_core.specs.Ends.{Sending, PathEnd}
+use Rattle.path_core.specs.Infinite.{sends_plainly}
 use Rattle.actor_desk.specs.Words.{is_nil}
 use Rattle.path_core.specs.Words.{told_last}
 
@@ -60,14 +61,14 @@ after_refusal why known v = record v { shut = is_shut why; known_end = told_last
 abbrev pub owes_data_fin : Sending → Bool
 owes_data_fin v = v.fin_sent && not v.close.own_acked
 
--- after a fallback the subflow's FIN takes its place (section 3.7)
+-- where the side sends without mappings the subflow's FIN takes its place (section 3.7)
 abbrev pub is_data_fin_owed : PathEnd → Bool
-is_data_fin_owed e = not e.modes.identity && owes_data_fin e.sending
+is_data_fin_owed e = not (sends_plainly e.modes) && owes_data_fin e.sending
 
--- the DATA_FIN is to be sent: the end is known, and it was neither sent nor acknowledged; never after a fallback
+-- the DATA_FIN is to be sent: the end is known, and it was neither sent nor acknowledged; never without mappings
 abbrev pub is_data_fin_due : PathEnd → Bool
 is_data_fin_due e =
-    may_finish e.tcp.state && (not e.modes.identity && (e.modes.clear
+    may_finish e.tcp.state && (not (sends_plainly e.modes) && (e.modes.clear
     && (is_some e.sending.known_end && (not e.sending.fin_sent && not e.sending.close.own_acked))))
 
 -- the place behind the last byte that was granted and isn't acknowledged
@@ -80,11 +81,11 @@ abbrev pub is_all_granted : Option ℕ → Sending → Bool
 is_all_granted None v = false
 is_all_granted (Some end) v = max (granted_to v.granted) (min v.heard end) == end
 
--- The FIN is to be sent: the own DATA_FIN is acknowledged, and the peer's came; after a fallback all bytes were granted.
+-- The FIN is to be sent: the own DATA_FIN is acknowledged, and the peer's came; without mappings all bytes were granted.
 abbrev pub is_fin_due : PathEnd → Bool
 is_fin_due e =
     may_finish e.tcp.state
-    && (if e.modes.identity then is_all_granted e.sending.known_end e.sending else closing.may_finish e.sending.close)
+    && (if sends_plainly e.modes then is_all_granted e.sending.known_end e.sending else closing.may_finish e.sending.close)
 
 -- ---- the timer
 

@@ -1,12 +1,12 @@
 -- What the options of a copy make of an end, one thing after the other (RFC 8684, section 3.3).
-use Rattle.std.specs.Prelude.{ℕ, ◌-◌, Bool, true, false, not, ◌&&◌, ◌||◌, nat_lt, nat_le, if◌then◌else◌, is_some, Option, Some, None, List}
+use Rattle.std.specs.Prelude.{ℕ, Bool, true, false, not, ◌&&◌, ◌||◌, nat_lt, nat_le, if◌then◌else◌, is_some, is_none, Option, Some, None, List}
 use Rattle.outside_kit.specs.declared.side.Side.{Side}
 use Rattle.send_book.specs.declared.call.SendCall.TheVariants as send_calls
 use Rattle.send_book.specs.declared.call.SendReply.TheVariants as send_replies
 use Rattle.control_book.specs.Replies.{is_sure}
 use Rattle.dss_mapping.specs.Learning.{held_clashes}
 use Rattle.fallback_state.specs.declared.fall.Event.TheVariants as events
-use Rattle.fallback_state.specs.Modes.{is_starting, reads_mappings}
+use Rattle.fallback_state.specs.Modes.{is_starting, reads_mappings, writes_mappings}
 use Rattle.subflow_tcp.specs.State.{is_fin_passed}
 use Rattle.subflow_tcp.specs.Taking.{after_keeping_held, after_dropping_held}
 use Rattle.actor_desk.specs.declared.ask.Ask.{Ask}
@@ -28,6 +28,9 @@ use Rattle.path_core.specs.declared.modes.Modes.{Modes}
 use Rattle.path_core.specs.Ends.{PathEnd, Sending}
 use Rattle.path_core.specs.Opening.{keys_ask, after_keys}
 use Rattle.path_core.specs.Deliver.{with_learned, with_skipped, fins_and}
+use Rattle.path_core.specs.Infinite.{sends_plainly, bytes_acknowledged}
+use Rattle.path_core.specs.InfiniteReceiving.{answered_infinite}
+use Rattle.path_core.specs.InfiniteSending.{fail_ask, answered_fail}
 use Rattle.path_core.specs.Joins.{is_joined}
 use Rattle.path_core.specs.State.{PathState, Profile, end_at, goes_on, left, with_agenda}
 use Rattle.path_agenda.specs.Words.{replaced}
@@ -51,7 +54,7 @@ mapping_stands e = counts e && (is_clash e || is_starting e.modes.mode)
 
 abbrev pub heard_stands : Heard → PathEnd → Bool
 heard_stands says.Dss e = false
-heard_stands (says.DataAck next window) e = true
+heard_stands (says.DataAck next window) e = is_none e.modes.own_infinite
 heard_stands (says.Mapping fin) e = mapping_stands e
 heard_stands (says.DataFin place) e = counts e && is_starting e.modes.mode
 heard_stands (says.InfiniteMapping place position) e = counts e && reads_mappings e.modes.mode
@@ -59,7 +62,7 @@ heard_stands (says.PeerKey key) e = false
 heard_stands (says.Keys own peer) e = not e.treated.keys_told
 heard_stands (says.Join form) e = false
 heard_stands (says.Notice notice) e = true
-heard_stands says.Fail e = false
+heard_stands says.Fail e = writes_mappings e.modes.mode
 heard_stands (says.FastClose key) e = true
 
 abbrev pub mapping_ask : {C : Type 0} → Codec C → Side → PathState C → Ask
@@ -72,6 +75,7 @@ heard_ask k s (says.DataFin place) p = fell_ask s events.MappingHeard p
 heard_ask k s (says.InfiniteMapping place position) p = fell_ask s events.InfiniteHeard p
 heard_ask k s (says.Keys own peer) p = keys_ask s (Some (record { own = own; peer = peer }))
 heard_ask k s (says.Notice notice) p = notice_ask s notice p
+heard_ask k s says.Fail p = fail_ask s p
 heard_ask k s (says.FastClose key) p = fast_heard_ask s key
 heard_ask k s _ p = asks.Local steps.End
 
@@ -116,10 +120,11 @@ answered_heard k s (says.DataAck next window) r p = answered_ack s next r p
 answered_heard k s (says.Mapping fin) r p = answered_mapping k s r p
 answered_heard k s (says.DataFin place) r p =
     goes_on s (with_data_fin place (after_fell events.MappingHeard r (end_at s p))) (fell_duties s r p) p
-answered_heard k s (says.InfiniteMapping place position) r p = answered_fell s events.InfiniteHeard r p
+answered_heard k s (says.InfiniteMapping place position) r p = answered_infinite s place position r p
 answered_heard k s (says.Keys own peer) r p =
     goes_on s (after_keys r (Some (record { own = own; peer = peer })) (end_at s p)) (left p) p
 answered_heard k s (says.Notice notice) r p = answered_notice s notice r p
+answered_heard k s says.Fail r p = answered_fail s r p
 answered_heard k s (says.FastClose key) r p = answered_fast_heard s r p
 answered_heard k s _ r p = with_agenda (left p) p
 
@@ -130,9 +135,14 @@ after_dss s e = record e {
   sending = record e.sending { news = e.sending.news || e.modes.owes_third };
 }
 
+-- a Data ACK counts as one, where the subflow's acknowledgements take its place
+abbrev pub with_data_ack : ℕ → PathEnd → PathEnd
+with_data_ack next e = record e { modes = covered_by next e.modes }
+
 -- what is passed in silence
 abbrev pub heard_passed : Side → Heard → PathEnd → PathEnd
 heard_passed s says.Dss e = after_dss s e
+heard_passed s (says.DataAck next window) e = with_data_ack next e
 heard_passed s (says.Mapping fin) e = if counts e then with_learned e else with_skipped e
 heard_passed s (says.DataFin place) e = if counts e then with_data_fin place e else e
 heard_passed s _ e = e
@@ -162,7 +172,7 @@ item_of index e = if e.modes.identity then None else item_at index e.treated.ite
 -- ---- an acknowledgement without a Data ACK
 
 abbrev pub lacks_data_ack : PathEnd → Bool
-lacks_data_ack e = e.treated.plain_ack && not e.modes.identity
+lacks_data_ack e = e.treated.plain_ack && not (sends_plainly e.modes)
 
 -- It breaks a path that joined, as long as no Data ACK covered something on it. The third without a Data ACK between them breaks
 -- the path of a side that is sure.
@@ -187,20 +197,28 @@ answered_plain_ack k s r p =
     if breaks_by_ack p.profile (end_at s p) then answered_break k s 6 r p
     else goes_on s (with_plain_ack (after_fell events.PlainAck r (end_at s p))) (fell_duties s r p) p
 
--- ---- an acknowledgement after a fallback
+-- ---- an acknowledgement where the side sends without mappings
 
 -- it stands for a Data ACK of all before its position (RFC 8684, section 3.7)
-abbrev pub plain_next : PathEnd → ℕ
-plain_next e = e.treated.acknowledged - 1
+abbrev pub plain_next : PathEnd → Option ℕ
+plain_next e = bytes_acknowledged e.modes e.treated.acknowledged
 
 abbrev pub subflow_ack_stands : PathEnd → Bool
-subflow_ack_stands e = e.modes.identity && not e.treated.data_ack_taken
+subflow_ack_stands e = is_some (plain_next e) && not e.treated.data_ack_taken
+
+abbrev pub plain_ack_in : Side → Option ℕ → ℕ → Ask
+plain_ack_in s None window = asks.Local steps.End
+plain_ack_in s (Some next) window = asks.Send s (send_calls.AckIn next window)
 
 abbrev pub subflow_ack_ask : Side → PathEnd → Ask
-subflow_ack_ask s e = asks.Send s (send_calls.AckIn (plain_next e) e.treated.window)
+subflow_ack_ask s e = plain_ack_in s (plain_next e) e.treated.window
+
+abbrev pub plainly_acked : Option ℕ → Reply → Sending → Sending
+plainly_acked None r v = v
+plainly_acked (Some next) r v = acked_in next r v
 
 abbrev pub with_plain_acked : Reply → PathEnd → PathEnd
-with_plain_acked r e = record e { sending = acked_in (plain_next e) r e.sending }
+with_plain_acked r e = record e { sending = plainly_acked (plain_next e) r e.sending }
 
 abbrev pub answered_subflow_ack : {C : Type 0} → Side → Reply → PathState C → PathState C
 answered_subflow_ack s r p = goes_on s (with_plain_acked r (end_at s p)) (left p) p

@@ -35,6 +35,7 @@ impl Machine {
             AskDuty::SubflowAck(side) => self.end(side).subflow_ack_stands(),
             AskDuty::PlainData(side) => self.end(side).plain_data_stands(),
             AskDuty::Edge(side) => self.end(side).has_piece(&self.profile),
+            AskDuty::CheckFailed(side) => self.end(side).check_failed_stands(&self.profile),
             AskDuty::HeardFin { side, index } => self.end(side).treated.fin(index).is_some(),
             AskDuty::SubflowFin(side) => self.end(side).plain_fin().is_some(),
             AskDuty::AckOut(side) => self.end(side).treated.is_asked(),
@@ -44,6 +45,7 @@ impl Machine {
             AskDuty::Window(_)
             | AskDuty::SynHeard(_)
             | AskDuty::SynAnswered(_)
+            | AskDuty::FailHeard(_)
             | AskDuty::GoIdentity(_)
             | AskDuty::AbortSend(_)
             | AskDuty::AbortReceive(_)
@@ -80,9 +82,11 @@ impl Machine {
             AskDuty::Opened(side) => Ok(self.opened_ask(side)),
             AskDuty::Live(side) => Ok(self.live_ask(side)),
             AskDuty::AckHeard(side) => Ok(self.fell_ask(side, Event::AckHeard)),
+            AskDuty::FailHeard(side) => Ok(self.fail_heard_ask(side)),
             AskDuty::SubflowAck(side) => Ok(self.subflow_ack_ask(side)),
             AskDuty::PlainData(side) => Ok(self.fell_ask(side, Event::PlainData)),
             AskDuty::GoIdentity(side) => Ok(self.identity_ask(side)),
+            AskDuty::CheckFailed(side) => Ok(self.check_failed_ask(side)),
             AskDuty::HeardFin { side, index } => Ok(self.fin_ask(side, index)),
             AskDuty::SubflowFin(side) => Ok(self.plain_fin_ask(side)),
             AskDuty::AckOut(side) => Ok(ack_out_ask(side)),
@@ -99,12 +103,12 @@ impl Machine {
         }
     }
 
-    /// What it changes where it comes to nothing: octets with a wrong checksum are forgotten, where none can be placed.
+    /// What it changes where it comes to nothing: octets with a wrong checksum are forgotten.
     pub(crate) fn pass_ask(&mut self, duty: AskDuty)
         ensures { self.new ≡ passed (duties.Ask duty) self.old }
     {
         match duty {
-            AskDuty::Edge(side) => self.check(side),
+            AskDuty::CheckFailed(side) => self.check(side),
             AskDuty::JoinAgain
             | AskDuty::Window(_)
             | AskDuty::SynHeard(_)
@@ -115,9 +119,11 @@ impl Machine {
             | AskDuty::Opened(_)
             | AskDuty::Live(_)
             | AskDuty::AckHeard(_)
+            | AskDuty::FailHeard(_)
             | AskDuty::SubflowAck(_)
             | AskDuty::PlainData(_)
             | AskDuty::GoIdentity(_)
+            | AskDuty::Edge(_)
             | AskDuty::HeardFin { .. }
             | AskDuty::SubflowFin(_)
             | AskDuty::AckOut(_)
@@ -151,10 +157,12 @@ impl Machine {
             AskDuty::Opened(side) => self.answer_opened(side, reply),
             AskDuty::Live(_) => self.done(),
             AskDuty::AckHeard(side) => self.answer_fell(side, Event::AckHeard, reply),
+            AskDuty::FailHeard(side) => self.answer_fail_heard(side, reply),
             AskDuty::SubflowAck(side) => self.answer_subflow_ack(side, reply),
             AskDuty::PlainData(side) => self.answer_fell(side, Event::PlainData, reply),
             AskDuty::GoIdentity(side) => self.answer_identity(side),
             AskDuty::Edge(side) => self.answer_piece(side, reply),
+            AskDuty::CheckFailed(side) => self.answer_check_failed(side, reply),
             AskDuty::HeardFin { side, .. } => self.answer_fin(side, reply),
             AskDuty::SubflowFin(side) => self.answer_plain_fin(side, reply),
             AskDuty::AckOut(side) => self.ack_out(side, reply),

@@ -6,12 +6,13 @@ ghost use Rattle.actor_desk.specs.Kinds.{CanBeAsked};
 ghost use Rattle.dss_checksum.specs.Checksum.{dss_checksum};
 ghost use Rattle.dss_mapping.specs.Mappings.{mapping_at};
 ghost use Rattle.subflow_recv.specs.Receiving.{filled};
-ghost use Rattle.path_core.specs.Deliver.{count_in, piece_in, piece_from, is_whole, is_right, some_piece, checked_piece, plain_piece, mapping_here, next_piece, after_piece, is_wrong, forgotten_by, after_check};
+ghost use Rattle.path_core.specs.Deliver.{count_in, piece_in, piece_from, is_whole, is_right, some_piece, checked_piece, plain_piece, infinite_piece, mapping_here, mapped_piece, next_piece, after_piece, is_wrong, forgotten_by, after_check};
 ghost use Rattle.path_core.specs.Passing.{having_asked, piece_ask, is_placed, placed, answered_piece, piece_of};
 ghost use Rattle.path_core.specs.State.{end_at, with_end};
 
 use crate::end::PathEnd;
 use crate::in_order::InOrder;
+use crate::infinite_mapping::{covers, place_under};
 use crate::machine::Machine;
 use crate::profile::Profile;
 use actor_desk::{Ask, LocalStep, Reply};
@@ -91,12 +92,12 @@ impl PathEnd {
         self.tcp.held_end() - self.tcp.edge()
     }
 
-    /// The mapping of the position at the edge; after a fallback none counts.
+    /// The mapping of the position at the edge; where the peer sends without mappings none counts.
     pub fn mapping_at_edge(&self) -> Option<KeptMapping>
         ensures value { result ≡ mapping_here self.now }
         ensures begun { IfSome result (λ kept. kept.pos ≤ self.now.tcp.recv.edge) }
     {
-        if self.modes.identity {
+        if self.modes.receives_plainly(self.tcp.edge()) {
             None
         } else {
             mapping_at(&self.receiving.mappings, self.tcp.edge())
@@ -104,7 +105,7 @@ impl PathEnd {
     }
 
     /// The whole mapping is there.
-    fn is_whole(&self, kept: KeptMapping) -> bool
+    pub fn is_whole(&self, kept: KeptMapping) -> bool
         ensures { result ≡ is_whole kept self.now.tcp }
     {
         let octets = u64::from(kept.octets());
@@ -115,7 +116,7 @@ impl PathEnd {
     }
 
     /// The checksum is that of its bytes, with its whole length.
-    fn is_right(&self, kept: KeptMapping) -> bool
+    pub fn is_right(&self, kept: KeptMapping) -> bool
         ensures { result ≡ is_right kept self.now.tcp }
     {
         let sum = checksum_of(&kept.mapping, self.tcp.held(), kept.octets());
@@ -167,6 +168,37 @@ impl PathEnd {
         }
     }
 
+    /// Under the peer's infinite mapping: all that is in order, with places below 2^62.
+    fn infinite_piece(&self) -> Option<InOrder>
+        ensures value { option_map (λ found. piece_from found self.now.tcp) result ≡
+            infinite_piece self.now.modes.peer_infinite self.now.tcp }
+        ensures places { IfSome result (λ found. found.place + found.count ≤ 2 ^ 62) }
+    {
+        let mapping = self.modes.peer_infinite?;
+        let place = place_under(mapping, self.tcp.edge())?;
+        let count = LAST_PLACE - place;
+        if 0 < count.min(self.in_order()) {
+            Some(InOrder { place, count })
+        } else {
+            None
+        }
+    }
+
+    /// The next bytes to be placed, where the side didn't fall back.
+    fn mapped_piece(&self, profile: &Profile) -> Option<InOrder>
+        ensures value { option_map (λ found. piece_from found self.now.tcp) result ≡
+            mapped_piece profile.now self.now }
+        ensures places { IfSome result (λ found. found.place + found.count ≤ 2 ^ 62) }
+    {
+        if covers(self.modes.peer_infinite, self.tcp.edge()) {
+            return self.infinite_piece();
+        }
+        match self.mapping_at_edge() {
+            Some(kept) => self.checked_piece(profile.spelling().checksums, kept),
+            None => None,
+        }
+    }
+
     /// The next bytes to be placed.
     fn next_piece(&self, profile: &Profile) -> Option<InOrder>
         ensures value { option_map (λ found. piece_from found self.now.tcp) result ≡
@@ -174,11 +206,9 @@ impl PathEnd {
         ensures places { IfSome result (λ found. found.place + found.count ≤ 2 ^ 62) }
     {
         if self.modes.identity {
-            return self.plain_piece();
-        }
-        match self.mapping_at_edge() {
-            Some(kept) => self.checked_piece(profile.spelling().checksums, kept),
-            None => None,
+            self.plain_piece()
+        } else {
+            self.mapped_piece(profile)
         }
     }
 
@@ -209,7 +239,7 @@ impl PathEnd {
 
     /// A whole mapping with a wrong checksum: all octets from its first position on are forgotten, so that what comes for
     /// them is kept again.
-    fn check(&mut self, checksums: bool)
+    pub fn check(&mut self, checksums: bool)
         ensures { self.new ≡ forgotten_by checksums (mapping_here self.old) self.old }
     {
         if let Some(kept) = self.mapping_at_edge() {

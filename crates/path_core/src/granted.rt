@@ -1,14 +1,16 @@
 //! The pieces that were granted to an end and aren't acknowledged whole.
 
-ghost use Rattle.std.specs.Prelude.{◌≡◌, ◌<◌, ◌++◌, ◌∷◌, [], false, List, max, drop, IsTrue, OnOk, OnErr, filter};
+ghost use Rattle.std.specs.Prelude.{◌≡◌, ◌<◌, ◌++◌, ◌∷◌, [], false, ◌==◌, List, max, drop, IsTrue, OnOk, OnErr, filter, find, option_map};
 ghost use Rattle.std.specs.List.{list_any};
 ghost use Rattle.std.specs.VecDeque.{deque_len};
 ghost use Rattle.path_core.specs.declared.granted_piece.GrantedPiece.{GrantedPiece};
 ghost use Rattle.actor_desk.specs.Words.{is_nil};
 ghost use Rattle.path_core.specs.StreamEnds.{is_newly_heard, is_open, granted_to};
+ghost use Rattle.path_core.specs.InfiniteSending.{has_place, behind, follows, rises_from, is_tail, position_of};
 ghost use Rattle.path_core.specs.Rising.{Rise};
 
 use crate::granted_piece::GrantedPiece;
+use seq_units::Pos;
 use std::alloc::{AllocError, Global};
 use std::collections::VecDeque;
 use std::marker::Model;
@@ -81,6 +83,29 @@ impl GrantedPieces {
         granted_to(first).max(granted_to(second))
     }
 
+    /// Whether positions and places of these pieces follow one another, up to this position.
+    pub fn is_tail(&self, end: Pos) -> bool
+        ensures { result ≡ is_tail self.now end }
+    {
+        match self.pieces.front() {
+            Some(first) => rises_from(*first, &self.pieces, end),
+            None => true,
+        }
+    }
+
+    /// The position of a place; the next position, where none of these pieces has it.
+    pub fn position_of(&self, next: Pos, place: u64) -> Pos
+        ensures { result ≡ position_of next place self.now }
+    {
+        match piece_with(&self.pieces, place) {
+            Some(piece) => {
+                let behind = place.saturating_sub(piece.from);
+                piece.position.saturating_add(behind)
+            }
+            None => next,
+        }
+    }
+
     /// A place of one of these pieces wasn't acknowledged before, and is now.
     pub fn has_newly_heard(&self, heard: u64, next: u64) -> bool
         ensures { result ≡ list_any (is_newly_heard heard next) self.now }
@@ -151,6 +176,50 @@ fn is_newly_heard(heard: u64, next: u64, piece: &GrantedPiece) -> bool
     ensures { result ≡ is_newly_heard heard next piece.now }
 {
     piece.from.max(heard) < next
+}
+
+/// The place is one of the piece's.
+fn has_place(place: u64, piece: &GrantedPiece) -> bool
+    ensures { result ≡ has_place place piece.now }
+{
+    piece.from <= place && place < piece.to
+}
+
+/// The first of the pieces that has this place.
+fn piece_with(pieces: &VecDeque<GrantedPiece>, place: u64) -> Option<&GrantedPiece>
+    ensures { option_map (λ piece. piece.now) result ≡ find (has_place place) pieces.now.items }
+{
+    pieces.iter().find(|piece| has_place(place, piece))
+}
+
+/// The piece stands before this position.
+fn ends_at(piece: GrantedPiece, end: Pos) -> bool
+    ensures { result ≡ (behind piece == end) }
+{
+    let octets = piece.to.saturating_sub(piece.from);
+    piece.position.checked_add(octets) == Some(end)
+}
+
+/// Position and place of a piece are those behind the one before it.
+fn follows(before: GrantedPiece, piece: GrantedPiece) -> bool
+    ensures { result ≡ follows before piece }
+{
+    ends_at(before, piece.position) && piece.from == before.to
+}
+
+/// Each of these pieces but the first follows the one before it, and the last one stands before this position.
+fn rises_from(first: GrantedPiece, pieces: &VecDeque<GrantedPiece>, end: Pos) -> bool
+    ensures { result ≡ rises_from first (drop 1 pieces.now.items) end }
+{
+    let mut before = first;
+    for index in 1..pieces.len() {
+        let piece = pieces[index];
+        if !follows(before, piece) {
+            return false;
+        }
+        before = piece;
+    }
+    ends_at(before, end)
 }
 
 /// The first of the pieces is acknowledged whole.

@@ -77,12 +77,12 @@ impl PathEnd {
         self.receiving.next() + u64::from(window)
     }
 
-    /// After a fallback a segment with data or FIN has the infinite mapping, as long as that is owed.
+    /// A segment with data or FIN has an infinite mapping, as long as that is owed.
     fn has_mapping(&self, said: &Said<'_>) -> bool
         ensures { result ≡ has_mapping (plain_said said.now) self.now }
     {
         let some = said.outgoing.fin || !said.payload.is_empty();
-        self.modes.identity && self.owes_mapping() && some
+        self.modes.sends_plainly() && self.owes_mapping() && some
     }
 
     /// What the end knows after a segment, of which it may have to know where it ends.

@@ -30,10 +30,10 @@ pub fn settled_turns_end()
 {}
 
 /// A law: a path over octets is the path over segments as values, shown in octets. It asks the same, takes each reply in the
-/// same way, and begins a round so, as long as the script alters no payload and the copy that is due next is fresh: its segment
-/// can be said, and each of its numbers is near the one that the end expects, but for the position of a reset that is 2^31 or
-/// more ahead and below 2^32, as a dead end may send it (RFC 9293, section 3.10.7.1). Options that were taken away are heard as
-/// none.
+/// same way, and begins a round so, as long as the copy that is due next is fresh: its segment can be said, and each of its numbers
+/// is near the one that the end expects, but for the position of a reset that is 2^31 or more ahead and below 2^32, as a dead end
+/// may send it (RFC 9293, section 3.10.7.1). A segment whose payload is altered on its way has to be one that can be said. Options
+/// that were taken away are heard as none.
 pub fn octets_do_as_values()
     ensures asks { AsksTheSame }
     ensures takes { TakesTheSame }

@@ -21,6 +21,7 @@ mod emission;
 mod end;
 mod event;
 mod events;
+mod failed_checks;
 mod fallback;
 mod fast_closing;
 mod granted;
@@ -28,6 +29,9 @@ mod granted_piece;
 mod handover;
 mod held;
 mod in_order;
+mod infinite_mapping;
+mod infinite_receiving;
+mod infinite_sending;
 mod joining;
 mod joins;
 mod judged;
@@ -61,6 +65,7 @@ mod treating;
 pub use actor_desk::{Ask, LocalStep, Note, Reply};
 pub use drawn::Drawn;
 pub use event::Event;
+pub use infinite_mapping::InfiniteMapping;
 pub use judged::Judged;
 pub use laws::{
     a_first_round, copies_say_few_things, each_segment_is_told, every_turn_ends,

@@ -1,22 +1,25 @@
 //! The segments that an end sends: their options, their windows, and the mapping of a piece (RFC 8684, section 3).
 
-ghost use Rattle.std.specs.Prelude.{◌≡◌, ◌≤◌, false, length, option_map, IfSome};
+ghost use Rattle.std.specs.Prelude.{◌≡◌, ◌≤◌, ◌∷◌, [], Some, None, false, length, option_map, IfSome};
 ghost use Rattle.dss_checksum.specs.Checksum.{dss_checksum};
 ghost use Rattle.outside_kit.specs.declared.side.Side.TheVariants.{A};
 ghost use Rattle.path_segments.specs.declared.segment.PathOption.TheVariants.{Capable};
 ghost use Rattle.subflow_send.specs.Records.{record_of};
 ghost use Rattle.path_core.specs.declared.segment_kind.SegmentKind.TheVariants.{DeadAnswer, Refusal};
 ghost use Rattle.path_agenda.specs.Words.{first_of};
-ghost use Rattle.path_core.specs.OptionsOut.{owes_mapping, bare_mapping, checksum_in, mapping_of, place_numbered, checksum_told, plain_options, capable_options, syn_options, key_options, opening_options, data_fin_mapping, ack_options, piece_mapping, first_piece_options, piece_options, fin_options, record_options, reset_options, announcement, notice_option, dss_and, noted_said, carried_said, HasAddress, segment_of, ack_said, fail_reset_said, record_said, record_or_ack, syn_ack_said, fin_said, own_reset, reset_said};
+ghost use Rattle.path_core.specs.OptionsOut.{owes_mapping, bare_mapping, checksum_in, mapping_of, place_numbered, checksum_told, plain_options, infinite_options, infinite_or, mapped_options, fail_options, fail_beside, capable_options, syn_options, key_options, opening_options, data_fin_mapping, ack_options, piece_mapping, first_piece_options, piece_options, fin_options, record_options, reset_options, broken_options, announcement, notice_option, dss_and, noted_said, carried_said, HasAddress, segment_of, ack_said, record_said, record_or_ack, syn_ack_said, fin_said, own_reset, reset_said};
+ghost use Rattle.path_core.specs.Infinite.{receives_infinite};
 ghost use Rattle.path_core.specs.Passing.{answer_said, ack_resent, resend_said};
 ghost use Rattle.path_core.specs.Said.{options_by, said_options, plain_said, said_by, CanBeSaid};
 
 use crate::end::PathEnd;
+use crate::infinite_mapping::InfiniteMapping;
 use crate::modes::Modes;
 use crate::profile::{Profile, spelled_by};
 use crate::said::{Said, SaidOptions, Saying};
 use crate::segment_kind::SegmentKind;
 use dss_checksum::DssSum;
+use fallback_state::Mode;
 use key_material::{Address, add_addr64};
 use mptcp_options::CapableKeys;
 use outside_kit::Side;
@@ -124,6 +127,27 @@ pub(crate) fn checksum_of(mapping: &Mapping, octets: &[u8]) -> u16
 }
 
 impl Modes {
+    /// The failed check is told until the peer's infinite mapping came (RFC 8684, section 3.7).
+    fn fail_option(&self) -> Option<Saying>
+        ensures { options_by result ≡ fail_beside None self.now }
+    {
+        if receives_infinite(self.mode) {
+            return None;
+        }
+        let place = self.failed_mapping?;
+        Some(PathOption::Fail { place })
+    }
+
+    /// Each acknowledgement tells it that has no DATA_FIN.
+    fn fail_beside(&self, fin: Option<u64>) -> Option<Saying>
+        ensures { options_by result ≡ fail_beside fin self.now }
+    {
+        match fin {
+            Some(_) => None,
+            None => self.fail_option(),
+        }
+    }
+
     /// A notice of the end's side; an announcement shows the HMAC of both keys (RFC 8684, section 3.4.1).
     fn notice_option(&self, notice: OwnNotice) -> Saying
         ensures { result ≡ notice_option notice self.now }
@@ -158,6 +182,13 @@ impl Modes {
     }
 }
 
+/// The peer's infinite mapping came.
+fn receives_infinite(mode: Mode) -> bool
+    ensures { result ≡ receives_infinite mode }
+{
+    matches!(mode, Mode::InfiniteReceive | Mode::InfiniteBoth)
+}
+
 /// The address of an echo has 16 octets at most.
 fn has_address(notice: OwnNotice)
     ensures { HasAddress notice }
@@ -180,8 +211,7 @@ fn may_have_address(notice: Option<OwnNotice>)
 }
 
 impl PathEnd {
-    /// The infinite mapping is owed: the side fell back as this end missed an option, and no segment that had the mapping is
-    /// acknowledged.
+    /// The infinite mapping is owed, and no segment that had it is acknowledged.
     pub fn owes_mapping(&self) -> bool
         ensures { result ≡ owes_mapping self.now }
     {
@@ -261,19 +291,20 @@ impl PathEnd {
     }
 
     /// On an acknowledgement, perhaps with the DATA_FIN; none after a fallback.
-    fn ack_option(&self, profile: &Profile, side: Side, fin: Option<u64>) -> Option<Saying>
-        ensures value { options_by result ≡ ack_options profile.now side fin self.now }
+    fn ack_options(&self, profile: &Profile, side: Side, fin: Option<u64>) -> SaidOptions
+        ensures { said_options result ≡ ack_options profile.now side fin self.now }
     {
         if self.modes.identity {
-            None
-        } else if self.modes.clear {
-            Some(PathOption::Dss {
-                next: Some(self.receiving.next()),
-                mapping: profile.data_fin_mapping(side, fin),
-            })
-        } else {
-            self.opening_option(profile, side)
+            return SaidOptions::Nothing;
         }
+        if !self.modes.clear {
+            return SaidOptions::of(self.opening_option(profile, side));
+        }
+        let dss = PathOption::Dss {
+            next: Some(self.receiving.next()),
+            mapping: profile.data_fin_mapping(side, fin),
+        };
+        SaidOptions::first_and(dss, self.modes.fail_beside(fin))
     }
 
     /// A's first piece carries both keys, until A may send a DSS.
@@ -290,14 +321,24 @@ impl PathEnd {
         }))
     }
 
-    /// On data.
-    fn piece_option(&self, profile: &Profile, side: Side, lent: &RecordRef<'_>) -> Option<Saying>
-        ensures value { options_by result ≡
-            piece_options profile.now side (record_of lent.now) self.now }
+    /// On data and FIN after the peer's MP_FAIL: the infinite mapping, as long as it is owed (RFC 8684, section 3.7).
+    fn infinite_option(&self, mapping: InfiniteMapping) -> Option<Saying>
+        ensures value { options_by result ≡ infinite_options mapping self.now }
     {
-        if self.modes.identity {
-            return self.plain_option(lent.pos);
-        }
+        let InfiniteMapping { place, position } = mapping;
+        Some(PathOption::Dss {
+            next: Some(self.receiving.next()),
+            mapping: self
+                .owes_mapping()
+                .then_some(PathMapping::Infinite { place, position }),
+        })
+    }
+
+    /// On data that has a mapping of its own.
+    fn mapped_option(&self, profile: &Profile, side: Side, lent: &RecordRef<'_>) -> Option<Saying>
+        ensures value { options_by result ≡
+            mapped_options profile.now side (record_of lent.now) self.now }
+    {
         if side == Side::A && !self.modes.clear && lent.pos == 1 {
             return self.first_piece_option(profile, lent);
         }
@@ -307,6 +348,20 @@ impl PathEnd {
         })
     }
 
+    /// On data.
+    fn piece_option(&self, profile: &Profile, side: Side, lent: &RecordRef<'_>) -> Option<Saying>
+        ensures value { options_by result ≡
+            piece_options profile.now side (record_of lent.now) self.now }
+    {
+        if self.modes.identity {
+            return self.plain_option(lent.pos);
+        }
+        match self.modes.own_infinite {
+            Some(mapping) => self.infinite_option(mapping),
+            None => self.mapped_option(profile, side, lent),
+        }
+    }
+
     /// On the FIN at this position.
     fn fin_option(&self, position: Pos) -> Option<Saying>
         ensures value { options_by result ≡ fin_options position self.now }
@@ -314,10 +369,13 @@ impl PathEnd {
         if self.modes.identity {
             return self.plain_option(position);
         }
-        Some(PathOption::Dss {
-            next: Some(self.receiving.next()),
-            mapping: None,
-        })
+        match self.modes.own_infinite {
+            Some(mapping) => self.infinite_option(mapping),
+            None => Some(PathOption::Dss {
+                next: Some(self.receiving.next()),
+                mapping: None,
+            }),
+        }
     }
 
     /// On a record.
@@ -356,7 +414,7 @@ impl PathEnd {
     fn ack_said(&self, profile: &Profile, side: Side, position: Pos, fin: Option<u64>) -> Said<'_>
         ensures { plain_said result ≡ ack_said profile.now side position fin self.now }
     {
-        let options = SaidOptions::of(self.ack_option(profile, side, fin));
+        let options = self.ack_options(profile, side, fin);
         self.segment_of(profile, self.tcp.ack_at(position), options, &[])
     }
 
@@ -414,30 +472,16 @@ impl PathEnd {
         }
     }
 
-    /// The reset, perhaps with a reason; the fault doesn't pass (RFC 8684, section 3.6). After a fallback no option is sent.
+    /// The reset, perhaps with a reason; after a fallback no option is sent.
     fn reset_said(&self, profile: &Profile, reason: Option<u8>) -> Said<'_>
         ensures { plain_said result ≡ reset_said profile.now reason self.now }
     {
-        let option = if self.modes.identity {
-            None
+        let options = if self.modes.identity {
+            SaidOptions::Nothing
         } else {
-            reset_option(reason)
+            broken_options(self.treated.failed_mapping(), reason)
         };
-        let options = SaidOptions::of(option);
         self.segment_of(profile, self.own_reset(), options, &[])
-    }
-
-    /// The reset of an end that found bytes which aren't those of the mapping at this place of the peer's stream, with the reason 6
-    /// (RFC 8684, sections 3.6 and 3.7).
-    fn fail_reset_said(&self, profile: &Profile, place: u64) -> Said<'_>
-        ensures { plain_said result ≡ fail_reset_said profile.now place self.now }
-    {
-        let reset = PathOption::Reset {
-            transient: false,
-            reason: 6,
-        };
-        let options = SaidOptions::Two(PathOption::Fail { place }, reset);
-        self.segment_of(profile, self.tcp.reset_segment(), options, &[])
     }
 
     /// The acknowledgement that says this option behind its DSS.
@@ -504,7 +548,7 @@ impl PathEnd {
             Some(outgoing) => outgoing,
             None => self.tcp.reset_segment(),
         };
-        let options = SaidOptions::of(reset_option(Some(1)));
+        let options = SaidOptions::One(reset_option(1));
         self.segment_of(profile, outgoing, options, &[])
     }
 
@@ -555,7 +599,6 @@ impl PathEnd {
             SegmentKind::Refusal => self.refusal_said(profile),
             SegmentKind::Resend => self.resend_said(profile, side),
             SegmentKind::Reset { reason } => self.reset_said(profile, reason),
-            SegmentKind::FailReset { place } => self.fail_reset_said(profile, place),
             SegmentKind::Notice => self.noted_said(profile, side),
             SegmentKind::FastClose => self.carried_said(profile, side),
         }
@@ -575,12 +618,27 @@ impl PathEnd {
     }
 }
 
-/// Why the path is reset, where there is a reason.
-fn reset_option(reason: Option<u8>) -> Option<Saying>
-    ensures { options_by result ≡ reset_options reason }
+/// Why the path is reset, where there is a reason: MP_FAIL stands before it where a failed check broke the path (RFC 8684, sections
+/// 3.6 and 3.7).
+fn broken_options(failed: Option<u64>, reason: Option<u8>) -> SaidOptions
+    ensures { said_options result ≡ broken_options failed reason }
 {
-    Some(PathOption::Reset {
+    let Some(reason) = reason else {
+        return SaidOptions::Nothing;
+    };
+    let reset = reset_option(reason);
+    match failed {
+        Some(place) => SaidOptions::Two(PathOption::Fail { place }, reset),
+        None => SaidOptions::One(reset),
+    }
+}
+
+/// Why the path is reset; the fault doesn't pass (RFC 8684, section 3.6).
+fn reset_option(reason: u8) -> Saying
+    ensures { result ∷ [] ≡ reset_options (Some reason) }
+{
+    PathOption::Reset {
         transient: false,
-        reason: reason?,
-    })
+        reason,
+    }
 }

@@ -6,7 +6,7 @@ ghost use Rattle.actor_desk.specs.Kinds.{CanBeAsked};
 ghost use Rattle.link_model.specs.Octets.{after_octets};
 ghost use Rattle.link_script.specs.Scripts.{HasRanges};
 ghost use Rattle.path_core.specs.Events.{is_dead_path};
-ghost use Rattle.path_core.specs.Looking.{departing, next_arrival, shown_arriving, IsSegmentOn, IsTold};
+ghost use Rattle.path_core.specs.Looking.{departing, next_arrival, shown_arriving, smoothed_rtt, congestion_window, IsSegmentOn, IsTold};
 ghost use Rattle.path_core.specs.Octets.{octets};
 ghost use Rattle.path_core.specs.Replies.{asks_bytes_first, needs_memory_first};
 ghost use Rattle.path_core.specs.Starts.{first_turn_of};
@@ -100,12 +100,28 @@ impl Path {
         self.machine.tick()
     }
 
+    /// SRTT of a side's end, the smoothed round-trip time, in whole ticks of a millisecond, rounded down: at most a minute, and
+    /// None before the first measurement (RFC 6298, section 2).
+    pub fn smoothed_rtt(&self, side: Side) -> Option<u32>
+        ensures value { result ≡ smoothed_rtt side self.now }
+        ensures bound { IfSome result (λ srtt. srtt ≤ 60000) }
+    {
+        self.machine.end(side).tcp.smoothed_rtt()
+    }
+
+    /// cwnd of a side's end, the congestion window, in octets: at most 2^20 (RFC 5681, section 3.1).
+    pub fn congestion_window(&self, side: Side) -> u32
+        ensures value { result ≡ congestion_window side self.now }
+        ensures bound { result ≤ 2 ^ 20 }
+    {
+        self.machine.end(side).tcp.congestion_window()
+    }
+
     /// The segment that its next step hands to the link, if it hands one, which the step tells. The path stays as it is.
     ///
     /// # Errors
     ///
     /// Only where there is no memory for its octets.
-    #[tactic(auto, using(crate::proofs::SegmentsTold::outgoing_told))]
     pub fn outgoing(&self) -> Result<Option<Departing>, AllocError>
         ensures value { IfOk result (λ d. d ≡ departing self.now) }
         ensures told { IfOk result (λ d. IsTold d self.now) }

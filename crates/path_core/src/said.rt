@@ -1,6 +1,6 @@
 //! A segment that an end is to send, with what it lends of the end.
 
-ghost use Rattle.std.specs.Prelude.{◌≡◌, IfOk};
+ghost use Rattle.std.specs.Prelude.{◌≡◌, ◌∷◌, IfOk};
 ghost use Rattle.path_segments.specs.Options.{plain_option};
 ghost use Rattle.path_core.specs.Said.{options_by, said_options};
 
@@ -22,6 +22,16 @@ pub(crate) enum SaidOptions {
 }
 
 impl SaidOptions {
+    /// This one, and the other behind it, if any.
+    pub fn first_and(first: Saying, second: Option<Saying>) -> Self
+        ensures { said_options result ≡ first ∷ options_by second }
+    {
+        match second {
+            Some(second) => SaidOptions::Two(first, second),
+            None => SaidOptions::One(first),
+        }
+    }
+
     /// This one, if any.
     pub fn of(option: Option<Saying>) -> Self
         ensures { said_options result ≡ options_by option }

@@ -23,10 +23,8 @@ pub(crate) enum SegmentKind {
     Refusal,
     /// What an expiry sends again.
     Resend,
-    /// The reset of the end, perhaps with a reason (RFC 8684, section 3.6).
+    /// The reset of the end, perhaps with a reason (RFC 8684, section 3.6), and with MP_FAIL where a failed check broke the path.
     Reset { reason: Option<u8> },
-    /// The reset of the end, as the check of the mapping at this place of the peer's stream failed (sections 3.6 and 3.7).
-    FailReset { place: u64 },
     /// The acknowledgement that carries the first of what is to be noted to the peer; without one an acknowledgement (sections
     /// 3.3.8 and 3.4).
     Notice,

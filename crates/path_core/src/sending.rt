@@ -9,6 +9,7 @@ use crate::granted::GrantedPieces;
 use crate::granted_piece::GrantedPiece;
 use data_close::CloseState;
 use send_book::Why;
+use seq_units::Pos;
 use std::alloc::{AllocError, Global};
 use std::marker::Model;
 
@@ -53,6 +54,7 @@ impl Model for Sending {
 
 impl Sending {
     ghost use Rattle.path_core.specs.Ends.{no_sending};
+    ghost use Rattle.path_core.specs.InfiniteSending.{is_tail, position_of};
     ghost use Rattle.path_core.specs.StreamEnds.{is_news, after_acked, after_peer_data_fin, after_refusal, owes_data_fin, is_all_granted, with_data_fin_sent, without_news};
 
     /// Nothing was granted, sent or heard. Takes no memory.
@@ -128,6 +130,20 @@ impl Sending {
             Some(end) => self.granted.granted_to().max(self.heard.min(end)) == end,
             None => false,
         }
+    }
+
+    /// From the first byte on that isn't acknowledged, places rise with positions up to the end of the record, this position.
+    pub fn is_tail(&self, end: Pos) -> bool
+        ensures { result ≡ is_tail self.now.granted end }
+    {
+        self.granted.is_tail(end)
+    }
+
+    /// The position of a place; the next position, where the record doesn't have it.
+    pub fn position_of(&self, next: Pos, place: u64) -> Pos
+        ensures { result ≡ position_of next place self.now.granted }
+    {
+        self.granted.position_of(next, place)
     }
 
     /// The DATA_FIN is to be sent: the end is known, and it was neither sent nor acknowledged.

@@ -6,11 +6,11 @@ ghost use Rattle.path_core.specs.StreamEnds.{is_data_fin_owed, is_data_fin_due, 
 use crate::end::PathEnd;
 
 impl PathEnd {
-    /// A DATA_FIN is acknowledged by nothing that was heard; after a fallback the subflow's FIN takes its place (section 3.7).
+    /// A DATA_FIN is acknowledged by nothing that was heard; without mappings the subflow's FIN takes its place (section 3.7).
     pub fn is_data_fin_owed(&self) -> bool
         ensures { result ≡ is_data_fin_owed self.now }
     {
-        !self.modes.identity && self.sending.owes_data_fin()
+        !self.modes.sends_plainly() && self.sending.owes_data_fin()
     }
 
     /// The timer runs for it: a byte or a DATA_FIN that isn't acknowledged, or a window that is shut.
@@ -20,24 +20,24 @@ impl PathEnd {
         self.is_data_fin_owed() || !self.sending.is_idle() || self.sending.is_shut()
     }
 
-    /// The DATA_FIN is to be sent: the end is known, and it was neither sent nor acknowledged; never after a fallback.
+    /// The DATA_FIN is to be sent: the end is known, and it was neither sent nor acknowledged; never without mappings.
     pub fn is_data_fin_due(&self) -> bool
         ensures { result ≡ is_data_fin_due self.now }
     {
         self.tcp.state().may_finish()
-            && !self.modes.identity
+            && !self.modes.sends_plainly()
             && self.modes.clear
             && self.sending.is_data_fin_due()
     }
 
-    /// The FIN is to be sent: the own DATA_FIN is acknowledged, and the peer's came; after a fallback all bytes were granted.
+    /// The FIN is to be sent: the own DATA_FIN is acknowledged, and the peer's came; without mappings all bytes were granted.
     pub fn is_fin_due(&self) -> bool
         ensures { result ≡ is_fin_due self.now }
     {
         if !self.tcp.state().may_finish() {
             return false;
         }
-        if self.modes.identity {
+        if self.modes.sends_plainly() {
             self.sending.is_all_granted()
         } else {
             self.sending.may_finish()

@@ -3,7 +3,9 @@
 
 ghost use Rattle.std.specs.Prelude.{◌≡◌, ◌-◌, ◌≤◌, ◌<◌, ◌^◌, is_some, IfSome, OnOk, OnErr};
 ghost use Rattle.actor_desk.specs.Kinds.{CanBeAsked};
+ghost use Rattle.fallback_state.specs.declared.fall.Event.TheVariants as events;
 ghost use Rattle.path_core.specs.Breaking.{break_ask, answered_break};
+ghost use Rattle.path_core.specs.Fallback.{after_fell};
 ghost use Rattle.path_core.specs.Octets.{octets};
 ghost use Rattle.path_core.specs.Passing.{is_fin_set, fin_ask, having_asked, with_peer_data_fin, plain_fin, with_fin_told, answered_plain_fin};
 ghost use Rattle.path_core.specs.Deliver.{is_unmapped, times_unmapped, breaks_by_unmapped, after_unmapped, with_data_fin_reached, after_pieces};
@@ -27,11 +29,11 @@ use std::alloc::AllocError;
 const STRIPPED: u8 = 6;
 
 impl PathEnd {
-    /// The copy acknowledges data without a Data ACK, and the side didn't fall back.
+    /// The copy acknowledges data without a Data ACK, which the side wants.
     fn lacks_data_ack(&self) -> bool
         ensures { result ≡ lacks_data_ack self.now }
     {
-        self.treated.is_plain_ack() && !self.modes.identity
+        self.treated.is_plain_ack() && !self.modes.sends_plainly()
     }
 
     /// It breaks a path that joined, as long as no Data ACK covered something on it; and the third without a Data ACK between
@@ -60,27 +62,36 @@ impl PathEnd {
         }
     }
 
-    /// After a fallback the acknowledgement of the subflow is told.
+    /// That such a copy came was told.
+    fn take_plain_ack_reply(&mut self, reply: &Reply)
+        ensures { self.new ≡ with_plain_ack (after_fell events.PlainAck reply.now self.old) }
+    {
+        self.take_fell_reply(Event::PlainAck, reply);
+        self.count_plain_ack();
+    }
+
+    /// Where the side sends without mappings the acknowledgement of the subflow is told.
     pub fn subflow_ack_stands(&self) -> bool
         ensures { result ≡ subflow_ack_stands self.now }
     {
-        self.modes.identity && !self.treated.is_data_ack_taken()
+        self.plain_next().is_some() && !self.treated.is_data_ack_taken()
     }
 
     /// It acknowledges so many bytes.
-    fn plain_next(&self) -> u64
+    fn plain_next(&self) -> Option<u64>
         ensures value { result ≡ plain_next self.now }
-        ensures bound { result < 2 ^ 62 }
+        ensures bound { IfSome result (λ next. next < 2 ^ 62) }
     {
-        self.treated.acknowledged().saturating_sub(1)
+        self.modes.bytes_acknowledged(self.treated.acknowledged())
     }
 
     /// So many bytes of the stream are acknowledged, where that was taken.
     fn take_subflow_ack_reply(&mut self, reply: &Reply)
         ensures { self.new ≡ with_plain_acked reply.now self.old }
     {
-        let next = self.plain_next();
-        self.sending.take_ack_reply(next, reply);
+        if let Some(next) = self.plain_next() {
+            self.sending.take_ack_reply(next, reply);
+        }
     }
 
     /// The next byte came without any option, and the side isn't sure.
@@ -97,7 +108,7 @@ impl PathEnd {
         ensures { result ≡ is_unmapped self.now }
     {
         self.treated.held_edge() == Some(self.tcp.edge())
-            && !self.modes.identity
+            && !self.modes.receives_plainly(self.tcp.edge())
             && self.mapping_at_edge().is_none()
     }
 
@@ -142,16 +153,16 @@ impl PathEnd {
         self.reach_data_fin();
     }
 
-    /// After a fallback: the end of the stream by the peer's FIN, where the edge passed it and it wasn't told.
+    /// Where the peer sends without mappings: the end of the stream by its FIN, where the edge passed it and it wasn't told.
     pub fn plain_fin(&self) -> Option<u64>
         ensures value { result ≡ plain_fin self.now }
-        ensures bound { IfSome result (λ place. place ≤ 2 ^ 62) }
+        ensures bound { IfSome result (λ place. place < 2 ^ 62) }
     {
-        if !self.modes.identity || self.receiving.is_fin_told() {
+        if self.receiving.is_fin_told() {
             return None;
         }
         match self.tcp.fin_at() {
-            Some(position) if position < self.tcp.edge() => Some(position.saturating_sub(1)),
+            Some(position) if position < self.tcp.edge() => self.modes.fin_place(position),
             _ => None,
         }
     }
@@ -187,8 +198,7 @@ impl Machine {
         if self.end(side).breaks_by_ack(&self.profile) {
             return self.answer_break(side, STRIPPED, reply);
         }
-        self.end_mut(side).take_fell_reply(Event::PlainAck, reply);
-        self.end_mut(side).count_plain_ack();
+        self.end_mut(side).take_plain_ack_reply(reply);
         self.go_by_verdict(side, reply);
         Ok(())
     }
@@ -206,8 +216,11 @@ impl Machine {
         ensures able { CanBeAsked result }
     {
         let end = self.end(side);
-        let (next, window) = (end.plain_next(), u64::from(end.treated.window()));
-        Ask::Send(side, SendCall::AckIn { next, window })
+        let window = u64::from(end.treated.window());
+        match end.plain_next() {
+            Some(next) => Ask::Send(side, SendCall::AckIn { next, window }),
+            None => Ask::Local(LocalStep::End),
+        }
     }
 
     /// It was told.

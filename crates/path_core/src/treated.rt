@@ -4,6 +4,7 @@ ghost use Rattle.std.specs.Prelude.{◌≡◌, true, false, ◌≤◌, ◌^◌, 
 ghost use Rattle.path_agenda.specs.Items.{IsFair};
 ghost use Rattle.path_core.specs.Words.{item_at};
 
+use crate::infinite_mapping::InfiniteMapping;
 use arrayvec::ArrayVec;
 use path_agenda::{Heard, Items};
 use seq_units::Pos;
@@ -38,6 +39,10 @@ pub(crate) struct Treated {
     data_ack_taken: bool,
     /// The receive edge at its arrival, where its payload has the octet there and isn't dropped.
     held_edge: Option<Pos>,
+    /// The place of the mapping whose failed check broke the path.
+    failed_mapping: Option<u64>,
+    /// The infinite mapping by which the side may send, where the send book gave its bytes to this path alone as an MP_FAIL came.
+    infinite_mapping: Option<InfiniteMapping>,
 }
 
 impl Model for Treated {
@@ -58,6 +63,8 @@ impl Model for Treated {
       acknowledged = t.acknowledged;
       data_ack_taken = t.data_ack_taken;
       held_edge = t.held_edge;
+      failed_mapping = t.failed_mapping;
+      infinite_mapping = t.infinite_mapping;
     } };
 
     ghost use Rattle.std.specs.Prelude.{◌^◌, ◌≤◌, All};
@@ -88,6 +95,8 @@ impl Treated {
             acknowledged: 0,
             data_ack_taken: false,
             held_edge: None,
+            failed_mapping: None,
+            infinite_mapping: None,
         }
     }
 
@@ -123,6 +132,8 @@ impl Treated {
         self.acknowledged = 0;
         self.data_ack_taken = false;
         self.held_edge = None;
+        self.failed_mapping = None;
+        self.infinite_mapping = None;
     }
 
     /// Whether it acknowledges data for the first time without a Data ACK.
@@ -183,6 +194,34 @@ impl Treated {
         ensures { self.new ≡ record self.old { held_edge = None } }
     {
         self.held_edge = None;
+    }
+
+    /// The place of the mapping whose failed check broke the path.
+    pub fn failed_mapping(&self) -> Option<u64>
+        ensures { result ≡ self.now.failed_mapping }
+    {
+        self.failed_mapping
+    }
+
+    /// The failed check of the mapping at this place broke the path.
+    pub fn note_failed_mapping(&mut self, place: u64)
+        ensures { self.new ≡ record self.old { failed_mapping = Some place } }
+    {
+        self.failed_mapping = Some(place);
+    }
+
+    /// The infinite mapping by which the side may send, where the send book gave its bytes to this path alone.
+    pub fn infinite_mapping(&self) -> Option<InfiniteMapping>
+        ensures { result ≡ self.now.infinite_mapping }
+    {
+        self.infinite_mapping
+    }
+
+    /// It gave them so, or it didn't.
+    pub fn note_infinite_mapping(&mut self, mapping: Option<InfiniteMapping>)
+        ensures { self.new ≡ record self.old { infinite_mapping = mapping } }
+    {
+        self.infinite_mapping = mapping;
     }
 
     /// The window that it told, in octets.

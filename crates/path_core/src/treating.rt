@@ -3,7 +3,7 @@
 ghost use Rattle.std.specs.Prelude.{◌≡◌, ◌<◌, ◌≤◌, ◌^◌, ◌&&◌, not, is_some, if◌then◌else◌, nat_lt, Some, IfSome, OnOk, OnErr};
 ghost use Rattle.actor_desk.specs.Kinds.{CanBeAsked};
 ghost use Rattle.fallback_state.specs.declared.fall.Event.TheVariants as events;
-ghost use Rattle.fallback_state.specs.Modes.{reads_mappings};
+ghost use Rattle.fallback_state.specs.Modes.{reads_mappings, writes_mappings};
 ghost use Rattle.path_agenda.specs.Items.{IsFair};
 ghost use Rattle.path_core.specs.Octets.{octets};
 ghost use Rattle.path_core.specs.Opening.{after_keys};
@@ -11,7 +11,7 @@ ghost use Rattle.path_core.specs.Deliver.{with_learned, with_skipped};
 ghost use Rattle.path_core.specs.Replies.{IsAckBounded};
 ghost use Rattle.path_core.specs.State.{end_at, goes_on, left, with_agenda, with_end};
 ghost use Rattle.path_core.specs.Fallback.{after_fell, fell_duties};
-ghost use Rattle.path_core.specs.Treating.{counts, is_clash, mapping_stands, heard_stands, mapping_ask, heard_ask, is_acked, told_next, acked_in, with_acked, answered_ack, answered_mapping, with_data_fin, answered_heard, after_dss, heard_passed, item_stands, item_ask, answered_item, item_passed, item_of, is_dropped, is_not_kept, after_keep};
+ghost use Rattle.path_core.specs.Treating.{counts, is_clash, mapping_stands, heard_stands, mapping_ask, heard_ask, is_acked, told_next, acked_in, with_acked, with_data_ack, answered_ack, answered_mapping, with_data_fin, answered_heard, after_dss, heard_passed, item_stands, item_ask, answered_item, item_passed, item_of, is_dropped, is_not_kept, after_keep};
 
 use crate::end::PathEnd;
 use crate::fast_closing::fast_heard_ask;
@@ -69,8 +69,9 @@ impl PathEnd {
     {
         let starting = self.modes.mode == Mode::Starting;
         match item {
-            Heard::Dss | Heard::PeerKey { .. } | Heard::Join { .. } | Heard::Fail => false,
-            Heard::DataAck { .. } => true,
+            Heard::Dss | Heard::PeerKey { .. } | Heard::Join { .. } => false,
+            Heard::DataAck { .. } => self.modes.own_infinite.is_none(),
+            Heard::Fail => self.writes_mappings(),
             Heard::Notice { .. } => true,
             Heard::FastClose { .. } => true,
             Heard::Mapping { .. } => self.counts() && (self.is_clash() || starting),
@@ -81,12 +82,22 @@ impl PathEnd {
     }
 
     /// The peer's mappings count in the mode that was told.
-    fn reads_mappings(&self) -> bool
+    pub fn reads_mappings(&self) -> bool
         ensures { result ≡ reads_mappings self.now.modes.mode }
     {
         matches!(
             self.modes.mode,
             Mode::Starting | Mode::Sure | Mode::InfiniteSend
+        )
+    }
+
+    /// The side's own mappings count in the mode that was told.
+    fn writes_mappings(&self) -> bool
+        ensures { result ≡ writes_mappings self.now.modes.mode }
+    {
+        matches!(
+            self.modes.mode,
+            Mode::Starting | Mode::Sure | Mode::InfiniteReceive
         )
     }
 
@@ -145,9 +156,16 @@ impl PathEnd {
         ensures { self.new ≡ with_acked next reply.now self.old }
     {
         self.sending.take_ack_reply(next, reply);
+        self.hear_data_ack(next);
+        self.treated.data_ack_is_taken();
+    }
+
+    /// A Data ACK was heard, which covers something or doesn't.
+    fn hear_data_ack(&mut self, next: u64)
+        ensures { self.new ≡ with_data_ack next self.old }
+    {
         self.modes.covered |= 0 < next;
         self.modes.plain_acks = 0;
-        self.treated.data_ack_is_taken();
     }
 
     /// At A the first DSS clears the end, and answers the third MP_JOIN, which is news for the timer.
@@ -166,14 +184,14 @@ impl PathEnd {
     {
         match item {
             Heard::Dss => self.pass_dss(side),
+            Heard::DataAck { next, .. } => self.hear_data_ack(next),
             Heard::Mapping { .. } => self.pass_mapping(),
             Heard::DataFin { place } => {
                 if self.counts() {
                     self.note_data_fin(place);
                 }
             }
-            Heard::DataAck { .. }
-            | Heard::InfiniteMapping { .. }
+            Heard::InfiniteMapping { .. }
             | Heard::PeerKey { .. }
             | Heard::Keys { .. }
             | Heard::Join { .. }
@@ -251,9 +269,8 @@ impl Machine {
             Heard::DataFin { .. } => self.fell_ask(side, Event::MappingHeard),
             Heard::InfiniteMapping { .. } => self.fell_ask(side, Event::InfiniteHeard),
             Heard::Keys { own, peer } => keys_ask(side, Some(KeyPair { own, peer })),
-            Heard::Dss | Heard::PeerKey { .. } | Heard::Join { .. } | Heard::Fail => Ask::Local(
-                LocalStep::End,
-            ),
+            Heard::Dss | Heard::PeerKey { .. } | Heard::Join { .. } => Ask::Local(LocalStep::End),
+            Heard::Fail => self.fail_ask(side),
             Heard::Notice { notice } => self.notice_ask(side, notice),
             Heard::FastClose { key } => fast_heard_ask(side, key),
         }
@@ -341,8 +358,8 @@ impl Machine {
                 self.answer_data_fin(side, place, reply);
                 Ok(())
             }
-            Heard::InfiniteMapping { .. } => {
-                self.answer_fell(side, Event::InfiniteHeard, reply);
+            Heard::InfiniteMapping { place, position } => {
+                self.answer_infinite(side, place, position, reply);
                 Ok(())
             }
             Heard::Keys { own, peer } => {
@@ -354,7 +371,11 @@ impl Machine {
                 self.answer_fast_heard(side, reply);
                 Ok(())
             }
-            Heard::Dss | Heard::PeerKey { .. } | Heard::Join { .. } | Heard::Fail => {
+            Heard::Fail => {
+                self.answer_fail(side, reply);
+                Ok(())
+            }
+            Heard::Dss | Heard::PeerKey { .. } | Heard::Join { .. } => {
                 self.done();
                 Ok(())
             }

@@ -1,6 +1,7 @@
 //! One end of a subflow: what it is made of, and what it tells.
-ghost use Rattle.std.specs.Prelude.{◌≡◌, ◌+◌, ◌^◌, ◌<◌, ◌≤◌, true, false, length, map, All, IfOk, OnOk, OnErr, IsTrue};
+ghost use Rattle.std.specs.Prelude.{◌≡◌, ◌+◌, ◌^◌, ◌<◌, ◌≤◌, true, false, length, map, option_map, All, IfOk, IfSome, OnOk, OnErr, IsTrue};
 ghost use Rattle.std.specs.List.{concat};
+ghost use Rattle.rtt_timer.specs.Estimates.{srtt_of};
 ghost use Rattle.subflow_recv.specs.Receiving.{filled};
 ghost use Rattle.subflow_tcp.specs.declared.handshake.State.TheVariants.{Waiting, Listen, SynSent};
 ghost use Rattle.subflow_tcp.specs.Opening.{nothing_came};
@@ -168,6 +169,15 @@ impl Subflow {
         self.timing.rtt.rto()
     }
 
+    /// SRTT, the smoothed round-trip time, in whole ticks of a millisecond, rounded down: at most a minute, and None before the
+    /// first measurement (RFC 6298, section 2).
+    pub fn smoothed_rtt(&self) -> Option<u32>
+        ensures value { result ≡ option_map srtt_of self.now.timing.rtt.estimate }
+        ensures bound { IfSome result (λ srtt. srtt ≤ 60000) }
+    {
+        self.timing.rtt.srtt()
+    }
+
     /// The receive edge, RCV.NXT: the first position that the end hasn't passed. It begins at 1, behind the SYN.
     pub fn edge(&self) -> Pos
         ensures value { result ≡ self.now.recv.edge }
@@ -245,6 +255,14 @@ impl Subflow {
             Some(pos) => pos < self.recv.edge(),
             None => false,
         }
+    }
+
+    /// cwnd, the congestion window, in octets: at most 2^20 (RFC 5681, section 3.1).
+    pub fn congestion_window(&self) -> u32
+        ensures value { result ≡ self.now.congestion.reno.window }
+        ensures bound { result ≤ 1048576 }
+    {
+        self.congestion.reno.window()
     }
 
     /// The room of the congestion window beside what is under way, in octets.

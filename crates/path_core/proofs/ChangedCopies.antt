@@ -1,0 +1,102 @@
+-- What a link makes of the octets of a segment are the octets of what it makes of the segment.
+use Rattle.std.proofs.Common.{◌≡◌, refl, sym, ◌∙◌, ap, subst, ℕ, ◌≤◌, Bool, true, false, List, [], ◌∷◌, length, Ok}
+use Rattle.outside_kit.specs.declared.side.Side.{Side}
+use Rattle.outside_kit.specs.declared.side.Side.TheVariants.{A, B}
+use Rattle.link_model.specs.Octets.{addresses_from, octets_stripped, octets_altered}
+use Rattle.link_model.specs.Steps.{changed}
+use Rattle.segment_wire.specs.declared.head.Addresses.{Addresses}
+use Rattle.segment_wire.specs.Changes as changes
+use Rattle.segment_wire.specs.Reading.{segment_meaning}
+use Rattle.segment_wire.specs.Segment.{CanWrite, Segment, segment_text}
+use Rattle.segment_wire.proofs.Again.{segment_meaning-written}
+use Rattle.segment_wire.proofs.Changed.{others_can_be_carried}
+use Rattle.path_segments.specs.declared.spelling.Side.{Side as SpelledSide}
+use Rattle.path_segments.specs.declared.spelling.Spelling.{Spelling}
+use Rattle.path_segments.specs.Spelling.{peer_of, addresses_from as spelled_addresses}
+use Rattle.path_segments.specs.Spelled.{PlainSegment, CanSay, spelled, spelled_text}
+use Rattle.path_segments.proofs.ChangedSegments.{altered_is_said}
+use Rattle.path_segments.proofs.SegmentsAgain.{four, written}
+use Rattle.path_core.specs.Octets.{octets}
+use Rattle.path_core.specs.OptionsOut.{spelled_by}
+use Rattle.path_core.specs.Said.{CanBeSaid}
+use Rattle.path_core.specs.Shown.{octets_of}
+use Rattle.path_core.specs.Values.{values}
+
+-- the link has the addresses of the segments
+pub same_addresses : (path : ℕ) (side : Side) → addresses_from path side ≡ spelled_addresses path (spelled_by side)
+same_addresses path A = refl
+same_addresses path B = refl
+
+module _ (spelling : Spelling) (from : SpelledSide) where
+  abbrev between : Addresses
+  between = spelled_addresses spelling.path from
+
+  means : (segment : Segment) → CanWrite segment → segment_meaning between (segment_text between segment) ≡ Ok segment
+  means segment can = segment_meaning-written between segment (four spelling.path from) (four spelling.path (peer_of from)) can
+
+  stripped_text : (segment : Segment) → CanWrite segment → changes.text_stripped between (segment_text between segment) ≡ segment_text between (changes.stripped segment)
+  unfolding changes.text_stripped
+  stripped_text segment can = ap (changes.changed_text changes.stripped between (segment_text between segment)) (means segment can)
+
+  altered_text : (segment : Segment) → CanWrite segment → changes.text_altered between (segment_text between segment) ≡ segment_text between (changes.altered segment)
+  unfolding changes.text_altered
+  altered_text segment can = ap (changes.changed_text changes.altered between (segment_text between segment)) (means segment can)
+
+  stripped_written : (segment : Segment) → CanWrite segment → CanWrite (changes.stripped segment)
+  stripped_written segment can = record { head = can.head; carried = others_can_be_carried segment.options segment.payload can.carried }
+
+  -- the same payload with a bit turned
+  abbrev with_bit : PlainSegment → PlainSegment
+  with_bit s = record s { payload = changes.with_turned_bit s.payload }
+
+  length_turned : (bytes : List ℕ) → length (changes.with_turned_bit bytes) ≡ length bytes
+  length_turned [] = refl
+  length_turned (first ∷ rest) = refl
+
+  bit_said : (s : PlainSegment) → CanSay spelling from s → CanSay spelling from (with_bit s)
+  bit_said s can = record {
+    path = can.path;
+    window = can.window;
+    options = can.options;
+    room = can.room;
+    fits = subst (λ n. n ≤ 65475) (sym (length_turned s.payload)) can.fits;
+  }
+
+  altered_spelled : (s : PlainSegment) → spelled spelling from (with_bit s) ≡ changes.altered (spelled spelling from s)
+  unfolding spelled
+  altered_spelled s = refl
+
+  -- a bit is turned after the options were taken away, or before it
+  stripped_and_altered : (s : PlainSegment) → CanSay spelling from s
+      → changes.text_stripped between (spelled_text spelling from (with_bit s)) ≡ changes.text_altered between (changes.text_stripped between (spelled_text spelling from s))
+  stripped_and_altered s can =
+      let whole = spelled spelling from s in
+      let can_write = written spelling from s can in
+      stripped_text (spelled spelling from (with_bit s)) (written spelling from (with_bit s) (bit_said s can))
+      ∙ ap (λ t. segment_text between (changes.stripped t)) (altered_spelled s)
+      ∙ sym (altered_text (changes.stripped whole) (stripped_written whole can_write))
+      ∙ sym (ap (changes.text_altered between) (stripped_text whole can_write))
+
+module _ (spelling : Spelling) (s : Side) (segment : PlainSegment) where
+  altered_alone : CanBeSaid spelling s segment
+      → spelled_text spelling (spelled_by s) (with_bit spelling (spelled_by s) segment) ≡ octets_altered spelling.path s (spelled_text spelling (spelled_by s) segment)
+  altered_alone can =
+      sym (altered_is_said spelling (spelled_by s) segment can)
+      ∙ ap (λ a. changes.text_altered a (spelled_text spelling (spelled_by s) segment)) (sym (same_addresses spelling.path s))
+
+  altered_stripped : CanBeSaid spelling s segment
+      → octets_stripped spelling.path s (spelled_text spelling (spelled_by s) (with_bit spelling (spelled_by s) segment))
+      ≡ octets_altered spelling.path s (octets_stripped spelling.path s (spelled_text spelling (spelled_by s) segment))
+  altered_stripped can =
+      ap (λ a. changes.text_stripped a (spelled_text spelling (spelled_by s) (with_bit spelling (spelled_by s) segment))) (same_addresses spelling.path s)
+      ∙ stripped_and_altered spelling (spelled_by s) segment can
+      ∙ ap (λ a. changes.text_altered a (changes.text_stripped a (spelled_text spelling (spelled_by s) segment))) (sym (same_addresses spelling.path s))
+
+  -- the octets of what arrives, where it can be said if a bit of it is turned
+  pub octets_changed : (stripped altered : Bool) → (altered ≡ true → CanBeSaid spelling s segment)
+      → octets_of spelling (changed (values.strips spelling s) (values.alters spelling s) stripped altered (values.makes spelling s segment))
+      ≡ changed (octets.strips spelling s) (octets.alters spelling s) stripped altered (octets.makes spelling s segment)
+  octets_changed true true said = altered_stripped (said refl)
+  octets_changed false true said = altered_alone (said refl)
+  octets_changed true false said = refl
+  octets_changed false false said = refl
