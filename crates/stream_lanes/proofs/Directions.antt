@@ -1,5 +1,5 @@
 -- Every event of a direction keeps what holds of it.
-use Rattle.std.proofs.Common.{◌≡◌, refl, sym, ◌∙◌, ap, subst, ℕ, zero, suc, ◌-◌, ◌<◌, ◌≤◌, Bool, true, false, ◌&&◌, ◌||◌, ◌==◌, if◌then◌else◌, ⊎_elim, [], ◌∷◌, ◌++◌, ◌+◌, nat_le, length, take, Option, Some, None, Result, Ok, Err, set, arith, nat_lt}
+use Rattle.std.proofs.Common.{◌≡◌, refl, sym, ◌∙◌, ap, subst, ℕ, zero, suc, ◌-◌, ◌<◌, ◌≤◌, min, Bool, true, false, ◌&&◌, ◌||◌, ◌==◌, if◌then◌else◌, ⊎_elim, [], ◌∷◌, ◌++◌, ◌+◌, nat_le, length, take, Option, Some, None, Result, Ok, Err, set, arith, nat_lt}
 use Rattle.std.proofs.lemmas.Bool.{cases_lt}
 use Rattle.std.proofs.lemmas.List.{take-append-le}
 use Rattle.std.specs.List.{slice_get}
@@ -53,12 +53,12 @@ moved_sent f path (HearAck copy) p = at (slice_get p.acks copy)
     at : (o : Option AckCopy) → (hears o p).sent ≡ p.sent
     at None = refl
     at (Some a) = refl
-moved_sent f path (HearSubAck copy) p = at (slice_get p.acks copy) p.pair
+moved_sent f path (HearSubAck copy upto) p = at (slice_get p.acks copy) p.pair
   where
-    at : (o : Option AckCopy) (q : Option Pair) → (hears_sub o q p).sent ≡ p.sent
+    at : (o : Option AckCopy) (q : Option Pair) → (hears_sub upto o q p).sent ≡ p.sent
     at None q = refl
     at (Some a) None = refl
-    at (Some a) (Some m) = sent_if p.alters p (record p { asking = AskAckIn (place_by m a.sub) a.window }) refl
+    at (Some a) (Some m) = sent_if p.alters p (record p { asking = AskAckIn (place_by m (min upto a.sub)) a.window }) refl
 moved_sent f path (SendPiece piece mapped) p = at (slice_get p.pieces piece)
   where
     at : (o : Option Mapping) → (sends_piece mapped o p).sent ≡ p.sent

@@ -28,18 +28,18 @@ module _ (v : View) (path : ℕ) (fits : ViewFits v) where
 
   -- ---- acknowledgements of the subflow
 
-  pub hear_sub_held : (o : Option AckCopy) (q : Option Pair) (copy : ℕ) (p : Lane) → slice_get p.acks copy ≡ o → p.pair ≡ q → LaneHolds v path p → LaneHolds v path (hears_sub o q p)
-  hear_sub_held None q copy p is same h = h
-  hear_sub_held (Some a) None copy p is same h = h
-  hear_sub_held (Some a) (Some m) copy p is same h =
-      held_if v path p.alters p (record p { asking = AskAckIn (place_by m a.sub) a.window }) (λ alters.
-      with_ask v path p (AskAckIn (place_by m a.sub) a.window) (record {
-        covers = ⊎_elim past within (cases_lt (length p.sent) a.sub);
+  pub hear_sub_held : (upto : ℕ) (o : Option AckCopy) (q : Option Pair) (copy : ℕ) (p : Lane) → slice_get p.acks copy ≡ o → p.pair ≡ q → LaneHolds v path p → LaneHolds v path (hears_sub upto o q p)
+  hear_sub_held upto None q copy p is same h = h
+  hear_sub_held upto (Some a) None copy p is same h = h
+  hear_sub_held upto (Some a) (Some m) copy p is same h =
+      held_if v path p.alters p (record p { asking = AskAckIn (place_by m (min upto a.sub)) a.window }) (λ alters.
+      with_ask v path p (AskAckIn (place_by m (min upto a.sub)) a.window) (record {
+        covers = ⊎_elim past within (cases_lt (length p.sent) (min upto a.sub));
         reaches = λ none. absurd (both_ways _ (h.link.alters_is ∙ none) alters);
       }) h) h
     where
-      own : IsEndless path v p.sent m × (m.place ≤ v.acked)
-      own = subst (λ o. IfSome o (λ m. IsEndless path v p.sent m × (m.place ≤ v.acked))) same h.pairs.own
+      own : IsEndless path v p.sent m × (m.place ≤ v.acked) × (v.owner ≡ Some path)
+      own = subst (λ o. IfSome o (λ m. IsEndless path v p.sent m × (m.place ≤ v.acked) × (v.owner ≡ Some path))) same h.pairs.own
 
       passed : IsPassed path v p.sent a.sub
       passed = h.passed.copies.each copy a is
@@ -51,12 +51,12 @@ module _ (v : View) (path : ℕ) (fits : ViewFits v) where
           let at : there.0.place ≡ place_by m pos = own.0.places pos there.0 (omega arith) there.1 in
           subst (IsIn v) (at ∙ omega (arith, from)) (passed.bytes pos there.0 (omega (arith, from, under, below)) there.1))
 
-      within : a.sub ≤ length p.sent → place_by m a.sub ≤ v.next
-      within below = omega (arith, came a.sub below (omega arith), fits.next)
+      within : min upto a.sub ≤ length p.sent → place_by m (min upto a.sub) ≤ v.next
+      within below = let got = came (min upto a.sub) below (omega arith) in omega (arith, got, fits.next)
 
-      past : length p.sent < a.sub → place_by m a.sub ≤ v.next
+      past : length p.sent < min upto a.sub → place_by m (min upto a.sub) ≤ v.next
       past more =
-          let end = endless_end p.sent m own.0 (passed.past more) in
+          let end = endless_end p.sent m own.0 (passed.past (omega (arith, more))) in
           let got = came (length p.sent) (omega arith) (omega (arith, more)) in
           let whole = (fits.whole (place_by m (length p.sent)) end got).0 in
           let sub = h.bytes.acked.each copy a is in
@@ -97,7 +97,7 @@ module _ (v : View) (path : ℕ) (fits : ViewFits v) where
   send_pair_held shift None p is h = h
   send_pair_held shift (Some m) p is h =
       held_if v path (nat_le (m.pos + shift) (length p.sent)) p (record p { pairs = p.pairs ++ shifted shift m ∷ [] }) (λ may.
-      let own = subst (λ o. IfSome o (λ m. IsEndless path v p.sent m × (m.place ≤ v.acked))) is h.pairs.own in
+      let own = subst (λ o. IfSome o (λ m. IsEndless path v p.sent m × (m.place ≤ v.acked) × (v.owner ≡ Some path))) is h.pairs.own in
       with_pairs p (p.pairs ++ shifted shift m ∷ []) (Every-push (shifted shift m) h.pairs.told (shift_endless p.sent m shift (leb-true _ _ may) own.0)) h) h
 
   -- in plain TCP each byte has its position as its place
@@ -178,7 +178,7 @@ module _ (v : View) (path : ℕ) (fits : ViewFits v) where
   send_fin_pair_held None p is h = h
   send_fin_pair_held (Some m) p is h = held_if v path (p.opened && is_whole p.known_end p) p (record p { fins = p.fins ++ length p.sent ∷ [] }) (λ may.
       let both = and_parts p.opened (is_whole p.known_end p) may in
-      let own = subst (λ o. IfSome o (λ m. IsEndless path v p.sent m × (m.place ≤ v.acked))) is h.pairs.own in
+      let own = subst (λ o. IfSome o (λ m. IsEndless path v p.sent m × (m.place ≤ v.acked) × (v.owner ≡ Some path))) is h.pairs.own in
       record {
         record_of = h.record_of;
         alone = h.alone;

@@ -175,6 +175,7 @@ module _ (f : Flags) (s : Sending) (b : Arriving) (send : SendHolds s (view_of f
               owner = given refl;
             },
             omega arith,
+            refl,
           );
           told = now.pairs.told;
           took = now.pairs.took;

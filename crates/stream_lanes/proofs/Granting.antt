@@ -250,7 +250,7 @@ module _ (f : Flags) (s : Sending) (b : Arriving) (path : ℕ) (p : Lane) (send 
 
       pairs : PairsHold path (view_of f (record s { marks = marks }) b) (p.sent ++ cells) p.pair p.pairs p.taken
       pairs = record {
-        own = IfSome-map p.pair (λ m is. let low = is.1 in (endless m is.0, omega (arith, low, step.later.acked))) h.pairs.own;
+        own = IfSome-map p.pair (λ m is. let low = is.1 in (endless m is.0, omega (arith, low, step.later.acked), step.later.owner path is.2)) h.pairs.own;
         told = Every-map endless h.pairs.told;
         took = IfSome-map p.taken endless h.pairs.took;
       }

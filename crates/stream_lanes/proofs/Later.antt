@@ -155,7 +155,7 @@ module _ {Q : ℕ → Type 0} {v u : View} (l : Later Q v u) where
   pub pairs_later : (path : ℕ) (sent : List Cell) (pair : Option Pair) (pairs : List Pair) (taken : Option Pair) → Q path → ((n : ℕ) → AreNew n v.marks → v.received ≤ n)
       → PairsHold path v sent pair pairs taken → PairsHold path u sent pair pairs taken
   pairs_later path sent pair pairs taken q far h = record {
-    own = IfSome-map pair (λ m is. let low = is.1 in (endless_later path sent m q far is.0, omega (arith, low, l.acked))) h.own;
+    own = IfSome-map pair (λ m is. let low = is.1 in (endless_later path sent m q far is.0, omega (arith, low, l.acked), l.owner path is.2)) h.own;
     told = Every-map (λ m is. endless_later path sent m q far is) h.told;
     took = IfSome-map taken (λ m is. endless_later path sent m q far is) h.took;
   }

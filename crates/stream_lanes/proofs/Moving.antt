@@ -22,7 +22,7 @@ moved_held f v path (WantGrant max standby) p fits flags h =
     let both = and_parts p.opened (nat_lt 0 max) may in
     with_ask v path p (AskGrant max standby) (both.0, ltb-true 0 max both.1) h) h
 moved_held f v path (HearAck copy) p fits flags h = hear_ack_held v path (slice_get p.acks copy) copy p fits refl h
-moved_held f v path (HearSubAck copy) p fits flags h = hear_sub_held v path fits (slice_get p.acks copy) p.pair copy p refl refl h
+moved_held f v path (HearSubAck copy upto) p fits flags h = hear_sub_held v path fits upto (slice_get p.acks copy) p.pair copy p refl refl h
 moved_held f v path (SendPiece piece mapped) p fits flags h = send_piece_held v path mapped (slice_get p.pieces piece) piece p refl h
 moved_held f v path (SendAltered piece mapped) p fits flags h = send_altered_held v path mapped (slice_get p.pieces piece) piece p refl h
 moved_held f v path SendDataFin p fits flags h = send_data_fin_held v path p.known_end p refl h

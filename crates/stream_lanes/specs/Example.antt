@@ -27,7 +27,7 @@ acknowledges path copy =
 -- the same by the subflow's acknowledgement
 abbrev pub acknowledges_by_the_subflow : ℕ → List Event
 acknowledges_by_the_subflow copy =
-    on 0 WantAckOut ∷ ask 0 ∷ on 0 (SendAck 100 100 100) ∷ on 0 (HearSubAck copy) ∷ ask 0 ∷ []
+    on 0 WantAckOut ∷ ask 0 ∷ on 0 (SendAck 100 100 100) ∷ on 0 (HearSubAck copy 100) ∷ ask 0 ∷ []
 
 -- it hears a copy, learns its mapping, and places four of its bytes
 abbrev pub takes_copy : ℕ → ℕ → ℕ → List Event

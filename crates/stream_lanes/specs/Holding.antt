@@ -182,7 +182,8 @@ pub record IsEndless (path : ℕ) (v : View) (sent : List Cell) (m : Pair) : Typ
   pub owner : IsAlone path v
 
 pub record PairsHold (path : ℕ) (v : View) (sent : List Cell) (pair : Option Pair) (pairs : List Pair) (taken : Option Pair) : Type 0 where
-  pub own : IfSome pair (λ m. IsEndless path v sent m × (m.place ≤ v.acked))
+  -- the one that it goes by begins at an acknowledged place or the next one, and the book was given to the path
+  pub own : IfSome pair (λ m. IsEndless path v sent m × (m.place ≤ v.acked) × (v.owner ≡ Some path))
   pub told : Every (IsEndless path v sent) pairs
   pub took : IfSome taken (IsEndless path v sent)
 

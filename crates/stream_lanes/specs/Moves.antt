@@ -31,9 +31,9 @@ pub data Move : Type 0 where
   LookAtReceiver : Move
   -- the sender's end is about to ask for bytes
   WantGrant : (max : ℕ) (standby : Bool) → Move
-  -- it hears an acknowledgement, or takes what the subflow acknowledges by its infinite mapping
+  -- it hears an acknowledgement, or takes what the subflow acknowledges up to a position by its infinite mapping
   HearAck : (copy : ℕ) → Move
-  HearSubAck : (copy : ℕ) → Move
+  HearSubAck : (copy upto : ℕ) → Move
   -- it sends the bytes of a grant, for the first time or again, with its mapping or without
   SendPiece : (piece : ℕ) (mapped : Bool) → Move
   -- it does, and the link turns the lowest bit of the first byte
@@ -189,9 +189,9 @@ abbrev pub shifted : ℕ → Pair → Pair
 shifted shift m = record { pos = m.pos + shift; place = m.place + shift }
 
 -- over links that alter payload what the subflow acknowledges stands for what the stream does
-abbrev pub hears_sub : Option AckCopy → Option Pair → Lane → Lane
-hears_sub (Some a) (Some m) p = if p.alters then record p { asking = AskAckIn (place_by m a.sub) a.window } else p
-hears_sub _ _ p = p
+abbrev pub hears_sub : ℕ → Option AckCopy → Option Pair → Lane → Lane
+hears_sub upto (Some a) (Some m) p = if p.alters then record p { asking = AskAckIn (place_by m (min upto a.sub)) a.window } else p
+hears_sub upto _ _ p = p
 
 abbrev pub sends_pair : ℕ → Option Pair → Lane → Lane
 sends_pair shift None p = p
@@ -237,7 +237,7 @@ moved f path LookAtSender p = record p { sender_plain = f.sender }
 moved f path LookAtReceiver p = record p { receiver_plain = f.receiver; receiver_loose = f.loose }
 moved f path (WantGrant max standby) p = if p.opened && nat_lt 0 max then record p { asking = AskGrant max standby } else p
 moved f path (HearAck copy) p = hears (slice_get p.acks copy) p
-moved f path (HearSubAck copy) p = hears_sub (slice_get p.acks copy) p.pair p
+moved f path (HearSubAck copy upto) p = hears_sub upto (slice_get p.acks copy) p.pair p
 moved f path (SendPiece piece mapped) p = sends_piece mapped (slice_get p.pieces piece) p
 moved f path (SendAltered piece mapped) p = sends_altered mapped (slice_get p.pieces piece) p
 moved f path SendDataFin p = record p { data_fins = p.data_fins ++ known p.known_end }

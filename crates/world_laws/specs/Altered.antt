@@ -1,15 +1,21 @@
 -- What holds of a connection whatever payload its links alter, and whether its mappings are checked or not.
-use Rattle.std.specs.Prelude.{◌≡◌, ◌≤◌, true, List, length}
+use Rattle.std.specs.Prelude.{ℕ, ◌≡◌, ◌≤◌, ◌-◌, nat_lt, if◌then◌else◌, Bool, true, Option, Some, List, length, slice_get}
 use Rattle.outside_kit.specs.declared.side.Side.{Side}
 use Rattle.outside_kit.specs.declared.side.Side.TheVariants.{A, B}
 use Rattle.send_book.specs.State.{acked_len}
 use Rattle.reassembly_book.specs.State.{received}
-use Rattle.stream_lanes.specs.Words.{Every}
+use Rattle.stream_lanes.specs.Laws.{flattened}
 use Rattle.path_core.specs.Values.{Carried, values}
+use Rattle.path_core.specs.Codec.{Codec}
+use Rattle.path_core.specs.Octets.{octets}
 use Rattle.world_laws.specs.Openings.{Start, opened_world}
 use Rattle.world_laws.specs.Outcomes.{output_of}
-use Rattle.world_laws.specs.Promises.{written_by, arrived_at, was_told_end}
+use Rattle.world_laws.specs.Promises.{written_by, arrived_at, was_told_end, HasRoom, NumbersFit}
 use Rattle.world_laws.specs.Worlds.{WorldState, Turn, world_run}
+use Rattle.fallback_state.specs.Modes.{reads_mappings}
+use Rattle.actor_desk.specs.Books.{books_in}
+use Rattle.actor_desk.specs.Desk.{control_of}
+use Rattle.pipe_model.specs.Prefix.{IsPrefix}
 
 module _ {C : Type 0} where
   -- What is acknowledged was received, and that was written. The end is told only where the stream is closed, and the reader has as
@@ -24,10 +30,36 @@ module _ {C : Type 0} where
     pub ab : KeepsCount A B w
     pub ba : KeepsCount B A w
 
--- a full segment of each path has room for octets beside its options
-abbrev pub HasRoom : Start → Type 0
-HasRoom start = Every (λ plan. 29 ≤ plan.mss) start.paths
+  -- the octet at a place of a stream, where it was placed: the reader's, or that of the reassembly book
+  abbrev pub octet_at : Side → WorldState C → ℕ → Option ℕ
+  octet_at reader w place =
+      if nat_lt place (arrived_at reader w).read then slice_get (output_of reader w) place
+      else flattened (slice_get (arrived_at reader w).places (place - (arrived_at reader w).read))
 
--- P holds over segments as values, whatever is altered
-abbrev pub HoldsAnyway : (WorldState Carried → Type 0) → Type 0
-HoldsAnyway P = (start : Start) (turns : List Turn) → HasRoom start → P (world_run values turns (opened_world start))
+  -- each that was placed is the written one, and stays it
+  abbrev pub StaysRight : Side → Side → WorldState C → WorldState C → Type 0
+  StaysRight writer reader w later = (place octet : ℕ) → octet_at reader w place ≡ Some octet
+      → (slice_get (written_by writer later).written place ≡ Some octet) × (octet_at reader later place ≡ Some octet)
+
+  -- the peer's mappings count at a side: it is neither in plain TCP nor stopped, and no infinite mapping of the peer took their place
+  abbrev pub still_maps : Side → WorldState C → Bool
+  still_maps s w = reads_mappings (control_of s (books_in w.books)).fall.mode
+
+  -- as long as its side maps, a reader has a prefix of what was written
+  abbrev pub PrefixUntilTheFall : WorldState C → Type 0
+  PrefixUntilTheFall w = (still_maps B w ≡ true → IsPrefix (output_of B w) (written_by A w).written)
+      × (still_maps A w ≡ true → IsPrefix (output_of A w) (written_by B w).written)
+
+  -- and what was placed until then is right for ever
+  abbrev pub PlacedUntilTheFall : Codec C → WorldState C → Type 0
+  PlacedUntilTheFall k w = (more : List Turn) → (still_maps B w ≡ true → StaysRight A B w (world_run k more w))
+      × (still_maps A w ≡ true → StaysRight B A w (world_run k more w))
+
+-- P holds over segments as values, where mappings are checked
+abbrev pub HoldsChecked : (WorldState Carried → Type 0) → Type 0
+HoldsChecked P = (start : Start) (turns : List Turn) → HasRoom start → start.checksums ≡ true → P (world_run values turns (opened_world start))
+
+-- and over octets
+abbrev pub HoldsCheckedOfOctets : (WorldState (List ℕ) → Type 0) → Type 0
+HoldsCheckedOfOctets P =
+    (start : Start) (turns : List Turn) → HasRoom start → NumbersFit start → start.checksums ≡ true → P (world_run octets turns (opened_world start))

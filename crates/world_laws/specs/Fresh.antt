@@ -1,17 +1,17 @@
 -- Lists of turns in which each copy that arrives is fresh: it can be said, and its numbers are near those that its end expects,
--- but for the position of a reset far ahead.
+-- but for the position of a reset far ahead. And each segment that is altered on its way can be said.
 use Rattle.std.specs.Prelude.{ℕ, Option, Some, None, List, [], ◌∷◌, slice_get, map}
 use Rattle.path_core.specs.State.{PathState}
-use Rattle.path_core.specs.Shown.{shown_path, NextIsFresh, AltersNothing}
+use Rattle.path_core.specs.Shown.{shown_path, NextIsFresh, SentCanBeAltered}
 use Rattle.path_core.specs.Values.{Carried, values}
 use Rattle.world_laws.specs.declared.member.Member.TheVariants.{App, Path}
 use Rattle.world_laws.specs.Actors.{Actor, ActorCrew}
 use Rattle.world_laws.specs.Worlds.{WorldState, Turn, after_turn}
 
--- the copy that is due next is fresh, and the script of the link alters no payload
+-- the copy that is due next is fresh, and the segment that is sent next can be said, where its payload is altered on its way
 pub record IsFreshPath (p : PathState Carried) : Type 0 where
   pub next : NextIsFresh p
-  pub unaltered : AltersNothing p.link.lines
+  pub sent : SentCanBeAltered p
 
 abbrev pub IsFreshMember : Actor Carried → Type 0
 IsFreshMember (App a) = Unit {0}

@@ -24,4 +24,5 @@ pub mod RoundDone
 pub mod Stopping
 pub mod AbortCause
 pub mod Altered
+pub mod InfiniteMappings
 pub mod Announcing

@@ -25,10 +25,14 @@ use Rattle.world_laws.specs.Openings.{Start, opened_world}
 use Rattle.world_laws.specs.Outcomes.{tells_end, was_told, notes_at, notes_of, output_of, pipe_of}
 use Rattle.world_laws.specs.Worlds.{WorldState, Turn, after_turn, world_run}
 
--- Where it is promised: the script alters no payload, and a full segment of each path has room for octets beside its options.
+-- a full segment of each path has room for octets beside its options
+abbrev pub HasRoom : Start → Type 0
+HasRoom start = Every (λ plan. 29 ≤ plan.mss) start.paths
+
+-- Where all is promised: there is such room, and the script alters no payload.
 pub record IsPlain (start : Start) : Type 0 where
   pub unaltered : (path : ℕ) → AltersNothing (lines_of path start.lines)
-  pub size : Every (λ plan. 29 ≤ plan.mss) start.paths
+  pub size : HasRoom start
 
 -- Where every segment can be said, and heard as it was meant: both files are shorter than 2^31 - 2 octets, there are sixteen paths
 -- at most, a full segment with its header has 65,535 octets at most, a side buffers 2^20 octets at most, keys have 64 bits, and
@@ -130,14 +134,24 @@ IsPromised P = (start : Start) (turns : List Turn) → IsPlain start → P (worl
 abbrev pub IsPromisedOfOctets : (WorldState (List ℕ) → Type 0) → Type 0
 IsPromisedOfOctets P = (start : Start) (turns : List Turn) → IsPlain start → NumbersFit start → P (world_run octets turns (opened_world start))
 
+-- ---- whatever payload the links alter
+
+-- P holds over segments as values
+abbrev pub HoldsAnyway : (WorldState Carried → Type 0) → Type 0
+HoldsAnyway P = (start : Start) (turns : List Turn) → HasRoom start → P (world_run values turns (opened_world start))
+
+-- and over octets
+abbrev pub HoldsAnywayOfOctets : (WorldState (List ℕ) → Type 0) → Type 0
+HoldsAnywayOfOctets P = (start : Start) (turns : List Turn) → HasRoom start → NumbersFit start → P (world_run octets turns (opened_world start))
+
 -- ---- so nothing that arrives is heard otherwise than it was meant
 
 -- every list of turns is fresh
 abbrev pub EveryListIsFresh : Type 0
-EveryListIsFresh = (start : Start) (turns : List Turn) → IsPlain start → NumbersFit start → AreFresh turns (opened_world start)
+EveryListIsFresh = (start : Start) (turns : List Turn) → HasRoom start → NumbersFit start → AreFresh turns (opened_world start)
 
 -- so a world over octets is the world over segments as values, shown in octets
 abbrev pub OctetsAreValuesShown : Type 0
 OctetsAreValuesShown =
-    (start : Start) (turns : List Turn) → IsPlain start → NumbersFit start
+    (start : Start) (turns : List Turn) → HasRoom start → NumbersFit start
     → world_run octets turns (opened_world start) ≡ shown_world (world_run values turns (opened_world start))

@@ -1,14 +1,15 @@
 //! What holds of every connection, as clauses of functions that do nothing.
 ghost use Rattle.world_laws.specs.AbortCause.{AbortsHaveCause};
 ghost use Rattle.world_laws.specs.Agreement.{MappingsAgree};
-ghost use Rattle.world_laws.specs.Altered.{BothKeepCount, HoldsAnyway};
+ghost use Rattle.world_laws.specs.Altered.{BothKeepCount, HoldsChecked, HoldsCheckedOfOctets, PlacedUntilTheFall, PrefixUntilTheFall};
 ghost use Rattle.world_laws.specs.Announcing.{AnnouncementsEnd};
 ghost use Rattle.world_laws.specs.FallsRight.{FallsAreRight, FallsLast, PositionsArePlaces};
 ghost use Rattle.world_laws.specs.Granted.{GrantedOnce};
+ghost use Rattle.world_laws.specs.InfiniteMappings.{InfiniteMappingsAreRight};
 ghost use Rattle.world_laws.specs.JoinsWait.{JoinsWait};
 ghost use Rattle.world_laws.specs.Laws.{AfterFreshTurns, Always, NothingDueIsLeft, SerialExists, SerialIsOne, StaysFine, OctetsDoAsValues, WritesTheFiles};
-ghost use Rattle.world_laws.specs.PlainScripts.{PlainScriptsAreShownOfValues, PlainScriptsKeepAllPromises, PlainScriptsStartPlainly, ScriptsCanRun};
-ghost use Rattle.world_laws.specs.Promises.{AddressesAreRight, BothKeepTheirWord, EachTurnIsOneStep, EveryListIsFresh, IsPromised, IsPromisedOfOctets, JoinsAreRight, KeysNeverDiffer, NothingFollows, NothingWasRefused, OctetsAreValuesShown};
+ghost use Rattle.world_laws.specs.PlainScripts.{CheckedScriptsKeepOctets, PlainScriptsKeepAllPromises, PlainScriptsStartPlainly, ScriptsAreShownOfValues, ScriptsCanRun, ScriptsFit, ScriptsKeepAnyway};
+ghost use Rattle.world_laws.specs.Promises.{AddressesAreRight, BothKeepTheirWord, EachTurnIsOneStep, EveryListIsFresh, HoldsAnyway, HoldsAnywayOfOctets, IsPromised, IsPromisedOfOctets, JoinsAreRight, KeysNeverDiffer, NothingFollows, NothingWasRefused, OctetsAreValuesShown};
 ghost use Rattle.world_laws.specs.RoundDone.{LawfulRoundsAreDone, RoundsAreDone, RoundsEndOnTime, StampsSinceTheRound};
 ghost use Rattle.world_laws.specs.RoundEnd.{GrantsAreDone, ReadersAreDone};
 ghost use Rattle.world_laws.specs.RoundNumbers.{InEachRound, PathsAskForAll, ReadersCaughtUp};
@@ -57,8 +58,8 @@ pub fn rounds_end_on_time()
 
 /// A law: where all turns of a round are over, in whatever order the actors went, its end is as it has to be. It is at its tick;
 /// nothing that was due before it is left; each end of a path that may still ask for bytes was refused its last grant, and asked
-/// for all; and each reader was told the end, or read as much as a side buffers, or found nothing more. Each part is a law of its
-/// own, too. So it is at each end of a round in lawful turns, and serial turns are lawful.
+/// for all; and each reader was told the end, or read as much as a side buffers, or found nothing more. So it is at
+/// each end of a round in lawful turns, and serial turns are lawful.
 pub fn rounds_are_done()
     ensures octets { RoundsAreDone octets }
     ensures values { RoundsAreDone values }
@@ -90,8 +91,8 @@ pub fn grants_are_done()
 /// A law: in each round, in whatever order the actors go, where the turn of a path is over, an end that has no record to send and
 /// may ask for bytes, with room in its window for a full segment, asked for all: of the octets that were written as the round began
 /// none below the edge of the peer's window is left that the path may take. Else it was on standby when it asked last in this round;
-/// or after a fallback path 0 alone is given octets, and none is once the connection was aborted there; or after the path asked last
-/// another one gave back some octets, or took an acknowledgement with a window past the edge as the round began.
+/// or octets are given to another path alone, as after a fallback, and none is once the connection was aborted there; or after the
+/// path asked last another one gave back some octets, or took an acknowledgement with a window past the edge as the round began.
 pub fn paths_ask_for_all()
     ensures octets { InEachRound octets PathsAskForAll }
     ensures values { InEachRound values PathsAskForAll }
@@ -107,9 +108,7 @@ pub fn each_round_has_a_step()
 /// A law: the steps of a round, put in order by stamp, then actor, are lawful, and make of the world at the round's beginning
 /// what they made before: the same actors and books, with the same lists and journals. It takes what each actor and each book
 /// did, lists and journals being paired, whoever ordered them; so it speaks of threads, too.
-///
-/// So steps that were made one after the other, in whatever order, come to the same in that order; and so do whole serial
-/// rounds from the opening on, each put in that order and ended.
+/// So do whole serial rounds from the opening on, each put in that order and ended.
 pub fn woven_rounds_do_the_same()
     ensures octets { WovenDoes octets }
     ensures values { WovenDoes values }
@@ -118,17 +117,16 @@ pub fn woven_rounds_do_the_same()
 {}
 
 /// A law: a world whose links carry octets is the world whose links carry segments as values, shown in octets, over every list
-/// of turns that are fresh: no line of a script alters a payload, and each copy that arrives can be said, with numbers near those
-/// that its end expects, but for the position of a reset that is 2^31 or more ahead and below 2^32. Lines that strip segments of
-/// their options may be there.
+/// of turns that are fresh: each copy that arrives can be said, with numbers near those that its end expects, but for the position
+/// of a reset that is 2^31 or more ahead and below 2^32; and each segment that is altered on its way can be said.
 pub fn octets_do_as_values()
     ensures { OctetsDoAsValues }
 {}
 
-/// A law: every list of turns is fresh, lawful or not, where the script alters no payload, and the numbers of the start fit: both
-/// files are shorter than 2^31 - 2 octets, there are sixteen paths at most, with a maximum segment size of 29 to 65,503 octets each,
-/// a side buffers 2^20 octets at most, keys have 64 bits, and the nonces of the paths 32. So such a world over octets is always the
-/// world over segments as values, shown in octets.
+/// A law: every list of turns is fresh, lawful or not, whatever the script does, where the numbers of the start fit: both files
+/// are shorter than 2^31 - 2 octets, there are sixteen paths at most, with a maximum segment size of 29 to 65,503 octets each, a side
+/// buffers 2^20 octets at most, keys have 64 bits, and the nonces of the paths 32. So such a world over octets is always the world
+/// over segments as values, shown in octets.
 pub fn turns_are_fresh()
     ensures fresh { EveryListIsFresh }
     ensures same { OctetsAreValuesShown }
@@ -149,32 +147,31 @@ pub fn nothing_due_is_left()
 {}
 
 /// A law: no control book is told another key for its own, as each key that an end hears is one that was drawn (RFC 8684, section
-/// 3.1). Over segments as values this holds whatever the script strips, alters, drops or repeats; over octets where the turns are
-/// fresh, as they are of each plain start.
+/// 3.1). This holds whatever the script does; over octets where the numbers of the start fit.
 pub fn keys_never_differ()
     ensures values { Always values (λ start w. KeysNeverDiffer w) }
     ensures octets { AfterFreshTurns (λ w. KeysNeverDiffer w) }
-    ensures plain { IsPromisedOfOctets KeysNeverDiffer }
+    ensures fits { HoldsAnywayOfOctets KeysNeverDiffer }
 {}
 
 /// A law: no control book is told a token that isn't that of its key: each join begins with both keys, as they were drawn, and
-/// shows the token of the peer's (RFC 8684, section 3.2). Premises as for `both_sides_keep_their_word`.
+/// shows the token of the peer's (RFC 8684, section 3.2).
 ///
 /// Nor does an end of a path that joins refuse the copy that arrives next, unless its options were taken away: each SYN asks to join,
-/// and each HMAC is the one that its end demands. Over segments as values both hold whatever the script does.
+/// and each HMAC is the one that its end demands. Both hold whatever the script does; over octets where the numbers of the start fit.
 pub fn joins_are_right()
     ensures values { Always values (λ start w. JoinsAreRight w) }
-    ensures octets { IsPromisedOfOctets JoinsAreRight }
+    ensures octets { HoldsAnywayOfOctets JoinsAreRight }
     ensures welcome { Always values (λ start w. EachCopyIsWelcome values w) }
-    ensures heard { IsPromisedOfOctets (EachCopyIsWelcome octets) }
+    ensures heard { HoldsAnywayOfOctets (EachCopyIsWelcome octets) }
 {}
 
 /// A law: no control book is told of an address whose HMAC is wrong by an announcement of its peer: each shows that of both keys, as
-/// they were drawn, and comes to a side that has the peer's key (RFC 8684, section 3.4.1). Over segments as values this holds whatever
-/// the script does. Premises over octets as for `both_sides_keep_their_word`.
+/// they were drawn, and comes to a side that has the peer's key (RFC 8684, section 3.4.1). This holds whatever the script does; over
+/// octets where the numbers of the start fit.
 pub fn addresses_are_right()
     ensures values { Always values (λ start w. AddressesAreRight w) }
-    ensures octets { IsPromisedOfOctets AddressesAreRight }
+    ensures octets { HoldsAnywayOfOctets AddressesAreRight }
 {}
 
 /// A law: at every moment, in each direction, what the reader got is a prefix of what the writer wrote; what is acknowledged was
@@ -182,17 +179,16 @@ pub fn addresses_are_right()
 /// and the end is told only where the stream is closed and the reader has all of it.
 ///
 /// The script alters no payload, and the maximum segment size of each path is 29 octets or more; any segment may lose its options on
-/// the way. The steps are in any order. Over octets the numbers of the start have to fit, so that every list of turns is fresh: both
-/// files are shorter than 2^31 - 2 octets, and the rest is so by each script.
+/// the way. The steps are in any order. Over octets the numbers of the start have to fit.
 pub fn both_sides_keep_their_word()
     ensures values { IsPromised BothKeepTheirWord }
     ensures octets { IsPromisedOfOctets BothKeepTheirWord }
 {}
 
-/// A law: once a reader was told the end it reads nothing more, and nothing more is written for it, by whatever turns follow.
+/// A law: whatever payload the links alter, once a reader was told the end it reads nothing more, and nothing more is written for it.
 pub fn nothing_follows_the_end()
-    ensures values { IsPromised (NothingFollows values) }
-    ensures octets { IsPromisedOfOctets (NothingFollows octets) }
+    ensures values { HoldsAnyway (NothingFollows values) }
+    ensures octets { HoldsAnywayOfOctets (NothingFollows octets) }
 {}
 
 /// A law: once the reassembly book of a side was aborted (RFC 8684, section 3.5), its reader gets no octet more, and whatever it still
@@ -204,17 +200,17 @@ pub fn aborted_readers_hear_that_alone()
 {}
 
 /// A law: at every moment a reader is told that its peer aborted the connection only where the peer's application had asked for a
-/// fast close, and the reader's side had accepted one that has the side's own key (RFC 8684, section 3.5). Over segments as values
-/// this holds whatever the script does.
+/// fast close, and the reader's side had accepted one that has the side's own key (RFC 8684, section 3.5). This holds whatever the
+/// script does; over octets where the numbers of the start fit.
 pub fn aborts_have_a_cause()
     ensures values { Always values (λ start w. AbortsHaveCause w) }
-    ensures octets { IsPromisedOfOctets AbortsHaveCause }
+    ensures octets { HoldsAnywayOfOctets AbortsHaveCause }
 {}
 
-/// A law: each turn is on each of the two pipes one step that the pipe allows, or none.
+/// A law: each turn is on each of the two pipes one step that the pipe allows, or none, whatever payload the links alter.
 pub fn each_turn_is_one_pipe_step_or_none()
-    ensures values { IsPromised (EachTurnIsOneStep values) }
-    ensures octets { IsPromisedOfOctets (EachTurnIsOneStep octets) }
+    ensures values { HoldsAnyway (EachTurnIsOneStep values) }
+    ensures octets { HoldsAnywayOfOctets (EachTurnIsOneStep octets) }
 {}
 
 /// A law: no step of an actor is answered `Beyond`, `FinClash` or `AckFuture`.
@@ -223,17 +219,28 @@ pub fn nothing_is_refused()
     ensures octets { IsPromisedOfOctets NothingWasRefused }
 {}
 
-/// A law: a connection by a script that alters no payload, with files shorter than 2^31 - 2 octets, starts plainly, with
-/// numbers that fit; so over octets it keeps every promise, in whatever order its actors go: both sides keep their word, nothing
-/// follows the end, each turn is on each pipe one step or none, nothing is refused, keys never differ, joins and the HMACs of
-/// addresses are right, no copy is refused for what it says of a join, mappings agree, falls are right and last, positions are places
-/// after one, each byte is granted to a path once at most, and none to one that stands by, no announcement goes out in a turn after it
-/// ended, and an abort that a reader is told of has its cause. And it is the connection over segments as values, shown in octets,
-/// whose short data numbers go short.
+/// A law: a connection by a script, with files shorter than 2^31 - 2 octets, starts with numbers that fit. So over octets it keeps
+/// these promises, in whatever order its actors go, and whatever payload its links alter: lengths, acknowledgements and ends are right,
+/// nothing follows the end, each turn is on each pipe one step or none, keys never differ, joins and the HMACs of addresses are
+/// right, no copy is refused for what it says of a join, mappings agree, falls are right and last, positions are places after one,
+/// each byte is granted to a path once at most, and none to one that stands by, no announcement goes out after its end, and aborts
+/// have their cause. And it is the connection over segments as values, shown in octets, whose short data numbers go short.
+///
+/// Where mappings are checked, until its side falls back a reader has a prefix of what was written, and each octet that was placed
+/// is right for ever.
+pub fn scripts_keep_promises_whatever_is_altered()
+    ensures starts { ScriptsFit }
+    ensures anyway { ScriptsKeepAnyway }
+    ensures checked { CheckedScriptsKeepOctets }
+    ensures shown { ScriptsAreShownOfValues }
+{}
+
+/// A law: a connection by a script that alters no payload, with files shorter than 2^31 - 2 octets, starts plainly; so over octets it
+/// keeps every promise, in whatever order its actors go: both sides keep their word, nothing is refused, and all that
+/// `scripts_keep_promises_whatever_is_altered` says is so.
 pub fn plain_scripts_keep_all_promises()
     ensures starts { PlainScriptsStartPlainly }
     ensures promises { PlainScriptsKeepAllPromises }
-    ensures shown { PlainScriptsAreShownOfValues }
 {}
 
 /// A law: at every moment each byte of a stream was granted to a path once at most, by whichever steps of all actors.
@@ -259,25 +266,25 @@ pub fn announcements_end()
 {}
 
 /// A law: at every moment no mapping that an end of a path heard, and has still to treat, gives a position another place than the
-/// one that the end learned (RFC 8684, section 3.3.1). Premises as for `both_sides_keep_their_word`.
+/// one that the end learned (RFC 8684, section 3.3.1), whatever payload the links alter.
 pub fn mappings_agree()
-    ensures values { IsPromised MappingsAgree }
-    ensures octets { IsPromisedOfOctets MappingsAgree }
+    ensures values { HoldsAnyway MappingsAgree }
+    ensures octets { HoldsAnywayOfOctets MappingsAgree }
 {}
 
 /// A law: a side that is in plain TCP, or was by its control book's journal, has begun and answered no join. Where either side fell
 /// B answered none, and no path but path 0 ever asked for bytes; and the side stays in plain TCP until the connection is aborted there
-/// (RFC 8684, sections 3.5 and 3.7). Over segments as values this holds whatever the script strips or alters.
+/// (RFC 8684, sections 3.5 and 3.7). This holds whatever the script does; over octets where the numbers of the start fit.
 ///
 /// And on path 0 positions are places then: each record of data, and each mapping that an end learned, has the place before its
-/// position. Premises as for `both_sides_keep_their_word`.
+/// position.
 pub fn falls_are_right()
     ensures values { Always values (λ start w. FallsAreRight w) }
     ensures last { Always values (λ start w. FallsLast values w) }
-    ensures octets { IsPromisedOfOctets FallsAreRight }
-    ensures last_of_octets { IsPromisedOfOctets (FallsLast octets) }
-    ensures places { IsPromised PositionsArePlaces }
-    ensures heard { IsPromisedOfOctets PositionsArePlaces }
+    ensures octets { HoldsAnywayOfOctets FallsAreRight }
+    ensures last_of_octets { HoldsAnywayOfOctets (FallsLast octets) }
+    ensures places { HoldsAnyway PositionsArePlaces }
+    ensures heard { HoldsAnywayOfOctets PositionsArePlaces }
 {}
 
 /// A law: at every moment, where the connection begins with data numbers of four octets, each Data ACK and each mapping of every
@@ -294,12 +301,25 @@ pub fn joins_wait_for_their_answer()
 {}
 
 /// A law: whatever payload the links alter, and whether mappings are checked or not, what is acknowledged was received, and that
-/// was written; a reader is told the end only where the stream is closed and it has as many octets as were written, and nothing
-/// follows then; each turn is on each pipe one step that it allows, or none; and no mapping that an end hears gives a position
-/// another place than the one that it learned. That is said of segments as values, and which octets a reader gets isn't.
+/// was written; and a reader is told the end only where the stream is closed and it has as many octets as were written.
 pub fn counts_are_kept_whatever_is_altered()
-    ensures counts { HoldsAnyway BothKeepCount }
-    ensures nothing_follows { HoldsAnyway (NothingFollows values) }
-    ensures one_step { HoldsAnyway (EachTurnIsOneStep values) }
-    ensures mappings { HoldsAnyway MappingsAgree }
+    ensures values { HoldsAnyway BothKeepCount }
+    ensures octets { HoldsAnywayOfOctets BothKeepCount }
+{}
+
+/// A law: whatever payload the links alter, an infinite mapping that is under way is right (RFC 8684, section 3.7): each piece from its
+/// position on that the sender's end may still send has the place that rises with the position. That is said of segments as values.
+pub fn infinite_mappings_are_right()
+    ensures { HoldsAnyway InfiniteMappingsAreRight }
+{}
+
+/// A law: whatever payload the links alter, where mappings are checked (RFC 8684, section 3.3.1): as long as a side is neither in plain
+/// TCP nor stopped, nor receives by an infinite mapping (section 3.7), its reader has a prefix of what was written for it; and each
+/// octet that came to a place until then, with the reader or in the reassembly book, is the written one there, and stays it. Over
+/// octets the numbers of the start have to fit.
+pub fn checked_octets_are_right()
+    ensures prefix { HoldsChecked PrefixUntilTheFall }
+    ensures placed { HoldsChecked (PlacedUntilTheFall values) }
+    ensures prefix_of_octets { HoldsCheckedOfOctets PrefixUntilTheFall }
+    ensures placed_of_octets { HoldsCheckedOfOctets (PlacedUntilTheFall octets) }
 {}

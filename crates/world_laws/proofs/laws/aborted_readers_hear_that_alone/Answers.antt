@@ -1,6 +1,6 @@
 use Rattle.path_core.specs.Octets.{octets}
 use Rattle.path_core.specs.Values.{values}
-use Rattle.world_laws.proofs.Stopping.{abort_is_last}
+use Rattle.world_laws.proofs.Promises.AbortedHearThatAlone.{abort_is_last}
 use Rattle.world_laws.proofs.laws.aborted_readers_hear_that_alone.Goals as goal
 
 pub returns-clause-octets : goal.returns-clause-octets

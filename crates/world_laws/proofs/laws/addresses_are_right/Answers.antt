@@ -1,5 +1,5 @@
-use Rattle.world_laws.proofs.AddressesAgree as agree
-use Rattle.world_laws.proofs.PromisesMade.{addresses_in_octets}
+use Rattle.world_laws.proofs.Announcements.HmacsAgree as agree
+use Rattle.world_laws.proofs.Promises.Made.{addresses_in_octets}
 use Rattle.world_laws.proofs.laws.addresses_are_right.Goals as goal
 
 pub returns-clause-values : goal.returns-clause-values

@@ -1,6 +1,6 @@
 use Rattle.path_core.specs.Octets.{octets}
 use Rattle.path_core.specs.Values.{values}
-use Rattle.world_laws.proofs.Announcing.{announcements_end}
+use Rattle.world_laws.proofs.Announcements.AsTold.{announcements_end}
 use Rattle.world_laws.proofs.laws.announcements_end.Goals as goal
 
 pub returns-clause-octets : goal.returns-clause-octets

@@ -1,6 +1,6 @@
 use Rattle.path_core.specs.Octets.{octets}
 use Rattle.path_core.specs.Values.{values}
-use Rattle.world_laws.proofs.Standbys.{backups_get_nothing}
+use Rattle.world_laws.proofs.Standby.GrantedNothing.{backups_get_nothing}
 use Rattle.world_laws.proofs.laws.backups_get_nothing.Goals as goal
 
 pub returns-clause-octets : goal.returns-clause-octets

@@ -1,6 +1,6 @@
 use Rattle.path_core.specs.Octets.{octets}
 use Rattle.path_core.specs.Values.{values}
-use Rattle.world_laws.proofs.GrantingOnce.{granted_once}
+use Rattle.world_laws.proofs.Places.GrantedOnce.{granted_once}
 use Rattle.world_laws.proofs.laws.bytes_are_granted_once.Goals as goal
 
 pub returns-clause-octets : goal.returns-clause-octets

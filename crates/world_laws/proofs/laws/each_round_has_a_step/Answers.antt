@@ -1,6 +1,6 @@
 use Rattle.path_core.specs.Octets.{octets}
 use Rattle.path_core.specs.Values.{values}
-use Rattle.world_laws.proofs.RoundSteps as steps
+use Rattle.world_laws.proofs.Rounds.AStepAtLeast as steps
 use Rattle.world_laws.proofs.laws.each_round_has_a_step.Goals as goal
 
 pub returns-clause-octets : goal.returns-clause-octets

@@ -1,4 +1,4 @@
-use Rattle.world_laws.proofs.FallsRight as falls
+use Rattle.world_laws.proofs.Falls.AreRight as falls
 use Rattle.world_laws.proofs.laws.falls_are_right.Goals as goal
 
 pub returns-clause-values : goal.returns-clause-values

@@ -1,6 +1,6 @@
 use Rattle.path_core.specs.Octets.{octets}
 use Rattle.path_core.specs.Values.{values}
-use Rattle.world_laws.proofs.CastLifting.{writes_the_files}
+use Rattle.world_laws.proofs.Worlds.CastLifting.{writes_the_files}
 use Rattle.world_laws.proofs.laws.files_are_written.Goals as goal
 
 pub returns-clause-octets : goal.returns-clause-octets

@@ -1,6 +1,6 @@
 use Rattle.path_core.specs.Octets.{octets}
 use Rattle.path_core.specs.Values.{values}
-use Rattle.world_laws.proofs.RoundAsking as asking
+use Rattle.world_laws.proofs.Rounds.AskingForNothing as asking
 use Rattle.world_laws.proofs.laws.grants_are_done.Goals as goal
 
 pub returns-clause-octets : goal.returns-clause-octets

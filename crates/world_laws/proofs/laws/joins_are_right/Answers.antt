@@ -1,7 +1,7 @@
-use Rattle.world_laws.proofs.JoinsWelcome.{each_copy_is_welcome}
-use Rattle.world_laws.proofs.JoinsAgree as agree
-use Rattle.world_laws.proofs.JoinsShown.{each_copy_is_welcome_in_octets}
-use Rattle.world_laws.proofs.PromisesMade.{joins_in_octets}
+use Rattle.world_laws.proofs.Joins.Welcome.{each_copy_is_welcome}
+use Rattle.world_laws.proofs.Joins.TokensAgree as agree
+use Rattle.world_laws.proofs.Joins.OverOctets.{each_copy_is_welcome_in_octets}
+use Rattle.world_laws.proofs.Promises.Made.{joins_in_octets}
 use Rattle.world_laws.proofs.laws.joins_are_right.Goals as goal
 
 pub returns-clause-values : goal.returns-clause-values

@@ -1,6 +1,6 @@
 use Rattle.path_core.specs.Octets.{octets}
 use Rattle.path_core.specs.Values.{values}
-use Rattle.world_laws.proofs.Waiting.{joins_wait}
+use Rattle.world_laws.proofs.Joins.NoBytesBeforeClear.{joins_wait}
 use Rattle.world_laws.proofs.laws.joins_wait_for_their_answer.Goals as goal
 
 pub returns-clause-octets : goal.returns-clause-octets

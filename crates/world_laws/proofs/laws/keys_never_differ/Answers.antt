@@ -3,9 +3,9 @@ use Rattle.path_core.specs.Values.{values}
 use Rattle.world_laws.specs.Openings.{opened_world}
 use Rattle.world_laws.specs.Promises.{KeysNeverDiffer}
 use Rattle.world_laws.specs.Worlds.{world_run}
-use Rattle.world_laws.proofs.KeysAgree as agree
-use Rattle.world_laws.proofs.PromisesMade.{keys_in_octets}
-use Rattle.world_laws.proofs.PromisesShown.{keys_shown, run_shown}
+use Rattle.world_laws.proofs.Keys.ToldAreOwn as agree
+use Rattle.world_laws.proofs.Promises.Made.{keys_in_octets}
+use Rattle.world_laws.proofs.Promises.OverOctets.{keys_shown, run_shown}
 use Rattle.world_laws.proofs.laws.keys_never_differ.Goals as goal
 
 pub returns-clause-values : goal.returns-clause-values
@@ -15,5 +15,5 @@ pub returns-clause-octets : goal.returns-clause-octets
 returns-clause-octets c = λ start turns fresh.
     subst KeysNeverDiffer (sym (run_shown start turns fresh)) (keys_shown (world_run values turns (opened_world start)) (agree.keys_never_differ start turns))
 
-pub returns-clause-plain : goal.returns-clause-plain
-returns-clause-plain c = keys_in_octets
+pub returns-clause-fits : goal.returns-clause-fits
+returns-clause-fits c = keys_in_octets

@@ -1,4 +1,4 @@
-use Rattle.world_laws.proofs.PlacesAgree as agree
+use Rattle.world_laws.proofs.Places.Agree as agree
 use Rattle.world_laws.proofs.laws.mappings_agree.Goals as goal
 
 pub returns-clause-values : goal.returns-clause-values

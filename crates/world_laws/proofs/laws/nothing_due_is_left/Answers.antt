@@ -1,6 +1,6 @@
 use Rattle.path_core.specs.Octets.{octets}
 use Rattle.path_core.specs.Values.{values}
-use Rattle.world_laws.proofs.CastLifting as casts
+use Rattle.world_laws.proofs.Worlds.CastLifting as casts
 use Rattle.world_laws.proofs.laws.nothing_due_is_left.Goals as goal
 
 pub returns-clause-octets : goal.returns-clause-octets

@@ -1,4 +1,5 @@
-use Rattle.world_laws.proofs.PromisesMade.{nothing_follows, nothing_follows_in_octets}
+use Rattle.world_laws.proofs.Promises.WhateverIsAltered.{nothing_follows}
+use Rattle.world_laws.proofs.Promises.Made.{nothing_follows_in_octets}
 use Rattle.world_laws.proofs.laws.nothing_follows_the_end.Goals as goal
 
 pub returns-clause-values : goal.returns-clause-values

@@ -1,4 +1,4 @@
-use Rattle.world_laws.proofs.PromisesMade.{nothing_refused, nothing_refused_in_octets}
+use Rattle.world_laws.proofs.Promises.Made.{nothing_refused, nothing_refused_in_octets}
 use Rattle.world_laws.proofs.laws.nothing_is_refused.Goals as goal
 
 pub returns-clause-values : goal.returns-clause-values

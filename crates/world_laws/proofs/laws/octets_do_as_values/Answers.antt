@@ -1,4 +1,4 @@
-use Rattle.world_laws.proofs.Carrying.{run_same}
+use Rattle.world_laws.proofs.Worlds.Carrying.{run_same}
 use Rattle.world_laws.proofs.laws.octets_do_as_values.Goals as goal
 
 pub returns : goal.returns

@@ -1,4 +1,4 @@
-use Rattle.world_laws.proofs.PromisesOfScripts as scripts
+use Rattle.world_laws.proofs.Promises.OfScripts as scripts
 use Rattle.world_laws.proofs.laws.plain_scripts_keep_all_promises.Goals as goal
 
 pub returns-clause-starts : goal.returns-clause-starts
@@ -6,6 +6,3 @@ returns-clause-starts c = scripts.plain_scripts_start_plainly
 
 pub returns-clause-promises : goal.returns-clause-promises
 returns-clause-promises c = scripts.plain_scripts_keep_all_promises
-
-pub returns-clause-shown : goal.returns-clause-shown
-returns-clause-shown c = scripts.plain_scripts_are_shown_of_values

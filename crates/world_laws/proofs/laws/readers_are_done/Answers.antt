@@ -1,6 +1,6 @@
 use Rattle.path_core.specs.Octets.{octets}
 use Rattle.path_core.specs.Values.{values}
-use Rattle.world_laws.proofs.RoundReads as reads
+use Rattle.world_laws.proofs.Rounds.ReadersEnd as reads
 use Rattle.world_laws.proofs.laws.readers_are_done.Goals as goal
 
 pub returns-clause-octets : goal.returns-clause-octets

@@ -1,6 +1,6 @@
 use Rattle.path_core.specs.Octets.{octets}
 use Rattle.path_core.specs.Values.{values}
-use Rattle.world_laws.proofs.RoundCatch.{readers_caught_up}
+use Rattle.world_laws.proofs.Rounds.ReadAll.{readers_caught_up}
 use Rattle.world_laws.proofs.laws.readers_catch_up.Goals as goal
 
 pub returns-clause-octets : goal.returns-clause-octets

@@ -1,6 +1,6 @@
 use Rattle.path_core.specs.Octets.{octets}
 use Rattle.path_core.specs.Values.{values}
-use Rattle.world_laws.proofs.RoundsDone as done
+use Rattle.world_laws.proofs.Rounds.DoneByTheEnd as done
 use Rattle.world_laws.proofs.laws.rounds_end_on_time.Goals as goal
 
 pub returns-clause-octets : goal.returns-clause-octets

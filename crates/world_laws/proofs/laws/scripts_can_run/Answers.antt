@@ -1,4 +1,4 @@
-use Rattle.world_laws.proofs.PromisesOfScripts as scripts
+use Rattle.world_laws.proofs.Promises.OfScripts as scripts
 use Rattle.world_laws.proofs.laws.scripts_can_run.Goals as goal
 
 pub returns : goal.returns

@@ -1,6 +1,6 @@
 use Rattle.path_core.specs.Octets.{octets}
 use Rattle.path_core.specs.Values.{values}
-use Rattle.world_laws.proofs.RoundStarts as starts
+use Rattle.world_laws.proofs.Rounds.FromTheOpening as starts
 use Rattle.world_laws.proofs.laws.serial_exists.Goals as goal
 
 pub returns-clause-octets : goal.returns-clause-octets

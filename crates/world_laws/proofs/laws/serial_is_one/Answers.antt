@@ -1,6 +1,6 @@
 use Rattle.path_core.specs.Octets.{octets}
 use Rattle.path_core.specs.Values.{values}
-use Rattle.world_laws.proofs.Serially as serially
+use Rattle.world_laws.proofs.Rounds.SerialIsOne as serially
 use Rattle.world_laws.proofs.laws.serial_is_one.Goals as goal
 
 pub returns-clause-octets : goal.returns-clause-octets

@@ -1,5 +1,5 @@
-use Rattle.world_laws.proofs.PromisesMade.{run_fresh}
-use Rattle.world_laws.proofs.TellingWorlds.{every_list_is_fresh}
+use Rattle.world_laws.proofs.Promises.Made.{run_fresh}
+use Rattle.world_laws.proofs.Numbers.EveryTurn.{every_list_is_fresh}
 use Rattle.world_laws.proofs.laws.turns_are_fresh.Goals as goal
 
 pub returns-clause-fresh : goal.returns-clause-fresh

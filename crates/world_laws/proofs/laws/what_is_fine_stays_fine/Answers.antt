@@ -1,7 +1,7 @@
 use Rattle.path_core.specs.Octets.{octets}
 use Rattle.path_core.specs.Values.{values}
-use Rattle.world_laws.proofs.Pairing.{stays_fine}
-use Rattle.world_laws.proofs.RoundsDone.{stamps_since_the_round}
+use Rattle.world_laws.proofs.Weaving.Paired.{stays_fine}
+use Rattle.world_laws.proofs.Rounds.DoneByTheEnd.{stamps_since_the_round}
 use Rattle.world_laws.proofs.laws.what_is_fine_stays_fine.Goals as goal
 
 pub returns-clause-octets : goal.returns-clause-octets

@@ -1,0 +1,390 @@
+-- An announcement comes into what an end has to note by a look alone, and the end may note it until it goes out.
+use Rattle.std.proofs.Common.{inl, inr, ◌⊎◌, subst, ◌==◌, ◌++◌, ◌&&◌, ◌||◌, not, ◌≡◌, refl, sym, ◌∙◌, ap, ℕ, Bool, true, false, if◌then◌else◌, Option, Some, None, List, [], ◌∷◌}
+use Rattle.std.proofs.Math.Bool.{or-true}
+use Rattle.std.proofs.lemmas.Bool.{both_ways, false≢true, or_cases}
+use Rattle.std.specs.List.{list_any}
+use Rattle.outside_kit.specs.declared.side.Side.{Side}
+use Rattle.outside_kit.specs.declared.side.Side.TheVariants.{A, B}
+use Rattle.dss_mapping.specs.declared.kept.KeptMapping.{KeptMapping}
+use Rattle.join_handshake.specs.declared.hearing.JoinSyn.{JoinSyn}
+use Rattle.link_model.specs.Steps.{arriving, after_delivery}
+use Rattle.subflow_send.specs.Records.{Record}
+use Rattle.subflow_tcp.specs.States.{is_dead}
+use Rattle.subflow_tcp.specs.declared.handshake.State.{State as EndPhase}
+use Rattle.subflow_tcp.specs.declared.handshake.State.TheVariants as phase
+use Rattle.actor_desk.specs.declared.ask.Reply.{Reply}
+use Rattle.actor_desk.specs.Words.{tail_of}
+use Rattle.path_agenda.specs.Agenda.{leaves, emission}
+use Rattle.path_agenda.specs.Items.{keys_heard, key_heard}
+use Rattle.path_agenda.specs.Words.{replaced}
+use Rattle.path_agenda.specs.declared.duty.Duty.{Duty}
+use Rattle.path_agenda.specs.declared.duty.Duty.TheVariants as duties
+use Rattle.path_agenda.specs.declared.duty.AskDuty.TheVariants as ask_duties
+use Rattle.path_agenda.specs.declared.duty.SendDuty.TheVariants as send_duties
+use Rattle.path_agenda.specs.declared.duty.SilentDuty.TheVariants as silent_duties
+use Rattle.path_agenda.specs.declared.duty.StepDuty.TheVariants as step_duties
+use Rattle.path_agenda.specs.declared.heard.Heard.{Heard}
+use Rattle.path_agenda.specs.declared.heard.Heard.TheVariants as says
+use Rattle.path_agenda.specs.declared.keys.KeyPair.{KeyPair}
+use Rattle.path_agenda.specs.declared.notice.OwnNotice.{OwnNotice}
+use Rattle.path_agenda.specs.declared.notice.OwnNotice.TheVariants as notes
+use Rattle.path_agenda.specs.declared.notice.PeerNotice.{PeerNotice}
+use Rattle.path_agenda.specs.declared.notice.PeerNotice.TheVariants as peer_notes
+use Rattle.path_core.specs.Addressing.{is_kept, after_peer_notice, having_noted}
+use Rattle.path_core.specs.Standing.{may_note, is_connected}
+use Rattle.subflow_tcp.specs.States.{after_finish}
+use Rattle.path_core.specs.Arriving.{judged_in, options_heard, after_judged}
+use Rattle.path_core.specs.Breaking.{answered_break}
+use Rattle.path_core.specs.Codec.{Codec, HeardSegment}
+use Rattle.path_core.specs.declared.event.Event.{Event}
+use Rattle.path_core.specs.declared.event.Event.TheVariants as happenings
+use Rattle.path_core.specs.Duties.{stands, passed, answered}
+use Rattle.path_core.specs.Emission.{having_sent_fin, Grant, grant_in, answered_grant, answered_data, first_unsent}
+use Rattle.path_core.specs.Ends.{PathEnd}
+use Rattle.path_core.specs.Events.{with_priority, next_event, after_line, at_tick, died, join_begun, copy_heard, heard_in, happens_if, told_at, never_joined}
+use Rattle.path_core.specs.declared.lines.LineAction.{LineAction}
+use Rattle.path_core.specs.declared.lines.LineAction.TheVariants as actions
+use Rattle.path_core.specs.Joining.{keys_begun, is_never, opened_by, join_taken, asked_at}
+use Rattle.path_core.specs.Joins.{is_joined}
+use Rattle.path_core.specs.Opening.{answered_peer_key, answered_opened}
+use Rattle.path_core.specs.Passing.{answered_piece, is_placed, is_fin_set, piece_of}
+use Rattle.path_core.specs.Deliver.{Piece, is_wrong, forgotten_by, mapping_here}
+use Rattle.path_core.specs.State.{PathState, end_at, goes_on, left, with_agenda}
+use Rattle.path_core.specs.Steps.{settled}
+use Rattle.path_core.specs.Treating.{counts, is_clash, heard_passed, item_passed, answered_heard, answered_item, item_of, breaks_by_ack}
+use Rattle.world_laws.proofs.Falls.FailedChecks.{check_failed_so, fail_heard_so, infinite_came_so, fail_answered_so}
+use Rattle.world_laws.proofs.Standby.OneDutyLooks.{MayNotLook}
+
+-- ---- an end
+
+abbrev pub is_note : ℕ → OwnNotice → Bool
+is_note id (notes.AddAddr other) = other == id
+is_note id _ = false
+
+abbrev pub is_queued : ℕ → List OwnNotice → Bool
+is_queued id queue = list_any (is_note id) queue
+
+-- the announcement of the id is to be noted
+abbrev pub is_noted : ℕ → PathEnd → Bool
+is_noted id e = is_queued id e.notices.queue
+
+-- behind all others
+pub pushed : (id : ℕ) (queue : List OwnNotice) (notice : OwnNotice) → is_queued id (queue ++ notice ∷ []) ≡ true → (is_queued id queue ≡ true) ⊎ (is_note id notice ≡ true)
+pushed id [] notice is = elim (or_cases (is_note id notice) false is) [ inl new ↦ inr new | inr never ↦ absurd (false≢true never) ]
+pushed id (first ∷ queue) notice is =
+    elim (or_cases (is_note id first) (is_queued id (queue ++ notice ∷ [])) is) [
+      | inl here ↦ inl (ap (λ b. b || is_queued id queue) here)
+      | inr later ↦ elim (pushed id queue notice later) [ inl old ↦ inl (ap (λ b. is_note id first || b) old ∙ or-true (is_note id first)) | inr new ↦ inr new ]
+    ]
+
+-- none is new
+abbrev pub EndSheds : PathEnd → PathEnd → Type 0
+EndSheds e f = (id : ℕ) → is_noted id f ≡ true → is_noted id e ≡ true
+
+either_end : (b : Bool) (e f g : PathEnd) → EndSheds e f → EndSheds e g → EndSheds e (if b then f else g)
+either_end true e f g x y = x
+either_end false e f g x y = y
+
+begun_end : (keys : Option KeyPair) (e : PathEnd) → EndSheds e (opened_by keys e)
+begun_end None e = λ id h. h
+begun_end (Some keys) e = λ id h. h
+
+item_end : (s : Side) (item : Heard) (e : PathEnd) → EndSheds e (heard_passed s item e)
+item_end s says.Dss e = λ id h. h
+item_end s (says.Mapping fin) e = either_end (counts e) e _ _ (λ id h. h) (λ id h. h)
+item_end s (says.DataFin place) e = either_end (counts e) e _ _ (λ id h. h) (λ id h. h)
+item_end s _ e = λ id h. h
+
+maybe_end : (s : Side) (o : Option Heard) (e : PathEnd) → EndSheds e (item_passed s o e)
+maybe_end s None e = λ id h. h
+maybe_end s (Some item) e = item_end s item e
+
+checked_end : (checksums : Bool) (o : Option KeptMapping) (e : PathEnd) → EndSheds e (forgotten_by checksums o e)
+checked_end checksums None e = λ id h. h
+checked_end checksums (Some kept) e = either_end (is_wrong checksums kept e.tcp) e _ _ (λ id h. h) (λ id h. h)
+
+-- a priority and an echo are no announcements
+no_new : (id : ℕ) (queue : List OwnNotice) (notice : OwnNotice) → is_note id notice ≡ false → is_queued id (queue ++ notice ∷ []) ≡ true → is_queued id queue ≡ true
+no_new id queue notice other is = elim (pushed id queue notice is) [ inl old ↦ old | inr new ↦ absurd (both_ways (is_note id notice) other new) ]
+
+priority_end : (backup : Bool) (e : PathEnd) → EndSheds e (with_priority backup e)
+priority_end backup e id = by (is_dead e.tcp.state)
+  where
+    by : (b : Bool) → is_queued id (if b then e.notices.queue else e.notices.queue ++ notes.Prio backup ∷ []) ≡ true → is_noted id e ≡ true
+    by true h = h
+    by false h = no_new id e.notices.queue (notes.Prio backup) refl h
+
+echo_end : (notice : PeerNotice) (r : Reply) (e : PathEnd) → EndSheds e (after_peer_notice notice r e)
+echo_end (peer_notes.AddAddr other address port hmac) r e id = by (is_kept r)
+  where
+    by : (b : Bool) → is_queued id (if b then e.notices.queue ++ notes.AddEcho other address port ∷ [] else e.notices.queue) ≡ true → is_noted id e ≡ true
+    by true h = no_new id e.notices.queue (notes.AddEcho other address port) refl h
+    by false h = h
+echo_end (peer_notes.AddEcho other) r e id = λ h. h
+echo_end (peer_notes.Removed other) r e id = λ h. h
+echo_end (peer_notes.Prio backup) r e id = λ h. h
+
+-- the first of them goes
+noted_end : (queue : List OwnNotice) (id : ℕ) → is_queued id (tail_of queue) ≡ true → is_queued id queue ≡ true
+noted_end [] id h = h
+noted_end (first ∷ queue) id h = ap (λ b. is_note id first || b) h ∙ or-true (is_note id first)
+
+-- what stands between a look and the announcement in a turn, and leaves the end able to note
+abbrev pub IsMild : Duty → Type 0
+IsMild (duties.Ask (ask_duties.Window s)) = Unit {0}
+IsMild (duties.Send (send_duties.Update s)) = Unit {0}
+IsMild (duties.Ask (ask_duties.LeaveNoted s)) = Unit {0}
+IsMild (duties.Send (send_duties.ResetNoted s)) = Unit {0}
+IsMild (duties.Ask (ask_duties.Leave s)) = Unit {0}
+IsMild (duties.Ask (ask_duties.Dead s)) = Unit {0}
+IsMild (duties.Send (send_duties.Syn s)) = Unit {0}
+IsMild (duties.Send (send_duties.FastClose s)) = Unit {0}
+IsMild (duties.Send (send_duties.Notice s)) = Unit {0}
+IsMild (duties.Step (step_duties.Data s)) = Unit {0}
+IsMild (duties.Send (send_duties.DataFin s)) = Unit {0}
+IsMild (duties.Send (send_duties.Fin s)) = Unit {0}
+IsMild (duties.Silent (silent_duties.Timer s)) = Unit {0}
+IsMild _ = ⊥
+
+-- as long as an announcement is left, the end may still note it
+abbrev pub EndHolds : PathEnd → PathEnd → Type 0
+EndHolds e f = (id : ℕ) → is_noted id f ≡ true → may_note e ≡ true → may_note f ≡ true
+
+-- the own FIN leaves it connected
+finish_may : (state : EndPhase) (b : Bool) → is_connected state && b ≡ true → is_connected (after_finish state) && b ≡ true
+finish_may phase.Established b may = may
+finish_may phase.CloseWait b may = may
+finish_may phase.FinWait1 b may = may
+finish_may phase.FinWait2 b may = may
+finish_may phase.Closing b may = may
+finish_may phase.LastAck b may = may
+finish_may phase.TimeWait b may = may
+finish_may _ b may = absurd (false≢true may)
+
+-- ---- a path
+
+module _ {C : Type 0} where
+  pub record Sheds (p q : PathState C) : Type 0 where
+    pub a : EndSheds p.a q.a
+    pub b : EndSheds p.b q.b
+
+  stays_sheds : (p : PathState C) → Sheds p p
+  stays_sheds p = record { a = λ id h. h; b = λ id h. h }
+
+  then_sheds : (p q r : PathState C) → Sheds p q → Sheds q r → Sheds p r
+  then_sheds p q r x y = record { a = λ id h. x.a id (y.a id h); b = λ id h. x.b id (y.b id h) }
+
+  either_sheds : (c : Bool) (q r p : PathState C) → Sheds p q → Sheds p r → Sheds p (if c then q else r)
+  either_sheds true q r p x y = x
+  either_sheds false q r p x y = y
+
+  -- the end of a side becomes this, whatever else is on the path
+  side_sheds : (s : Side) (e : PathEnd) (p q : PathState C) → q.a ≡ (goes_on s e [] p).a → q.b ≡ (goes_on s e [] p).b → EndSheds (end_at s p) e → Sheds p q
+  side_sheds A e p q same_a same_b x = record { a = λ id h. x id (subst (λ (f : PathEnd). is_noted id f ≡ true) same_a h); b = λ id h. subst (λ (f : PathEnd). is_noted id f ≡ true) same_b h }
+  side_sheds B e p q same_a same_b x = record { a = λ id h. subst (λ (f : PathEnd). is_noted id f ≡ true) same_a h; b = λ id h. x id (subst (λ (f : PathEnd). is_noted id f ≡ true) same_b h) }
+
+  pub passed_sheds : (d : Duty) (p : PathState C) → Sheds p (passed d p)
+  passed_sheds (duties.Silent (silent_duties.Timer s)) p = side_sheds s _ p _ refl refl (λ id h. h)
+  passed_sheds (duties.Step (step_duties.Heard s index)) p = side_sheds s _ p _ refl refl (maybe_end s (item_of index (end_at s p)) (end_at s p))
+  passed_sheds (duties.Silent (silent_duties.Keep s)) p = side_sheds s _ p _ refl refl (λ id h. h)
+  passed_sheds (duties.Ask (ask_duties.CheckFailed s)) p = side_sheds s _ p _ refl refl (checked_end p.profile.spelling.checksums (mapping_here (end_at s p)) (end_at s p))
+  passed_sheds (duties.Step (step_duties.PlainAck s)) p = side_sheds s _ p _ refl refl (λ id h. h)
+  passed_sheds (duties.Step (step_duties.Unmapped s)) p = side_sheds s _ p _ refl refl (λ id h. h)
+  passed_sheds (duties.Silent (silent_duties.PassFin s)) p = side_sheds s _ p _ refl refl (λ id h. h)
+  passed_sheds _ p = stays_sheds p
+
+  settled_sheds : (ds : List Duty) (p : PathState C) → Sheds p (settled ds p)
+  settled_sheds [] p = record { a = λ id h. h; b = λ id h. h }
+  settled_sheds (d ∷ ds) p =
+      either_sheds (stands d p) (with_agenda (d ∷ ds) p) (settled ds (passed d p)) p (record { a = λ id h. h; b = λ id h. h })
+      (then_sheds p (passed d p) (settled ds (passed d p)) (passed_sheds d p) (settled_sheds ds (passed d p)))
+
+  -- ---- what happens by itself
+
+  begun_sheds : (r : Reply) (dead living : List Duty) (p : PathState C) → Sheds p (join_begun r dead living p)
+  begun_sheds r dead living p =
+      either_sheds (is_never r) (goes_on A (never_joined r (end_at A p)) dead p) (goes_on A (opened_by (keys_begun r) (end_at A p)) living p) p
+      (record { a = λ id h. absurd (false≢true h); b = λ id h. h }) (record { a = begun_end (keys_begun r) p.a; b = λ id h. h })
+
+  line_sheds : (action : LineAction) (p : PathState C) → Sheds p (after_line action p)
+  line_sheds actions.Die p = record {
+    a = either_end (is_dead p.a.tcp.state) p.a p.a (died p.a) (λ id h. h) (λ id h. absurd (false≢true h));
+    b = either_end (is_dead p.b.tcp.state) p.b p.b (died p.b) (λ id h. h) (λ id h. absurd (false≢true h));
+  }
+  line_sheds (actions.Prio s backup) p = side_sheds s (with_priority backup (end_at s p)) p _ refl refl (priority_end backup (end_at s p))
+  line_sheds (actions.Announce s id) p = record { a = λ id h. h; b = λ id h. h }
+  line_sheds (actions.Withdraw s id) p = record { a = λ id h. h; b = λ id h. h }
+
+  told_sheds_at : (now : ℕ) (s : Side) (x : HeardSegment) (p : PathState C) → Sheds p (told_at now s x p)
+  told_sheds_at now s x p = side_sheds s (after_judged p.profile s now x (judged_in (is_joined p.profile) s x (end_at s p)) (end_at s p)) p (told_at now s x p) refl refl (λ id h. h)
+
+  copy_sheds : (s : Side) (heard : Option HeardSegment) (p : PathState C) → Sheds p (copy_heard s heard p)
+  copy_sheds s None p = record { a = λ id h. h; b = λ id h. h }
+  copy_sheds s (Some heard) p = told_sheds_at p.clock s (options_heard (end_at s p) heard) p
+
+  happens_sheds : (k : Codec C) (event : Option Event) (r : Reply) (p : PathState C) → Sheds p (happens_if k event r p)
+  happens_sheds k None r p = record { a = λ id h. h; b = λ id h. h }
+  happens_sheds k (Some (happenings.Joins tick)) r p =
+      let q : PathState C = record (at_tick tick p) { joined_at = None } in
+      then_sheds p q _ (record { a = λ id h. h; b = λ id h. h }) (begun_sheds r (leaves A) (emission A) q)
+  happens_sheds k (Some (happenings.Takes line)) r p =
+      let q : PathState C = record (at_tick line.tick p) { lines = tail_of p.lines } in
+      then_sheds p q _ (record { a = λ id h. h; b = λ id h. h }) (line_sheds line.action q)
+  happens_sheds k (Some (happenings.Arrives due)) r p =
+      let q : PathState C = record (at_tick due.tick p) { link = after_delivery due p.link } in
+      then_sheds p q _ (record { a = λ id h. h; b = λ id h. h }) (copy_sheds due.to (heard_in k due.to (arriving due p.link) p) q)
+  happens_sheds k (Some (happenings.Fires s tick)) r p = side_sheds s _ p _ refl refl (λ id h. h)
+
+  -- ---- replies
+
+  grant_sheds : (s : Side) (grant : Option Grant) (r : Reply) (p : PathState C) → Sheds p (answered_grant s grant r p)
+  grant_sheds s None r p = side_sheds s _ p _ refl refl (λ id h. h)
+  grant_sheds s (Some grant) r p = side_sheds s _ p _ refl refl (λ id h. h)
+
+  data_sheds : (k : Codec C) (s : Side) (first : Option Record) (r : Reply) (p : PathState C) → Sheds p (answered_data k s first r p)
+  data_sheds k s (Some record_of) r p = side_sheds s _ p _ refl refl (λ id h. h)
+  data_sheds k s None r p = grant_sheds s (grant_in r) r p
+
+  break_sheds : (k : Codec C) (s : Side) (reason : ℕ) (r : Reply) (p : PathState C) → Sheds p (answered_break k s reason r p)
+  break_sheds k s reason r p = either_sheds (end_at s p).treated.asked _ _ p (side_sheds s _ p _ refl refl (λ id h. h)) (side_sheds s _ p _ refl refl (λ id h. absurd (false≢true h)))
+
+  key_sheds : (s : Side) (key : Option ℕ) (r : Reply) (p : PathState C) → Sheds p (answered_peer_key s key r p)
+  key_sheds s None r p = side_sheds s _ p _ refl refl (λ id h. h)
+  key_sheds s (Some key) r p = side_sheds s _ p _ refl refl (λ id h. h)
+
+  opened_sheds : (s : Side) (keys : Option KeyPair) (r : Reply) (p : PathState C) → Sheds p (answered_opened s keys r p)
+  opened_sheds s None r p = side_sheds s _ p _ refl refl (λ id h. h)
+  opened_sheds s (Some keys) r p = side_sheds s _ p _ refl refl (λ id h. h)
+
+  heard_item_sheds : (k : Codec C) (s : Side) (item : Heard) (r : Reply) (p : PathState C) → Sheds p (answered_heard k s item r p)
+  heard_item_sheds k s (says.DataAck next window) r p = side_sheds s _ p _ refl refl (λ id h. h)
+  heard_item_sheds k s (says.Mapping fin) r p =
+      either_sheds (is_clash (end_at s p)) _ _ p (break_sheds k s 1 r p) (side_sheds s _ p _ refl refl (λ id h. h))
+  heard_item_sheds k s (says.DataFin place) r p = side_sheds s _ p _ refl refl (λ id h. h)
+  heard_item_sheds k s (says.InfiniteMapping place position) r p =
+      side_sheds s _ p _ refl refl (infinite_came_so (EndSheds (end_at s p)) place position r (end_at s p) (λ other id h. h))
+  heard_item_sheds k s (says.Keys own peer) r p =
+      side_sheds s _ p _ refl refl (λ id h. h)
+  heard_item_sheds k s (says.Notice notice) r p = side_sheds s (after_peer_notice notice r (end_at s p)) p _ refl refl (echo_end notice r (end_at s p))
+  heard_item_sheds k s says.Fail r p =
+      fail_answered_so (Sheds p) s r p (side_sheds s _ p _ refl refl (λ id h. h)) (side_sheds s _ p _ refl refl (λ id h. h))
+  heard_item_sheds k s _ r p = record { a = λ id h. h; b = λ id h. h }
+
+  item_sheds : (k : Codec C) (s : Side) (item : Option Heard) (r : Reply) (p : PathState C) → Sheds p (answered_item k s item r p)
+  item_sheds k s None r p = record { a = λ id h. h; b = λ id h. h }
+  item_sheds k s (Some item) r p = heard_item_sheds k s item r p
+
+  piece_sheds : (s : Side) (piece : Option Piece) (taken : Bool) (p : PathState C) → Sheds p (answered_piece s piece taken p)
+  piece_sheds s None taken p = side_sheds s _ p _ refl refl (λ id h. h)
+  piece_sheds s (Some piece) taken p = either_sheds taken _ _ p (side_sheds s _ p _ refl refl (λ id h. h)) (side_sheds s _ p _ refl refl (λ id h. h))
+
+  joined_sheds : (s : Side) (keys : Option KeyPair) (asked : Option JoinSyn) (r : Reply) (p : PathState C) → Sheds p (join_taken s keys asked r p)
+  joined_sheds s (Some keys) (Some asked) r p = side_sheds s _ p _ refl refl (λ id h. h)
+  joined_sheds s (Some keys) None r p = record { a = λ id h. h; b = λ id h. h }
+  joined_sheds s None (Some asked) r p = side_sheds s _ p _ refl refl (λ id h. h)
+  joined_sheds s None None r p = record { a = λ id h. h; b = λ id h. h }
+
+  -- but for a Look
+  pub answered_sheds : (k : Codec C) (d : Duty) → MayNotLook d → (r : Reply) (p : PathState C) → Sheds p (answered k d r p)
+  answered_sheds k (duties.Ask ask_duties.JoinAgain) other r p = begun_sheds r (replaced (duties.Ask (ask_duties.Leave A)) p.agenda) (left p) p
+  answered_sheds k (duties.Step (step_duties.Look s)) other r p = absurd other
+  answered_sheds k (duties.Ask (ask_duties.Window s)) other r p = side_sheds s _ p _ refl refl (λ id h. h)
+  answered_sheds k (duties.Send (send_duties.Update s)) other r p = side_sheds s _ p _ refl refl (λ id h. h)
+  answered_sheds k (duties.Send (send_duties.FastClose s)) other r p = side_sheds s _ p _ refl refl (λ id h. h)
+  answered_sheds k (duties.Send (send_duties.Notice s)) other r p = side_sheds s (having_noted s p) p _ refl refl (noted_end (end_at s p).notices.queue)
+  answered_sheds k (duties.Send (send_duties.Syn s)) other r p = side_sheds s _ p _ refl refl (λ id h. h)
+  answered_sheds k (duties.Step (step_duties.Data s)) other r p = data_sheds k s (first_unsent (end_at s p)) r p
+  answered_sheds k (duties.Send (send_duties.DataFin s)) other r p = side_sheds s _ p _ refl refl (λ id h. h)
+  answered_sheds k (duties.Send (send_duties.Fin s)) other r p = side_sheds s _ p _ refl refl (λ id h. h)
+  answered_sheds k (duties.Step step_duties.Events) other r p = happens_sheds k (next_event p) r p
+  answered_sheds k (duties.Ask (ask_duties.PeerKey s)) other r p = key_sheds s (key_heard (end_at s p).treated.items) r p
+  answered_sheds k (duties.Send (send_duties.SynAck s)) other r p = side_sheds s _ p _ refl refl (λ id h. h)
+  answered_sheds k (duties.Ask (ask_duties.JoinHeard s)) other r p = joined_sheds s (keys_begun r) (asked_at s p) r p
+  answered_sheds k (duties.Send (send_duties.Refuse s)) other r p = side_sheds s _ p _ refl refl (λ id h. h)
+  answered_sheds k (duties.Ask (ask_duties.Opened s)) other r p = opened_sheds s (keys_heard (end_at s p).treated.items) r p
+  answered_sheds k (duties.Step (step_duties.Heard s index)) other r p = item_sheds k s (item_of index (end_at s p)) r p
+  answered_sheds k (duties.Ask (ask_duties.AckHeard s)) other r p = side_sheds s _ p _ refl refl (λ id h. h)
+  answered_sheds k (duties.Ask (ask_duties.FailHeard s)) other r p =
+      side_sheds s _ p _ refl refl (fail_heard_so (EndSheds (end_at s p)) r (end_at s p) (λ own owes id h. h))
+  answered_sheds k (duties.Step (step_duties.PlainAck s)) other r p =
+      either_sheds (breaks_by_ack p.profile (end_at s p)) _ _ p (break_sheds k s 6 r p) (side_sheds s _ p _ refl refl (λ id h. h))
+  answered_sheds k (duties.Ask (ask_duties.PlainHandshake s)) other r p = side_sheds s _ p _ refl refl (λ id h. h)
+  answered_sheds k (duties.Ask (ask_duties.PlainData s)) other r p = side_sheds s _ p _ refl refl (λ id h. h)
+  answered_sheds k (duties.Ask (ask_duties.SubflowAck s)) other r p = side_sheds s _ p _ refl refl (λ id h. h)
+  answered_sheds k (duties.Ask (ask_duties.GoIdentity s)) other r p = side_sheds s _ p _ refl refl (λ id h. h)
+  answered_sheds k (duties.Step (step_duties.Unmapped s)) other r p = break_sheds k s 6 r p
+  answered_sheds k (duties.Ask (ask_duties.SubflowFin s)) other r p = either_sheds (is_fin_set r) _ _ p (side_sheds s _ p _ refl refl (λ id h. h)) (side_sheds s _ p _ refl refl (λ id h. h))
+  answered_sheds k (duties.Ask (ask_duties.Edge s)) other r p = piece_sheds s (piece_of s p) (is_placed r) p
+  answered_sheds k (duties.Ask (ask_duties.CheckFailed s)) other r p =
+      side_sheds s _ p _ refl refl
+      (check_failed_so (EndSheds (end_at s p)) p.profile.spelling.checksums r (end_at s p) (λ told broken recv forgets id h. h))
+  answered_sheds k (duties.Ask (ask_duties.HeardFin s index)) other r p = either_sheds (is_fin_set r) _ _ p (side_sheds s _ p _ refl refl (λ id h. h)) (side_sheds s _ p _ refl refl (λ id h. h))
+  answered_sheds k (duties.Ask (ask_duties.AckOut s)) other r p = side_sheds s _ p _ refl refl (λ id h. h)
+  answered_sheds k (duties.Ask (ask_duties.Rate s)) other r p = side_sheds s _ p _ refl refl (λ id h. h)
+  answered_sheds k (duties.Send (send_duties.Acknowledge s)) other r p = side_sheds s _ p _ refl refl (λ id h. h)
+  answered_sheds k (duties.Send (send_duties.Again s)) other r p = side_sheds s _ p _ refl refl (λ id h. h)
+  answered_sheds k (duties.Send (send_duties.Answer s)) other r p = side_sheds s _ p _ refl refl (λ id h. h)
+  answered_sheds k (duties.Send (send_duties.ResetAnswer s)) other r p = side_sheds s _ p _ refl refl (λ id h. h)
+  answered_sheds k (duties.Send (send_duties.Resend s)) other r p = side_sheds s _ p _ refl refl (λ id h. h)
+  answered_sheds k (duties.Ask (ask_duties.BreakAck s reason)) other r p = side_sheds s _ p _ refl refl (λ id h. h)
+  answered_sheds k (duties.Send (send_duties.BreakReset s reason)) other r p = side_sheds s _ p _ refl refl (λ id h. absurd (false≢true h))
+  answered_sheds k (duties.Send (send_duties.Reset s)) other r p = side_sheds s _ p _ refl refl (λ id h. absurd (false≢true h))
+  answered_sheds k (duties.Send (send_duties.ResetNoted s)) other r p = side_sheds s _ p _ refl refl (λ id h. absurd (false≢true h))
+  answered_sheds k (duties.Ask (ask_duties.Leave s)) other r p = record { a = λ id h. h; b = λ id h. h }
+  answered_sheds k (duties.Ask (ask_duties.LeaveNoted s)) other r p = side_sheds s _ p _ refl refl (λ id h. absurd (false≢true h))
+  answered_sheds k duties.End other r p = record { a = λ id h. h; b = λ id h. h }
+  answered_sheds k _ other r p = record { a = λ id h. h; b = λ id h. h }
+
+  -- ---- what comes before the announcement in a turn
+
+  -- an end that may note something still may, as long as an announcement is left
+  pub record Holds (p q : PathState C) : Type 0 where
+    pub a : EndHolds p.a q.a
+    pub b : EndHolds p.b q.b
+
+  side_holds : (s : Side) (e : PathEnd) (p q : PathState C) → q.a ≡ (goes_on s e [] p).a → q.b ≡ (goes_on s e [] p).b → EndHolds (end_at s p) e → Holds p q
+  side_holds A e p q same_a same_b x = record { a = subst (EndHolds p.a) (sym same_a) x; b = subst (EndHolds p.b) (sym same_b) (λ id h may. may) }
+  side_holds B e p q same_a same_b x = record { a = subst (EndHolds p.a) (sym same_a) (λ id h may. may); b = subst (EndHolds p.b) (sym same_b) x }
+
+  data_holds : (k : Codec C) (s : Side) (first : Option Record) (r : Reply) (p : PathState C) → Holds p (answered_data k s first r p)
+  data_holds k s (Some record_of) r p = side_holds s _ p _ refl refl (λ id h may. may)
+  data_holds k s None r p = by (grant_in r)
+    where
+      by : (grant : Option Grant) → Holds p (answered_grant s grant r p)
+      by None = side_holds s _ p _ refl refl (λ id h may. may)
+      by (Some grant) = side_holds s _ p _ refl refl (λ id h may. may)
+
+  pub mild_holds : (k : Codec C) (d : Duty) → IsMild d → (r : Reply) (p : PathState C) → Holds p (answered k d r p)
+  mild_holds k (duties.Ask (ask_duties.Window s)) mild r p = side_holds s _ p _ refl refl (λ id h may. may)
+  mild_holds k (duties.Send (send_duties.Update s)) mild r p = side_holds s _ p _ refl refl (λ id h may. may)
+  mild_holds k (duties.Ask (ask_duties.LeaveNoted s)) mild r p = side_holds s _ p _ refl refl (λ id h may. absurd (false≢true h))
+  mild_holds k (duties.Send (send_duties.ResetNoted s)) mild r p = side_holds s _ p _ refl refl (λ id h may. absurd (false≢true h))
+  mild_holds k (duties.Ask (ask_duties.Leave s)) mild r p = record { a = λ id h may. may; b = λ id h may. may }
+  mild_holds k (duties.Ask (ask_duties.Dead s)) mild r p = record { a = λ id h may. may; b = λ id h may. may }
+  mild_holds k (duties.Send (send_duties.Syn s)) mild r p = side_holds s _ p _ refl refl (λ id h may. may)
+  mild_holds k (duties.Send (send_duties.FastClose s)) mild r p = side_holds s _ p _ refl refl (λ id h may. may)
+  mild_holds k (duties.Send (send_duties.Notice s)) mild r p = side_holds s _ p _ refl refl (λ id h may. may)
+  mild_holds k (duties.Step (step_duties.Data s)) mild r p = data_holds k s (first_unsent (end_at s p)) r p
+  mild_holds k (duties.Send (send_duties.DataFin s)) mild r p = side_holds s _ p _ refl refl (λ id h may. may)
+  mild_holds k (duties.Send (send_duties.Fin s)) mild r p =
+      side_holds s (having_sent_fin s p) p _ refl refl (λ id h may. finish_may (end_at s p).tcp.state ((end_at s p).modes.clear && not (end_at s p).modes.identity) may)
+  mild_holds k (duties.Silent (silent_duties.Timer s)) mild r p = record { a = λ id h may. may; b = λ id h may. may }
+  mild_holds k _ mild r p = absurd mild
+
+  pub passed_holds : (d : Duty) → IsMild d → (p : PathState C) → Holds p (passed d p)
+  passed_holds (duties.Silent (silent_duties.Timer s)) mild p = side_holds s _ p _ refl refl (λ id h may. may)
+  passed_holds (duties.Ask (ask_duties.Window s)) mild p = record { a = λ id h may. may; b = λ id h may. may }
+  passed_holds (duties.Ask (ask_duties.LeaveNoted s)) mild p = record { a = λ id h may. may; b = λ id h may. may }
+  passed_holds (duties.Ask (ask_duties.Leave s)) mild p = record { a = λ id h may. may; b = λ id h may. may }
+  passed_holds (duties.Ask (ask_duties.Dead s)) mild p = record { a = λ id h may. may; b = λ id h may. may }
+  passed_holds (duties.Step (step_duties.Data s)) mild p = record { a = λ id h may. may; b = λ id h may. may }
+  passed_holds (duties.Send send) mild p = record { a = λ id h may. may; b = λ id h may. may }
+  passed_holds _ mild p = absurd mild
+
+  pub sheds_at : (s : Side) (p q : PathState C) → Sheds p q → EndSheds (end_at s p) (end_at s q)
+  sheds_at A p q x = x.a
+  sheds_at B p q x = x.b
+
+  pub holds_at : (s : Side) (p q : PathState C) → Holds p q → EndHolds (end_at s p) (end_at s q)
+  holds_at A p q x = x.a
+  holds_at B p q x = x.b

@@ -1,0 +1,405 @@
+-- A side that fell back to plain TCP did so rightly.
+use Rattle.std.proofs.Common.{◌≡◌, refl, sym, ◌∙◌, ap, subst, ℕ, suc, ◌+◌, ⊎_elim, ◌||◌, not, Bool, true, false, if◌then◌else◌, Option, Some, None, List, [], ◌∷◌, ◌++◌, length, map, arith}
+use Rattle.std.proofs.lemmas.Bool.{and_parts, both_ways, false≢true, or_cases, or_from}
+use Rattle.std.proofs.lemmas.Option.{same_Some}
+use Rattle.std.specs.List.{list_any, slice_get}
+use Rattle.std.specs.Option.{IfSome}
+use Rattle.outside_kit.specs.declared.side.Side.{Side}
+use Rattle.outside_kit.specs.declared.side.Side.TheVariants.{A, B}
+use Rattle.dss_mapping.specs.declared.kept.KeptMapping.{KeptMapping}
+use Rattle.control_book.specs.Replies.{is_aborted}
+use Rattle.fallback_state.specs.Modes.{is_identity}
+use Rattle.send_book.specs.declared.call.SendCall.TheVariants as send_calls
+use Rattle.subflow_send.specs.declared.record.RecordKind.{RecordKind}
+use Rattle.subflow_send.specs.declared.record.RecordKind.TheVariants.{Syn, Data, Fin}
+use Rattle.subflow_send.specs.Records.{Record}
+use Rattle.subflow_tcp.specs.States.{may_finish}
+use Rattle.stream_lanes.specs.Duo.{Duo, after_events}
+use Rattle.stream_lanes.specs.Holding.{Holds, IsHonest, IsRight, LaneHolds}
+use Rattle.stream_lanes.specs.Lane.{Cell, Lane, Mapping}
+use Rattle.stream_lanes.specs.View.{View}
+use Rattle.stream_lanes.proofs.Duos.{any_held}
+use Rattle.stream_lanes.proofs.Lists.{Every-map, in_map, in_set}
+use Rattle.actor_desk.specs.declared.ask.Ask.{Ask}
+use Rattle.actor_desk.specs.declared.ask.Ask.TheVariants as asks
+use Rattle.actor_desk.specs.Books.{books_in}
+use Rattle.actor_desk.specs.Desk.{SixBooks, control_of, after_ask}
+use Rattle.stream_apps.specs.declared.duty.AppDuty.{AppDuty}
+use Rattle.stream_apps.specs.declared.duty.AppDuty.TheVariants as app_duties
+use Rattle.stream_apps.specs.Apps.{AppState}
+use Rattle.stream_apps.specs.AppSteps.{app_ask, app_asks_first}
+use Rattle.path_agenda.specs.declared.duty.Duty.{Duty}
+use Rattle.path_agenda.specs.declared.duty.Duty.TheVariants as duties
+use Rattle.path_agenda.specs.declared.duty.AskDuty.TheVariants as ask_duties
+use Rattle.path_agenda.specs.declared.duty.SendDuty.TheVariants as send_duties
+use Rattle.path_agenda.specs.declared.duty.SilentDuty.TheVariants as silent_duties
+use Rattle.path_agenda.specs.declared.duty.StepDuty.TheVariants as step_duties
+use Rattle.path_core.specs.Duties.{stands, ask_for}
+use Rattle.path_core.specs.Emission.{first_unsent, data_stands, data_ask}
+use Rattle.path_core.specs.Octets.{octets}
+use Rattle.path_core.specs.Shown.{shown_path}
+use Rattle.path_core.specs.State.{PathState, Profile, end_at}
+use Rattle.path_core.specs.Steps.{asks_first}
+use Rattle.path_core.specs.Turns.{FirstStands}
+use Rattle.path_core.specs.Values.{Carried, values}
+use Rattle.world_laws.specs.declared.member.Member.TheVariants.{App, Path}
+use Rattle.world_laws.specs.Actors.{Actor, ActorCrew, member_asks}
+use Rattle.world_laws.specs.FallsRight.{asks_bytes, has_fallen, is_fallen, is_stopped, IsAtPlace, EndIsPlain, FallsAreRight, FallsLast, PathIsPlain, PositionsArePlaces}
+use Rattle.world_laws.specs.Fresh.{shown_crew, shown_member, shown_world}
+use Rattle.world_laws.specs.Laws.{Always}
+use Rattle.world_laws.specs.Openings.{Start, opened_world}
+use Rattle.world_laws.specs.Promises.{HoldsAnyway, HoldsAnywayOfOctets}
+use Rattle.world_laws.specs.RoundEnd.{asks_grant}
+use Rattle.world_laws.specs.Worlds.{WorldState, Turn, note_of, crew_after, asked, stepped, all_over, greatest, begins, after_turn, world_run}
+use Rattle.world_laws.proofs.Lanes.Applying.{any_more}
+use Rattle.world_laws.proofs.Lanes.Beginning.{each_run_shows}
+use Rattle.world_laws.proofs.Worlds.Casts.{Walker, walking, world_of}
+use Rattle.world_laws.proofs.Falls.WhereASideStands.{fell_or_stopped, fell_unjoined}
+use Rattle.world_laws.proofs.Falls.ForEver.{ever_fallen}
+use Rattle.world_laws.proofs.Joins.AnsweredAfterBegun.{always_joined}
+use Rattle.world_laws.proofs.Weaving.Journals.{books_after}
+use Rattle.world_laws.proofs.Keys.ToldAreOwn.{Joined, FellBack, MemberIs, WorldIs, fell_stays, joined_stays, turn_keys, opened_keys}
+use Rattle.world_laws.proofs.Lanes.OfAWorld.{Links, anyhow, duo_of, first_duo, MemberIsSteady, IsSteady, WorldShows}
+use Rattle.world_laws.proofs.Worlds.Opened.{opened_actors}
+use Rattle.world_laws.proofs.Promises.Made.{run_fresh}
+use Rattle.world_laws.proofs.Rounds.GrantAtOneDuty.{MayNotAsk, ask_isn't, asks_none}
+use Rattle.world_laws.proofs.Lanes.Showing.{HasMapping, KeptShows, KindShows, EndShows, PathShows}
+use Rattle.world_laws.proofs.Worlds.Steady.{always_steady}
+use Rattle.world_laws.proofs.Weaving.WholeRounds.{run_append}
+
+-- ---- what asks for bytes
+
+abbrev asks_some : Ask → Bool
+asks_some x = asks_grant A x || asks_grant B x
+
+written_none : (s : Side) (bytes : List ℕ) → asks_some (asks.Send s (send_calls.Write bytes)) ≡ false
+written_none A bytes = refl
+written_none B bytes = refl
+
+closed_none : (s : Side) → asks_some (asks.Send s send_calls.Close) ≡ false
+closed_none A = refl
+closed_none B = refl
+
+aborted_none : (s : Side) → asks_some (asks.Send s send_calls.Abort) ≡ false
+aborted_none A = refl
+aborted_none B = refl
+
+app_asks_none : (d : AppDuty) (a : AppState) → asks_some (app_ask d a) ≡ false
+app_asks_none app_duties.FastClose a = refl
+app_asks_none app_duties.AbortSend a = aborted_none a.side
+app_asks_none app_duties.AbortReceive a = refl
+app_asks_none app_duties.Write a = written_none a.side _
+app_asks_none app_duties.Close a = closed_none a.side
+app_asks_none app_duties.Read a = refl
+app_asks_none app_duties.End a = refl
+
+module _ (p : PathState Carried) where
+  nothing_asked : {X : Type 0} (d : Duty) → MayNotAsk d → asks_some (ask_for values d p) ≡ true → X
+  nothing_asked d other is =
+      let none = asks_none values p d other in
+      absurd (both_ways (asks_some (ask_for values d p)) (or_from (asks_grant A (ask_for values d p)) (asks_grant B (ask_for values d p)) (ask_isn't A (ask_for values d p) none) (ask_isn't B (ask_for values d p) none)) is)
+
+  data_finishes : (s : Side) (o : Option Record) → data_stands p.profile s (end_at s p) o ≡ true → asks_some (data_ask values s o p) ≡ true → (t : Side) × (may_finish (end_at t p).tcp.state ≡ true)
+  data_finishes s (Some r) is asks = absurd (false≢true asks)
+  data_finishes s None is asks = (s, (and_parts (may_finish (end_at s p).tcp.state) _ is).0)
+
+  -- an end asks for bytes only where it may finish
+  asking_finishes : (d : Duty) → stands d p ≡ true → asks_some (ask_for values d p) ≡ true → (t : Side) × (may_finish (end_at t p).tcp.state ≡ true)
+  asking_finishes (duties.Step (step_duties.Data s)) is asks = data_finishes s (first_unsent (end_at s p)) is asks
+  asking_finishes (duties.Ask ask_duties.JoinAgain) is asks = nothing_asked (duties.Ask ask_duties.JoinAgain) tt asks
+  asking_finishes (duties.Step (step_duties.Look s)) is asks = nothing_asked (duties.Step (step_duties.Look s)) tt asks
+  asking_finishes (duties.Ask (ask_duties.Window s)) is asks = nothing_asked (duties.Ask (ask_duties.Window s)) tt asks
+  asking_finishes (duties.Send (send_duties.Update s)) is asks = nothing_asked (duties.Send (send_duties.Update s)) tt asks
+  asking_finishes (duties.Send (send_duties.FastClose s)) is asks = nothing_asked (duties.Send (send_duties.FastClose s)) tt asks
+  asking_finishes (duties.Send (send_duties.Notice s)) is asks = nothing_asked (duties.Send (send_duties.Notice s)) tt asks
+  asking_finishes (duties.Send (send_duties.Syn s)) is asks = nothing_asked (duties.Send (send_duties.Syn s)) tt asks
+  asking_finishes (duties.Send (send_duties.DataFin s)) is asks = nothing_asked (duties.Send (send_duties.DataFin s)) tt asks
+  asking_finishes (duties.Send (send_duties.Fin s)) is asks = nothing_asked (duties.Send (send_duties.Fin s)) tt asks
+  asking_finishes (duties.Silent (silent_duties.Timer s)) is asks = nothing_asked (duties.Silent (silent_duties.Timer s)) tt asks
+  asking_finishes (duties.Step step_duties.Events) is asks = nothing_asked (duties.Step step_duties.Events) tt asks
+  asking_finishes (duties.Ask (ask_duties.SynHeard s)) is asks = nothing_asked (duties.Ask (ask_duties.SynHeard s)) tt asks
+  asking_finishes (duties.Ask (ask_duties.SynAnswered s)) is asks = nothing_asked (duties.Ask (ask_duties.SynAnswered s)) tt asks
+  asking_finishes (duties.Ask (ask_duties.PlainHandshake s)) is asks = nothing_asked (duties.Ask (ask_duties.PlainHandshake s)) tt asks
+  asking_finishes (duties.Ask (ask_duties.PeerKey s)) is asks = nothing_asked (duties.Ask (ask_duties.PeerKey s)) tt asks
+  asking_finishes (duties.Send (send_duties.SynAck s)) is asks = nothing_asked (duties.Send (send_duties.SynAck s)) tt asks
+  asking_finishes (duties.Ask (ask_duties.JoinHeard s)) is asks = nothing_asked (duties.Ask (ask_duties.JoinHeard s)) tt asks
+  asking_finishes (duties.Send (send_duties.Refuse s)) is asks = nothing_asked (duties.Send (send_duties.Refuse s)) tt asks
+  asking_finishes (duties.Ask (ask_duties.Opened s)) is asks = nothing_asked (duties.Ask (ask_duties.Opened s)) tt asks
+  asking_finishes (duties.Ask (ask_duties.Live s)) is asks = nothing_asked (duties.Ask (ask_duties.Live s)) tt asks
+  asking_finishes (duties.Step (step_duties.Heard s index)) is asks = nothing_asked (duties.Step (step_duties.Heard s index)) tt asks
+  asking_finishes (duties.Ask (ask_duties.AckHeard s)) is asks = nothing_asked (duties.Ask (ask_duties.AckHeard s)) tt asks
+  asking_finishes (duties.Ask (ask_duties.FailHeard s)) is asks = nothing_asked (duties.Ask (ask_duties.FailHeard s)) tt asks
+  asking_finishes (duties.Step (step_duties.PlainAck s)) is asks = nothing_asked (duties.Step (step_duties.PlainAck s)) tt asks
+  asking_finishes (duties.Ask (ask_duties.SubflowAck s)) is asks = nothing_asked (duties.Ask (ask_duties.SubflowAck s)) tt asks
+  asking_finishes (duties.Ask (ask_duties.PlainData s)) is asks = nothing_asked (duties.Ask (ask_duties.PlainData s)) tt asks
+  asking_finishes (duties.Ask (ask_duties.GoIdentity s)) is asks = nothing_asked (duties.Ask (ask_duties.GoIdentity s)) tt asks
+  asking_finishes (duties.Silent (silent_duties.Keep s)) is asks = nothing_asked (duties.Silent (silent_duties.Keep s)) tt asks
+  asking_finishes (duties.Ask (ask_duties.Edge s)) is asks = nothing_asked (duties.Ask (ask_duties.Edge s)) tt asks
+  asking_finishes (duties.Ask (ask_duties.CheckFailed s)) is asks = nothing_asked (duties.Ask (ask_duties.CheckFailed s)) tt asks
+  asking_finishes (duties.Step (step_duties.Unmapped s)) is asks = nothing_asked (duties.Step (step_duties.Unmapped s)) tt asks
+  asking_finishes (duties.Ask (ask_duties.HeardFin s index)) is asks = nothing_asked (duties.Ask (ask_duties.HeardFin s index)) tt asks
+  asking_finishes (duties.Silent (silent_duties.PassFin s)) is asks = nothing_asked (duties.Silent (silent_duties.PassFin s)) tt asks
+  asking_finishes (duties.Ask (ask_duties.SubflowFin s)) is asks = nothing_asked (duties.Ask (ask_duties.SubflowFin s)) tt asks
+  asking_finishes (duties.Ask (ask_duties.AckOut s)) is asks = nothing_asked (duties.Ask (ask_duties.AckOut s)) tt asks
+  asking_finishes (duties.Ask (ask_duties.Rate s)) is asks = nothing_asked (duties.Ask (ask_duties.Rate s)) tt asks
+  asking_finishes (duties.Send (send_duties.Acknowledge s)) is asks = nothing_asked (duties.Send (send_duties.Acknowledge s)) tt asks
+  asking_finishes (duties.Send (send_duties.Again s)) is asks = nothing_asked (duties.Send (send_duties.Again s)) tt asks
+  asking_finishes (duties.Send (send_duties.Answer s)) is asks = nothing_asked (duties.Send (send_duties.Answer s)) tt asks
+  asking_finishes (duties.Send (send_duties.ResetAnswer s)) is asks = nothing_asked (duties.Send (send_duties.ResetAnswer s)) tt asks
+  asking_finishes (duties.Ask (ask_duties.Return s)) is asks = nothing_asked (duties.Ask (ask_duties.Return s)) tt asks
+  asking_finishes (duties.Ask (ask_duties.AbortSend s)) is asks = nothing_asked (duties.Ask (ask_duties.AbortSend s)) tt asks
+  asking_finishes (duties.Ask (ask_duties.AbortReceive s)) is asks = nothing_asked (duties.Ask (ask_duties.AbortReceive s)) tt asks
+  asking_finishes (duties.Ask (ask_duties.Announce s id)) is asks = nothing_asked (duties.Ask (ask_duties.Announce s id)) tt asks
+  asking_finishes (duties.Ask (ask_duties.Withdraw s id)) is asks = nothing_asked (duties.Ask (ask_duties.Withdraw s id)) tt asks
+  asking_finishes (duties.Send (send_duties.Resend s)) is asks = nothing_asked (duties.Send (send_duties.Resend s)) tt asks
+  asking_finishes (duties.Ask (ask_duties.BreakAck s reason)) is asks = nothing_asked (duties.Ask (ask_duties.BreakAck s reason)) tt asks
+  asking_finishes (duties.Send (send_duties.BreakReset s reason)) is asks = nothing_asked (duties.Send (send_duties.BreakReset s reason)) tt asks
+  asking_finishes (duties.Send (send_duties.Reset s)) is asks = nothing_asked (duties.Send (send_duties.Reset s)) tt asks
+  asking_finishes (duties.Send (send_duties.ResetNoted s)) is asks = nothing_asked (duties.Send (send_duties.ResetNoted s)) tt asks
+  asking_finishes (duties.Ask (ask_duties.Leave s)) is asks = nothing_asked (duties.Ask (ask_duties.Leave s)) tt asks
+  asking_finishes (duties.Ask (ask_duties.LeaveNoted s)) is asks = nothing_asked (duties.Ask (ask_duties.LeaveNoted s)) tt asks
+  asking_finishes (duties.Ask (ask_duties.Dead s)) is asks = nothing_asked (duties.Ask (ask_duties.Dead s)) tt asks
+  asking_finishes duties.End is asks = nothing_asked duties.End tt asks
+
+module _ (key_a key_b : ℕ) where
+  -- on a path that joins bytes are asked for once B answered
+  member_joined : (number : ℕ) (six : SixBooks) (m : Actor Carried) (x : Ask) → member_asks values m ≡ Some x → MemberIs key_a key_b false six m → MemberIsSteady six (suc number) m → asks_some x ≡ true → Joined six B
+  member_joined number six (App a) x is h steady asks = by a.agenda is
+    where
+      by : (ds : List AppDuty) → app_asks_first ds a ≡ Some x → Joined six B
+      by [] is = cc
+      by (d ∷ ds) is = absurd (both_ways (asks_some x) (ap asks_some (sym (same_Some (app_ask d a) x is)) ∙ app_asks_none d a) asks)
+  member_joined number six (Path p) x is h steady asks = by p.agenda is h.settled
+    where
+      by : (ds : List Duty) → asks_first values ds p ≡ Some x → FirstStands ds p → Joined six B
+      by [] is first = cc
+      by (d ∷ ds) is first =
+          let found = asking_finishes p d first (ap asks_some (same_Some (ask_for values d p) x is) ∙ asks) in
+          steady.joined number refl found.0 found.1
+
+-- ---- worlds
+
+record Rightly (start : Start) (w : WorldState Carried) : Type 0 where
+  known : WorldIs start.key_a start.key_b false w
+  asked_after : (number : ℕ) (c : ActorCrew Carried) → slice_get w.crew (suc (suc (suc number))) ≡ Some c → list_any asks_bytes c.list ≡ true → Joined (books_in w.books) B
+
+turn_right : (start : Start) (turn : Turn) (w : WorldState Carried) → IsSteady w → Rightly start w → Rightly start (after_turn values turn w)
+turn_right start (Turn.Step actor) w steady h = by (slice_get w.crew actor) refl (turn_keys start.key_a start.key_b false (Turn.Step actor) w (λ right. absurd (false≢true right)) h.known)
+  where
+    asking : (c : ActorCrew Carried) → slice_get w.crew actor ≡ Some c → (o : Option Ask) → member_asks values c.member ≡ o
+        → WorldIs start.key_a start.key_b false (asked values actor o c w) → Rightly start (asked values actor o c w)
+    asking c there None is known = h
+    asking c there (Some x) is known =
+        let six = books_in w.books in
+        let now : books_in (asked values actor (Some x) c w).books ≡ after_ask x six = books_after x c.pass w.books in
+        record {
+          known = known;
+          asked_after = λ i d at some. subst (λ (y : SixBooks). Joined y B) (sym now) (joined_stays start.key_a start.key_b false six x B (⊎_elim
+              (λ here. own i (subst (λ n. slice_get w.crew n ≡ Some c) (sym here.0) there) (subst (λ (y : ActorCrew Carried). list_any asks_bytes y.list ≡ true) (sym here.1) some))
+              (λ other. h.asked_after i d other.1 some)
+              (in_set w.crew actor (crew_after values x w.books c) (suc (suc (suc i))) d at)));
+        }
+      where
+        own : (i : ℕ) → slice_get w.crew (suc (suc (suc i))) ≡ Some c → list_any asks_bytes (c.list ++ note_of w.books c.pass x ∷ []) ≡ true → Joined (books_in w.books) B
+        own i at some = ⊎_elim
+            (λ before. h.asked_after i c at before)
+            (λ asks. member_joined start.key_a start.key_b i (books_in w.books) c.member x is (h.known.crew.each actor c there) (steady.each (suc i) c at) asks)
+            (or_cases (list_any asks_bytes c.list) (asks_some x) (sym (any_more asks_bytes c.list (note_of w.books c.pass x)) ∙ some))
+
+    by : (o : Option (ActorCrew Carried)) → slice_get w.crew actor ≡ o → WorldIs start.key_a start.key_b false (stepped values actor o w) → Rightly start (stepped values actor o w)
+    by None there known = h
+    by (Some c) there known = asking c there (member_asks values c.member) refl known
+turn_right start Turn.Round w steady h = by (all_over w.crew) (turn_keys start.key_a start.key_b false Turn.Round w (λ right. absurd (false≢true right)) h.known)
+  where
+    by : (b : Bool) → WorldIs start.key_a start.key_b false (if b then record w { crew = map (begins (greatest 0 w.crew)) w.crew } else w)
+        → Rightly start (if b then record w { crew = map (begins (greatest 0 w.crew)) w.crew } else w)
+    by true known = record {
+      known = known;
+      asked_after = λ i d at some. let found = in_map (begins (greatest 0 w.crew)) w.crew (suc (suc (suc i))) d at in
+          h.asked_after i found.0 found.1 (subst (λ (y : ActorCrew Carried). list_any asks_bytes y.list ≡ true) (sym found.2) some);
+    }
+    by false known = h
+
+run_right : (start : Start) (turns : List Turn) (w : WorldState Carried) → ((more : List Turn) → IsSteady (world_run values more w)) → Rightly start w → Rightly start (world_run values turns w)
+run_right start [] w steady h = h
+run_right start (turn ∷ turns) w steady h = run_right start turns (after_turn values turn w) (λ more. steady (turn ∷ more)) (turn_right start turn w (steady []) h)
+
+opened_right : (start : Start) → Rightly start (opened_world start)
+opened_right start = record {
+  known = opened_keys false start;
+  asked_after = λ i c at. opened_actors (λ actor c. list_any asks_bytes c.list ≡ true → Joined (books_in (opened_world {C = Carried} start).books) B) start (λ some. absurd (false≢true some)) (λ some. absurd (false≢true some))
+      (λ number plan there some. absurd (false≢true some)) (suc (suc (suc i))) c at;
+}
+
+fell_unjoined_at : (six : SixBooks) (s : Side) → FellBack six s → (control_of s six).fall.joined ≡ false
+fell_unjoined_at six A is = fell_unjoined six.control_a.fall is
+fell_unjoined_at six B is = fell_unjoined six.control_b.fall is
+
+-- ---- falls are right
+
+pub falls_are_right : Always values (λ start w. FallsAreRight w)
+falls_are_right start turns = record {
+  joins = λ s fell. fell_unjoined_at (books_in (world_run values turns (opened_world start)).books) s (ever_fallen start turns s fell);
+  answered = λ s fell. unanswered s (ever_fallen start turns s fell);
+  only = λ s fell. record { each = λ number c there. none number c there (unanswered s (ever_fallen start turns s fell)) (list_any asks_bytes c.list) refl };
+}
+  where
+    h : Rightly start (world_run values turns (opened_world start))
+    h = run_right start turns (opened_world start) (always_steady start) (opened_right start)
+
+    unanswered : (s : Side) → FellBack (books_in (world_run values turns (opened_world start)).books) s
+        → (books_in (world_run values turns (opened_world start)).books).control_b.fall.joined ≡ false
+    unanswered B fell = fell_unjoined_at (books_in (world_run values turns (opened_world start)).books) B fell
+    unanswered A fell = by (books_in (world_run values turns (opened_world start)).books).control_b.fall.joined refl
+      where
+        by : (b : Bool) → (books_in (world_run values turns (opened_world start)).books).control_b.fall.joined ≡ b → b ≡ false
+        by false is = refl
+        by true is = absurd (both_ways _ (fell_unjoined_at (books_in (world_run values turns (opened_world start)).books) A fell) ((always_joined start turns).order is))
+
+    none : (number : ℕ) (c : ActorCrew Carried) → slice_get (world_run values turns (opened_world start)).crew (suc (suc (suc number))) ≡ Some c
+        → (books_in (world_run values turns (opened_world start)).books).control_b.fall.joined ≡ false → (b : Bool) → list_any asks_bytes c.list ≡ b → b ≡ false
+    none number c there unjoined false is = refl
+    none number c there unjoined true is = absurd (both_ways _ unjoined (h.asked_after number c there is))
+
+-- ---- and last
+
+turn_fell : (turn : Turn) (w : WorldState Carried) (s : Side) → FellBack (books_in w.books) s → FellBack (books_in (after_turn values turn w).books) s
+turn_fell (Turn.Step actor) w s fell = by (slice_get w.crew actor)
+  where
+    asking : (c : ActorCrew Carried) (o : Option Ask) → FellBack (books_in (asked values actor o c w).books) s
+    asking c None = fell
+    asking c (Some x) = subst (λ (y : SixBooks). FellBack y s) (sym (books_after x c.pass w.books)) (fell_stays (books_in w.books) x s fell)
+
+    by : (o : Option (ActorCrew Carried)) → FellBack (books_in (stepped values actor o w).books) s
+    by None = fell
+    by (Some c) = asking c (member_asks values c.member)
+turn_fell Turn.Round w s fell = by (all_over w.crew)
+  where
+    by : (b : Bool) → FellBack (books_in (if b then record w { crew = map (begins (greatest 0 w.crew)) w.crew } else w).books) s
+    by true = fell
+    by false = fell
+
+run_fell : (turns : List Turn) (w : WorldState Carried) (s : Side) → FellBack (books_in w.books) s → FellBack (books_in (world_run values turns w).books) s
+run_fell [] w s fell = fell
+run_fell (turn ∷ turns) w s fell = run_fell turns (after_turn values turn w) s (turn_fell turn w s fell)
+
+lasting_at : (six : SixBooks) (s : Side) → FellBack six s → (is_identity (control_of s six).fall.mode || is_aborted (control_of s six).fall.mode) ≡ true
+lasting_at six A is = fell_or_stopped six.control_a.fall is
+lasting_at six B is = fell_or_stopped six.control_b.fall is
+
+pub falls_last : Always values (λ start w. FallsLast values w)
+falls_last start turns s more fell =
+    let w = world_run values turns (opened_world start) in
+    lasting_at (books_in (world_run values more w).books) s (run_fell more w s (ever_fallen start turns s fell))
+
+-- ---- positions are places
+
+module _ (v : View) (p : Lane) (alone : v.alone ≡ true) (h : LaneHolds v 0 p) where
+  right_place : (m : Mapping) → IsRight p.sent m → m.place ≡ m.pos
+  right_place m right =
+      let some = right.some in
+      let cell = in_map (λ (c : Cell). c.place) p.sent (m.pos + 0) (m.place + 0) (right.places 0 (omega (arith, some))) in
+      let at = (h.alone alone).identity.each (m.pos + 0) (m.pos + 0) cell.0 (omega arith) cell.1 in
+      let place_is = cell.2 in
+      omega (arith, at, place_is)
+
+  mapped_place : (place position len : ℕ) → HasMapping p.datas place position len → suc place ≡ position
+  mapped_place place position len has =
+      let honest : IsHonest p.alters p.pieces p.sent has.item = h.bytes.honest.each has.at has.item has.there in
+      let right : IsRight p.sent has.holds.mapping = subst (λ o. IfSome o (IsRight p.sent)) has.holds.there honest.mapping in
+      let same = right_place has.holds.mapping right in
+      let place_is = has.holds.is.place_is in let position_is = has.holds.is.position_is in
+      omega (arith, same, place_is, position_is)
+
+  kept_place : (kept : KeptMapping) → KeptShows p.maps kept → suc kept.place ≡ kept.pos
+  kept_place kept has =
+      let same = right_place has.item (h.bytes.right.each has.at has.item has.there) in
+      let place_is = has.holds.place_is in let position_is = has.holds.position_is in
+      omega (arith, same, place_is, position_is)
+
+  record_place : (c : Profile) (s : Side) (fins : List ℕ) (kind : RecordKind) (r : Record) → KindShows c s p.alters p.sent p.datas fins kind r → IsAtPlace kind c s r
+  record_place c s fins Syn r shows = tt
+  record_place c s fins Data r shows = mapped_place _ _ _ shows.mapping
+  record_place c s fins Fin r shows = tt
+
+plain_end : (v u : View) (out back : Lane) → v.alone ≡ true → u.alone ≡ true → LaneHolds v 0 out → LaneHolds u 0 back → (c : Profile) (s : Side) (e : _) → EndShows c s e out back → EndIsPlain c s e
+plain_end v u out back out_alone back_alone out_holds back_holds c s e h = record {
+  records = Every-map (λ r shows. record_place v out out_alone out_holds c s out.fins r.kind r shows) h.sender.pieces;
+  learned = Every-map (λ kept shows. kept_place u back back_alone back_holds kept shows) h.receiver.mapped;
+}
+
+shown_plain : (links : Links) (start : Start) (d : Duo) (w : WorldState Carried) → Holds d → WorldShows links start d w → FallsAreRight w → PositionsArePlaces w
+shown_plain links start d w held h right = record { each = λ s fell c at. path s fell c (subst (λ (v : WorldState Carried). slice_get v.crew 2 ≡ Some c) h.is at) }
+  where
+    holds : Holds (duo_of links (books_in h.cast.books) h.lanes_ab h.lanes_ba h.reader_a h.reader_b)
+    holds = subst Holds h.duo_is held
+
+    path : (s : Side) → has_fallen s w ≡ true → (c : ActorCrew Carried) → slice_get (world_of h.cast).crew 2 ≡ Some c → PathIsPlain c.member
+    path s fell c at =
+        let found = in_map walking h.cast.paths 0 c at in
+        let x : Walker Carried = found.0 in
+        let there = h.paths.each 0 0 x refl found.1 in
+        let unanswered : (books_in h.cast.books).control_b.fall.joined ≡ false = subst (λ (v : WorldState Carried). (books_in v.books).control_b.fall.joined ≡ false) h.is (right.answered s fell) in
+        let alone = ap not unanswered in
+        let ab = holds.ab.lanes.each 0 0 there.ab refl there.ab_there in
+        let ba = holds.ba.lanes.each 0 0 there.ba refl there.ba_there in
+        let shows : PathShows x.path.profile x.path there.ab there.ba = subst (λ e. PathShows e x.path there.ab there.ba) (sym there.shows.profile) there.shows in
+        subst (λ (y : ActorCrew Carried). PathIsPlain y.member) found.2 (sides x.path there.ab there.ba _ _ alone alone ab ba shows)
+      where
+        sides : (p : PathState Carried) (ab ba : Lane) (v u : View) → v.alone ≡ true → u.alone ≡ true → LaneHolds v 0 ab → LaneHolds u 0 ba → PathShows p.profile p ab ba → (s : Side) → EndIsPlain p.profile s (end_at s p)
+        sides p ab ba v u x y ab_holds ba_holds shows A = plain_end v u ab ba x y ab_holds ba_holds p.profile A p.a shows.a
+        sides p ab ba v u x y ab_holds ba_holds shows B = plain_end u v ba ab y x ba_holds ab_holds p.profile B p.b shows.b
+
+pub positions_are_places : HoldsAnyway PositionsArePlaces
+positions_are_places start turns size =
+    let can = anyhow start size in
+    let r = each_run_shows start can turns in
+    shown_plain can.links start (after_events r.events (first_duo can.links start)) (world_run values turns (opened_world start)) (any_held can.links.alters can.links.checked (length start.paths) start.buffer start.buffer r.events) r.shows (falls_are_right start turns)
+
+-- ---- over octets
+
+falls_shown : (w : WorldState Carried) → FallsAreRight w → FallsAreRight (shown_world w)
+falls_shown w h = record {
+  joins = h.joins;
+  answered = h.answered;
+  only = λ s fell. record {
+    each = λ number c at. let found = in_map shown_crew w.crew (suc (suc (suc number))) c at in
+        subst (λ (y : ActorCrew (List ℕ)). list_any asks_bytes y.list ≡ false) found.2 ((h.only s fell).each number found.0 found.1);
+  };
+}
+
+member_plain : (m : Actor Carried) → PathIsPlain m → PathIsPlain (shown_member m)
+member_plain (App a) h = tt
+member_plain (Path p) h = λ s. by s
+  where
+    by : (s : Side) → EndIsPlain p.profile s (end_at s (shown_path p))
+    by A = h A
+    by B = h B
+
+places_shown : (w : WorldState Carried) → PositionsArePlaces w → PositionsArePlaces (shown_world w)
+places_shown w h = record {
+  each = λ s fell c at. let found = in_map shown_crew w.crew 2 c at in
+      subst (λ (y : ActorCrew (List ℕ)). PathIsPlain y.member) found.2 (member_plain found.0.member (h.each s fell found.0 found.1));
+}
+
+pub falls_in_octets : HoldsAnywayOfOctets FallsAreRight
+falls_in_octets start turns size fit = subst FallsAreRight (sym (run_fresh start turns size fit)) (falls_shown (world_run values turns (opened_world start)) (falls_are_right start turns))
+
+same_fallen : (s : Side) (w : WorldState Carried) → (is_fallen s (shown_world w) || is_stopped s (shown_world w)) ≡ (is_fallen s w || is_stopped s w)
+same_fallen A w = refl
+same_fallen B w = refl
+
+same_has_fallen : (s : Side) (w : WorldState Carried) → has_fallen s (shown_world w) ≡ has_fallen s w
+same_has_fallen A w = refl
+same_has_fallen B w = refl
+
+pub falls_last_in_octets : HoldsAnywayOfOctets (FallsLast octets)
+falls_last_in_octets start turns size fit s more fell =
+    let w : WorldState Carried = world_run values turns (opened_world start) in
+    let shown = run_fresh start turns size fit in
+    let later = run_fresh start (turns ++ more) size fit in
+    ap (λ (v : WorldState (List ℕ)). is_fallen s v || is_stopped s v) (sym (run_append octets turns more (opened_world start)) ∙ later ∙ ap shown_world (run_append values turns more (opened_world start))) ∙ same_fallen s (world_run values more w)
+    ∙ falls_last start turns s more (sym (same_has_fallen s w) ∙ ap (has_fallen s) (sym shown) ∙ fell)
+
+pub places_in_octets : HoldsAnywayOfOctets PositionsArePlaces
+places_in_octets start turns size fit = subst PositionsArePlaces (sym (run_fresh start turns size fit)) (places_shown (world_run values turns (opened_world start)) (positions_are_places start turns size))

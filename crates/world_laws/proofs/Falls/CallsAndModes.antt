@@ -1,0 +1,171 @@
+-- What a call of a control book is to the modes of the two directions: a side falls back, begins a join or answers one, or all is as before.
+use Rattle.std.proofs.Common.{◌≡◌, refl, sym, ◌∙◌, ap, ◌⊎◌, inl, inr, Bool, true, false, not, ◌&&◌, if◌then◌else◌, List, [], ◌∷◌}
+use Rattle.outside_kit.specs.declared.side.Side.{Side}
+use Rattle.outside_kit.specs.declared.side.Side.TheVariants.{A, B}
+use Rattle.fallback_state.specs.declared.fall.Fall.{Fall}
+use Rattle.control_book.specs.declared.call.ControlCall.{ControlCall}
+use Rattle.control_book.specs.declared.call.ControlCall.TheVariants as control_calls
+use Rattle.actor_desk.specs.declared.ask.Ask.TheVariants as asks
+use Rattle.actor_desk.specs.Desk.{SixBooks, after_ask}
+use Rattle.stream_lanes.specs.Lane.{Lane}
+use Rattle.stream_lanes.specs.Streams.{Reader}
+use Rattle.stream_lanes.specs.Duo.{Modes, Duo, Event, after_events, falls_a, falls_b, begins_join, sends_join, hears_join}
+use Rattle.stream_lanes.specs.Duo.Event.{FallA, FallB, LoosenA, LoosenB, BeginJoin, SendJoin, HearJoin}
+use Rattle.world_laws.proofs.Falls.WhereASideStands.{is_plain, is_loose, SameFall, HasJoined, Fallen, call_falls}
+use Rattle.world_laws.proofs.Lanes.OfAWorld.{Links, MayCall, Moved, AreSilent, duo_of, modes_by, then_moved}
+
+-- ---- what becomes of the modes
+
+-- where a side stands: in plain TCP, by an infinite mapping of the peer's, and joined
+pub record Stand : Type 0 where
+  pub plain : Bool
+  pub loose : Bool
+  pub joined : Bool
+
+abbrev pub modes_with : Links → Stand → Stand → Modes
+modes_with links a b = record { plain_a = a.plain; plain_b = b.plain; loose_a = a.loose; loose_b = b.loose; begun = a.joined; join_sent = a.joined; answered = b.joined; alters = links.alters; checked = links.checked }
+
+-- the modes go on by silent events
+pub record Modulated (m n : Modes) : Type 0 where
+  pub moves : (d : Duo) → d.modes ≡ m → Moved d (record d { modes = n })
+
+then_modulated : (m n k : Modes) → Modulated m n → Modulated n k → Modulated m k
+then_modulated m n k x y = record { moves = λ d is. then_moved d (record d { modes = n }) (record d { modes = k }) (x.moves d is) (y.moves (record d { modes = n }) refl) }
+
+stay_modes : (m n : Modes) → n ≡ m → Modulated m n
+stay_modes m n same = record {
+  moves = λ d is. record { events = []; silent = refl; to = ap (λ x. record d { modes = x }) (same ∙ sym is) };
+}
+
+-- by one event, or two
+by_events : (m n : Modes) (change : Modes → Modes) (events : List Event) → AreSilent events → ((d : Duo) → after_events events d ≡ record d { modes = change d.modes }) → n ≡ change m → Modulated m n
+by_events m n change events silent makes same = record {
+  moves = λ d is. record { events = events; silent = silent; to = ap (λ x. record d { modes = x }) (same ∙ sym (ap change is)) ∙ sym (makes d) };
+}
+
+stand_is : (x y : Stand) → y.plain ≡ x.plain → y.loose ≡ x.loose → y.joined ≡ x.joined → y ≡ x
+stand_is x y plain loose joined =
+    ap (λ (b : Bool). record y { plain = b }) plain ∙ ap (λ (b : Bool). record y { plain = x.plain; loose = b }) loose ∙ ap (λ (b : Bool). record x { joined = b }) joined
+
+-- ---- by the events of a side
+
+falls_at_a : (links : Links) (x y : Stand) → x.joined ≡ false → modes_with links (record x { plain = true }) y ≡ falls_a (modes_with links x y)
+falls_at_a links x y unjoined = sym (ap (λ (b : Bool). if b then modes_with links x y else modes_with links (record x { plain = true }) y) unjoined)
+
+falls_at_b : (links : Links) (x y : Stand) → y.joined ≡ false → modes_with links x (record y { plain = true }) ≡ falls_b (modes_with links x y)
+falls_at_b links x y unjoined = sym (ap (λ (b : Bool). if b then modes_with links x y else modes_with links x (record y { plain = true })) unjoined)
+
+joins_at_a : (links : Links) (x y : Stand) → x.plain ≡ false → modes_with links (record x { joined = true }) y ≡ sends_join (begins_join (modes_with links x y))
+joins_at_a links x y plain = sym (ap (λ (b : Bool). sends_join (if b then modes_with links x y else record (modes_with links x y) { begun = true })) plain)
+
+joins_at_b : (links : Links) (x y : Stand) → x.joined ≡ true → y.plain ≡ false → modes_with links x (record y { joined = true }) ≡ hears_join (modes_with links x y)
+joins_at_b links x y begun plain = sym (
+    ap (λ (b : Bool). if b && not y.plain then modes_with links x (record y { joined = true }) else modes_with links x y) begun
+    ∙ ap (λ (b : Bool). if not b then modes_with links x (record y { joined = true }) else modes_with links x y) plain)
+
+module _ (links : Links) (x y : Stand) where
+  a_falls : x.joined ≡ false → Modulated (modes_with links x y) (modes_with links (record x { plain = true }) y)
+  a_falls unjoined = by_events _ _ falls_a (FallA ∷ []) refl (λ d. refl) (falls_at_a links x y unjoined)
+
+  b_falls : y.joined ≡ false → Modulated (modes_with links x y) (modes_with links x (record y { plain = true }))
+  b_falls unjoined = by_events _ _ falls_b (FallB ∷ []) refl (λ d. refl) (falls_at_b links x y unjoined)
+
+  a_loosens : Modulated (modes_with links x y) (modes_with links (record x { loose = true }) y)
+  a_loosens = by_events _ _ (λ m. record m { loose_a = true }) (LoosenA ∷ []) refl (λ d. refl) refl
+
+  b_loosens : Modulated (modes_with links x y) (modes_with links x (record y { loose = true }))
+  b_loosens = by_events _ _ (λ m. record m { loose_b = true }) (LoosenB ∷ []) refl (λ d. refl) refl
+
+  a_joins : x.plain ≡ false → Modulated (modes_with links x y) (modes_with links (record x { joined = true }) y)
+  a_joins plain = by_events _ _ (λ m. sends_join (begins_join m)) (BeginJoin ∷ (SendJoin ∷ [])) refl (λ d. refl) (joins_at_a links x y plain)
+
+  b_joins : x.joined ≡ true → y.plain ≡ false → Modulated (modes_with links x y) (modes_with links x (record y { joined = true }))
+  b_joins begun plain = by_events _ _ hears_join (HearJoin ∷ []) refl (λ d. refl) (joins_at_b links x y begun plain)
+
+-- ---- by what becomes of a fall
+
+abbrev pub stand_of : Fall → Stand
+stand_of f = record { plain = is_plain f; loose = is_loose f; joined = f.joined }
+
+-- the modes of two falls
+abbrev pub modes_in : Links → Fall → Fall → Modes
+modes_in links f g = modes_with links (stand_of f) (stand_of g)
+
+-- a side stands as before, or receives by an infinite mapping from now on
+a_as_before : (links : Links) (x z y : Stand) → z.plain ≡ x.plain → (z.loose ≡ x.loose) ⊎ (z.loose ≡ true) → z.joined ≡ x.joined → Modulated (modes_with links x y) (modes_with links z y)
+a_as_before links x z y plain (inl loose) joined = stay_modes _ _ (ap (λ s. modes_with links s y) (stand_is x z plain loose joined))
+a_as_before links x z y plain (inr loose) joined =
+    then_modulated _ (modes_with links (record x { loose = true }) y) _ (a_loosens links x y) (stay_modes _ _ (ap (λ s. modes_with links s y) (stand_is (record x { loose = true }) z plain loose joined)))
+
+b_as_before : (links : Links) (x y z : Stand) → z.plain ≡ y.plain → (z.loose ≡ y.loose) ⊎ (z.loose ≡ true) → z.joined ≡ y.joined → Modulated (modes_with links x y) (modes_with links x z)
+b_as_before links x y z plain (inl loose) joined = stay_modes _ _ (ap (λ s. modes_with links x s) (stand_is y z plain loose joined))
+b_as_before links x y z plain (inr loose) joined =
+    then_modulated _ (modes_with links x (record y { loose = true })) _ (b_loosens links x y) (stay_modes _ _ (ap (λ s. modes_with links x s) (stand_is (record y { loose = true }) z plain loose joined)))
+
+module _ (links : Links) (f g h : Fall) where
+  a_goes : Fallen f h → Modulated (modes_in links f g) (modes_in links h g)
+  a_goes (inl same) = a_as_before links (stand_of f) (stand_of h) (stand_of g) same.mode same.loose same.joined
+  a_goes (inr fell) =
+      then_modulated _ _ _ (a_falls links (stand_of f) (stand_of g) fell.was)
+      (a_as_before links (record (stand_of f) { plain = true }) (stand_of h) (stand_of g) fell.mode fell.loose fell.joined)
+
+  b_goes : Fallen g h → Modulated (modes_in links f g) (modes_in links f h)
+  b_goes (inl same) = b_as_before links (stand_of f) (stand_of g) (stand_of h) same.mode same.loose same.joined
+  b_goes (inr fell) =
+      then_modulated _ _ _ (b_falls links (stand_of f) (stand_of g) fell.was)
+      (b_as_before links (stand_of f) (record (stand_of g) { plain = true }) (stand_of h) fell.mode fell.loose fell.joined)
+
+  a_begins : SameFall f h ⊎ HasJoined f h → Modulated (modes_in links f g) (modes_in links h g)
+  a_begins (inl same) = a_goes (inl same)
+  a_begins (inr joins) =
+      then_modulated _ _ _ (a_joins links (stand_of f) (stand_of g) joins.was)
+      (a_as_before links (record (stand_of f) { joined = true }) (stand_of h) (stand_of g) joins.mode joins.loose joins.joined)
+
+  b_begins : f.joined ≡ true → SameFall g h ⊎ HasJoined g h → Modulated (modes_in links f g) (modes_in links f h)
+  b_begins begun (inl same) = b_goes (inl same)
+  b_begins begun (inr joins) =
+      then_modulated _ _ _ (b_joins links (stand_of f) (stand_of g) begun joins.was)
+      (b_as_before links (stand_of f) (record (stand_of g) { joined = true }) (stand_of h) joins.mode joins.loose joins.joined)
+
+-- after what may be called
+modulated : (links : Links) (s : Side) (call : ControlCall) (six : SixBooks) → MayCall s call six → Modulated (modes_by links six) (modes_by links (after_ask (asks.Control s call) six))
+modulated links A (control_calls.Look path) six may = a_goes links six.control_a.fall six.control_b.fall _ (call_falls six.control_a (control_calls.Look path))
+modulated links A (control_calls.PeerKey key) six may = a_goes links six.control_a.fall six.control_b.fall _ (call_falls six.control_a (control_calls.PeerKey key))
+modulated links A (control_calls.Keys own other) six may = a_goes links six.control_a.fall six.control_b.fall _ (call_falls six.control_a (control_calls.Keys own other))
+modulated links A (control_calls.Fell path event) six may = a_goes links six.control_a.fall six.control_b.fall _ (call_falls six.control_a (control_calls.Fell path event))
+modulated links A (control_calls.JoinBegin path) six may = a_begins links six.control_a.fall six.control_b.fall _ (call_falls six.control_a (control_calls.JoinBegin path))
+modulated links A (control_calls.JoinHeard path token) six may = a_begins links six.control_a.fall six.control_b.fall _ (call_falls six.control_a (control_calls.JoinHeard path token))
+modulated links A (control_calls.Live path backup) six may = a_goes links six.control_a.fall six.control_b.fall _ (call_falls six.control_a (control_calls.Live path backup))
+modulated links A (control_calls.Dead path) six may = a_goes links six.control_a.fall six.control_b.fall _ (call_falls six.control_a (control_calls.Dead path))
+modulated links A (control_calls.Rate path window rtt) six may = a_goes links six.control_a.fall six.control_b.fall _ (call_falls six.control_a (control_calls.Rate path window rtt))
+modulated links A (control_calls.Backup path on) six may = a_goes links six.control_a.fall six.control_b.fall _ (call_falls six.control_a (control_calls.Backup path on))
+modulated links A (control_calls.Announce id) six may = a_goes links six.control_a.fall six.control_b.fall _ (call_falls six.control_a (control_calls.Announce id))
+modulated links A (control_calls.Withdraw id) six may = a_goes links six.control_a.fall six.control_b.fall _ (call_falls six.control_a (control_calls.Withdraw id))
+modulated links A (control_calls.Heard id address port hmac) six may = a_goes links six.control_a.fall six.control_b.fall _ (call_falls six.control_a (control_calls.Heard id address port hmac))
+modulated links A (control_calls.Echoed id) six may = a_goes links six.control_a.fall six.control_b.fall _ (call_falls six.control_a (control_calls.Echoed id))
+modulated links A (control_calls.Removed id) six may = a_goes links six.control_a.fall six.control_b.fall _ (call_falls six.control_a (control_calls.Removed id))
+modulated links A control_calls.FastClose six may = a_goes links six.control_a.fall six.control_b.fall _ (call_falls six.control_a control_calls.FastClose)
+modulated links A (control_calls.FastHeard key) six may = a_goes links six.control_a.fall six.control_b.fall _ (call_falls six.control_a (control_calls.FastHeard key))
+modulated links B (control_calls.Look path) six may = b_goes links six.control_a.fall six.control_b.fall _ (call_falls six.control_b (control_calls.Look path))
+modulated links B (control_calls.PeerKey key) six may = b_goes links six.control_a.fall six.control_b.fall _ (call_falls six.control_b (control_calls.PeerKey key))
+modulated links B (control_calls.Keys own other) six may = b_goes links six.control_a.fall six.control_b.fall _ (call_falls six.control_b (control_calls.Keys own other))
+modulated links B (control_calls.Fell path event) six may = b_goes links six.control_a.fall six.control_b.fall _ (call_falls six.control_b (control_calls.Fell path event))
+modulated links B (control_calls.JoinBegin path) six may = absurd may
+modulated links B (control_calls.JoinHeard path token) six may = b_begins links six.control_a.fall six.control_b.fall _ may (call_falls six.control_b (control_calls.JoinHeard path token))
+modulated links B (control_calls.Live path backup) six may = b_goes links six.control_a.fall six.control_b.fall _ (call_falls six.control_b (control_calls.Live path backup))
+modulated links B (control_calls.Dead path) six may = b_goes links six.control_a.fall six.control_b.fall _ (call_falls six.control_b (control_calls.Dead path))
+modulated links B (control_calls.Rate path window rtt) six may = b_goes links six.control_a.fall six.control_b.fall _ (call_falls six.control_b (control_calls.Rate path window rtt))
+modulated links B (control_calls.Backup path on) six may = b_goes links six.control_a.fall six.control_b.fall _ (call_falls six.control_b (control_calls.Backup path on))
+modulated links B (control_calls.Announce id) six may = b_goes links six.control_a.fall six.control_b.fall _ (call_falls six.control_b (control_calls.Announce id))
+modulated links B (control_calls.Withdraw id) six may = b_goes links six.control_a.fall six.control_b.fall _ (call_falls six.control_b (control_calls.Withdraw id))
+modulated links B (control_calls.Heard id address port hmac) six may = b_goes links six.control_a.fall six.control_b.fall _ (call_falls six.control_b (control_calls.Heard id address port hmac))
+modulated links B (control_calls.Echoed id) six may = b_goes links six.control_a.fall six.control_b.fall _ (call_falls six.control_b (control_calls.Echoed id))
+modulated links B (control_calls.Removed id) six may = b_goes links six.control_a.fall six.control_b.fall _ (call_falls six.control_b (control_calls.Removed id))
+modulated links B control_calls.FastClose six may = b_goes links six.control_a.fall six.control_b.fall _ (call_falls six.control_b control_calls.FastClose)
+modulated links B (control_calls.FastHeard key) six may = b_goes links six.control_a.fall six.control_b.fall _ (call_falls six.control_b (control_calls.FastHeard key))
+
+-- Each call of a control book that may be made is moves.
+pub control_moves : (links : Links) (s : Side) (call : ControlCall) (six : SixBooks) → MayCall s call six → (lanes_ab lanes_ba : List Lane) (reader_a reader_b : Reader)
+    → Moved (duo_of links six lanes_ab lanes_ba reader_a reader_b) (duo_of links (after_ask (asks.Control s call) six) lanes_ab lanes_ba reader_a reader_b)
+control_moves links A call six may lanes_ab lanes_ba reader_a reader_b = (modulated links A call six may).moves (duo_of links six lanes_ab lanes_ba reader_a reader_b) refl
+control_moves links B call six may lanes_ab lanes_ba reader_a reader_b = (modulated links B call six may).moves (duo_of links six lanes_ab lanes_ba reader_a reader_b) refl

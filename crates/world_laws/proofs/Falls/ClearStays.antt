@@ -1,0 +1,338 @@
+-- An end that may send a DSS may always send one: it stays clear. And one that fell back to plain TCP stays so.
+use Rattle.std.proofs.Common.{◌≡◌, refl, ℕ, ◌+◌, Bool, true, false, if◌then◌else◌, Option, Some, None, List, [], ◌∷◌}
+use Rattle.std.proofs.lemmas.Bool.{or_left, both_ways}
+use Rattle.outside_kit.specs.declared.side.Side.{Side}
+use Rattle.outside_kit.specs.declared.side.Side.TheVariants.{A, B}
+use Rattle.control_book.specs.declared.call.ControlReply.TheVariants as control_replies
+use Rattle.dss_mapping.specs.declared.kept.KeptMapping.{KeptMapping}
+use Rattle.fallback_state.specs.declared.fall.Verdict.TheVariants as verdicts
+use Rattle.fallback_state.specs.declared.fall.Event.{Event as FallEvent}
+use Rattle.fallback_state.specs.declared.fall.Event.TheVariants as events
+use Rattle.join_handshake.specs.declared.hearing.JoinAnswer.{JoinAnswer}
+use Rattle.join_handshake.specs.declared.hearing.JoinSyn.{JoinSyn}
+use Rattle.link_model.specs.Steps.{arriving, after_delivery}
+use Rattle.subflow_send.specs.Records.{Record}
+use Rattle.subflow_tcp.specs.States.{is_dead, is_half_open}
+use Rattle.subflow_tcp.specs.declared.handshake.State.{State as EndPhase}
+use Rattle.subflow_tcp.specs.declared.verdicts.Meaning.{Meaning}
+use Rattle.subflow_tcp.specs.declared.verdicts.Meaning.TheVariants as means
+use Rattle.actor_desk.specs.declared.ask.Reply.{Reply}
+use Rattle.actor_desk.specs.declared.ask.Reply.TheVariants as replies
+use Rattle.actor_desk.specs.Words.{tail_of}
+use Rattle.path_agenda.specs.Agenda.{start_of_turn, leaves, emission}
+use Rattle.path_agenda.specs.Items.{keys_heard, key_heard}
+use Rattle.path_agenda.specs.Words.{replaced}
+use Rattle.path_agenda.specs.declared.duty.Duty.{Duty}
+use Rattle.path_agenda.specs.declared.duty.Duty.TheVariants as duties
+use Rattle.path_agenda.specs.declared.duty.AskDuty.TheVariants as ask_duties
+use Rattle.path_agenda.specs.declared.duty.SendDuty.TheVariants as send_duties
+use Rattle.path_agenda.specs.declared.duty.SilentDuty.TheVariants as silent_duties
+use Rattle.path_agenda.specs.declared.duty.StepDuty.TheVariants as step_duties
+use Rattle.path_agenda.specs.declared.heard.Heard.{Heard}
+use Rattle.path_agenda.specs.declared.heard.Heard.TheVariants as says
+use Rattle.path_agenda.specs.declared.keys.KeyPair.{KeyPair}
+use Rattle.path_core.specs.Arriving.{items_of, judged_in, taken_as, answered_in, cleared_in, with_answer, options_heard, asked_in, after_judged, HeardOption, with_held, held_of, after_join}
+use Rattle.path_core.specs.Breaking.{answered_break}
+use Rattle.path_core.specs.Codec.{Codec, HeardSegment}
+use Rattle.path_core.specs.declared.event.Event.{Event}
+use Rattle.path_core.specs.declared.event.Event.TheVariants as happenings
+use Rattle.path_core.specs.declared.modes.Modes.{Modes}
+use Rattle.path_core.specs.Duties.{stands, passed, answered}
+use Rattle.path_core.specs.Emission.{Grant, grant_in, answered_grant, answered_data, first_unsent}
+use Rattle.path_core.specs.Ends.{PathEnd}
+use Rattle.path_core.specs.Events.{next_event, after_line, at_tick, died, join_begun, copy_heard, heard_in, happens_if, told_at, never_joined}
+use Rattle.path_core.specs.declared.lines.LineAction.{LineAction}
+use Rattle.path_core.specs.declared.lines.LineAction.TheVariants as actions
+use Rattle.path_core.specs.Joining.{keys_begun, is_never, opened_by, join_taken, asked_at}
+use Rattle.path_core.specs.Joins.{is_joined, join_answer}
+use Rattle.path_core.specs.Opening.{keys_in, answered_peer_key, answered_opened}
+use Rattle.path_core.specs.Passing.{answered_piece, is_placed, is_fin_set, piece_of}
+use Rattle.path_core.specs.Deliver.{Piece, is_wrong, forgotten_by, mapping_here}
+use Rattle.path_core.specs.Standing.{modes_told}
+use Rattle.path_core.specs.State.{PathState, end_at, goes_on, left, with_agenda}
+use Rattle.path_core.specs.Steps.{settled, settles_down, answers, takes, begins_turn, next_round}
+use Rattle.path_core.specs.Treating.{counts, is_clash, mode_in, heard_passed, item_passed, answered_heard, answered_item, item_of, breaks_by_ack, after_fell}
+use Rattle.path_core.specs.Words.{is_side_a}
+use Rattle.path_core.specs.Fallback.{fell_in}
+use Rattle.world_laws.proofs.Falls.FailedChecks.{check_failed_so, fail_heard_so, infinite_came_so, fail_answered_so}
+
+-- what is clear was clear, or became so
+pub unclear_before : (b c : Bool) → (b ≡ true → c ≡ true) → c ≡ false → b ≡ false
+unclear_before false c on is = refl
+unclear_before true c on is = absurd (both_ways c is (on refl))
+
+-- ---- what is known of the modes
+
+abbrev pub Stays : Modes → Modes → Type 0
+Stays m n = (m.clear ≡ true → n.clear ≡ true) × (m.identity ≡ true → n.identity ≡ true)
+
+then_stays : (m n o : Modes) → Stays m n → Stays n o → Stays m o
+then_stays m n o x y = (λ h. y.0 (x.0 h), λ h. y.1 (x.1 h))
+
+told_clear : (r : Reply) (m : Modes) → Stays m (modes_told r m)
+told_clear (replies.Control (control_replies.Standing mode standby sole notice)) m = (λ h. h, λ h. h)
+told_clear _ m = (λ h. h, λ h. h)
+
+went_clear : (r : Reply) (m : Modes) → Stays m (mode_in r m)
+went_clear (replies.Control (control_replies.Verdict (verdicts.Went mode))) m = (λ h. h, λ h. h)
+went_clear _ m = (λ h. h, λ h. h)
+
+fell_clear : (event : FallEvent) (r : Reply) (m : Modes) → Stays m (fell_in event r m)
+fell_clear events.PlainData r m = went_clear r m
+fell_clear events.PlainAck r m = went_clear r m
+fell_clear _ r m = went_clear r m
+
+keyed_clear : (r : Reply) (keys : Option KeyPair) (m : Modes) → Stays m (keys_in r keys m)
+keyed_clear (replies.Control control_replies.Noted) (Some keys) m = (λ h. refl, λ h. h)
+keyed_clear _ keys m = (λ h. h, λ h. h)
+
+with_answer_clear : (o : Option JoinAnswer) (m : Modes) → Stays m (with_answer o m)
+with_answer_clear None m = (λ h. h, λ h. h)
+with_answer_clear (Some answer) m = (λ h. h, λ h. h)
+
+answered_clear_in : (meaning : Meaning) (items : List Heard) (m : Modes) → Stays m (answered_in meaning items m)
+answered_clear_in (means.Accepts acknowledged) items m = with_answer_clear (join_answer items m) m
+answered_clear_in _ items m = (λ h. h, λ h. h)
+
+cleared_clear : (meaning : Meaning) (state : EndPhase) (m : Modes) → Stays m (cleared_in meaning state m)
+cleared_clear (means.Taken position acknowledged) state m = (λ h. or_left m.clear (is_half_open state) h, λ h. h)
+cleared_clear _ state m = (λ h. h, λ h. h)
+
+asked_clear : (meaning : Meaning) (options : List HeardOption) (m : Modes) → Stays m (asked_in meaning options m)
+asked_clear means.Opens options m = (λ h. h, λ h. h)
+asked_clear _ options m = (λ h. h, λ h. h)
+
+heard_clear : (joined : Bool) (meaning : Meaning) (items : List Heard) (state : EndPhase) (m : Modes) → Stays m (if joined then cleared_in meaning state (answered_in meaning items m) else m)
+heard_clear true meaning items state m =
+    then_stays m (answered_in meaning items m) (cleared_in meaning state (answered_in meaning items m)) (answered_clear_in meaning items m) (cleared_clear meaning state (answered_in meaning items m))
+heard_clear false meaning items state m = (λ h. h, λ h. h)
+
+-- ---- an end
+
+abbrev EndStays : PathEnd → PathEnd → Type 0
+EndStays e f = Stays e.modes f.modes
+
+either_end : (b : Bool) (e f g : PathEnd) → EndStays e f → EndStays e g → EndStays e (if b then f else g)
+either_end true e f g x y = x
+either_end false e f g x y = y
+
+begun_end : (keys : Option KeyPair) (e : PathEnd) → EndStays e (opened_by keys e)
+begun_end None e = (λ h. h, λ h. h)
+begun_end (Some keys) e = (λ h. h, λ h. h)
+
+item_end : (s : Side) (item : Heard) (e : PathEnd) → EndStays e (heard_passed s item e)
+item_end s says.Dss e = (λ h. or_left e.modes.clear (is_side_a s) h, λ h. h)
+item_end s (says.Mapping fin) e = either_end (counts e) e _ _ (λ h. h, λ h. h) (λ h. h, λ h. h)
+item_end s (says.DataFin place) e = either_end (counts e) e _ _ (λ h. h, λ h. h) (λ h. h, λ h. h)
+item_end s _ e = (λ h. h, λ h. h)
+
+pub maybe_end : (s : Side) (o : Option Heard) (e : PathEnd) → EndStays e (item_passed s o e)
+maybe_end s None e = (λ h. h, λ h. h)
+maybe_end s (Some item) e = item_end s item e
+
+pub checked_end : (checksums : Bool) (o : Option KeptMapping) (e : PathEnd) → EndStays e (forgotten_by checksums o e)
+checked_end checksums None e = (λ h. h, λ h. h)
+checked_end checksums (Some kept) e = either_end (is_wrong checksums kept e.tcp) e _ _ (λ h. h, λ h. h) (λ h. h, λ h. h)
+
+-- ---- a path
+
+module _ {C : Type 0} where
+  pub record Clears (p q : PathState C) : Type 0 where
+    pub a : EndStays p.a q.a
+    pub b : EndStays p.b q.b
+
+  stays_clear : (p : PathState C) → Clears p p
+  stays_clear p = record { a = (λ h. h, λ h. h); b = (λ h. h, λ h. h) }
+
+  then_clear : (p q r : PathState C) → Clears p q → Clears q r → Clears p r
+  then_clear p q r x y = record { a = then_stays p.a.modes q.a.modes r.a.modes x.a y.a; b = then_stays p.b.modes q.b.modes r.b.modes x.b y.b }
+
+  either_clear : (c : Bool) (q r p : PathState C) → Clears p q → Clears p r → Clears p (if c then q else r)
+  either_clear true q r p x y = x
+  either_clear false q r p x y = y
+
+  -- the end of a side becomes this, whatever else is on the path
+  side_clear : (s : Side) (e : PathEnd) (p q : PathState C) → EndStays (end_at s p) e → q.a ≡ (goes_on s e [] p).a → q.b ≡ (goes_on s e [] p).b → Clears p q
+  side_clear A e p q x same_a same_b = record { a = (λ h. rw same_a (x.0 h), λ h. rw same_a (x.1 h)); b = (λ h. rw same_b h, λ h. rw same_b h) }
+  side_clear B e p q x same_a same_b = record { a = (λ h. rw same_a h, λ h. rw same_a h); b = (λ h. rw same_b (x.0 h), λ h. rw same_b (x.1 h)) }
+
+  pub passed_clear : (d : Duty) (p : PathState C) → Clears p (passed d p)
+  passed_clear (duties.Silent (silent_duties.Timer s)) p = side_clear s _ p _ (λ h. h, λ h. h) refl refl
+  passed_clear (duties.Step (step_duties.Heard s index)) p = side_clear s _ p _ (maybe_end s (item_of index (end_at s p)) (end_at s p)) refl refl
+  passed_clear (duties.Silent (silent_duties.Keep s)) p = side_clear s _ p _ (λ h. h, λ h. h) refl refl
+  passed_clear (duties.Ask (ask_duties.CheckFailed s)) p = side_clear s _ p _ (checked_end p.profile.spelling.checksums (mapping_here (end_at s p)) (end_at s p)) refl refl
+  passed_clear (duties.Step (step_duties.PlainAck s)) p = side_clear s _ p _ (λ h. h, λ h. h) refl refl
+  passed_clear (duties.Step (step_duties.Unmapped s)) p = side_clear s _ p _ (λ h. h, λ h. h) refl refl
+  passed_clear (duties.Silent (silent_duties.PassFin s)) p = side_clear s _ p _ (λ h. h, λ h. h) refl refl
+  passed_clear _ p = stays_clear p
+
+  settled_clear : (ds : List Duty) (p : PathState C) → Clears p (settled ds p)
+  settled_clear [] p = record { a = (λ h. h, λ h. h); b = (λ h. h, λ h. h) }
+  settled_clear (d ∷ ds) p =
+      either_clear (stands d p) (with_agenda (d ∷ ds) p) (settled ds (passed d p)) p (record { a = (λ h. h, λ h. h); b = (λ h. h, λ h. h) })
+      (then_clear p (passed d p) (settled ds (passed d p)) (passed_clear d p) (settled_clear ds (passed d p)))
+
+  -- ---- what happens by itself
+
+  begun_clear : (r : Reply) (dead living : List Duty) (p : PathState C) → Clears p (join_begun r dead living p)
+  begun_clear r dead living p =
+      either_clear (is_never r) (goes_on A (never_joined r (end_at A p)) dead p) (goes_on A (opened_by (keys_begun r) (end_at A p)) living p) p
+      (record { a = (λ h. h, λ h. h); b = (λ h. h, λ h. h) }) (record { a = begun_end (keys_begun r) p.a; b = (λ h. h, λ h. h) })
+
+  line_clear : (action : LineAction) (p : PathState C) → Clears p (after_line action p)
+  line_clear actions.Die p = record {
+    a = either_end (is_dead p.a.tcp.state) p.a p.a (died p.a) (λ h. h, λ h. h) (λ h. h, λ h. h);
+    b = either_end (is_dead p.b.tcp.state) p.b p.b (died p.b) (λ h. h, λ h. h) (λ h. h, λ h. h);
+  }
+  line_clear (actions.Prio s backup) p = side_clear s _ p _ (λ h. h, λ h. h) refl refl
+  line_clear (actions.Announce s id) p = record { a = (λ h. h, λ h. h); b = (λ h. h, λ h. h) }
+  line_clear (actions.Withdraw s id) p = record { a = (λ h. h, λ h. h); b = (λ h. h, λ h. h) }
+
+  told_clear_at : (now : ℕ) (s : Side) (x : HeardSegment) (p : PathState C) → Clears p (told_at now s x p)
+  told_clear_at now s x p =
+      let joined = is_joined p.profile in let e = end_at s p in let items = items_of joined s x in
+      let meaning : Meaning = taken_as (judged_in joined s x e) in
+      let held : PathEnd = with_held (held_of p.profile s x) x meaning e in
+      let middle : Modes = (after_join joined items meaning held).modes in
+      side_clear s (after_judged p.profile s now x (judged_in joined s x e) e) p (told_at now s x p)
+      (then_stays e.modes middle (asked_in meaning x.options middle) (heard_clear joined meaning items held.tcp.state e.modes) (asked_clear meaning x.options middle)) refl refl
+
+  copy_clear : (s : Side) (heard : Option HeardSegment) (p : PathState C) → Clears p (copy_heard s heard p)
+  copy_clear s None p = record { a = (λ h. h, λ h. h); b = (λ h. h, λ h. h) }
+  copy_clear s (Some heard) p = told_clear_at p.clock s (options_heard (end_at s p) heard) p
+
+  happens_clear : (k : Codec C) (event : Option Event) (r : Reply) (p : PathState C) → Clears p (happens_if k event r p)
+  happens_clear k None r p = record { a = (λ h. h, λ h. h); b = (λ h. h, λ h. h) }
+  happens_clear k (Some (happenings.Joins tick)) r p =
+      let q : PathState C = record (at_tick tick p) { joined_at = None } in
+      then_clear p q _ (record { a = (λ h. h, λ h. h); b = (λ h. h, λ h. h) }) (begun_clear r (leaves A) (emission A) q)
+  happens_clear k (Some (happenings.Takes line)) r p =
+      let q : PathState C = record (at_tick line.tick p) { lines = tail_of p.lines } in
+      then_clear p q _ (record { a = (λ h. h, λ h. h); b = (λ h. h, λ h. h) }) (line_clear line.action q)
+  happens_clear k (Some (happenings.Arrives due)) r p =
+      let q : PathState C = record (at_tick due.tick p) { link = after_delivery due p.link } in
+      then_clear p q _ (record { a = (λ h. h, λ h. h); b = (λ h. h, λ h. h) }) (copy_clear due.to (heard_in k due.to (arriving due p.link) p) q)
+  happens_clear k (Some (happenings.Fires s tick)) r p = side_clear s _ p _ (λ h. h, λ h. h) refl refl
+
+  -- ---- replies
+
+  grant_clear : (s : Side) (grant : Option Grant) (r : Reply) (p : PathState C) → Clears p (answered_grant s grant r p)
+  grant_clear s None r p = side_clear s _ p _ (λ h. h, λ h. h) refl refl
+  grant_clear s (Some grant) r p = side_clear s _ p _ (λ h. h, λ h. h) refl refl
+
+  data_clear : (k : Codec C) (s : Side) (first : Option Record) (r : Reply) (p : PathState C) → Clears p (answered_data k s first r p)
+  data_clear k s (Some record_of) r p = side_clear s _ p _ (λ h. h, λ h. h) refl refl
+  data_clear k s None r p = grant_clear s (grant_in r) r p
+
+  break_clear : (k : Codec C) (s : Side) (reason : ℕ) (r : Reply) (p : PathState C) → Clears p (answered_break k s reason r p)
+  break_clear k s reason r p = either_clear (end_at s p).treated.asked _ _ p (side_clear s _ p _ (λ h. h, λ h. h) refl refl) (side_clear s _ p _ (λ h. h, λ h. h) refl refl)
+
+  -- what was told of the mode leaves the end clear, and so does what is done then
+  fell_path : (s : Side) (event : FallEvent) (r : Reply) (e : PathEnd) (q p : PathState C) → EndStays (after_fell event r (end_at s p)) e → q.a ≡ (goes_on s e [] p).a → q.b ≡ (goes_on s e [] p).b → Clears p q
+  fell_path s event r e q p rest same_a same_b = side_clear s e p q (then_stays (end_at s p).modes (fell_in event r (end_at s p).modes) e.modes (fell_clear event r (end_at s p).modes) rest) same_a same_b
+
+  key_clear : (s : Side) (key : Option ℕ) (r : Reply) (p : PathState C) → Clears p (answered_peer_key s key r p)
+  key_clear s None r p = fell_path s events.PlainHandshake r _ _ p (λ h. h, λ h. h) refl refl
+  key_clear s (Some key) r p = side_clear s _ p _ (λ h. h, λ h. h) refl refl
+
+  opened_clear : (s : Side) (keys : Option KeyPair) (r : Reply) (p : PathState C) → Clears p (answered_opened s keys r p)
+  opened_clear s None r p = fell_path s events.PlainHandshake r _ _ p (λ h. h, λ h. h) refl refl
+  opened_clear s (Some keys) r p = side_clear s _ p _ (keyed_clear r (Some keys) (end_at s p).modes) refl refl
+
+  heard_item_clear : (k : Codec C) (s : Side) (item : Heard) (r : Reply) (p : PathState C) → Clears p (answered_heard k s item r p)
+  heard_item_clear k s (says.DataAck next window) r p = side_clear s _ p _ (λ h. h, λ h. h) refl refl
+  heard_item_clear k s (says.Mapping fin) r p =
+      either_clear (is_clash (end_at s p)) _ _ p (break_clear k s 1 r p) (fell_path s events.MappingHeard r _ _ p (λ h. h, λ h. h) refl refl)
+  heard_item_clear k s (says.DataFin place) r p = fell_path s events.MappingHeard r _ _ p (λ h. h, λ h. h) refl refl
+  heard_item_clear k s (says.InfiniteMapping place position) r p =
+      fell_path s events.InfiniteHeard r _ _ p
+      (infinite_came_so (EndStays (after_fell events.InfiniteHeard r (end_at s p))) place position r (end_at s p) (λ other. (λ h. h, λ h. h))) refl refl
+  heard_item_clear k s (says.Keys own peer) r p =
+      side_clear s _ p _ (keyed_clear r (Some (record { own = own; peer = peer })) (end_at s p).modes) refl refl
+  heard_item_clear k s (says.Notice notice) r p = side_clear s _ p _ (λ h. h, λ h. h) refl refl
+  heard_item_clear k s says.Fail r p =
+      fail_answered_so (Clears p) s r p (side_clear s _ p _ (λ h. h, λ h. h) refl refl) (fell_path s (events.FailHeard false) r _ _ p (λ h. h, λ h. h) refl refl)
+  heard_item_clear k s _ r p = record { a = (λ h. h, λ h. h); b = (λ h. h, λ h. h) }
+
+  item_clear : (k : Codec C) (s : Side) (item : Option Heard) (r : Reply) (p : PathState C) → Clears p (answered_item k s item r p)
+  item_clear k s None r p = record { a = (λ h. h, λ h. h); b = (λ h. h, λ h. h) }
+  item_clear k s (Some item) r p = heard_item_clear k s item r p
+
+  piece_clear : (s : Side) (piece : Option Piece) (taken : Bool) (p : PathState C) → Clears p (answered_piece s piece taken p)
+  piece_clear s None taken p = side_clear s _ p _ (λ h. h, λ h. h) refl refl
+  piece_clear s (Some piece) taken p = either_clear taken _ _ p (side_clear s _ p _ (λ h. h, λ h. h) refl refl) (side_clear s _ p _ (λ h. h, λ h. h) refl refl)
+
+  joined_clear : (s : Side) (keys : Option KeyPair) (asked : Option JoinSyn) (r : Reply) (p : PathState C) → Clears p (join_taken s keys asked r p)
+  joined_clear s (Some keys) (Some asked) r p = side_clear s _ p _ (λ h. h, λ h. h) refl refl
+  joined_clear s (Some keys) None r p = record { a = (λ h. h, λ h. h); b = (λ h. h, λ h. h) }
+  joined_clear s None (Some asked) r p = side_clear s _ p _ (λ h. h, λ h. h) refl refl
+  joined_clear s None None r p = record { a = (λ h. h, λ h. h); b = (λ h. h, λ h. h) }
+
+  pub answered_clear : (k : Codec C) (d : Duty) (r : Reply) (p : PathState C) → Clears p (answered k d r p)
+  answered_clear k (duties.Ask ask_duties.JoinAgain) r p = begun_clear r (replaced (duties.Ask (ask_duties.Leave A)) p.agenda) (left p) p
+  answered_clear k (duties.Step (step_duties.Look s)) r p = side_clear s _ p _ (told_clear r (end_at s p).modes) refl refl
+  answered_clear k (duties.Ask (ask_duties.Window s)) r p = side_clear s _ p _ (λ h. h, λ h. h) refl refl
+  answered_clear k (duties.Send (send_duties.Update s)) r p = side_clear s _ p _ (λ h. h, λ h. h) refl refl
+  answered_clear k (duties.Send (send_duties.FastClose s)) r p = side_clear s _ p _ (λ h. h, λ h. h) refl refl
+  answered_clear k (duties.Send (send_duties.Notice s)) r p = side_clear s _ p _ (λ h. h, λ h. h) refl refl
+  answered_clear k (duties.Send (send_duties.Syn s)) r p = side_clear s _ p _ (λ h. h, λ h. h) refl refl
+  answered_clear k (duties.Step (step_duties.Data s)) r p = data_clear k s (first_unsent (end_at s p)) r p
+  answered_clear k (duties.Send (send_duties.DataFin s)) r p = side_clear s _ p _ (λ h. h, λ h. h) refl refl
+  answered_clear k (duties.Send (send_duties.Fin s)) r p = side_clear s _ p _ (λ h. h, λ h. h) refl refl
+  answered_clear k (duties.Step step_duties.Events) r p = happens_clear k (next_event p) r p
+  answered_clear k (duties.Ask (ask_duties.PeerKey s)) r p = key_clear s (key_heard (end_at s p).treated.items) r p
+  answered_clear k (duties.Send (send_duties.SynAck s)) r p = side_clear s _ p _ (λ h. h, λ h. h) refl refl
+  answered_clear k (duties.Ask (ask_duties.JoinHeard s)) r p = joined_clear s (keys_begun r) (asked_at s p) r p
+  answered_clear k (duties.Send (send_duties.Refuse s)) r p = side_clear s _ p _ (λ h. h, λ h. h) refl refl
+  answered_clear k (duties.Ask (ask_duties.Opened s)) r p = opened_clear s (keys_heard (end_at s p).treated.items) r p
+  answered_clear k (duties.Step (step_duties.Heard s index)) r p = item_clear k s (item_of index (end_at s p)) r p
+  answered_clear k (duties.Ask (ask_duties.AckHeard s)) r p = fell_path s events.AckHeard r _ _ p (λ h. h, λ h. h) refl refl
+  answered_clear k (duties.Ask (ask_duties.FailHeard s)) r p =
+      fell_path s (events.FailHeard true) r _ _ p
+      (fail_heard_so (EndStays (after_fell (events.FailHeard true) r (end_at s p))) r (end_at s p) (λ own owes. (λ h. h, λ h. h))) refl refl
+  answered_clear k (duties.Step (step_duties.PlainAck s)) r p =
+      either_clear (breaks_by_ack p.profile (end_at s p)) _ _ p (break_clear k s 6 r p) (fell_path s events.PlainAck r _ _ p (λ h. h, λ h. h) refl refl)
+  answered_clear k (duties.Ask (ask_duties.PlainHandshake s)) r p = fell_path s events.PlainHandshake r _ _ p (λ h. h, λ h. h) refl refl
+  answered_clear k (duties.Ask (ask_duties.PlainData s)) r p = fell_path s events.PlainData r _ _ p (λ h. h, λ h. h) refl refl
+  answered_clear k (duties.Ask (ask_duties.SubflowAck s)) r p = side_clear s _ p _ (λ h. h, λ h. h) refl refl
+  answered_clear k (duties.Ask (ask_duties.GoIdentity s)) r p = side_clear s _ p _ (λ h. h, λ h. refl) refl refl
+  answered_clear k (duties.Step (step_duties.Unmapped s)) r p = break_clear k s 6 r p
+  answered_clear k (duties.Ask (ask_duties.SubflowFin s)) r p = either_clear (is_fin_set r) _ _ p (side_clear s _ p _ (λ h. h, λ h. h) refl refl) (side_clear s _ p _ (λ h. h, λ h. h) refl refl)
+  answered_clear k (duties.Ask (ask_duties.Edge s)) r p = piece_clear s (piece_of s p) (is_placed r) p
+  answered_clear k (duties.Ask (ask_duties.CheckFailed s)) r p =
+      fell_path s events.CheckFailed r _ _ p
+      (check_failed_so (EndStays (after_fell events.CheckFailed r (end_at s p))) p.profile.spelling.checksums r (end_at s p) (λ told broken recv forgets. (λ h. h, λ h. h))) refl refl
+  answered_clear k (duties.Ask (ask_duties.HeardFin s index)) r p = either_clear (is_fin_set r) _ _ p (side_clear s _ p _ (λ h. h, λ h. h) refl refl) (side_clear s _ p _ (λ h. h, λ h. h) refl refl)
+  answered_clear k (duties.Ask (ask_duties.AckOut s)) r p = side_clear s _ p _ (λ h. h, λ h. h) refl refl
+  answered_clear k (duties.Ask (ask_duties.Rate s)) r p = side_clear s _ p _ (λ h. h, λ h. h) refl refl
+  answered_clear k (duties.Send (send_duties.Acknowledge s)) r p = side_clear s _ p _ (λ h. h, λ h. h) refl refl
+  answered_clear k (duties.Send (send_duties.Again s)) r p = side_clear s _ p _ (λ h. h, λ h. h) refl refl
+  answered_clear k (duties.Send (send_duties.Answer s)) r p = side_clear s _ p _ (λ h. h, λ h. h) refl refl
+  answered_clear k (duties.Send (send_duties.ResetAnswer s)) r p = side_clear s _ p _ (λ h. h, λ h. h) refl refl
+  answered_clear k (duties.Send (send_duties.Resend s)) r p = side_clear s _ p _ (λ h. h, λ h. h) refl refl
+  answered_clear k (duties.Ask (ask_duties.BreakAck s reason)) r p = side_clear s _ p _ (λ h. h, λ h. h) refl refl
+  answered_clear k (duties.Send (send_duties.BreakReset s reason)) r p = side_clear s _ p _ (λ h. h, λ h. h) refl refl
+  answered_clear k (duties.Send (send_duties.Reset s)) r p = side_clear s _ p _ (λ h. h, λ h. h) refl refl
+  answered_clear k (duties.Send (send_duties.ResetNoted s)) r p = side_clear s _ p _ (λ h. h, λ h. h) refl refl
+  answered_clear k (duties.Ask (ask_duties.Leave s)) r p = record { a = (λ h. h, λ h. h); b = (λ h. h, λ h. h) }
+  answered_clear k (duties.Ask (ask_duties.LeaveNoted s)) r p = side_clear s _ p _ (λ h. h, λ h. h) refl refl
+  answered_clear k duties.End r p = record { a = (λ h. h, λ h. h); b = (λ h. h, λ h. h) }
+  answered_clear k _ r p = record { a = (λ h. h, λ h. h); b = (λ h. h, λ h. h) }
+
+  answers_clear : (k : Codec C) (ds : List Duty) (r : Reply) (p : PathState C) → Clears p (answers k ds r p)
+  answers_clear k [] r p = stays_clear p
+  answers_clear k (d ∷ ds) r p = answered_clear k d r p
+
+  -- so both ends stay clear, whatever is replied
+  pub takes_clear : (k : Codec C) (r : Reply) (p : PathState C) → Clears p (takes k r p)
+  takes_clear k r p =
+      let q : PathState C = answers k p.agenda r p in
+      then_clear p q (settles_down q) (answers_clear k p.agenda r p) (settled_clear q.agenda q)
+
+  pub begins_clear : (p : PathState C) → Clears p (begins_turn p)
+  begins_clear p = then_clear p (with_agenda start_of_turn p) (begins_turn p) (record { a = (λ h. h, λ h. h); b = (λ h. h, λ h. h) }) (settled_clear start_of_turn (with_agenda start_of_turn p))
+
+  pub next_clear : (p : PathState C) → Clears p (next_round p)
+  next_clear p =
+      let q : PathState C = record p { clock = p.until; until = p.until + 100 } in
+      then_clear p q (next_round p) (record { a = (λ h. h, λ h. h); b = (λ h. h, λ h. h) }) (begins_clear q)

@@ -1,0 +1,187 @@
+-- A side receives by the peer's infinite mapping from now on: the lane that it hears goes by that mapping.
+use Rattle.std.proofs.Common.{◌≡◌, refl, sym, ◌∙◌, ap, ℕ, ◌-◌, ◌⊎◌, Bool, true, false, ◌&&◌, not, is_none, if◌then◌else◌, inl, inr, Option, Some, None, [], ◌∷◌, set}
+use Rattle.std.proofs.lemmas.Bool.{false≢true}
+use Rattle.std.proofs.lemmas.List.{append-nil, set-set}
+use Rattle.outside_kit.specs.declared.side.Side.{Side}
+use Rattle.outside_kit.specs.declared.side.Side.TheVariants.{A, B}
+use Rattle.fallback_state.specs.declared.fall.Event.TheVariants as events
+use Rattle.fallback_state.specs.declared.fall.Fall.{Fall}
+use Rattle.fallback_state.specs.declared.fall.Mode.{Mode}
+use Rattle.fallback_state.specs.declared.fall.Mode.TheVariants as modes
+use Rattle.fallback_state.specs.declared.fall.Verdict.{Verdict}
+use Rattle.fallback_state.specs.Modes.{reads_mappings, writes_mappings, receiving}
+use Rattle.fallback_state.specs.Table.{is_failed_path, goes, stays as stays_so, breaks, fall_step}
+use Rattle.control_book.specs.declared.call.ControlCall.{ControlCall}
+use Rattle.control_book.specs.declared.call.ControlCall.TheVariants as control_calls
+use Rattle.control_book.specs.declared.call.ControlReply.TheVariants as control_replies
+use Rattle.control_book.specs.Registry.{sole as sole_path}
+use Rattle.stream_lanes.specs.Lane.{Lane, Pair}
+use Rattle.stream_lanes.specs.Moves.{takes_pair}
+use Rattle.stream_lanes.specs.Moves.Move.{LookAtReceiver, TakePair}
+use Rattle.stream_lanes.specs.Streams.{moves}
+use Rattle.stream_lanes.specs.Streams.StreamEvent.{Moves}
+use Rattle.stream_lanes.specs.Duo.Event.{ToB, ToA}
+use Rattle.actor_desk.specs.declared.ask.Ask.TheVariants as asks
+use Rattle.actor_desk.specs.declared.ask.Reply.TheVariants as replies
+use Rattle.actor_desk.specs.Desk.{SixBooks, control_of, after_ask, reply_of}
+use Rattle.actor_desk.specs.Words.{pick}
+use Rattle.path_core.specs.Ends.{PathEnd}
+use Rattle.path_core.specs.InfiniteReceiving.{is_infinite_receive, receiving_infinite}
+use Rattle.path_core.specs.State.{PathState, Profile}
+use Rattle.path_core.specs.Values.{Carried}
+use Rattle.world_laws.proofs.Lanes.Ending.{Did}
+use Rattle.world_laws.proofs.Falls.WhereASideStands.{is_plain, is_loose}
+use Rattle.world_laws.proofs.Falls.CallsAndModes.{control_moves}
+use Rattle.world_laws.proofs.Lanes.Growing.{ReceiverGoes, sender_stays, same_edge}
+use Rattle.world_laws.proofs.Lanes.OfAWorld.{flags_of, Others, duo_at, MayCall, Moved, unmoved, then_moved}
+use Rattle.world_laws.proofs.Lanes.Roads.{Strolls, stays, one_move, put_there}
+use Rattle.world_laws.proofs.Lanes.Showing.{PairTold, PeerIs, HasFin, EndShows, PathShows}
+use Rattle.world_laws.proofs.Lanes.Sides.{SideDid, Answered}
+use Rattle.world_laws.proofs.Lanes.Strolling.{did_on_path}
+
+-- ---- the verdict
+
+-- where this row tells so, the side receives by an infinite mapping
+abbrev RowLoosens : Fall × Verdict → Type 0
+RowLoosens row = is_infinite_receive (replies.Control (control_replies.Verdict row.1)) ≡ true → (is_loose row.0 ≡ true) × (is_plain row.0 ≡ false)
+
+goes_loose : (m : Mode) (f : Fall) → RowLoosens (goes m f)
+goes_loose modes.InfiniteReceive f is = (refl, refl)
+goes_loose modes.InfiniteBoth f is = (refl, refl)
+goes_loose modes.Starting f is = absurd (false≢true is)
+goes_loose modes.Sure f is = absurd (false≢true is)
+goes_loose modes.Identity f is = absurd (false≢true is)
+goes_loose modes.InfiniteSend f is = absurd (false≢true is)
+goes_loose modes.Aborted f is = absurd (false≢true is)
+
+loosens_if : (b : Bool) (x y : Fall × Verdict) → RowLoosens x → RowLoosens y → RowLoosens (if b then x else y)
+loosens_if true x y h k = h
+loosens_if false x y h k = k
+
+row_loosens : (path : ℕ) (sole : Bool) (f : Fall) → RowLoosens (fall_step f path sole events.InfiniteHeard)
+row_loosens path sole f =
+    let last : Fall × Verdict = if writes_mappings f.mode && not f.joined && is_none f.failed then goes modes.Identity f else breaks 1 f in
+    let rest : Fall × Verdict = if sole && is_failed_path f.failed path then goes (receiving f.mode) f else last in
+    loosens_if (not (reads_mappings f.mode)) (stays_so f) rest (λ is. absurd (false≢true is))
+    (loosens_if (sole && is_failed_path f.failed path) (goes (receiving f.mode) f) last (goes_loose (receiving f.mode) f)
+    (loosens_if (writes_mappings f.mode && not f.joined && is_none f.failed) (goes modes.Identity f) (breaks 1 f) (goes_loose modes.Identity f) (λ is. absurd (false≢true is))))
+
+-- so it is in the books after the call
+pub call_loosens : (s : Side) (path : ℕ) (six : SixBooks) → let ask = asks.Control s (control_calls.Fell path events.InfiniteHeard) in is_infinite_receive (reply_of six ask) ≡ true
+    → (is_loose (control_of s (after_ask ask six)).fall ≡ true) × (is_plain (control_of s (after_ask ask six)).fall ≡ false)
+call_loosens A path six is = row_loosens path (sole_path six.control_a.paths path) six.control_a.fall is
+call_loosens B path six is = row_loosens path (sole_path six.control_b.paths path) six.control_b.fall is
+
+-- ---- the lane
+
+-- the end knows it then
+abbrev pub loosened : Lane → Lane
+loosened p = record p { receiver_plain = false; receiver_loose = true }
+
+-- and looks at it
+pub loosen_moves : (s : Side) (six : SixBooks) (others : Others) (ab ba : Lane) → is_loose (control_of s six).fall ≡ true → is_plain (control_of s six).fall ≡ false
+    → Moved (duo_at six ab ba others) (duo_at six (pick s ab (loosened ab)) (pick s (loosened ba) ba) others)
+loosen_moves A six others ab ba loose plain = record {
+  events = ToA (Moves others.number LookAtReceiver) ∷ [];
+  silent = refl;
+  to = sym (
+      ap (λ o. record (duo_at six ab ba others) { ba = moves (flags_of others.links B six) others.number LookAtReceiver o (duo_at six ab ba others).ba }) (put_there others.lanes_ba others.number ba others.within_ba)
+      ∙ ap (λ xs. record (duo_at six ab ba others) { ba = record (duo_at six ab ba others).ba { lanes = xs } })
+      (set-set others.lanes_ba others.number ba (record ba { receiver_plain = is_plain six.control_a.fall; receiver_loose = is_loose six.control_a.fall }))
+      ∙ ap (λ (b : Bool). duo_at six ab (record ba { receiver_plain = b; receiver_loose = is_loose six.control_a.fall }) others) plain
+      ∙ ap (λ (b : Bool). duo_at six ab (record ba { receiver_plain = false; receiver_loose = b }) others) loose);
+}
+loosen_moves B six others ab ba loose plain = record {
+  events = ToB (Moves others.number LookAtReceiver) ∷ [];
+  silent = refl;
+  to = sym (
+      ap (λ o. record (duo_at six ab ba others) { ab = moves (flags_of others.links A six) others.number LookAtReceiver o (duo_at six ab ba others).ab }) (put_there others.lanes_ab others.number ab others.within_ab)
+      ∙ ap (λ xs. record (duo_at six ab ba others) { ab = record (duo_at six ab ba others).ab { lanes = xs } })
+      (set-set others.lanes_ab others.number ab (record ab { receiver_plain = is_plain six.control_b.fall; receiver_loose = is_loose six.control_b.fall }))
+      ∙ ap (λ (b : Bool). duo_at six (record ab { receiver_plain = b; receiver_loose = is_loose six.control_b.fall }) ba others) plain
+      ∙ ap (λ (b : Bool). duo_at six (record ab { receiver_plain = false; receiver_loose = b }) ba others) loose);
+}
+
+-- a step of the path after such a call
+pub loosen_side : (c : Profile) (six : SixBooks) (others : Others) (s : Side) (call : ControlCall) (p q : PathState Carried) (ab ba : Lane) → PathShows c p ab ba → MayCall s call six
+    → is_loose (control_of s (after_ask (asks.Control s call) six)).fall ≡ true → is_plain (control_of s (after_ask (asks.Control s call) six)).fall ≡ false
+    → SideDid c s p q ab ba (pick s ab ba) (loosened (pick s ba ab)) → Answered c six others (asks.Control s call) q ab ba
+loosen_side c six others A call p q ab ba h may loose plain d = record {
+  ab_before = ab;
+  ba_before = ba;
+  before = unmoved (duo_at six ab ba others);
+  call = None;
+  calls = refl;
+  ab_called = ab;
+  ba_called = loosened ba;
+  called = then_moved (duo_at six ab ba others) (duo_at (after_ask (asks.Control A call) six) ab ba others) _
+      (control_moves others.links A call six may (set others.lanes_ab others.number ab) (set others.lanes_ba others.number ba) others.reader_a others.reader_b)
+      (loosen_moves A (after_ask (asks.Control A call) six) others ab ba loose plain);
+  after = did_on_path c p q ab ba h d.profile A ab (loosened ba) d.did d.same d.link;
+}
+loosen_side c six others B call p q ab ba h may loose plain d = record {
+  ab_before = ab;
+  ba_before = ba;
+  before = unmoved (duo_at six ab ba others);
+  call = None;
+  calls = refl;
+  ab_called = loosened ab;
+  ba_called = ba;
+  called = then_moved (duo_at six ab ba others) (duo_at (after_ask (asks.Control B call) six) ab ba others) _
+      (control_moves others.links B call six may (set others.lanes_ab others.number ab) (set others.lanes_ba others.number ba) others.reader_a others.reader_b)
+      (loosen_moves B (after_ask (asks.Control B call) six) others ab ba loose plain);
+  after = did_on_path c p q ab ba h d.profile B ba (loosened ab) d.did d.same d.link;
+}
+
+-- ---- the end
+
+module _ (c : Profile) (s : Side) (out back : Lane) where
+  -- it goes by this mapping
+  abbrev pub with_peer_infinite : ℕ → ℕ → PathEnd → PathEnd
+  with_peer_infinite place position e = receiving_infinite place (Some position) true e
+
+  module _ (place position : ℕ) (e : PathEnd) (above : e.modes.identity ≡ false) (h : EndShows c s e out back) where
+    abbrev taken_lane : Option Pair → Lane
+    taken_lane t = record (loosened back) { taken = t }
+
+    -- the lane was in no plain TCP before
+    taken_goes : (t : Option Pair) → ReceiverGoes back (taken_lane t)
+    taken_goes t = record {
+      edge = back.edge;
+      kept = back.kept;
+      maps = back.maps;
+      taken = t;
+      loose = true;
+      fin_in = back.fin_in;
+      due = back.due;
+      latest = back.latest;
+      asking = back.asking;
+      acks = [];
+      is = rw (append-nil back.acks) (ap (λ (b : Bool). record back { receiver_plain = b; receiver_loose = true; taken = t }) (sym (h.receiver.same_mode ∙ above)));
+    }
+
+    taken_did : (t : Option Pair) → Strolls (loosened back) (taken_lane t) → PeerIs t (record { position = position; place = place }) ⊎ HasFin back.fins (position - 1)
+        → Did c s (with_peer_infinite place position e) out out back (loosened back)
+    taken_did t strolls peer = record {
+      out_after = out;
+      back_after = taken_lane t;
+      out_moves = stays out;
+      back_moves = strolls;
+      sender = sender_stays out;
+      receiver = taken_goes t;
+      shows = record {
+        sender = h.sender;
+        receiver = record { same_mode = sym above; edge = same_edge refl refl refl (λ position octets has. has) h.receiver.edge; fin = h.receiver.fin; mapped = h.receiver.mapped };
+        acks = record { windows = h.acks.windows; latest = h.acks.latest; due = h.acks.due; sub = h.acks.sub };
+        told = h.told;
+        treated = record { items = h.treated.items; fins = h.treated.fins; answer = h.treated.answer; window = h.treated.window; sub = h.treated.sub; nothing = h.treated.nothing };
+        pairs = (h.pairs.0, peer, λ above some. refl, h.pairs.3, h.pairs.4, h.pairs.5);
+        held = h.held;
+      };
+    }
+
+    pub taken_end : PairTold back.pairs back.fins place position → Did c s (with_peer_infinite place position e) out out back (loosened back)
+    taken_end (inl has) =
+        taken_did (Some has.item) (one_move (TakePair has.at) (loosened back) (taken_lane (Some has.item)) refl (sym (ap (λ o. takes_pair o (loosened back)) has.there)))
+        (inl (record { item = has.item; there = refl; is = has.holds }))
+    taken_end (inr fin) = taken_did back.taken (stays (loosened back)) (inr fin)

@@ -1,0 +1,728 @@
+-- An end of a path that joins does nothing before its side's book joined, and never falls back: over octets as over values.
+use Rattle.std.proofs.Common.{◌≡◌, refl, sym, ◌∙◌, ap, subst, ℕ, ◌&&◌, ◌||◌, not, is_some, nat_lt, length, Bool, true, false, if◌then◌else◌, Option, Some, None, List, [], ◌∷◌, ◌++◌, ◌⊎◌, inl, inr, ⊎_elim}
+use Rattle.std.proofs.lemmas.Bool.{both_ways, false≢true}
+use Rattle.outside_kit.specs.declared.side.Side.{Side}
+use Rattle.outside_kit.specs.declared.side.Side.TheVariants.{A, B}
+use Rattle.dss_mapping.specs.declared.kept.KeptMapping.{KeptMapping}
+use Rattle.link_script.specs.Places.{same_side}
+use Rattle.link_model.specs.Steps.{arriving, after_delivery}
+use Rattle.path_segments.specs.Spelled.{PlainSegment}
+use Rattle.join_handshake.specs.declared.hearing.JoinSyn.{JoinSyn}
+use Rattle.join_handshake.specs.declared.hearing.JoinAnswer.{JoinAnswer}
+use Rattle.subflow_recv.specs.Receiving.{after_forget_from}
+use Rattle.subflow_send.specs.Records.{Record}
+use Rattle.subflow_tcp.specs.declared.handshake.State.{State as EndPhase}
+use Rattle.subflow_tcp.specs.declared.segments.Occasion.TheVariants as to_send
+use Rattle.subflow_tcp.specs.declared.segments.Outgoing.{Outgoing}
+use Rattle.subflow_tcp.specs.declared.verdicts.Meaning.{Meaning}
+use Rattle.subflow_tcp.specs.declared.verdicts.Meaning.TheVariants as means
+use Rattle.subflow_tcp.specs.Expiring.{is_sixth, after_expiry}
+use Rattle.subflow_tcp.specs.State.{EndState}
+use Rattle.subflow_tcp.specs.States.{is_closed_to_segments, is_dead}
+use Rattle.subflow_tcp.specs.Taking.{after_death, after_dropping_held, after_keeping_held}
+use Rattle.send_book.specs.declared.call.SendCall.TheVariants as send_calls
+use Rattle.fallback_state.specs.declared.fall.Event.{Event as FallEvent}
+use Rattle.fallback_state.specs.declared.fall.Event.TheVariants as fall
+use Rattle.control_book.specs.declared.call.ControlCall.{ControlCall}
+use Rattle.control_book.specs.declared.call.ControlCall.TheVariants as control_calls
+use Rattle.control_book.specs.declared.call.ControlReply.TheVariants as control_replies
+use Rattle.actor_desk.specs.declared.ask.Ask.{Ask}
+use Rattle.actor_desk.specs.declared.ask.Ask.TheVariants as asks
+use Rattle.actor_desk.specs.declared.ask.Reply.{Reply}
+use Rattle.actor_desk.specs.declared.ask.Reply.TheVariants as replies
+use Rattle.actor_desk.specs.Words.{tail_of}
+use Rattle.path_agenda.specs.Agenda.{breaks, emission, leaves, resets, rest_of_turn, start_of_turn, stops, announces, withdraws}
+use Rattle.path_agenda.specs.Items.{key_heard, keys_heard}
+use Rattle.path_agenda.specs.Words.{replaced}
+use Rattle.path_agenda.specs.declared.duty.Duty.{Duty}
+use Rattle.path_agenda.specs.declared.duty.Duty.TheVariants as duties
+use Rattle.path_agenda.specs.declared.duty.AskDuty.TheVariants as ask_duties
+use Rattle.path_agenda.specs.declared.duty.SendDuty.TheVariants as send_duties
+use Rattle.path_agenda.specs.declared.duty.SilentDuty.TheVariants as silent_duties
+use Rattle.path_agenda.specs.declared.duty.StepDuty.TheVariants as step_duties
+use Rattle.path_agenda.specs.declared.heard.Heard.{Heard}
+use Rattle.path_agenda.specs.declared.heard.Heard.TheVariants as says
+use Rattle.path_agenda.specs.declared.keys.KeyPair.{KeyPair}
+use Rattle.path_core.specs.declared.event.Event.{Event}
+use Rattle.path_core.specs.declared.event.Event.TheVariants as happenings
+use Rattle.path_core.specs.declared.judged.Judged.{Judged}
+use Rattle.path_core.specs.declared.judged.Judged.TheVariants as judged
+use Rattle.path_core.specs.declared.modes.Modes.{Modes}
+use Rattle.path_core.specs.Arriving.{after_judged, answered_in, asked_in, cleared_in, copy_judged, copy_of, held_of, hint_of, items_of, judged_in, options_heard, owes_by, reset_for, taken_as, template_by, template_judged, template_of, with_answer, with_held, HeardOption}
+use Rattle.path_core.specs.Breaking.{break_ask, reset_of, reset_on, answered_break}
+use Rattle.path_core.specs.Codec.{Codec, HeardSegment}
+use Rattle.path_core.specs.Duties.{stands, passed, answered, ask_for}
+use Rattle.path_core.specs.Emission.{Grant, after_timer, fin_segment_of, grant_in, answered_grant, answered_data, first_unsent, having_sent_fin}
+use Rattle.path_core.specs.Ends.{PathEnd}
+use Rattle.path_core.specs.Events.{next_event, step_for, heard_in, at_tick, died, after_line, copy_heard, happens_if, join_begun, timer_fired, template_fired, never_joined, with_priority}
+use Rattle.path_core.specs.declared.lines.LineAction.{LineAction}
+use Rattle.path_core.specs.declared.lines.LineAction.TheVariants as actions
+use Rattle.path_core.specs.Fallback.{is_fall, fell_ask, fell_in, after_fell, fell_duties, answered_fell, in_identity}
+use Rattle.path_core.specs.Joining.{asked_at, is_never, join_heard_ask, join_taken, keys_begun, opened_by, refusal_of, with_mode_refused}
+use Rattle.path_core.specs.Joins.{is_joined, join_answer}
+use Rattle.path_core.specs.Opening.{after_keys, keys_in, opened_ask, answered_opened, peer_key_ask, answered_peer_key, with_peer_key}
+use Rattle.path_core.specs.Passing.{after_pass_fin, answer_occasion, answer_of, resend_occasion, answered_fin_heard, answered_plain_fin, answered_piece, dead_answer, is_fin_set, is_placed, piece_of, resend_of}
+use Rattle.path_core.specs.Deliver.{Piece, after_check, after_pieces, mapping_here, is_wrong, with_learned, with_skipped, forgotten_by}
+use Rattle.path_core.specs.Handover.{sent_on}
+use Rattle.path_core.specs.InfiniteSending.{may_go_infinite, with_infinite, book_answered}
+use Rattle.path_core.specs.Standing.{after_ack_out, after_look, answered_ack_out, modes_told}
+use Rattle.path_core.specs.State.{PathState, end_at, goes_on, left, path_of, with_agenda, with_end}
+use Rattle.path_core.specs.Steps.{settled, answers, asks_of, asks_first, takes, begins_turn}
+use Rattle.path_core.specs.Treating.{heard_ask, item_ask, plain_ack_ask, after_keep, answered_heard, answered_item, answered_plain_ack, breaks_by_ack, counts, is_acked, is_clash, is_dropped, item_of, item_passed, with_acked, with_data_fin, with_plain_ack}
+use Rattle.path_core.specs.FastClosing.{is_stopped_by}
+use Rattle.path_core.specs.Addressing.{after_peer_notice}
+use Rattle.world_laws.proofs.Falls.FailedChecks.{check_failed_so, checked_so, fail_heard_so, failed_so, infinite_came_so, infinite_so}
+use Rattle.world_laws.proofs.Falls.Verdicts.{fell_cases}
+use Rattle.world_laws.proofs.Keys.AreDrawn.{Known}
+use Rattle.world_laws.proofs.Keys.Held.{look_leaves, fell_leaves}
+use Rattle.world_laws.proofs.Keys.WhatWakes.{is_up, NoWaking, WakesNone, joined_wakes_none, timer_up, sending_up, finishing_up, passing_up, copy_up, Voice, is_said_by, speaks, tail_speaks, replaced_speaks, came_said, came_calm, same_or_calm, next_happens, first_speaks, itself}
+
+-- one side is the other, or a duty of the one says nothing of the other
+side_or : (t s : Side) → (t ≡ s) ⊎ (same_side t s ≡ false)
+side_or A A = inl refl
+side_or B B = inl refl
+side_or A B = inr refl
+side_or B A = inr refl
+
+-- no more is said, and no side falls any more
+record Less (ds es : List Duty) : Type 0 where
+  pub said : (t : Side) → speaks (Voice.Says t) es ≡ true → speaks (Voice.Says t) ds ≡ true
+  pub falls : (t : Side) → speaks (Voice.Falls t) es ≡ true → speaks (Voice.Falls t) ds ≡ true
+
+same_less : (ds : List Duty) → Less ds ds
+same_less ds = record { said = λ t is. is; falls = λ t is. is }
+
+tail_less : (ds : List Duty) → Less ds (tail_of ds)
+tail_less ds = record { said = λ t is. tail_speaks (Voice.Says t) ds is; falls = λ t is. tail_speaks (Voice.Falls t) ds is }
+
+replaced_less : (d : Duty) (ds : List Duty) → ((t : Side) → is_said_by (Voice.Says t) d ≡ false) → ((t : Side) → is_said_by (Voice.Falls t) d ≡ false) → Less ds (replaced d ds)
+replaced_less d ds silent calm = record { said = λ t is. replaced_speaks (Voice.Says t) d ds (silent t) is; falls = λ t is. replaced_speaks (Voice.Falls t) d ds (calm t) is }
+
+-- a list that isn't the path's own
+new_less : (ds es : List Duty) → ((t : Side) → speaks (Voice.Says t) es ≡ false) → ((t : Side) → speaks (Voice.Falls t) es ≡ false) → Less ds es
+new_less ds es silent calm = record { said = λ t is. absurd (both_ways _ (silent t) is); falls = λ t is. absurd (both_ways _ (calm t) is) }
+
+-- ---- templates
+
+meant_calm : (t : Side) (joined : Bool) (s : Side) (count : ℕ) (m : Meaning) → speaks (Voice.Falls t) (template_by joined s count m) ≡ false
+meant_calm t joined s count means.Ignored = refl
+meant_calm t joined s count means.Unwanted = refl
+meant_calm t joined s count means.Opens = refl
+meant_calm t true s count (means.Accepts acknowledged) = refl
+meant_calm t false s count (means.Accepts acknowledged) = refl
+meant_calm t joined s count means.RepeatedSyn = refl
+meant_calm t joined s count means.Outside = refl
+meant_calm t joined s count means.Kills = refl
+meant_calm t joined s count means.Challenged = refl
+meant_calm t joined s count means.Unacknowledging = refl
+meant_calm t joined s count means.Ahead = refl
+meant_calm t joined s count (means.Taken pos acknowledged) = came_calm t s count
+
+template_calm : (t : Side) (joined : Bool) (s : Side) (count : ℕ) (v : Judged) → speaks (Voice.Falls t) (template_judged joined s count v) ≡ false
+template_calm t joined s count judged.Asks = refl
+template_calm t joined s count judged.Lacks = refl
+template_calm t joined s count judged.Forged = refl
+template_calm t joined s count (judged.As m) = meant_calm t joined s count m
+
+-- a side says what an end says that is up, where it heard a copy
+template_said : (t s : Side) (count : ℕ) (v : Judged) (tcp : EndState) → WakesNone (taken_as v) tcp → speaks (Voice.Says t) (template_judged true s count v) ≡ true → (t ≡ s) × (is_up tcp ≡ true)
+template_said t s count judged.Asks tcp none spoken = absurd (false≢true spoken)
+template_said t s count judged.Lacks tcp none spoken = absurd (false≢true spoken)
+template_said t s count judged.Forged tcp none spoken = absurd (false≢true spoken)
+template_said t s count (judged.As means.Ignored) tcp none spoken = absurd (false≢true spoken)
+template_said t s count (judged.As means.Unwanted) tcp none spoken = absurd (false≢true spoken)
+template_said t s count (judged.As means.Opens) tcp none spoken = absurd (false≢true (sym none.no_syn))
+template_said t s count (judged.As (means.Accepts acknowledged)) tcp none spoken = absurd (false≢true spoken)
+template_said t s count (judged.As means.RepeatedSyn) tcp none spoken = (same_or_calm t s spoken, none.lively refl)
+template_said t s count (judged.As means.Outside) tcp none spoken = (same_or_calm t s spoken, none.lively refl)
+template_said t s count (judged.As means.Kills) tcp none spoken = absurd (false≢true spoken)
+template_said t s count (judged.As means.Challenged) tcp none spoken = (same_or_calm t s spoken, none.lively refl)
+template_said t s count (judged.As means.Unacknowledging) tcp none spoken = absurd (false≢true spoken)
+template_said t s count (judged.As means.Ahead) tcp none spoken = (same_or_calm t s spoken, none.lively refl)
+template_said t s count (judged.As (means.Taken pos acknowledged)) tcp none spoken = (came_said t s count spoken, none.lively refl)
+
+-- what is told leaves whether the end fell back
+asked_identity : (m : Meaning) (options : List HeardOption) (modes : Modes) → (asked_in m options modes).identity ≡ modes.identity
+asked_identity means.Opens options modes = refl
+asked_identity means.Ignored options modes = refl
+asked_identity _ options modes = refl
+
+join_identity : (m : Meaning) (state : EndPhase) (items : List Heard) (modes : Modes) → (cleared_in m state (answered_in m items modes)).identity ≡ modes.identity
+join_identity (means.Accepts acknowledged) state items modes = by (join_answer items modes)
+  where
+    by : (o : Option JoinAnswer) → (with_answer o modes).identity ≡ modes.identity
+    by None = refl
+    by (Some answer) = refl
+join_identity (means.Taken pos acknowledged) state items modes = refl
+join_identity means.Ignored state items modes = refl
+join_identity means.Unwanted state items modes = refl
+join_identity means.Opens state items modes = refl
+join_identity means.RepeatedSyn state items modes = refl
+join_identity means.Outside state items modes = refl
+join_identity means.Kills state items modes = refl
+join_identity means.Challenged state items modes = refl
+join_identity means.Unacknowledging state items modes = refl
+join_identity means.Ahead state items modes = refl
+
+look_identity : (r : Reply) (m : Modes) → (modes_told r m).identity ≡ m.identity
+look_identity r m = ap (λ (x : Known). x.identity) (look_leaves r m)
+
+fell_identity : (event : FallEvent) (r : Reply) (m : Modes) → (fell_in event r m).identity ≡ m.identity
+fell_identity event r m = ap (λ (x : Known). x.identity) (fell_leaves event r m)
+
+keys_identity : (r : Reply) (o : Option KeyPair) (m : Modes) → (keys_in r o m).identity ≡ m.identity
+keys_identity (replies.Control control_replies.Noted) (Some keys) m = refl
+keys_identity (replies.Control control_replies.Noted) None m = refl
+keys_identity (replies.Control _) o m = refl
+keys_identity (replies.Send reply) o m = refl
+keys_identity (replies.Reassembly reply) o m = refl
+keys_identity replies.Done o m = refl
+
+-- ---- a path, where W is that a side's book joined, and F that it fell back by its book
+
+module _ {C : Type 0} (k : Codec C) (W F : Side → Type 0) where
+  pub record Awake (p : PathState C) : Type 0 where
+    pub woken : (t : Side) → is_joined p.profile ≡ true → is_up (end_at t p).tcp ≡ true → W t
+    pub known : (t : Side) → is_joined p.profile ≡ true → speaks (Voice.Says t) p.agenda ≡ true → W t
+    pub falls : (t : Side) → speaks (Voice.Falls t) p.agenda ≡ true → (is_joined p.profile ≡ false) × F t
+    pub plain : (t : Side) → is_joined p.profile ≡ true → (end_at t p).modes.identity ≡ false
+
+  -- the end of a side is up where it was, and fell back where it had
+  abbrev pub Goes : Side → PathState C → PathEnd → Type 0
+  Goes s p e = (is_up e.tcp ≡ true → is_up (end_at s p).tcp ≡ true) × (e.modes.identity ≡ (end_at s p).modes.identity)
+
+  same_goes : (s : Side) (e : PathEnd) (p : PathState C) → e.tcp.state ≡ (end_at s p).tcp.state → e.tcp.timing.timer ≡ (end_at s p).tcp.timing.timer
+      → e.modes.identity ≡ (end_at s p).modes.identity → Goes s p e
+  same_goes s e p state timer same =
+      (λ up. ap (λ x. not (is_closed_to_segments x) || is_some (end_at s p).tcp.timing.timer) (sym state) ∙ ap (λ o. not (is_closed_to_segments e.tcp.state) || is_some o) (sym timer) ∙ up, same)
+
+  up_goes : (s : Side) (e : PathEnd) (p : PathState C) → NoWaking (end_at s p).tcp e.tcp → e.modes.identity ≡ (end_at s p).modes.identity → Goes s p e
+  up_goes s e p up same = (up.up, same)
+
+  -- where that end is the one, or the other
+  woken_on : (s t : Side) (e : PathEnd) (p : PathState C) → Goes s p e → Awake p → is_joined p.profile ≡ true → is_up (end_at t (with_end s e p)).tcp ≡ true → W t
+  woken_on A A e p g h joins up = h.woken A joins (g.0 up)
+  woken_on A B e p g h joins up = h.woken B joins up
+  woken_on B A e p g h joins up = h.woken A joins up
+  woken_on B B e p g h joins up = h.woken B joins (g.0 up)
+
+  plain_on : (s t : Side) (e : PathEnd) (p : PathState C) → Goes s p e → Awake p → is_joined p.profile ≡ true → (end_at t (with_end s e p)).modes.identity ≡ false
+  plain_on A A e p g h joins = g.1 ∙ h.plain A joins
+  plain_on A B e p g h joins = h.plain B joins
+  plain_on B A e p g h joins = h.plain A joins
+  plain_on B B e p g h joins = g.1 ∙ h.plain B joins
+
+  -- what is said then is said by a side that joined
+  goes_by : (s : Side) (e : PathEnd) (ds : List Duty) (p : PathState C) → Goes s p e → ((t : Side) → is_joined p.profile ≡ true → speaks (Voice.Says t) ds ≡ true → W t)
+      → ((t : Side) → speaks (Voice.Falls t) ds ≡ true → (is_joined p.profile ≡ false) × F t) → Awake p → Awake (goes_on s e ds p)
+  goes_by s e ds p g said falls h = record { woken = λ t. woken_on s t e p g h; known = said; falls = falls; plain = λ t. plain_on s t e p g h }
+
+  goes : (s : Side) (e : PathEnd) (ds : List Duty) (p : PathState C) → Goes s p e → Less p.agenda ds → Awake p → Awake (goes_on s e ds p)
+  goes s e ds p g less h = goes_by s e ds p g (λ t joins is. h.known t joins (less.said t is)) (λ t is. h.falls t (less.falls t is)) h
+
+  sent : (s : Side) (sg : PlainSegment) (e : PathEnd) (ds : List Duty) (p : PathState C) → Goes s p e → Less p.agenda ds → Awake p → Awake (sent_on k s sg e ds p)
+  sent s sg e ds p g less h = let n = goes s e ds p g less h in record { woken = n.woken; known = n.known; falls = n.falls; plain = n.plain }
+
+  agenda : (ds : List Duty) (p : PathState C) → Less p.agenda ds → Awake p → Awake (with_agenda ds p)
+  agenda ds p less h = record { woken = h.woken; known = λ t joins is. h.known t joins (less.said t is); falls = λ t is. h.falls t (less.falls t is); plain = h.plain }
+
+  same : (s : Side) (e : PathEnd) (ds : List Duty) (p : PathState C) → e.tcp.state ≡ (end_at s p).tcp.state → e.tcp.timing.timer ≡ (end_at s p).tcp.timing.timer
+      → e.modes.identity ≡ (end_at s p).modes.identity → Less p.agenda ds → Awake p → Awake (goes_on s e ds p)
+  same s e ds p state timer mode less h = goes s e ds p (same_goes s e p state timer mode) less h
+
+  same_sent : (s : Side) (sg : PlainSegment) (e : PathEnd) (ds : List Duty) (p : PathState C) → NoWaking (end_at s p).tcp e.tcp → e.modes.identity ≡ (end_at s p).modes.identity
+      → Less p.agenda ds → Awake p → Awake (sent_on k s sg e ds p)
+  same_sent s sg e ds p up mode less h = sent s sg e ds p (up_goes s e p up mode) less h
+
+  -- an end begins, where its side's book joined
+  begins_on : (s : Side) (e : PathEnd) (ds : List Duty) (p : PathState C) → W s → e.modes.identity ≡ (end_at s p).modes.identity
+      → ((t : Side) → same_side t s ≡ false → speaks (Voice.Says t) ds ≡ true → speaks (Voice.Says t) p.agenda ≡ true)
+      → ((t : Side) → speaks (Voice.Falls t) ds ≡ true → speaks (Voice.Falls t) p.agenda ≡ true) → Awake p → Awake (goes_on s e ds p)
+  begins_on s e ds p now mode said falls h = record { woken = up s now; known = known; falls = λ t is. h.falls t (falls t is); plain = plain s mode }
+    where
+      up : (s : Side) → W s → (t : Side) → is_joined p.profile ≡ true → is_up (end_at t (with_end s e p)).tcp ≡ true → W t
+      up A now A joins is = now
+      up A now B joins is = h.woken B joins is
+      up B now A joins is = h.woken A joins is
+      up B now B joins is = now
+
+      known : (t : Side) → is_joined p.profile ≡ true → speaks (Voice.Says t) ds ≡ true → W t
+      known t joins is = ⊎_elim (λ here. subst W (sym here) now) (λ other. h.known t joins (said t other is)) (side_or t s)
+
+      plain : (s : Side) → e.modes.identity ≡ (end_at s p).modes.identity → (t : Side) → is_joined p.profile ≡ true → (end_at t (with_end s e p)).modes.identity ≡ false
+      plain A mode A joins = mode ∙ h.plain A joins
+      plain A mode B joins = h.plain B joins
+      plain B mode A joins = h.plain A joins
+      plain B mode B joins = mode ∙ h.plain B joins
+
+  -- ---- in silence
+
+  item_goes : (s : Side) (o : Option Heard) (p : PathState C) → Goes s p (item_passed s o (end_at s p))
+  item_goes s None p = same_goes s (end_at s p) p refl refl refl
+  item_goes s (Some says.Dss) p = same_goes s (item_passed s (Some says.Dss) (end_at s p)) p refl refl refl
+  item_goes s (Some (says.DataAck next window)) p = same_goes s (item_passed s (Some (says.DataAck next window)) (end_at s p)) p refl refl refl
+  item_goes s (Some (says.Mapping fin)) p = by (counts (end_at s p))
+    where
+      by : (b : Bool) → Goes s p (if b then with_learned (end_at s p) else with_skipped (end_at s p))
+      by true = same_goes s (with_learned (end_at s p)) p refl refl refl
+      by false = same_goes s (with_skipped (end_at s p)) p refl refl refl
+  item_goes s (Some (says.DataFin place)) p = by (counts (end_at s p))
+    where
+      by : (b : Bool) → Goes s p (if b then with_data_fin place (end_at s p) else end_at s p)
+      by true = same_goes s (with_data_fin place (end_at s p)) p refl refl refl
+      by false = same_goes s (end_at s p) p refl refl refl
+  item_goes s (Some (says.InfiniteMapping place position)) p = same_goes s (end_at s p) p refl refl refl
+  item_goes s (Some (says.PeerKey key)) p = same_goes s (end_at s p) p refl refl refl
+  item_goes s (Some (says.Keys own other)) p = same_goes s (end_at s p) p refl refl refl
+  item_goes s (Some (says.Join form)) p = same_goes s (end_at s p) p refl refl refl
+  item_goes s (Some (says.Notice notice)) p = same_goes s (end_at s p) p refl refl refl
+  item_goes s (Some says.Fail) p = same_goes s (end_at s p) p refl refl refl
+  item_goes s (Some (says.FastClose key)) p = same_goes s (end_at s p) p refl refl refl
+
+  edge_goes : (s : Side) (checksums : Bool) (o : Option KeptMapping) (p : PathState C) → Goes s p (forgotten_by checksums o (end_at s p))
+  edge_goes s checksums None p = same_goes s (end_at s p) p refl refl refl
+  edge_goes s checksums (Some kept) p = by (is_wrong checksums kept (end_at s p).tcp)
+    where
+      e : PathEnd
+      e = end_at s p
+
+      by : (b : Bool) → Goes s p (if b then record e { tcp = record e.tcp { recv = after_forget_from kept.pos e.tcp.recv } } else e)
+      by true = same_goes s (record e { tcp = record e.tcp { recv = after_forget_from kept.pos e.tcp.recv } }) p refl refl refl
+      by false = same_goes s e p refl refl refl
+
+  keep_goes : (s : Side) (b : Bool) (held : Option ℕ) (p : PathState C)
+      → Goes s p (record (end_at s p) { tcp = (if b then after_dropping_held (end_at s p).tcp else after_keeping_held (end_at s p).tcp); treated = record (end_at s p).treated { held_edge = held } })
+  keep_goes s true held p = same_goes s (record (end_at s p) { tcp = after_dropping_held (end_at s p).tcp; treated = record (end_at s p).treated { held_edge = held } }) p refl refl refl
+  keep_goes s false held p = same_goes s (record (end_at s p) { tcp = after_keeping_held (end_at s p).tcp; treated = record (end_at s p).treated { held_edge = held } }) p refl refl refl
+
+  put : (s : Side) (e : PathEnd) (p : PathState C) → Goes s p e → Awake p → Awake (with_end s e p)
+  put s e p g h = record { woken = λ t. woken_on s t e p g h; known = h.known; falls = h.falls; plain = λ t. plain_on s t e p g h }
+
+  passed_awake : (d : Duty) (p : PathState C) → Awake p → Awake (passed d p)
+  passed_awake (duties.Silent (silent_duties.Timer s)) p h = put s (after_timer p.clock (end_at s p)) p (up_goes s (after_timer p.clock (end_at s p)) p (timer_up p.clock (end_at s p)) refl) h
+  passed_awake (duties.Step (step_duties.Heard s index)) p h = put s (item_passed s (item_of index (end_at s p)) (end_at s p)) p (item_goes s (item_of index (end_at s p)) p) h
+  passed_awake (duties.Silent (silent_duties.Keep s)) p h = put s (after_keep s (end_at s p)) p (keep_goes s (is_dropped s (end_at s p)) (after_keep s (end_at s p)).treated.held_edge p) h
+  passed_awake (duties.Step (step_duties.PlainAck s)) p h = put s (with_plain_ack (end_at s p)) p (same_goes s (with_plain_ack (end_at s p)) p refl refl refl) h
+  passed_awake (duties.Step (step_duties.Unmapped s)) p h = put s (after_pieces (end_at s p)) p (same_goes s (after_pieces (end_at s p)) p refl refl refl) h
+  passed_awake (duties.Ask (ask_duties.CheckFailed s)) p h = put s (after_check p.profile (end_at s p)) p (edge_goes s p.profile.spelling.checksums (mapping_here (end_at s p)) p) h
+  passed_awake (duties.Silent (silent_duties.PassFin s)) p h = put s (after_pass_fin (end_at s p)) p (up_goes s (after_pass_fin (end_at s p)) p (passing_up (end_at s p).tcp) refl) h
+  passed_awake (duties.Ask ask_duties.JoinAgain) p h = h
+  passed_awake _ p h = h
+
+  passed_profile : (d : Duty) (p : PathState C) → (passed d p).profile ≡ p.profile
+  passed_profile (duties.Silent (silent_duties.Timer s)) p = refl
+  passed_profile (duties.Step (step_duties.Heard s index)) p = refl
+  passed_profile (duties.Silent (silent_duties.Keep s)) p = refl
+  passed_profile (duties.Step (step_duties.PlainAck s)) p = refl
+  passed_profile (duties.Step (step_duties.Unmapped s)) p = refl
+  passed_profile (duties.Ask (ask_duties.CheckFailed s)) p = refl
+  passed_profile (duties.Silent (silent_duties.PassFin s)) p = refl
+  passed_profile _ p = refl
+
+  -- of a list of duties in place of the path's own
+  settled_awake : (ds : List Duty) (p : PathState C) → Awake p → ((t : Side) → is_joined p.profile ≡ true → speaks (Voice.Says t) ds ≡ true → W t)
+      → ((t : Side) → speaks (Voice.Falls t) ds ≡ true → (is_joined p.profile ≡ false) × F t) → Awake (settled ds p)
+  settled_awake [] p h known falls = record { woken = h.woken; known = known; falls = falls; plain = h.plain }
+  settled_awake (d ∷ ds) p h known falls =
+      by (stands d p)
+      (settled_awake ds (passed d p) (passed_awake d p h)
+      (λ t joins is. known t (sym (ap is_joined (passed_profile d p)) ∙ joins) (tail_speaks (Voice.Says t) (d ∷ ds) is))
+      (λ t is. let fell = falls t (tail_speaks (Voice.Falls t) (d ∷ ds) is) in (ap is_joined (passed_profile d p) ∙ fell.0, fell.1)))
+    where
+      by : (b : Bool) → Awake (settled ds (passed d p)) → Awake (if b then with_agenda (d ∷ ds) p else settled ds (passed d p))
+      by true rest = record { woken = h.woken; known = known; falls = falls; plain = h.plain }
+      by false rest = rest
+
+  settles : (p : PathState C) → Awake p → Awake (settled p.agenda p)
+  settles p h = settled_awake p.agenda p h h.known h.falls
+
+  -- ---- events
+
+  died_goes : (s : Side) (p : PathState C) → Goes s p (died (end_at s p))
+  died_goes s p = (λ up. absurd (false≢true up), refl)
+
+  line_awake : (action : LineAction) (p : PathState C) → Awake p → Awake (after_line action p)
+  line_awake (actions.Prio s backup) p h = same s (with_priority backup (end_at s p)) (emission s) p refl refl refl (new_less p.agenda _ (λ t. refl) (λ t. refl)) h
+  line_awake (actions.Announce s id) p h = agenda (announces s id) p (new_less p.agenda _ (λ t. refl) (λ t. refl)) h
+  line_awake (actions.Withdraw s id) p h = agenda (withdraws s id) p (new_less p.agenda _ (λ t. refl) (λ t. refl)) h
+  line_awake actions.Die p h = record { woken = up; known = known; falls = falls; plain = fell }
+    where
+      silent : (x : Voice) (b c : Bool) → speaks x ((if b then [] else duties.Ask (ask_duties.Leave A) ∷ []) ++ ((if c then [] else duties.Ask (ask_duties.Leave B) ∷ []) ++ rest_of_turn)) ≡ false
+      silent x true true = refl
+      silent x true false = refl
+      silent x false true = refl
+      silent x false false = refl
+
+      known : (t : Side) → is_joined p.profile ≡ true → speaks (Voice.Says t) (after_line actions.Die p).agenda ≡ true → W t
+      known t joins is = absurd (both_ways _ (silent (Voice.Says t) (is_dead p.a.tcp.state) (is_dead p.b.tcp.state)) is)
+
+      falls : (t : Side) → speaks (Voice.Falls t) (after_line actions.Die p).agenda ≡ true → (is_joined p.profile ≡ false) × F t
+      falls t is = absurd (both_ways _ (silent (Voice.Falls t) (is_dead p.a.tcp.state) (is_dead p.b.tcp.state)) is)
+
+      up_by : (t : Side) (e : PathEnd) → (is_up e.tcp ≡ true → W t) → (b : Bool) → is_up (if b then e else died e).tcp ≡ true → W t
+      up_by t e stays true is = stays is
+      up_by t e stays false is = absurd (false≢true is)
+
+      up : (t : Side) → is_joined p.profile ≡ true → is_up (end_at t (after_line actions.Die p)).tcp ≡ true → W t
+      up A joins is = up_by A p.a (h.woken A joins) (is_dead p.a.tcp.state) is
+      up B joins is = up_by B p.b (h.woken B joins) (is_dead p.b.tcp.state) is
+
+      fell_by : (e : PathEnd) → e.modes.identity ≡ false → (b : Bool) → (if b then e else died e).modes.identity ≡ false
+      fell_by e stays true = stays
+      fell_by e stays false = stays
+
+      fell : (t : Side) → is_joined p.profile ≡ true → (end_at t (after_line actions.Die p)).modes.identity ≡ false
+      fell A joins = fell_by p.a (h.plain A joins) (is_dead p.a.tcp.state)
+      fell B joins = fell_by p.b (h.plain B joins) (is_dead p.b.tcp.state)
+
+  -- A begins a join where its book does
+  begun_awake : (r : Reply) (dead living : List Duty) (p : PathState C) → (is_some (keys_begun r) ≡ true → W A) → Less p.agenda dead → Less p.agenda living → Awake p → Awake (join_begun r dead living p)
+  begun_awake r dead living p begins to_dead to_living h = by (is_never r)
+    where
+      opens : (o : Option KeyPair) → (is_some o ≡ true → W A) → Awake (goes_on A (opened_by o p.a) living p)
+      opens None begins = same A p.a living p refl refl refl to_living h
+      opens (Some keys) begins = begins_on A (opened_by (Some keys) p.a) living p (begins refl) refl (λ t other is. to_living.said t is) (λ t is. to_living.falls t is) h
+
+      by : (b : Bool) → Awake (if b then goes_on A (never_joined r p.a) dead p else goes_on A (opened_by (keys_begun r) p.a) living p)
+      by true = goes A (never_joined r p.a) dead p (died_goes A p) to_dead h
+      by false = opens (keys_begun r) begins
+
+  fired_awake : (s : Side) (p : PathState C) → is_up (end_at s p).tcp ≡ true → Awake p → Awake (timer_fired s p)
+  fired_awake s p up h = by (is_sixth (end_at s p).tcp)
+    where
+      e : PathEnd
+      e = end_at s p
+
+      own : (t s : Side) → is_up (end_at s p).tcp ≡ true → is_joined p.profile ≡ true → speaks (Voice.Says t) (template_fired false s) ≡ true → W t
+      own A A up joins is = h.woken A joins up
+      own B B up joins is = h.woken B joins up
+      own A B up joins is = absurd (false≢true is)
+      own B A up joins is = absurd (false≢true is)
+
+      by : (b : Bool) → Awake (goes_on s (record e { tcp = (if b then after_death true e.tcp else after_expiry p.clock e.tcp) }) (template_fired b s) p)
+      by true = goes s (record e { tcp = after_death true e.tcp }) (template_fired true s) p (λ is. absurd (false≢true is), refl) (new_less p.agenda _ (λ t. refl) (λ t. refl)) h
+      by false = goes_by s (record e { tcp = after_expiry p.clock e.tcp }) (template_fired false s) p (λ is. up, refl) (λ t. own t s up) (λ t is. absurd (false≢true is)) h
+
+  -- ---- a copy
+
+  heard_awake : (now : ℕ) (s : Side) (heard : HeardSegment) (p : PathState C) → Awake p
+      → Awake (goes_on s (after_judged p.profile s now heard (judged_in (is_joined p.profile) s heard (end_at s p)) (end_at s p))
+      (template_of (is_joined p.profile) s (items_of (is_joined p.profile) s heard) (judged_in (is_joined p.profile) s heard (end_at s p))) p)
+  heard_awake now s heard p h = by (is_joined p.profile) refl
+    where
+      told : List KeptMapping
+      told = held_of p.profile s heard
+
+      answer : Outgoing
+      answer = reset_for p.profile s heard
+
+      copied : Goes s p (copy_judged true (held_of p.profile s heard) (reset_for p.profile s heard) s now heard (taken_as (judged_in true s heard (end_at s p))) (end_at s p))
+      copied =
+          let e = end_at s p in
+          let items = items_of true s heard in
+          let v : Judged = judged_in true s heard e in
+          let m : Meaning = taken_as v in
+          let none : WakesNone m e.tcp = joined_wakes_none heard.rst items e (copy_of heard) in
+          let state = (with_held (held_of p.profile s heard) heard m e).tcp.state in (
+            λ up. (copy_up m (owes_by m items) (hint_of items) now (copy_of heard) heard.payload e.tcp none).up up,
+            asked_identity m heard.options (cleared_in m state (answered_in m items e.modes)) ∙ join_identity m state items e.modes,
+          )
+
+      said : (t : Side) → speaks (Voice.Says t) (template_judged true s (length (items_of true s heard)) (judged_in true s heard (end_at s p))) ≡ true → is_joined p.profile ≡ true → W t
+      said t is joins =
+          let items = items_of true s heard in
+          let both = template_said t s (length items) (judged_in true s heard (end_at s p)) (end_at s p).tcp (joined_wakes_none heard.rst items (end_at s p) (copy_of heard)) is in
+          h.woken t joins (subst (λ u. is_up (end_at u p).tcp ≡ true) (sym both.0) both.1)
+
+      first : (e : PathEnd) (ds : List Duty) → is_joined p.profile ≡ false → ((t : Side) → speaks (Voice.Falls t) ds ≡ false) → Awake (goes_on s e ds p)
+      first e ds isnt calm = record {
+        woken = λ t joins. absurd (both_ways _ isnt joins);
+        known = λ t joins. absurd (both_ways _ isnt joins);
+        falls = λ t is. absurd (both_ways _ (calm t) is);
+        plain = λ t joins. absurd (both_ways _ isnt joins);
+      }
+
+      by : (joined : Bool) → is_joined p.profile ≡ joined
+          → Awake (goes_on s (copy_judged joined told answer s now heard (taken_as (judged_in joined s heard (end_at s p))) (end_at s p)) (template_of joined s (items_of joined s heard) (judged_in joined s heard (end_at s p))) p)
+      by false isnt = first _ _ isnt (λ t. template_calm t false s (length (items_of false s heard)) (judged_in false s heard (end_at s p)))
+      by true joined =
+          goes_by s (copy_judged true told answer s now heard (taken_as (judged_in true s heard (end_at s p))) (end_at s p)) (template_of true s (items_of true s heard) (judged_in true s heard (end_at s p))) p
+          copied (λ t joins is. said t is joins) (λ t is. absurd (both_ways _ (template_calm t true s (length (items_of true s heard)) (judged_in true s heard (end_at s p))) is)) h
+
+  copy_awake : (s : Side) (o : Option HeardSegment) (p : PathState C) → Awake p → Awake (copy_heard s o p)
+  copy_awake s None p h = agenda (emission s) p (new_less p.agenda _ (λ t. refl) (λ t. refl)) h
+  copy_awake s (Some heard) p h = heard_awake p.clock s (options_heard (end_at s p) heard) p h
+
+  -- ---- replies
+
+  -- a join begins by the side's book, and the side falls by it, where it joined none
+  abbrev pub FallSo : Side → Reply → Type 0
+  FallSo s r = is_fall r ≡ true → (W s → ⊥) × F s
+
+  abbrev pub BeginSo : Side → Reply → Type 0
+  BeginSo s r = is_some (keys_begun r) ≡ true → W s
+
+  abbrev pub CallSo : Side → ControlCall → Reply → Type 0
+  CallSo s (control_calls.JoinBegin path) r = BeginSo s r
+  CallSo s (control_calls.JoinHeard path token) r = BeginSo s r
+  CallSo s (control_calls.Fell path event) r = FallSo s r
+  CallSo s _ r = Unit {0}
+
+  abbrev pub So : Ask → Reply → Type 0
+  So (asks.Control s call) r = CallSo s call r
+  So _ r = Unit {0}
+
+  event_awake : (o : Option Event) (r : Reply) (p : PathState C) → next_event p ≡ o → So (step_for p.link.path o) r → Awake p → Awake (happens_if k o r p)
+  event_awake None r p next so h = agenda rest_of_turn p (new_less p.agenda rest_of_turn (λ t. refl) (λ t. refl)) h
+  event_awake (Some (happenings.Joins tick)) r p next so h =
+      begun_awake r (leaves A) (emission A) (record (at_tick tick p) { joined_at = None }) so (new_less p.agenda _ (λ t. refl) (λ t. refl)) (new_less p.agenda _ (λ t. refl) (λ t. refl))
+      (record { woken = h.woken; known = h.known; falls = h.falls; plain = h.plain })
+  event_awake (Some (happenings.Takes line)) r p next so h =
+      line_awake line.action (record (at_tick line.tick p) { lines = tail_of p.lines }) (record { woken = h.woken; known = h.known; falls = h.falls; plain = h.plain })
+  event_awake (Some (happenings.Arrives due)) r p next so h =
+      copy_awake due.to (heard_in k due.to (arriving due p.link) p) (record (at_tick due.tick p) { link = after_delivery due p.link })
+      (record { woken = h.woken; known = h.known; falls = h.falls; plain = h.plain })
+  event_awake (Some (happenings.Fires s tick)) r p next so h = at_side s (next_happens p (happenings.Fires s tick) next)
+    where
+      h_q : Awake (at_tick tick p)
+      h_q = record { woken = h.woken; known = h.known; falls = h.falls; plain = h.plain }
+
+      at_side : (t : Side) → is_up (end_at t p).tcp ≡ true → Awake (timer_fired t (at_tick tick p))
+      at_side t up = fired_awake t (at_tick tick p) up h_q
+
+  reset_awake : (s : Side) (reason : Option ℕ) (ds : List Duty) (p : PathState C) → Less p.agenda ds → Awake p → Awake (reset_on k s reason ds p)
+  reset_awake s reason ds p less h = sent s (reset_of s reason p) (died (end_at s p)) ds p (died_goes s p) less h
+
+  break_awake : (s : Side) (reason : ℕ) (r : Reply) (p : PathState C) → Awake p → Awake (answered_break k s reason r p)
+  break_awake s reason r p h = by (end_at s p).treated.asked
+    where
+      by : (b : Bool) → Awake (if b then answered_ack_out s r (resets s reason) p else reset_on k s (Some reason) (leaves s) p)
+      by true = same s (after_ack_out r (end_at s p)) (resets s reason) p refl refl refl (new_less p.agenda _ (λ t. refl) (λ t. refl)) h
+      by false = reset_awake s (Some reason) (leaves s) p (new_less p.agenda _ (λ t. refl) (λ t. refl)) h
+
+  -- the side said so, and joined
+  abbrev Said : Side → PathState C → Type 0
+  Said s p = is_joined p.profile ≡ true → W s
+
+  -- what follows a verdict
+  verdict_says : (s t : Side) (r : Reply) (p : PathState C) → speaks (Voice.Says t) (fell_duties s r p) ≡ true → speaks (Voice.Says t) p.agenda ≡ true
+  verdict_says s t r p =
+      fell_cases (λ ds. speaks (Voice.Says t) ds ≡ true → speaks (Voice.Says t) p.agenda ≡ true) s p r
+      (λ falls is. replaced_speaks (Voice.Says t) (duties.Ask (ask_duties.GoIdentity s)) p.agenda refl is)
+      (λ reason is. absurd (false≢true is)) (λ reason is. absurd (false≢true is)) (λ is. tail_speaks (Voice.Says t) p.agenda is)
+
+  unjoined : (s : Side) (p : PathState C) → Said s p → (W s → ⊥) → is_joined p.profile ≡ false
+  unjoined s p said never = by (is_joined p.profile) said
+    where
+      by : (b : Bool) → (b ≡ true → W s) → b ≡ false
+      by true said = absurd (never (said refl))
+      by false said = refl
+
+  verdict_falls : (s t : Side) (r : Reply) (p : PathState C) → Said s p → FallSo s r → Awake p → speaks (Voice.Falls t) (fell_duties s r p) ≡ true → (is_joined p.profile ≡ false) × F t
+  verdict_falls s t r p said so h =
+      fell_cases (λ ds. speaks (Voice.Falls t) ds ≡ true → (is_joined p.profile ≡ false) × F t) s p r
+      (λ falls is. ⊎_elim (λ here. let fell = so falls in (unjoined s p said fell.0, subst F (sym here) fell.1))
+      (λ other. h.falls t (replaced_speaks (Voice.Falls t) (duties.Ask (ask_duties.GoIdentity s)) p.agenda other is)) (side_or t s))
+      (λ reason is. absurd (false≢true is)) (λ reason is. absurd (false≢true is)) (λ is. h.falls t (tail_speaks (Voice.Falls t) p.agenda is))
+
+  verdict_awake : (s : Side) (e : PathEnd) (r : Reply) (p : PathState C) → e.tcp.state ≡ (end_at s p).tcp.state → e.tcp.timing.timer ≡ (end_at s p).tcp.timing.timer
+      → e.modes.identity ≡ (end_at s p).modes.identity → Said s p → FallSo s r → Awake p → Awake (goes_on s e (fell_duties s r p) p)
+  verdict_awake s e r p state timer mode said so h =
+      goes_by s e (fell_duties s r p) p (same_goes s e p state timer mode) (λ t joins is. h.known t joins (verdict_says s t r p is)) (λ t. verdict_falls s t r p said so h) h
+
+  told_awake : (s : Side) (event : FallEvent) (r : Reply) (p : PathState C) → Said s p → FallSo s r → Awake p → Awake (answered_fell s event r p)
+  told_awake s event r p said so h = verdict_awake s (after_fell event r (end_at s p)) r p refl refl (fell_identity event r (end_at s p).modes) said so h
+
+  grant_awake : (s : Side) (o : Option Grant) (r : Reply) (p : PathState C) → Awake p → Awake (answered_grant s o r p)
+  grant_awake s None r p h = same s _ (left p) p refl refl refl (tail_less p.agenda) h
+  grant_awake s (Some grant) r p h = same s _ p.agenda p refl refl refl (same_less p.agenda) h
+
+  data_awake : (s : Side) (o : Option Record) (r : Reply) (p : PathState C) → Awake p → Awake (answered_data k s o r p)
+  data_awake s (Some unsent) r p h = same_sent s _ _ p.agenda p (sending_up to_send.Unsent p.clock (end_at s p).tcp) refl (same_less p.agenda) h
+  data_awake s None r p h = grant_awake s (grant_in r) r p h
+
+  keys_awake : (s : Side) (r : Reply) (o : Option KeyPair) (p : PathState C) → Awake p → Awake (goes_on s (after_keys r o (end_at s p)) (left p) p)
+  keys_awake s r o p h = same s (after_keys r o (end_at s p)) (left p) p refl refl (keys_identity r o (end_at s p).modes) (tail_less p.agenda) h
+
+  -- a duty of this side that says something comes in the place of the first one
+  says_next : (s : Side) (d : Duty) (e : PathEnd) (p : PathState C) → ((t : Side) → is_said_by (Voice.Says t) d ≡ same_side t s) → ((t : Side) → is_said_by (Voice.Falls t) d ≡ false) → Goes s p e
+      → Said s p → Awake p → Awake (goes_on s e (replaced d p.agenda) p)
+  says_next s d e p same calm g said h =
+      goes_by s e (replaced d p.agenda) p g
+      (λ t joins is. ⊎_elim (λ here. subst W (sym here) (said joins)) (λ other. h.known t joins (replaced_speaks (Voice.Says t) d p.agenda (same t ∙ other) is)) (side_or t s))
+      (λ t is. h.falls t (replaced_speaks (Voice.Falls t) d p.agenda (calm t) is)) h
+
+  heard_answered_awake : (s : Side) (item : Heard) (r : Reply) (p : PathState C) → Said s p → So (heard_ask k s item p) r → Awake p → Awake (answered_heard k s item r p)
+  heard_answered_awake s (says.DataAck next window) r p said so h = by (is_acked r && nat_lt 0 next)
+    where
+      by : (b : Bool) → Awake (goes_on s (with_acked next r (end_at s p)) (if b then replaced (duties.Ask (ask_duties.AckHeard s)) p.agenda else left p) p)
+      by true = says_next s (duties.Ask (ask_duties.AckHeard s)) (with_acked next r (end_at s p)) p (λ t. refl) (λ t. refl) (same_goes s (with_acked next r (end_at s p)) p refl refl refl) said h
+      by false = same s (with_acked next r (end_at s p)) (left p) p refl refl refl (tail_less p.agenda) h
+  heard_answered_awake s (says.Mapping fin) r p said so h = by (is_clash (end_at s p)) so
+    where
+      by : (b : Bool) → So (if b then break_ask k s 1 p else fell_ask s fall.MappingHeard p) r
+          → Awake (if b then answered_break k s 1 r p else goes_on s (with_learned (after_fell fall.MappingHeard r (end_at s p))) (fell_duties s r p) p)
+      by true so = break_awake s 1 r p h
+      by false so = verdict_awake s (with_learned (after_fell fall.MappingHeard r (end_at s p))) r p refl refl (fell_identity fall.MappingHeard r (end_at s p).modes) said so h
+  heard_answered_awake s (says.DataFin place) r p said so h =
+      verdict_awake s (with_data_fin place (after_fell fall.MappingHeard r (end_at s p))) r p refl refl (fell_identity fall.MappingHeard r (end_at s p).modes) said so h
+  heard_answered_awake s (says.InfiniteMapping place position) r p said so h =
+      infinite_came_so (λ e. Awake (goes_on s e (fell_duties s r p) p)) place position r (end_at s p)
+      (λ other. verdict_awake s (infinite_so r other (end_at s p)) r p refl refl (fell_identity fall.InfiniteHeard r (end_at s p).modes) said so h)
+  heard_answered_awake s (says.Keys mine other) r p said so h = keys_awake s r (Some (record { own = mine; peer = other })) p h
+  heard_answered_awake s says.Dss r p said so h = agenda (left p) p (tail_less p.agenda) h
+  heard_answered_awake s (says.PeerKey key) r p said so h = agenda (left p) p (tail_less p.agenda) h
+  heard_answered_awake s (says.Join form) r p said so h = agenda (left p) p (tail_less p.agenda) h
+  heard_answered_awake s (says.Notice notice) r p said so h =
+      same s (after_peer_notice notice r (end_at s p)) (left p) p refl refl refl (tail_less p.agenda) h
+  heard_answered_awake s says.Fail r p said so h = by (may_go_infinite (end_at s p)) so
+    where
+      by : (b : Bool) → So (if b then asks.Send s (send_calls.GoInfinite (path_of p)) else fell_ask s (fall.FailHeard false) p) r
+          → Awake (if b then book_answered s r p else answered_fell s (fall.FailHeard false) r p)
+      by true so = says_next s (duties.Ask (ask_duties.FailHeard s)) (with_infinite r (end_at s p)) p (λ t. refl) (λ t. refl) (same_goes s (with_infinite r (end_at s p)) p refl refl refl) said h
+      by false so = told_awake s (fall.FailHeard false) r p said so h
+  heard_answered_awake s (says.FastClose key) r p said so h = by (is_stopped_by r)
+    where
+      by : (b : Bool) → Awake (with_agenda (if b then stops s else left p) p)
+      by true = agenda (stops s) p (new_less p.agenda _ (λ t. refl) (λ t. refl)) h
+      by false = agenda (left p) p (tail_less p.agenda) h
+
+  item_answered_awake : (s : Side) (o : Option Heard) (r : Reply) (p : PathState C) → Said s p → So (item_ask k s o p) r → Awake p → Awake (answered_item k s o r p)
+  item_answered_awake s None r p said so h = agenda (left p) p (tail_less p.agenda) h
+  item_answered_awake s (Some item) r p said so h = heard_answered_awake s item r p said so h
+
+  plain_ack_awake : (s : Side) (r : Reply) (p : PathState C) → Said s p → So (plain_ack_ask k s p) r → Awake p → Awake (answered_plain_ack k s r p)
+  plain_ack_awake s r p said so h = by (breaks_by_ack p.profile (end_at s p)) so
+    where
+      by : (b : Bool) → So (if b then break_ask k s 6 p else fell_ask s fall.PlainAck p) r
+          → Awake (if b then answered_break k s 6 r p else goes_on s (with_plain_ack (after_fell fall.PlainAck r (end_at s p))) (fell_duties s r p) p)
+      by true so = break_awake s 6 r p h
+      by false so = verdict_awake s (with_plain_ack (after_fell fall.PlainAck r (end_at s p))) r p refl refl (fell_identity fall.PlainAck r (end_at s p).modes) said so h
+
+  key_awake : (s : Side) (o : Option ℕ) (r : Reply) (p : PathState C) → Said s p → So (peer_key_ask s o p) r → Awake p → Awake (answered_peer_key s o r p)
+  key_awake s None r p said so h = told_awake s fall.PlainHandshake r p said so h
+  key_awake s (Some key) r p said so h = same s (with_peer_key (Some key) (end_at s p)) (left p) p refl refl refl (tail_less p.agenda) h
+
+  opened_awake : (s : Side) (o : Option KeyPair) (r : Reply) (p : PathState C) → Said s p → So (opened_ask s o p) r → Awake p → Awake (answered_opened s o r p)
+  opened_awake s None r p said so h = told_awake s fall.PlainHandshake r p said so h
+  opened_awake s (Some keys) r p said so h = keys_awake s r (Some keys) p h
+
+  piece_awake : (s : Side) (o : Option Piece) (taken : Bool) (p : PathState C) → Awake p → Awake (answered_piece s o taken p)
+  piece_awake s None taken p h = same s _ (breaks s 1) p refl refl refl (new_less p.agenda _ (λ t. refl) (λ t. refl)) h
+  piece_awake s (Some piece) true p h = same s _ p.agenda p refl refl refl (same_less p.agenda) h
+  piece_awake s (Some piece) false p h = same s _ (breaks s 1) p refl refl refl (new_less p.agenda _ (λ t. refl) (λ t. refl)) h
+
+  fin_awake : (s : Side) (set : Bool) (p : PathState C) → Awake p → Awake (answered_fin_heard s set p)
+  fin_awake s true p h = same s _ (left p) p refl refl refl (tail_less p.agenda) h
+  fin_awake s false p h = same s _ (breaks s 1) p refl refl refl (new_less p.agenda _ (λ t. refl) (λ t. refl)) h
+
+  plain_fin_awake : (s : Side) (set : Bool) (p : PathState C) → Awake p → Awake (answered_plain_fin s set p)
+  plain_fin_awake s true p h = same s _ (left p) p refl refl refl (tail_less p.agenda) h
+  plain_fin_awake s false p h = same s _ (breaks s 1) p refl refl refl (new_less p.agenda _ (λ t. refl) (λ t. refl)) h
+
+  joined_awake : (s : Side) (o : Option KeyPair) (asked : Option JoinSyn) (r : Reply) (p : PathState C) → keys_begun r ≡ o → So (join_heard_ask s asked p) r → Awake p → Awake (join_taken s o asked r p)
+  joined_awake s None (Some asked) r p is so h = same s (with_mode_refused r (end_at s p)) (replaced (duties.Send (send_duties.Refuse s)) p.agenda) p refl refl refl (replaced_less (duties.Send (send_duties.Refuse s)) p.agenda (λ t. refl) (λ t. refl)) h
+  joined_awake s None None r p is so h = agenda _ p (replaced_less (duties.Send (send_duties.Refuse s)) p.agenda (λ t. refl) (λ t. refl)) h
+  joined_awake s (Some keys) None r p is so h = agenda _ p (replaced_less (duties.Send (send_duties.Refuse s)) p.agenda (λ t. refl) (λ t. refl)) h
+  joined_awake s (Some keys) (Some asked) r p is so h =
+      begins_on s _ (replaced (duties.Send (send_duties.SynAck s)) p.agenda) p (so (ap (λ o. is_some o) is)) refl
+      (λ t other spoken. replaced_speaks (Voice.Says t) (duties.Send (send_duties.SynAck s)) p.agenda other spoken)
+      (λ t spoken. replaced_speaks (Voice.Falls t) (duties.Send (send_duties.SynAck s)) p.agenda refl spoken) h
+
+  -- a duty of a side that says something
+  by_duty : (s : Side) (d : Duty) (p : PathState C) → ((t : Side) → is_joined p.profile ≡ true → is_said_by (Voice.Says t) d ≡ true → W t) → ((t : Side) → is_said_by (Voice.Says t) d ≡ same_side t s) → Said s p
+  by_duty s d p said same joins = said s joins (same s ∙ itself s)
+
+  answered_awake : (d : Duty) (r : Reply) (p : PathState C) → ((t : Side) → is_joined p.profile ≡ true → is_said_by (Voice.Says t) d ≡ true → W t)
+      → ((t : Side) → is_said_by (Voice.Falls t) d ≡ true → is_joined p.profile ≡ false) → So (ask_for k d p) r → Awake p → Awake (answered k d r p)
+  answered_awake (duties.Ask ask_duties.JoinAgain) r p said falls so h =
+      begun_awake r (replaced (duties.Ask (ask_duties.Leave A)) p.agenda) (left p) p so (replaced_less (duties.Ask (ask_duties.Leave A)) p.agenda (λ t. refl) (λ t. refl)) (tail_less p.agenda) h
+  answered_awake (duties.Step (step_duties.Look s)) r p said falls so h = same s (after_look r (end_at s p)) (left p) p refl refl (look_identity r (end_at s p).modes) (tail_less p.agenda) h
+  answered_awake (duties.Ask (ask_duties.Window s)) r p said falls so h = same s (after_ack_out r (end_at s p)) (left p) p refl refl refl (tail_less p.agenda) h
+  answered_awake (duties.Send (send_duties.Update s)) r p said falls so h = sent s _ _ (left p) p ((λ up. up), refl) (tail_less p.agenda) h
+  answered_awake (duties.Send (send_duties.FastClose s)) r p said falls so h = sent s _ _ (left p) p ((λ up. up), refl) (tail_less p.agenda) h
+  answered_awake (duties.Send (send_duties.Notice s)) r p said falls so h = sent s _ _ p.agenda p ((λ up. up), refl) (same_less p.agenda) h
+  answered_awake (duties.Send (send_duties.Syn s)) r p said falls so h = same_sent s _ _ (left p) p (sending_up to_send.Unsent p.clock (end_at s p).tcp) refl (tail_less p.agenda) h
+  answered_awake (duties.Step (step_duties.Data s)) r p said falls so h = data_awake s (first_unsent (end_at s p)) r p h
+  answered_awake (duties.Send (send_duties.DataFin s)) r p said falls so h = sent s _ _ (left p) p ((λ up. up), refl) (tail_less p.agenda) h
+  answered_awake (duties.Send (send_duties.Fin s)) r p said falls so h =
+      sent s (fin_segment_of s p) (having_sent_fin s p) (left p) p (up_goes s (having_sent_fin s p) p (fin_up s) refl) (tail_less p.agenda) h
+    where
+      fin_up : (s : Side) → NoWaking (end_at s p).tcp (having_sent_fin s p).tcp
+      fin_up s = let up = finishing_up (end_at s p).tcp in record { up = up.up; waits = up.waits; past = up.past }
+  answered_awake (duties.Step step_duties.Events) r p said falls so h = event_awake (next_event p) r p refl so h
+  answered_awake (duties.Ask (ask_duties.PlainHandshake s)) r p said falls so h = told_awake s fall.PlainHandshake r p (by_duty s (duties.Ask (ask_duties.PlainHandshake s)) p said (λ t. refl)) so h
+  answered_awake (duties.Ask (ask_duties.PeerKey s)) r p said falls so h = key_awake s (key_heard (end_at s p).treated.items) r p (by_duty s (duties.Ask (ask_duties.PeerKey s)) p said (λ t. refl)) so h
+  answered_awake (duties.Send (send_duties.SynAck s)) r p said falls so h = same_sent s _ _ (left p) p (sending_up to_send.SynAck p.clock (end_at s p).tcp) refl (tail_less p.agenda) h
+  answered_awake (duties.Ask (ask_duties.JoinHeard s)) r p said falls so h = joined_awake s (keys_begun r) (asked_at s p) r p refl so h
+  answered_awake (duties.Send (send_duties.Refuse s)) r p said falls so h = sent s (refusal_of s p) (end_at s p) (left p) p (same_goes s (end_at s p) p refl refl refl) (tail_less p.agenda) h
+  answered_awake (duties.Ask (ask_duties.Opened s)) r p said falls so h = opened_awake s (keys_heard (end_at s p).treated.items) r p (by_duty s (duties.Ask (ask_duties.Opened s)) p said (λ t. refl)) so h
+  answered_awake (duties.Step (step_duties.Heard s index)) r p said falls so h = item_answered_awake s (item_of index (end_at s p)) r p (by_duty s (duties.Step (step_duties.Heard s index)) p said (λ t. refl)) so h
+  answered_awake (duties.Ask (ask_duties.AckHeard s)) r p said falls so h = told_awake s fall.AckHeard r p (by_duty s (duties.Ask (ask_duties.AckHeard s)) p said (λ t. refl)) so h
+  answered_awake (duties.Ask (ask_duties.FailHeard s)) r p said falls so h =
+      fail_heard_so (λ e. Awake (goes_on s e (fell_duties s r p) p)) r (end_at s p)
+      (λ own owes.
+      verdict_awake s (failed_so r own owes (end_at s p)) r p refl refl (fell_identity fall.CheckFailed r (end_at s p).modes) (by_duty s (duties.Ask (ask_duties.FailHeard s)) p said (λ t. refl)) so h)
+  answered_awake (duties.Step (step_duties.PlainAck s)) r p said falls so h = plain_ack_awake s r p (by_duty s (duties.Step (step_duties.PlainAck s)) p said (λ t. refl)) so h
+  answered_awake (duties.Ask (ask_duties.SubflowAck s)) r p said falls so h = same s _ (left p) p refl refl refl (tail_less p.agenda) h
+  answered_awake (duties.Ask (ask_duties.PlainData s)) r p said falls so h = told_awake s fall.PlainData r p (by_duty s (duties.Ask (ask_duties.PlainData s)) p said (λ t. refl)) so h
+  answered_awake (duties.Ask (ask_duties.GoIdentity s)) r p said falls so h = record {
+    woken = identity_woken s;
+    known = λ t joins spoken. h.known t joins (tail_speaks (Voice.Says t) p.agenda spoken);
+    falls = λ t spoken. h.falls t (tail_speaks (Voice.Falls t) p.agenda spoken);
+    plain = λ t joins. absurd (both_ways _ (falls s (itself s)) joins);
+  }
+    where
+      identity_woken : (s t : Side) → is_joined p.profile ≡ true → is_up (end_at t (with_end s (in_identity (end_at s p)) p)).tcp ≡ true → W t
+      identity_woken A A joins up = h.woken A joins up
+      identity_woken A B joins up = h.woken B joins up
+      identity_woken B A joins up = h.woken A joins up
+      identity_woken B B joins up = h.woken B joins up
+  answered_awake (duties.Step (step_duties.Unmapped s)) r p said falls so h = break_awake s 6 r p h
+  answered_awake (duties.Ask (ask_duties.SubflowFin s)) r p said falls so h = plain_fin_awake s (is_fin_set r) p h
+  answered_awake (duties.Ask (ask_duties.Edge s)) r p said falls so h = piece_awake s (piece_of s p) (is_placed r) p h
+  answered_awake (duties.Ask (ask_duties.CheckFailed s)) r p said falls so h =
+      check_failed_so (λ e. Awake (goes_on s e (fell_duties s r p) p)) p.profile.spelling.checksums r (end_at s p)
+      (λ told broken recv forgets.
+      verdict_awake s (checked_so r told broken recv (end_at s p)) r p refl refl (fell_identity fall.CheckFailed r (end_at s p).modes) (by_duty s (duties.Ask (ask_duties.CheckFailed s)) p said (λ t. refl)) so h)
+  answered_awake (duties.Ask (ask_duties.HeardFin s index)) r p said falls so h = fin_awake s (is_fin_set r) p h
+  answered_awake (duties.Ask (ask_duties.AckOut s)) r p said falls so h = same s (after_ack_out r (end_at s p)) (left p) p refl refl refl (tail_less p.agenda) h
+  answered_awake (duties.Ask (ask_duties.Rate s)) r p said falls so h = same s _ (left p) p refl refl refl (tail_less p.agenda) h
+  answered_awake (duties.Send (send_duties.Acknowledge s)) r p said falls so h = sent s _ _ (left p) p ((λ up. up), refl) (tail_less p.agenda) h
+  answered_awake (duties.Send (send_duties.Again s)) r p said falls so h = same_sent s _ _ (left p) p (sending_up to_send.First p.clock (end_at s p).tcp) refl (tail_less p.agenda) h
+  answered_awake (duties.Send (send_duties.Answer s)) r p said falls so h = same_sent s (answer_of s p) _ (left p) p (sending_up (answer_occasion (end_at s p)) p.clock (end_at s p).tcp) refl (tail_less p.agenda) h
+  answered_awake (duties.Send (send_duties.ResetAnswer s)) r p said falls so h = sent s (dead_answer s p) (end_at s p) (left p) p (same_goes s (end_at s p) p refl refl refl) (tail_less p.agenda) h
+  answered_awake (duties.Send (send_duties.Resend s)) r p said falls so h = same_sent s (resend_of s p) _ (left p) p (sending_up (resend_occasion (end_at s p)) p.clock (end_at s p).tcp) refl (tail_less p.agenda) h
+  answered_awake (duties.Ask (ask_duties.BreakAck s reason)) r p said falls so h = same s (after_ack_out r (end_at s p)) (resets s reason) p refl refl refl (new_less p.agenda _ (λ t. refl) (λ t. refl)) h
+  answered_awake (duties.Send (send_duties.BreakReset s reason)) r p said falls so h = reset_awake s (Some reason) (leaves s) p (new_less p.agenda _ (λ t. refl) (λ t. refl)) h
+  answered_awake (duties.Send (send_duties.Reset s)) r p said falls so h = reset_awake s None (replaced (duties.Ask (ask_duties.Leave s)) p.agenda) p (replaced_less (duties.Ask (ask_duties.Leave s)) p.agenda (λ t. refl) (λ t. refl)) h
+  answered_awake (duties.Send (send_duties.ResetNoted s)) r p said falls so h = reset_awake s None (replaced (duties.Ask (ask_duties.Leave s)) p.agenda) p (replaced_less (duties.Ask (ask_duties.Leave s)) p.agenda (λ t. refl) (λ t. refl)) h
+  answered_awake (duties.Ask (ask_duties.Leave s)) r p said falls so h = agenda (replaced (duties.Ask (ask_duties.Dead s)) p.agenda) p (replaced_less (duties.Ask (ask_duties.Dead s)) p.agenda (λ t. refl) (λ t. refl)) h
+  answered_awake (duties.Ask (ask_duties.LeaveNoted s)) r p said falls so h =
+      goes s (died (end_at s p)) (replaced (duties.Ask (ask_duties.Dead s)) p.agenda) p (died_goes s p) (replaced_less (duties.Ask (ask_duties.Dead s)) p.agenda (λ t. refl) (λ t. refl)) h
+  answered_awake duties.End r p said falls so h = agenda [] p (new_less p.agenda [] (λ t. refl) (λ t. refl)) h
+  answered_awake _ r p said falls so h = agenda (left p) p (tail_less p.agenda) h
+
+  pub takes_awake : (r : Reply) (p : PathState C) → ((x : Ask) → asks_of k p ≡ Some x → So x r) → Awake p → Awake (takes k r p)
+  takes_awake r p so h = by p.agenda refl
+    where
+      by : (ds : List Duty) → p.agenda ≡ ds → Awake (settled (answers k ds r p).agenda (answers k ds r p))
+      by [] is = settles p h
+      by (d ∷ ds) is =
+          settles (answered k d r p)
+          (answered_awake d r p (λ t joins said. h.known t joins (subst (λ xs. speaks (Voice.Says t) xs ≡ true) (sym is) (first_speaks (Voice.Says t) d ds said)))
+          (λ t falls. (h.falls t (subst (λ xs. speaks (Voice.Falls t) xs ≡ true) (sym is) (first_speaks (Voice.Falls t) d ds falls))).0) (so (ask_for k d p) (ap (λ xs. asks_first k xs p) is)) h)
+
+  pub begins_awake : (p : PathState C) → Awake p → Awake (begins_turn p)
+  begins_awake p h =
+      settled_awake start_of_turn (with_agenda start_of_turn p) (agenda start_of_turn p (new_less p.agenda start_of_turn (λ t. refl) (λ t. refl)) h)
+      (λ t joins is. absurd (false≢true is)) (λ t is. absurd (false≢true is))
+
+-- the more sides joined and fell back
+pub more_awake : {C : Type 0} (k : Codec C) (W F U G : Side → Type 0) (p : PathState C) → ((t : Side) → W t → U t) → ((t : Side) → F t → G t) → Awake k W F p → Awake k U G p
+more_awake k W F U G p more fallen h = record {
+  woken = λ t joins up. more t (h.woken t joins up);
+  known = λ t joins is. more t (h.known t joins is);
+  falls = λ t is. let fell = h.falls t is in (fell.0, fallen t fell.1);
+  plain = h.plain;
+}

@@ -1,0 +1,556 @@
+-- What the ends of a path that joins are, and its copies: A's end never has the peer's SYN before its own was answered, and B's never
+-- opens; a SYN that shows options shows an MP_JOIN.
+use Rattle.std.proofs.Common.{◌≡◌, refl, sym, ◌∙◌, ap, subst, ℕ, ◌+◌, ◌-◌, Bool, true, false, if◌then◌else◌, Option, Some, None, List, [], ◌∷◌, position}
+use Rattle.std.proofs.lemmas.Bool.{both_ways, false≢true}
+use Rattle.outside_kit.specs.declared.side.Side.{Side}
+use Rattle.outside_kit.specs.declared.side.Side.TheVariants.{A, B}
+use Rattle.dss_mapping.specs.declared.kept.KeptMapping.{KeptMapping}
+use Rattle.link_model.specs.declared.flight.Flight.{Flight}
+use Rattle.link_model.specs.Fate.{is_stripped, is_altered, fate_of}
+use Rattle.link_model.specs.Steps.{peer, is_due, arriving, arrivals, changed, next_number, without, after_delivery}
+use Rattle.path_segments.specs.Spelled.{PlainSegment}
+use Rattle.join_handshake.specs.declared.hearing.JoinSyn.{JoinSyn}
+use Rattle.subflow_recv.specs.Receiving.{after_forget_from}
+use Rattle.subflow_send.specs.Records.{Record}
+use Rattle.subflow_tcp.specs.declared.handshake.State.{State as EndPhase}
+use Rattle.subflow_tcp.specs.declared.handshake.State.TheVariants as phase
+use Rattle.subflow_tcp.specs.declared.segments.Occasion.{Occasion}
+use Rattle.subflow_tcp.specs.declared.segments.Occasion.TheVariants as to_send
+use Rattle.subflow_tcp.specs.declared.segments.Outgoing.{Outgoing}
+use Rattle.subflow_tcp.specs.Emitting.{after_sending}
+use Rattle.subflow_tcp.specs.Expiring.{is_sixth, after_expiry}
+use Rattle.subflow_tcp.specs.Opening.{after_begin}
+use Rattle.subflow_tcp.specs.State.{EndState, has_records}
+use Rattle.subflow_tcp.specs.States.{is_dead, is_waiting}
+use Rattle.subflow_tcp.specs.Taking.{after_death, after_dropping_held, after_keeping_held, after_syn, unkept}
+use Rattle.subflow_tcp.specs.Closing.{is_fin_next, after_passing_fin}
+use Rattle.fallback_state.specs.declared.fall.Event.{Event as FallEvent}
+use Rattle.fallback_state.specs.declared.fall.Event.TheVariants as fall
+use Rattle.stream_lanes.specs.Words.{Every}
+use Rattle.stream_lanes.proofs.Lists.{Every-nil}
+use Rattle.actor_desk.specs.declared.ask.Reply.{Reply}
+use Rattle.actor_desk.specs.Words.{tail_of}
+use Rattle.path_agenda.specs.Agenda.{breaks, emission, leaves, resets, rest_of_turn, start_of_turn, stops, announces, withdraws}
+use Rattle.path_agenda.specs.Items.{key_heard, keys_heard}
+use Rattle.path_agenda.specs.Words.{replaced}
+use Rattle.path_agenda.specs.declared.duty.Duty.{Duty}
+use Rattle.path_agenda.specs.declared.duty.Duty.TheVariants as duties
+use Rattle.path_agenda.specs.declared.duty.AskDuty.TheVariants as ask_duties
+use Rattle.path_agenda.specs.declared.duty.SendDuty.TheVariants as send_duties
+use Rattle.path_agenda.specs.declared.duty.SilentDuty.TheVariants as silent_duties
+use Rattle.path_agenda.specs.declared.duty.StepDuty.TheVariants as step_duties
+use Rattle.path_agenda.specs.declared.heard.Heard.{Heard}
+use Rattle.path_agenda.specs.declared.heard.Heard.TheVariants as says
+use Rattle.path_agenda.specs.declared.keys.KeyPair.{KeyPair}
+use Rattle.path_core.specs.FastClosing.{is_stopped_by}
+use Rattle.path_core.specs.declared.event.Event.{Event}
+use Rattle.path_core.specs.declared.event.Event.TheVariants as happenings
+use Rattle.path_core.specs.declared.judged.Judged.{Judged}
+use Rattle.path_core.specs.Arriving.{after_judged, copy_judged, copy_of, held_of, hint_of, items_of, judged_in, options_heard, owes_by, reset_for, taken_as, template_of}
+use Rattle.path_core.specs.Breaking.{reset_of, reset_on, answered_break}
+use Rattle.path_core.specs.Codec.{HeardSegment}
+use Rattle.path_core.specs.StreamEnds.{is_data_fin_owed}
+use Rattle.path_core.specs.Duties.{stands, passed, answered}
+use Rattle.path_core.specs.Emission.{Grant, after_timer, fin_segment_of, grant_in, answered_grant, answered_data, first_unsent, having_sent_fin}
+use Rattle.path_core.specs.Ends.{PathEnd}
+use Rattle.path_core.specs.Events.{next_event, heard_at, heard_in, at_tick, died, died_unless_dead, after_line, copy_heard, happens_if, join_begun, timer_fired, template_fired, never_joined, with_priority}
+use Rattle.path_core.specs.declared.lines.LineAction.{LineAction}
+use Rattle.path_core.specs.declared.lines.LineAction.TheVariants as actions
+use Rattle.path_core.specs.Fallback.{after_fell, fell_duties, answered_fell}
+use Rattle.path_core.specs.Joining.{asked_at, is_listening, is_never, join_taken, joined_by, keys_begun, opened_by, refusal_of, syn_alone, with_mode_refused}
+use Rattle.path_core.specs.Joins.{is_joined}
+use Rattle.path_core.specs.Opening.{after_keys, answered_opened, answered_peer_key, with_peer_key}
+use Rattle.path_core.specs.Passing.{after_pass_fin, answer_occasion, answer_of, resend_occasion, answered_fin_heard, answered_plain_fin, answered_piece, dead_answer, first_record, is_fin_set, is_placed, piece_of, resend_of}
+use Rattle.path_core.specs.Deliver.{Piece, after_check, after_pieces, mapping_here, is_wrong, with_learned, with_skipped, forgotten_by}
+use Rattle.path_core.specs.OptionsOut.{ack_said, carried_said, reset_options, record_or_ack, syn_ack_said}
+use Rattle.path_core.specs.Handover.{having_sent, sent_on}
+use Rattle.path_core.specs.Standing.{after_ack_out, answered_ack_out}
+use Rattle.path_core.specs.State.{PathState, end_at, goes_on, left, with_agenda, with_end}
+use Rattle.path_core.specs.Steps.{settled, answers, takes, begins_turn}
+use Rattle.path_core.specs.Treating.{after_keep, answered_heard, answered_item, answered_plain_ack, breaks_by_ack, counts, is_clash, is_dropped, item_of, item_passed, with_acked, with_data_fin, with_plain_ack, with_data_ack}
+use Rattle.path_core.specs.Values.{Carried, as_arrived, carried_by, stripped, altered, values}
+use Rattle.path_core.specs.OptionsOut.{noted_said}
+use Rattle.path_core.specs.Addressing.{after_peer_notice}
+use Rattle.path_agenda.specs.declared.notice.OwnNotice.{OwnNotice}
+use Rattle.path_agenda.specs.Words.{first_of}
+use Rattle.world_laws.proofs.Keys.Held.{in_removed}
+use Rattle.world_laws.proofs.Keys.WhatWakes.{WakesNone, joined_wakes_none}
+use Rattle.world_laws.proofs.Keys.AnswerHeardFirst.{is_apart, finish_apart, passed_apart, apart_stays, arrived_state, TellsKey, no_syn, record_or_ack_tells, syn_ack_tells, IsNoSyn, reset_answers, outgoing_tells}
+use Rattle.world_laws.proofs.Lanes.Saying.{flights_kept}
+use Rattle.world_laws.proofs.Falls.FailedChecks.{check_failed_so, fail_heard_so, infinite_came_so, fail_answered_so}
+use Rattle.path_core.specs.InfiniteSending.{with_infinite}
+
+abbrev pub CopyTells : Bool → Flight Carried → Type 0
+CopyTells joined f = TellsKey joined f.to f.carried.segment
+
+pub record HasRoles (p : PathState Carried) : Type 0 where
+  pub copies : Every (CopyTells (is_joined p.profile)) p.link.under_way
+  pub role_a : is_joined p.profile ≡ true → is_apart A p.a.tcp.state ≡ false
+  pub role_b : is_joined p.profile ≡ true → is_apart B p.b.tcp.state ≡ false
+  pub answer_a : IsNoSyn p.a.treated.answer
+  pub answer_b : IsNoSyn p.b.treated.answer
+
+pub answer_at : (s : Side) (p : PathState Carried) → HasRoles p → IsNoSyn (end_at s p).treated.answer
+answer_at A p h = h.answer_a
+answer_at B p h = h.answer_b
+
+pub role_at : (s : Side) (p : PathState Carried) → HasRoles p → is_joined p.profile ≡ true → is_apart s (end_at s p).tcp.state ≡ false
+role_at A p h joins = h.role_a joins
+role_at B p h joins = h.role_b joins
+
+stays_false : (x y : Bool) → (y ≡ true → x ≡ true) → x ≡ false → y ≡ false
+stays_false x false more none = refl
+stays_false x true more none = absurd (both_ways x none (more refl))
+
+-- ---- an end goes on
+
+-- it is where it never is only where it was there, and answers with no SYN
+pub record Goes (s : Side) (p : PathState Carried) (e : PathEnd) : Type 0 where
+  pub role : is_joined p.profile ≡ true → is_apart s e.tcp.state ≡ true → is_apart s (end_at s p).tcp.state ≡ true
+  pub answer : IsNoSyn e.treated.answer
+
+goes_roles : (s : Side) (e : PathEnd) (ds : List Duty) (p : PathState Carried) → Goes s p e → HasRoles p → HasRoles (goes_on s e ds p)
+goes_roles A e ds p g h =
+    record { copies = h.copies; role_a = λ joins. stays_false _ _ (g.role joins) (h.role_a joins); role_b = h.role_b; answer_a = g.answer; answer_b = h.answer_b }
+goes_roles B e ds p g h =
+    record { copies = h.copies; role_a = h.role_a; role_b = λ joins. stays_false _ _ (g.role joins) (h.role_b joins); answer_a = h.answer_a; answer_b = g.answer }
+
+with_roles : (s : Side) (e : PathEnd) (p : PathState Carried) → Goes s p e → HasRoles p → HasRoles (with_end s e p)
+with_roles A e p g h =
+    record { copies = h.copies; role_a = λ joins. stays_false _ _ (g.role joins) (h.role_a joins); role_b = h.role_b; answer_a = g.answer; answer_b = h.answer_b }
+with_roles B e p g h =
+    record { copies = h.copies; role_a = h.role_a; role_b = λ joins. stays_false _ _ (g.role joins) (h.role_b joins); answer_a = h.answer_a; answer_b = g.answer }
+
+agenda_roles : (ds : List Duty) (p : PathState Carried) → HasRoles p → HasRoles (with_agenda ds p)
+agenda_roles ds p h = record { copies = h.copies; role_a = h.role_a; role_b = h.role_b; answer_a = h.answer_a; answer_b = h.answer_b }
+
+same_goes : (s : Side) (e : PathEnd) (p : PathState Carried) → e.tcp.state ≡ (end_at s p).tcp.state → e.treated.answer ≡ (end_at s p).treated.answer → HasRoles p → Goes s p e
+same_goes s e p state answer h = record { role = λ joins is. ap (is_apart s) (sym state) ∙ is; answer = subst IsNoSyn (sym answer) (answer_at s p h) }
+
+same_roles : (s : Side) (e : PathEnd) (ds : List Duty) (p : PathState Carried) → e.tcp.state ≡ (end_at s p).tcp.state → e.treated.answer ≡ (end_at s p).treated.answer → HasRoles p → HasRoles (goes_on s e ds p)
+same_roles s e ds p state answer h = goes_roles s e ds p (same_goes s e p state answer h) h
+
+-- ---- a segment is handed over
+
+changed_tells : (joined : Bool) (to : Side) (strips alters : Bool) (carried : Carried) → TellsKey joined to carried.segment → TellsKey joined to (changed stripped altered strips alters carried).segment
+changed_tells joined to true false carried tells = tells
+changed_tells joined to false false carried tells = tells
+changed_tells false to true true carried tells = tt
+changed_tells false to false true carried tells = tt
+changed_tells true A true true carried tells = tells
+changed_tells true A false true carried tells = tells
+changed_tells true B true true carried tells = tells
+changed_tells true B false true carried tells = tells
+
+-- what arrives shows no more
+pub arrived_tells : (joined : Bool) (to : Side) (carried : Carried) → TellsKey joined to carried.segment → TellsKey joined to (as_arrived carried)
+arrived_tells false to carried tells = tt
+arrived_tells true A carried tells = by carried.stripped
+  where
+    by : (b : Bool) → TellsKey true A (record carried.segment { options = (if b then [] else carried.segment.options) })
+    by true = λ some. absurd (false≢true (sym some))
+    by false = tells
+arrived_tells true B carried tells = by carried.stripped
+  where
+    by : (b : Bool) → TellsKey true B (record carried.segment { options = (if b then [] else carried.segment.options) })
+    by true = λ some. absurd (false≢true (sym some))
+    by false = tells
+
+sent_copies : (s : Side) (sg : PlainSegment) (p : PathState Carried) → TellsKey (is_joined p.profile) (peer s) sg → Every (CopyTells (is_joined p.profile)) p.link.under_way
+    → (e : PathEnd) (ds : List Duty) → Every (CopyTells (is_joined p.profile)) (sent_on values s sg e ds p).link.under_way
+sent_copies A sg p tells copies e ds =
+    let number = next_number A p.link in
+    let sent : Carried = carried_by p.profile.spelling A sg in
+    let carried = changed stripped altered (is_stripped A number p.clock p.link.lines) (is_altered A number p.link.lines) sent in
+    flights_kept (CopyTells (is_joined p.profile)) B number carried
+    (λ tick. changed_tells (is_joined p.profile) B (is_stripped A number p.clock p.link.lines) (is_altered A number p.link.lines) sent tells)
+    (arrivals (fate_of A number p.link.lines) (p.clock + p.link.delay)) p.link.under_way copies
+sent_copies B sg p tells copies e ds =
+    let number = next_number B p.link in
+    let sent : Carried = carried_by p.profile.spelling B sg in
+    let carried = changed stripped altered (is_stripped B number p.clock p.link.lines) (is_altered B number p.link.lines) sent in
+    flights_kept (CopyTells (is_joined p.profile)) A number carried
+    (λ tick. changed_tells (is_joined p.profile) A (is_stripped B number p.clock p.link.lines) (is_altered B number p.link.lines) sent tells)
+    (arrivals (fate_of B number p.link.lines) (p.clock + p.link.delay)) p.link.under_way copies
+
+sent_roles : (s : Side) (sg : PlainSegment) (e : PathEnd) (ds : List Duty) (p : PathState Carried) → TellsKey (is_joined p.profile) (peer s) sg → Goes s p e → HasRoles p → HasRoles (sent_on values s sg e ds p)
+sent_roles A sg e ds p tells g h =
+    let n = goes_roles A e ds p g h in
+    record { copies = sent_copies A sg p tells h.copies e ds; role_a = n.role_a; role_b = n.role_b; answer_a = n.answer_a; answer_b = n.answer_b }
+sent_roles B sg e ds p tells g h =
+    let n = goes_roles B e ds p g h in
+    record { copies = sent_copies B sg p tells h.copies e ds; role_a = n.role_a; role_b = n.role_b; answer_a = n.answer_a; answer_b = n.answer_b }
+
+same_sent : (s : Side) (sg : PlainSegment) (e : PathEnd) (ds : List Duty) (p : PathState Carried) → TellsKey (is_joined p.profile) (peer s) sg → e.tcp.state ≡ (end_at s p).tcp.state
+    → e.treated.answer ≡ (end_at s p).treated.answer → HasRoles p → HasRoles (sent_on values s sg e ds p)
+same_sent s sg e ds p tells state answer h = sent_roles s sg e ds p tells (same_goes s e p state answer h) h
+
+ack_tells : (s : Side) (position : ℕ) (fin : Option ℕ) (p : PathState Carried) → TellsKey (is_joined p.profile) (peer s) (ack_said p.profile s position fin (end_at s p))
+ack_tells s position fin p = no_syn (is_joined p.profile) s (ack_said p.profile s position fin (end_at s p)) refl
+
+carried_tells : (s : Side) (o : Option ℕ) (p : PathState Carried) → TellsKey (is_joined p.profile) (peer s) (carried_said p.profile s o (end_at s p))
+carried_tells s (Some key) p = no_syn (is_joined p.profile) s (carried_said p.profile s (Some key) (end_at s p)) refl
+carried_tells s None p = ack_tells s (end_at s p).tcp.send.nxt None p
+
+noted_tells : (s : Side) (o : Option OwnNotice) (p : PathState Carried) → TellsKey (is_joined p.profile) (peer s) (noted_said p.profile s o (end_at s p))
+noted_tells s (Some notice) p = no_syn (is_joined p.profile) s (noted_said p.profile s (Some notice) (end_at s p)) refl
+noted_tells s None p = ack_tells s (end_at s p).tcp.send.nxt None p
+
+-- ---- in silence
+
+item_goes : (s : Side) (o : Option Heard) (p : PathState Carried) → HasRoles p → Goes s p (item_passed s o (end_at s p))
+item_goes s None p h = same_goes s (end_at s p) p refl refl h
+item_goes s (Some says.Dss) p h = same_goes s (item_passed s (Some says.Dss) (end_at s p)) p refl refl h
+item_goes s (Some (says.DataAck next window)) p h = same_goes s (with_data_ack next (end_at s p)) p refl refl h
+item_goes s (Some (says.Mapping fin)) p h = by (counts (end_at s p))
+  where
+    by : (b : Bool) → Goes s p (if b then with_learned (end_at s p) else with_skipped (end_at s p))
+    by true = same_goes s (with_learned (end_at s p)) p refl refl h
+    by false = same_goes s (with_skipped (end_at s p)) p refl refl h
+item_goes s (Some (says.DataFin place)) p h = by (counts (end_at s p))
+  where
+    by : (b : Bool) → Goes s p (if b then with_data_fin place (end_at s p) else end_at s p)
+    by true = same_goes s (with_data_fin place (end_at s p)) p refl refl h
+    by false = same_goes s (end_at s p) p refl refl h
+item_goes s (Some (says.InfiniteMapping place position)) p h = same_goes s (end_at s p) p refl refl h
+item_goes s (Some (says.PeerKey key)) p h = same_goes s (end_at s p) p refl refl h
+item_goes s (Some (says.Keys own other)) p h = same_goes s (end_at s p) p refl refl h
+item_goes s (Some (says.Join form)) p h = same_goes s (end_at s p) p refl refl h
+item_goes s (Some (says.Notice notice)) p h = same_goes s (end_at s p) p refl refl h
+item_goes s (Some says.Fail) p h = same_goes s (end_at s p) p refl refl h
+item_goes s (Some (says.FastClose key)) p h = same_goes s (end_at s p) p refl refl h
+
+edge_goes : (s : Side) (checksums : Bool) (o : Option KeptMapping) (p : PathState Carried) → HasRoles p → Goes s p (forgotten_by checksums o (end_at s p))
+edge_goes s checksums None p h = same_goes s (end_at s p) p refl refl h
+edge_goes s checksums (Some kept) p h = by (is_wrong checksums kept (end_at s p).tcp)
+  where
+    e : PathEnd
+    e = end_at s p
+
+    by : (b : Bool) → Goes s p (if b then record e { tcp = record e.tcp { recv = after_forget_from kept.pos e.tcp.recv } } else e)
+    by true = same_goes s (record e { tcp = record e.tcp { recv = after_forget_from kept.pos e.tcp.recv } }) p refl refl h
+    by false = same_goes s e p refl refl h
+
+keep_goes : (s : Side) (b : Bool) (held : Option ℕ) (p : PathState Carried) → HasRoles p
+    → Goes s p (record (end_at s p) { tcp = (if b then after_dropping_held (end_at s p).tcp else after_keeping_held (end_at s p).tcp); treated = record (end_at s p).treated { held_edge = held } })
+keep_goes s true held p h = same_goes s (record (end_at s p) { tcp = after_dropping_held (end_at s p).tcp; treated = record (end_at s p).treated { held_edge = held } }) p refl refl h
+keep_goes s false held p h = same_goes s (record (end_at s p) { tcp = after_keeping_held (end_at s p).tcp; treated = record (end_at s p).treated { held_edge = held } }) p refl refl h
+
+fin_goes : (s : Side) (b : Bool) (p : PathState Carried) → HasRoles p → Goes s p (record (end_at s p) { tcp = (if b then after_passing_fin (end_at s p).tcp else (end_at s p).tcp) })
+fin_goes s true p h = record { role = λ joins is. sym (passed_apart s (end_at s p).tcp.state) ∙ is; answer = answer_at s p h }
+fin_goes s false p h = same_goes s (end_at s p) p refl refl h
+
+passed_roles : (d : Duty) (p : PathState Carried) → HasRoles p → HasRoles (passed d p)
+passed_roles (duties.Silent (silent_duties.Timer s)) p h = with_roles s (after_timer p.clock (end_at s p)) p (same_goes s (after_timer p.clock (end_at s p)) p refl refl h) h
+passed_roles (duties.Step (step_duties.Heard s index)) p h = with_roles s (item_passed s (item_of index (end_at s p)) (end_at s p)) p (item_goes s (item_of index (end_at s p)) p h) h
+passed_roles (duties.Silent (silent_duties.Keep s)) p h = with_roles s (after_keep s (end_at s p)) p (keep_goes s (is_dropped s (end_at s p)) _ p h) h
+passed_roles (duties.Step (step_duties.PlainAck s)) p h = with_roles s (with_plain_ack (end_at s p)) p (same_goes s (with_plain_ack (end_at s p)) p refl refl h) h
+passed_roles (duties.Step (step_duties.Unmapped s)) p h = with_roles s (after_pieces (end_at s p)) p (same_goes s (after_pieces (end_at s p)) p refl refl h) h
+passed_roles (duties.Ask (ask_duties.CheckFailed s)) p h = with_roles s (after_check p.profile (end_at s p)) p (edge_goes s p.profile.spelling.checksums (mapping_here (end_at s p)) p h) h
+passed_roles (duties.Silent (silent_duties.PassFin s)) p h = with_roles s (after_pass_fin (end_at s p)) p (fin_goes s (is_fin_next (end_at s p).tcp) p h) h
+passed_roles (duties.Ask ask_duties.JoinAgain) p h = h
+passed_roles _ p h = h
+
+settled_roles : (ds : List Duty) (p : PathState Carried) → HasRoles p → HasRoles (settled ds p)
+settled_roles [] p h = agenda_roles [] p h
+settled_roles (d ∷ ds) p h = by (stands d p) (settled_roles ds (passed d p) (passed_roles d p h))
+  where
+    by : (b : Bool) → HasRoles (settled ds (passed d p)) → HasRoles (if b then with_agenda (d ∷ ds) p else settled ds (passed d p))
+    by true rest = agenda_roles (d ∷ ds) p h
+    by false rest = rest
+
+-- ---- events
+
+died_goes : (s : Side) (p : PathState Carried) → Goes s p (died (end_at s p))
+died_goes s p = record { role = λ joins is. absurd (false≢true is); answer = tt }
+
+unless_dead_goes : (s : Side) (p : PathState Carried) → HasRoles p → Goes s p (died_unless_dead (end_at s p))
+unless_dead_goes s p h = by (is_dead (end_at s p).tcp.state)
+  where
+    by : (b : Bool) → Goes s p (if b then end_at s p else died (end_at s p))
+    by true = same_goes s (end_at s p) p refl refl h
+    by false = died_goes s p
+
+line_roles : (action : LineAction) (p : PathState Carried) → HasRoles p → HasRoles (after_line action p)
+line_roles (actions.Prio s backup) p h = same_roles s (with_priority backup (end_at s p)) (emission s) p refl refl h
+line_roles (actions.Announce s id) p h = agenda_roles (announces s id) p h
+line_roles (actions.Withdraw s id) p h = agenda_roles (withdraws s id) p h
+line_roles actions.Die p h =
+    let a = unless_dead_goes A p h in
+    let b = unless_dead_goes B p h in
+    record {
+      copies = Every-nil _;
+      role_a = λ joins. stays_false _ _ (a.role joins) (h.role_a joins);
+      role_b = λ joins. stays_false _ _ (b.role joins) (h.role_b joins);
+      answer_a = a.answer;
+      answer_b = b.answer;
+    }
+
+begun_roles : (r : Reply) (dead living : List Duty) (p : PathState Carried) → HasRoles p → HasRoles (join_begun r dead living p)
+begun_roles r dead living p h = by (is_never r)
+  where
+    begun : (b : Bool) → is_apart A (if b then after_begin p.a.tcp else p.a.tcp).state ≡ true → is_apart A p.a.tcp.state ≡ true
+    begun true is = absurd (false≢true is)
+    begun false is = is
+
+    opens : (o : Option KeyPair) → HasRoles (goes_on A (opened_by o p.a) living p)
+    opens None = same_roles A p.a living p refl refl h
+    opens (Some keys) = goes_roles A (opened_by (Some keys) p.a) living p (record { role = λ joins. begun (is_waiting p.a.tcp.state); answer = h.answer_a }) h
+
+    by : (b : Bool) → HasRoles (if b then goes_on A (never_joined r p.a) dead p else goes_on A (opened_by (keys_begun r) p.a) living p)
+    by true = goes_roles A (never_joined r p.a) dead p (record { role = λ joins is. absurd (false≢true is); answer = tt }) h
+    by false = opens (keys_begun r)
+
+fired_roles : (s : Side) (p : PathState Carried) → HasRoles p → HasRoles (timer_fired s p)
+fired_roles s p h = by (is_sixth (end_at s p).tcp)
+  where
+    e : PathEnd
+    e = end_at s p
+
+    by : (b : Bool) → HasRoles (goes_on s (record e { tcp = (if b then after_death true e.tcp else after_expiry p.clock e.tcp) }) (template_fired b s) p)
+    by true = goes_roles s (record e { tcp = after_death true e.tcp }) (template_fired true s) p (record { role = λ joins is. absurd (false≢true is); answer = answer_at s p h }) h
+    by false = same_roles s (record e { tcp = after_expiry p.clock e.tcp }) (template_fired false s) p refl refl h
+
+-- ---- a copy
+
+joined_role : (now : ℕ) (heard : HeardSegment) (s : Side) (told : List KeptMapping) (answer : Outgoing) (e : PathEnd) (joined : Bool) → joined ≡ true
+    → is_apart s (copy_judged joined told answer s now heard (taken_as (judged_in joined s heard e)) e).tcp.state ≡ true → is_apart s e.tcp.state ≡ true
+joined_role now heard s told answer e false joins is = absurd (false≢true joins)
+joined_role now heard s told answer e true joins is =
+    let items = items_of true s heard in
+    let v : Judged = judged_in true s heard e in
+    let none : WakesNone (taken_as v) e.tcp = joined_wakes_none heard.rst items e (copy_of heard) in
+    apart_stays s (taken_as v) (hint_of items) now (copy_of heard) heard.payload e.tcp none.no_syn
+    (ap (is_apart s) (sym (arrived_state (taken_as v) (owes_by (taken_as v) items) (hint_of items) now (copy_of heard) heard.payload e.tcp)) ∙ is)
+
+heard_roles : (now : ℕ) (s : Side) (heard : HeardSegment) (p : PathState Carried) → HasRoles p → HasRoles (heard_at now s (Some heard) p)
+heard_roles now s h p roles =
+    let heard : HeardSegment = options_heard (end_at s p) h in
+    let joined : Bool = is_joined p.profile in
+    let v : Judged = judged_in joined s heard (end_at s p) in
+    goes_roles s (after_judged p.profile s now heard v (end_at s p)) (template_of joined s (items_of joined s heard) v) p
+    (record {
+      role = λ joins is. joined_role now heard s (held_of p.profile s heard) (reset_for p.profile s heard) (end_at s p) joined joins is;
+      answer = reset_answers p.profile s heard;
+    }) roles
+
+copy_roles : (s : Side) (o : Option HeardSegment) (p : PathState Carried) → HasRoles p → HasRoles (copy_heard s o p)
+copy_roles s None p h = agenda_roles (emission s) p h
+copy_roles s (Some heard) p h = heard_roles p.clock s heard p h
+
+event_roles : (o : Option Event) (r : Reply) (p : PathState Carried) → HasRoles p → HasRoles (happens_if values o r p)
+event_roles None r p h = agenda_roles rest_of_turn p h
+event_roles (Some (happenings.Joins tick)) r p h =
+    begun_roles r (leaves A) (emission A) (record (at_tick tick p) { joined_at = None })
+    (record { copies = h.copies; role_a = h.role_a; role_b = h.role_b; answer_a = h.answer_a; answer_b = h.answer_b })
+event_roles (Some (happenings.Takes line)) r p h =
+    line_roles line.action (record (at_tick line.tick p) { lines = tail_of p.lines })
+    (record { copies = h.copies; role_a = h.role_a; role_b = h.role_b; answer_a = h.answer_a; answer_b = h.answer_b })
+event_roles (Some (happenings.Arrives due)) r p h =
+    copy_roles due.to (heard_in values due.to (arriving due p.link) p) (record (at_tick due.tick p) { link = after_delivery due p.link })
+    (record { copies = rest (position (is_due due) p.link.under_way); role_a = h.role_a; role_b = h.role_b; answer_a = h.answer_a; answer_b = h.answer_b })
+  where
+    rest : (o : Option ℕ) → Every (CopyTells (is_joined p.profile)) (without o p.link.under_way)
+    rest None = h.copies
+    rest (Some place) = record { each = λ i f at. let there = in_removed p.link.under_way place i f at in h.copies.each there.0 f there.1 }
+event_roles (Some (happenings.Fires s tick)) r p h =
+    fired_roles s (at_tick tick p) (record { copies = h.copies; role_a = h.role_a; role_b = h.role_b; answer_a = h.answer_a; answer_b = h.answer_b })
+
+-- ---- replies
+
+reset_roles : (s : Side) (reason : Option ℕ) (ds : List Duty) (p : PathState Carried) → HasRoles p → HasRoles (reset_on values s reason ds p)
+reset_roles s reason ds p h = sent_roles s (reset_of s reason p) (died (end_at s p)) ds p (no_syn (is_joined p.profile) s (reset_of s reason p) refl) (died_goes s p) h
+
+break_roles : (s : Side) (reason : ℕ) (r : Reply) (p : PathState Carried) → HasRoles p → HasRoles (answered_break values s reason r p)
+break_roles s reason r p h = by (end_at s p).treated.asked
+  where
+    by : (b : Bool) → HasRoles (if b then answered_ack_out s r (resets s reason) p else reset_on values s (Some reason) (leaves s) p)
+    by true = same_roles s (after_ack_out r (end_at s p)) (resets s reason) p refl refl h
+    by false = reset_roles s (Some reason) (leaves s) p h
+
+told_roles : (s : Side) (event : FallEvent) (r : Reply) (p : PathState Carried) → HasRoles p → HasRoles (answered_fell s event r p)
+told_roles s event r p h = same_roles s (after_fell event r (end_at s p)) (fell_duties s r p) p refl refl h
+
+grant_roles : (s : Side) (o : Option Grant) (r : Reply) (p : PathState Carried) → HasRoles p → HasRoles (answered_grant s o r p)
+grant_roles s None r p h = same_roles s _ (left p) p refl refl h
+grant_roles s (Some grant) r p h = same_roles s _ p.agenda p refl refl h
+
+data_roles : (s : Side) (o : Option Record) (r : Reply) (p : PathState Carried) → HasRoles p → HasRoles (answered_data values s o r p)
+data_roles s (Some unsent) r p h = same_sent s _ _ p.agenda p (record_or_ack_tells p.profile s (end_at s p) (first_unsent (end_at s p))) refl refl h
+data_roles s None r p h = grant_roles s (grant_in r) r p h
+
+keys_roles : (s : Side) (r : Reply) (o : Option KeyPair) (p : PathState Carried) → HasRoles p → HasRoles (goes_on s (after_keys r o (end_at s p)) (left p) p)
+keys_roles s r o p h = same_roles s (after_keys r o (end_at s p)) (left p) p refl refl h
+
+heard_answered_roles : (s : Side) (item : Heard) (r : Reply) (p : PathState Carried) → HasRoles p → HasRoles (answered_heard values s item r p)
+heard_answered_roles s (says.DataAck next window) r p h = same_roles s (with_acked next r (end_at s p)) _ p refl refl h
+heard_answered_roles s (says.Mapping fin) r p h = by (is_clash (end_at s p))
+  where
+    by : (b : Bool) → HasRoles (if b then answered_break values s 1 r p else goes_on s (with_learned (after_fell fall.MappingHeard r (end_at s p))) (fell_duties s r p) p)
+    by true = break_roles s 1 r p h
+    by false = same_roles s (with_learned (after_fell fall.MappingHeard r (end_at s p))) (fell_duties s r p) p refl refl h
+heard_answered_roles s (says.DataFin place) r p h = same_roles s (with_data_fin place (after_fell fall.MappingHeard r (end_at s p))) (fell_duties s r p) p refl refl h
+heard_answered_roles s (says.InfiniteMapping place position) r p h =
+    infinite_came_so (λ e. HasRoles (goes_on s e (fell_duties s r p) p)) place position r (end_at s p) (λ other. same_roles s _ (fell_duties s r p) p refl refl h)
+heard_answered_roles s (says.Keys mine other) r p h = keys_roles s r (Some (record { own = mine; peer = other })) p h
+heard_answered_roles s says.Dss r p h = agenda_roles (left p) p h
+heard_answered_roles s (says.PeerKey key) r p h = agenda_roles (left p) p h
+heard_answered_roles s (says.Join form) r p h = agenda_roles (left p) p h
+heard_answered_roles s (says.Notice notice) r p h = same_roles s (after_peer_notice notice r (end_at s p)) (left p) p refl refl h
+heard_answered_roles s says.Fail r p h =
+    fail_answered_so HasRoles s r p (same_roles s (with_infinite r (end_at s p)) (replaced (duties.Ask (ask_duties.FailHeard s)) p.agenda) p refl refl h) (told_roles s (fall.FailHeard false) r p h)
+heard_answered_roles s (says.FastClose key) r p h = agenda_roles (if is_stopped_by r then stops s else left p) p h
+
+item_answered_roles : (s : Side) (o : Option Heard) (r : Reply) (p : PathState Carried) → HasRoles p → HasRoles (answered_item values s o r p)
+item_answered_roles s None r p h = agenda_roles (left p) p h
+item_answered_roles s (Some item) r p h = heard_answered_roles s item r p h
+
+plain_ack_roles : (s : Side) (r : Reply) (p : PathState Carried) → HasRoles p → HasRoles (answered_plain_ack values s r p)
+plain_ack_roles s r p h = by (breaks_by_ack p.profile (end_at s p))
+  where
+    by : (b : Bool) → HasRoles (if b then answered_break values s 6 r p else goes_on s (with_plain_ack (after_fell fall.PlainAck r (end_at s p))) (fell_duties s r p) p)
+    by true = break_roles s 6 r p h
+    by false = same_roles s (with_plain_ack (after_fell fall.PlainAck r (end_at s p))) (fell_duties s r p) p refl refl h
+
+key_roles : (s : Side) (o : Option ℕ) (r : Reply) (p : PathState Carried) → HasRoles p → HasRoles (answered_peer_key s o r p)
+key_roles s None r p h = told_roles s fall.PlainHandshake r p h
+key_roles s (Some key) r p h = same_roles s (with_peer_key (Some key) (end_at s p)) (left p) p refl refl h
+
+opened_roles : (s : Side) (o : Option KeyPair) (r : Reply) (p : PathState Carried) → HasRoles p → HasRoles (answered_opened s o r p)
+opened_roles s None r p h = told_roles s fall.PlainHandshake r p h
+opened_roles s (Some keys) r p h = keys_roles s r (Some keys) p h
+
+piece_roles : (s : Side) (o : Option Piece) (taken : Bool) (p : PathState Carried) → HasRoles p → HasRoles (answered_piece s o taken p)
+piece_roles s None taken p h = same_roles s _ (breaks s 1) p refl refl h
+piece_roles s (Some piece) true p h = same_roles s _ p.agenda p refl refl h
+piece_roles s (Some piece) false p h = same_roles s _ (breaks s 1) p refl refl h
+
+fin_set_roles : (s : Side) (set : Bool) (p : PathState Carried) → HasRoles p → HasRoles (answered_fin_heard s set p)
+fin_set_roles s true p h = same_roles s _ (left p) p refl refl h
+fin_set_roles s false p h = same_roles s _ (breaks s 1) p refl refl h
+
+plain_fin_roles : (s : Side) (set : Bool) (p : PathState Carried) → HasRoles p → HasRoles (answered_plain_fin s set p)
+plain_fin_roles s true p h = same_roles s _ (left p) p refl refl h
+plain_fin_roles s false p h = same_roles s _ (breaks s 1) p refl refl h
+
+answer_tells : (s : Side) (p : PathState Carried) → TellsKey (is_joined p.profile) (peer s) (answer_of s p)
+answer_tells s p = by (end_at s p).tcp.due.syn_ack
+  where
+    by : (b : Bool) → TellsKey (is_joined p.profile) (peer s) (if b then syn_ack_said p.profile s (end_at s p) else ack_said p.profile s (end_at s p).tcp.send.nxt None (end_at s p))
+    by true = syn_ack_tells p.profile s (end_at s p)
+    by false = ack_tells s (end_at s p).tcp.send.nxt None p
+
+resend_tells : (s : Side) (p : PathState Carried) → TellsKey (is_joined p.profile) (peer s) (resend_of s p)
+resend_tells s p = by (has_records e.tcp) e.modes.owes_third e.notices.fast_closed (is_data_fin_owed e)
+  where
+    e : PathEnd
+    e = end_at s p
+
+    by : (records third closed owes : Bool) → TellsKey (is_joined p.profile) (peer s) (if records then record_or_ack p.profile s (first_record e) e
+        else (if third then ack_said p.profile s e.tcp.send.nxt None e
+        else (if closed then carried_said p.profile s e.notices.carrier e
+        else (if owes then ack_said p.profile s e.tcp.send.nxt e.sending.known_end e else ack_said p.profile s (e.tcp.send.una - 1) None e))))
+    by true third closed owes = record_or_ack_tells p.profile s e (first_record e)
+    by false true closed owes = ack_tells s e.tcp.send.nxt None p
+    by false false true owes = carried_tells s e.notices.carrier p
+    by false false false true = ack_tells s e.tcp.send.nxt e.sending.known_end p
+    by false false false false = ack_tells s (e.tcp.send.una - 1) None p
+
+-- a join is heard of
+listening_apart : (state : EndPhase) → is_listening state ≡ true → is_apart A state ≡ true
+listening_apart phase.Listen is = refl
+listening_apart phase.Waiting is = absurd (false≢true is)
+listening_apart _ is = absurd (false≢true is)
+
+heard_apart : (s : Side) (b : Bool) (e : PathEnd) → is_listening e.tcp.state ≡ b → is_apart s (if b then after_syn (unkept None) (syn_alone e.treated.window) e.tcp else e.tcp).state ≡ true
+    → is_apart s e.tcp.state ≡ true
+heard_apart A true e listens is = listening_apart e.tcp.state listens
+heard_apart B true e listens is = absurd (false≢true is)
+heard_apart s false e listens is = is
+
+joined_roles : (s : Side) (o : Option KeyPair) (asked : Option JoinSyn) (r : Reply) (p : PathState Carried) → HasRoles p → HasRoles (join_taken s o asked r p)
+joined_roles s None None r p h = agenda_roles _ p h
+joined_roles s None (Some asked) r p h = same_roles s (with_mode_refused r (end_at s p)) (replaced (duties.Send (send_duties.Refuse s)) p.agenda) p refl refl h
+joined_roles s (Some keys) None r p h = agenda_roles _ p h
+joined_roles s (Some keys) (Some asked) r p h =
+    goes_roles s (joined_by keys asked (end_at s p)) _ p
+    (record { role = λ joins is. heard_apart s (is_listening (end_at s p).tcp.state) (end_at s p) refl is; answer = answer_at s p h }) h
+
+occasion_goes : (s : Side) (o : Occasion) (sg : PlainSegment) (p : PathState Carried) → HasRoles p → Goes s p (having_sent o p.clock sg (end_at s p))
+occasion_goes s o sg p h = same_goes s (having_sent o p.clock sg (end_at s p)) p (same o) refl h
+  where
+    tcp : EndState
+    tcp = (end_at s p).tcp
+
+    same : (o : Occasion) → (after_sending o p.clock tcp).state ≡ tcp.state
+    same to_send.Reset = refl
+    same to_send.Answer = refl
+    same to_send.SynAck = refl
+    same to_send.Ack = refl
+    same to_send.Probe = refl
+    same to_send.First = refl
+    same to_send.Unsent = refl
+    same to_send.Fin = refl
+
+answered_roles : (d : Duty) (r : Reply) (p : PathState Carried) → HasRoles p → HasRoles (answered values d r p)
+answered_roles (duties.Ask ask_duties.JoinAgain) r p h = begun_roles r (replaced (duties.Ask (ask_duties.Leave A)) p.agenda) (left p) p h
+answered_roles (duties.Step (step_duties.Look s)) r p h = same_roles s _ (left p) p refl refl h
+answered_roles (duties.Ask (ask_duties.Window s)) r p h = same_roles s (after_ack_out r (end_at s p)) (left p) p refl refl h
+answered_roles (duties.Send (send_duties.Update s)) r p h = same_sent s _ _ (left p) p (ack_tells s (end_at s p).tcp.send.nxt None p) refl refl h
+answered_roles (duties.Send (send_duties.FastClose s)) r p h = same_sent s _ _ (left p) p (carried_tells s (end_at s p).notices.carrier p) refl refl h
+answered_roles (duties.Send (send_duties.Notice s)) r p h = same_sent s _ _ p.agenda p (noted_tells s (first_of (end_at s p).notices.queue) p) refl refl h
+answered_roles (duties.Send (send_duties.Syn s)) r p h = same_sent s _ _ (left p) p (record_or_ack_tells p.profile s (end_at s p) (first_unsent (end_at s p))) refl refl h
+answered_roles (duties.Step (step_duties.Data s)) r p h = data_roles s (first_unsent (end_at s p)) r p h
+answered_roles (duties.Send (send_duties.DataFin s)) r p h = same_sent s _ _ (left p) p (ack_tells s (end_at s p).tcp.send.nxt (end_at s p).sending.known_end p) refl refl h
+answered_roles (duties.Send (send_duties.Fin s)) r p h =
+    sent_roles s (fin_segment_of s p) (having_sent_fin s p) (left p) p (no_syn (is_joined p.profile) s (fin_segment_of s p) refl)
+    (record { role = λ joins apart. sym (finish_apart s (end_at s p).tcp.state) ∙ apart; answer = answer_at s p h }) h
+answered_roles (duties.Step step_duties.Events) r p h = event_roles (next_event p) r p h
+answered_roles (duties.Ask (ask_duties.PlainHandshake s)) r p h = told_roles s fall.PlainHandshake r p h
+answered_roles (duties.Ask (ask_duties.PeerKey s)) r p h = key_roles s (key_heard (end_at s p).treated.items) r p h
+answered_roles (duties.Send (send_duties.SynAck s)) r p h = same_sent s _ _ (left p) p (syn_ack_tells p.profile s (end_at s p)) refl refl h
+answered_roles (duties.Ask (ask_duties.JoinHeard s)) r p h = joined_roles s (keys_begun r) (asked_at s p) r p h
+answered_roles (duties.Send (send_duties.Refuse s)) r p h =
+    same_sent s (refusal_of s p) (end_at s p) (left p) p (outgoing_tells p.profile s (end_at s p) (end_at s p).treated.answer (reset_options (Some 1)) (answer_at s p h)) refl refl h
+answered_roles (duties.Ask (ask_duties.Opened s)) r p h = opened_roles s (keys_heard (end_at s p).treated.items) r p h
+answered_roles (duties.Step (step_duties.Heard s index)) r p h = item_answered_roles s (item_of index (end_at s p)) r p h
+answered_roles (duties.Ask (ask_duties.AckHeard s)) r p h = told_roles s fall.AckHeard r p h
+answered_roles (duties.Ask (ask_duties.FailHeard s)) r p h =
+    fail_heard_so (λ e. HasRoles (goes_on s e (fell_duties s r p) p)) r (end_at s p) (λ own owes. same_roles s _ (fell_duties s r p) p refl refl h)
+answered_roles (duties.Step (step_duties.PlainAck s)) r p h = plain_ack_roles s r p h
+answered_roles (duties.Ask (ask_duties.SubflowAck s)) r p h = same_roles s _ (left p) p refl refl h
+answered_roles (duties.Ask (ask_duties.PlainData s)) r p h = told_roles s fall.PlainData r p h
+answered_roles (duties.Ask (ask_duties.GoIdentity s)) r p h = same_roles s _ (left p) p refl refl h
+answered_roles (duties.Step (step_duties.Unmapped s)) r p h = break_roles s 6 r p h
+answered_roles (duties.Ask (ask_duties.SubflowFin s)) r p h = plain_fin_roles s (is_fin_set r) p h
+answered_roles (duties.Ask (ask_duties.Edge s)) r p h = piece_roles s (piece_of s p) (is_placed r) p h
+answered_roles (duties.Ask (ask_duties.CheckFailed s)) r p h =
+    check_failed_so (λ e. HasRoles (goes_on s e (fell_duties s r p) p)) p.profile.spelling.checksums r (end_at s p)
+    (λ sent broken recv forgotten. same_roles s _ (fell_duties s r p) p refl refl h)
+answered_roles (duties.Ask (ask_duties.HeardFin s index)) r p h = fin_set_roles s (is_fin_set r) p h
+answered_roles (duties.Ask (ask_duties.AckOut s)) r p h = same_roles s (after_ack_out r (end_at s p)) (left p) p refl refl h
+answered_roles (duties.Ask (ask_duties.Rate s)) r p h = same_roles s _ (left p) p refl refl h
+answered_roles (duties.Send (send_duties.Acknowledge s)) r p h = same_sent s _ _ (left p) p (ack_tells s (end_at s p).tcp.send.nxt None p) refl refl h
+answered_roles (duties.Send (send_duties.Again s)) r p h = same_sent s _ _ (left p) p (record_or_ack_tells p.profile s (end_at s p) (first_record (end_at s p))) refl refl h
+answered_roles (duties.Send (send_duties.Answer s)) r p h = sent_roles s (answer_of s p) _ (left p) p (answer_tells s p) (occasion_goes s (answer_occasion (end_at s p)) (answer_of s p) p h) h
+answered_roles (duties.Send (send_duties.ResetAnswer s)) r p h =
+    same_sent s (dead_answer s p) (end_at s p) (left p) p (outgoing_tells p.profile s (end_at s p) (end_at s p).treated.answer [] (answer_at s p h)) refl refl h
+answered_roles (duties.Send (send_duties.Resend s)) r p h = sent_roles s (resend_of s p) _ (left p) p (resend_tells s p) (occasion_goes s (resend_occasion (end_at s p)) (resend_of s p) p h) h
+answered_roles (duties.Ask (ask_duties.BreakAck s reason)) r p h = same_roles s (after_ack_out r (end_at s p)) (resets s reason) p refl refl h
+answered_roles (duties.Send (send_duties.BreakReset s reason)) r p h = reset_roles s (Some reason) (leaves s) p h
+answered_roles (duties.Send (send_duties.Reset s)) r p h = reset_roles s None (replaced (duties.Ask (ask_duties.Leave s)) p.agenda) p h
+answered_roles (duties.Send (send_duties.ResetNoted s)) r p h = reset_roles s None (replaced (duties.Ask (ask_duties.Leave s)) p.agenda) p h
+answered_roles (duties.Ask (ask_duties.Leave s)) r p h = agenda_roles _ p h
+answered_roles (duties.Ask (ask_duties.LeaveNoted s)) r p h = goes_roles s (died (end_at s p)) _ p (record { role = λ joins is. absurd (false≢true is); answer = tt }) h
+answered_roles duties.End r p h = agenda_roles [] p h
+answered_roles _ r p h = agenda_roles (left p) p h
+
+pub takes_roles : (r : Reply) (p : PathState Carried) → HasRoles p → HasRoles (takes values r p)
+takes_roles r p h = by p.agenda
+  where
+    by : (ds : List Duty) → HasRoles (settled (answers values ds r p).agenda (answers values ds r p))
+    by [] = settled_roles p.agenda p h
+    by (d ∷ ds) = settled_roles (answered values d r p).agenda (answered values d r p) (answered_roles d r p h)
+
+pub begins_roles : (p : PathState Carried) → HasRoles p → HasRoles (begins_turn p)
+begins_roles p h = settled_roles start_of_turn (with_agenda start_of_turn p) (agenda_roles start_of_turn p h)

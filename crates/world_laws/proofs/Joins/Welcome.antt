@@ -1,0 +1,441 @@
+-- No copy that arrives on a path that joins is refused for what it says, unless its options were taken away.
+use Rattle.std.proofs.Common.{◌≡◌, refl, sym, ◌∙◌, ap, subst, ⊎_elim, ℕ, zero, suc, ◌+◌, map, ◌&&◌, ◌==◌, not, is_some, is_none, Bool, true, false, if◌then◌else◌, unwrap_or, Option, Some, None, Ok, Err, List, [], ◌∷◌}
+use Rattle.std.proofs.lemmas.Bool.{and_parts, both_ways, eq-eqb, not-true, false≢true}
+use Rattle.std.proofs.lemmas.Option.{same_Some}
+use Rattle.std.specs.List.{slice_get}
+use Rattle.std.specs.Cmp.Lexicographic.{pointwise}
+use Rattle.std.specs.Option.{IfSome, option_or}
+use Rattle.std.specs.Result.{result_ok}
+use Rattle.outside_kit.specs.declared.side.Side.{Side}
+use Rattle.outside_kit.specs.declared.side.Side.TheVariants.{A, B}
+use Rattle.key_material.specs.JoinHmac.{join_a160_of, join_b64_of}
+use Rattle.link_script.specs.Places.{same_side}
+use Rattle.link_model.specs.declared.flight.Flight.{Flight}
+use Rattle.link_model.specs.Steps.{peer, is_due, arriving}
+use Rattle.mptcp_options.specs.declared.join.JoinForm.{JoinForm}
+use Rattle.mptcp_options.specs.declared.join.JoinForm.TheVariants.{Syn, Answer, Third}
+use Rattle.join_handshake.specs.declared.hearing.JoinAnswer.{JoinAnswer}
+use Rattle.join_handshake.specs.declared.fault.JoinFault.TheVariants.{BadHmac}
+use Rattle.join_handshake.specs.Heard.{answer_heard, answer_taken, syn_heard, third_heard}
+use Rattle.path_segments.specs.Laws.{meant}
+use Rattle.path_segments.specs.Spelled.{PlainSegment}
+use Rattle.subflow_tcp.specs.declared.handshake.State.{State as EndPhase}
+use Rattle.subflow_tcp.specs.declared.handshake.State.TheVariants as phase
+use Rattle.subflow_tcp.specs.declared.verdicts.Meaning.{Meaning}
+use Rattle.subflow_tcp.specs.declared.verdicts.Meaning.TheVariants as means
+use Rattle.subflow_tcp.specs.Judging.{is_syn_alone, meaning_at, meaning_of}
+use Rattle.subflow_tcp.specs.Segments.{Copy}
+use Rattle.subflow_tcp.specs.State.{EndState}
+use Rattle.subflow_tcp.specs.States.{is_closed_to_segments, is_half_open}
+use Rattle.stream_lanes.specs.Words.{Every}
+use Rattle.path_agenda.specs.Items.{is_of_step, join_heard, join_in}
+use Rattle.path_agenda.specs.declared.heard.Heard.{Heard}
+use Rattle.path_agenda.specs.declared.heard.Heard.TheVariants as says
+use Rattle.path_agenda.specs.declared.heard.JoinStep.{JoinStep}
+use Rattle.path_agenda.specs.declared.heard.JoinStep.TheVariants as step
+use Rattle.path_core.specs.declared.judged.Judged.TheVariants as judged
+use Rattle.path_core.specs.Arriving.{copy_of, is_forged, is_passed_over, items_of, join_judged, judged_in}
+use Rattle.path_core.specs.Codec.{HeardSegment}
+use Rattle.path_core.specs.Ends.{PathEnd}
+use Rattle.path_core.specs.Events.{heard_in}
+use Rattle.path_core.specs.Joins.{is_joined, is_hmac_right, is_third_right, join_answer, join_asked, join_value, peer_key_of, third_in}
+use Rattle.path_core.specs.State.{PathState, end_at}
+use Rattle.path_core.specs.Values.{Carried, as_arrived, values}
+use Rattle.actor_desk.specs.declared.ask.Ask.{Ask}
+use Rattle.actor_desk.specs.declared.ask.Reply.{Reply}
+use Rattle.actor_desk.specs.Books.{books_in}
+use Rattle.actor_desk.specs.Desk.{SixBooks, reply_of}
+use Rattle.actor_desk.specs.Words.{is_nil}
+use Rattle.path_segments.specs.Laws.{meant_option}
+use Rattle.path_segments.specs.Options.{PlainOption}
+use Rattle.stream_lanes.proofs.Lists.{Every-nil, in_set, in_map}
+use Rattle.world_laws.specs.declared.member.Member.TheVariants.{App, Path}
+use Rattle.world_laws.specs.Actors.{Actor, ActorCrew, member_asks, member_takes, member_next}
+use Rattle.world_laws.specs.Laws.{Always}
+use Rattle.world_laws.specs.Openings.{PathPlan, Start, path_begins, new_path, opened_world}
+use Rattle.path_core.specs.Starts.{waiting_path}
+use Rattle.world_laws.specs.Welcome.{IsWelcome, NextIsWelcome, WelcomesNext, EachCopyIsWelcome}
+use Rattle.world_laws.specs.Worlds.{WorldState, Turn, crew_after, asked, stepped, all_over, greatest, begins, after_turn, world_run}
+use Rattle.world_laws.proofs.Joins.TokensAgree.{WorldMet, run_met, opened_met}
+use Rattle.world_laws.proofs.Keys.ToldAreOwn.{Joined, NoMore, Past, MemberIs, with_nonces}
+use Rattle.world_laws.proofs.Worlds.Opened.{opened_actors}
+use Rattle.world_laws.proofs.Worlds.Finding.{find_every, one_side}
+use Rattle.world_laws.proofs.Keys.AreDrawn.{Deed, Secrets, drawn_key, drawn_nonce, IsFor, JoinIs, OptionIs, ItemIs, SegmentIs, EndIs, HasKey, Needs, needs_key, items_are}
+use Rattle.world_laws.proofs.Keys.WhatWakes.{is_opens, is_up, open_is_up}
+use Rattle.world_laws.proofs.Keys.Held.{PathIs, FlightIs, arrived_is, end_is, join_found}
+use Rattle.world_laws.proofs.Joins.Roles.{HasRoles, CopyTells, role_at, arrived_tells, takes_roles, begins_roles}
+use Rattle.world_laws.proofs.Keys.AnswerHeardFirst.{TellsKey, connected_meaning, is_accepts, is_apart, is_taken, opening_meaning}
+
+-- a list is the same as itself, octet by octet
+same_octets : (xs ys : List ℕ) → xs ≡ ys → pointwise ◌==◌ xs ys ≡ true
+same_octets xs ys same = subst (λ zs. pointwise ◌==◌ xs zs ≡ true) same (by xs)
+  where
+    by : (xs : List ℕ) → pointwise ◌==◌ xs xs ≡ true
+    by [] = refl
+    by (x ∷ xs) = ap (λ b. b && pointwise ◌==◌ xs xs) (eq-eqb x x refl) ∙ by xs
+
+-- the first MP_JOIN of a form has that form
+of_form : (of_step : JoinStep) (items : List Heard) (form : JoinForm) → join_heard of_step items ≡ Some form → is_of_step of_step form ≡ true
+of_form of_step [] form is = cc
+of_form of_step (item ∷ items) form is = by item (λ rest. of_form of_step items form rest) is
+  where
+    at : (f : JoinForm) (b : Bool) → (join_heard of_step items ≡ Some form → is_of_step of_step form ≡ true) → is_of_step of_step f ≡ b → option_or (if b then Some f else None) (join_heard of_step items) ≡ Some form → is_of_step of_step form ≡ true
+    at f true later of is = subst (λ g. is_of_step of_step g ≡ true) (same_Some f form is) of
+    at f false later of is = later is
+
+    by : (item : Heard) → (join_heard of_step items ≡ Some form → is_of_step of_step form ≡ true) → option_or (join_in of_step item) (join_heard of_step items) ≡ Some form → is_of_step of_step form ≡ true
+    by (says.Join f) later is = at f (is_of_step of_step f) later refl is
+    by says.Dss later is = later is
+    by _ later is = later is
+
+-- what a SYN tells an end of this side: A hears an answer, and B that a join is asked for
+abbrev pub TellsJoin : Side → List Heard → Type 0
+TellsJoin A items = is_some (join_heard step.Answer items) ≡ true
+TellsJoin B items = is_some (join_heard step.Syn items) ≡ true
+
+tells_join : (s : Side) (sg : PlainSegment) → TellsKey true s sg → is_nil sg.options ≡ false → (copy_of (meant sg)).syn ≡ true → TellsJoin s (items_of true s (meant sg))
+tells_join A sg tells some syn = tells some syn
+tells_join B sg tells some syn = tells some syn
+
+some_meant : (options : List PlainOption) → is_nil (map meant_option options) ≡ false → is_nil options ≡ false
+some_meant [] some = some
+some_meant (o ∷ options) some = refl
+
+-- ---- an end of a path that joins
+
+module _ (k : Secrets) (w : Side → Type 0) (did : Deed → Side → Type 0) (s : Side) (e : PathEnd) (h : EndIs k true w did true s e) (items : List Heard) (said : Every (ItemIs k true w did true s) items) where
+  -- A takes what B answers
+  answer_right : is_up e.tcp ≡ true → s ≡ A → (o : Option JoinForm) → is_some o ≡ true → IfSome o (λ form. (is_of_step step.Answer form ≡ true) × ((true ≡ true) → JoinIs k true (peer s) form))
+      → is_some (result_ok (answer_taken e.modes.own_key (peer_key_of e.modes) e.modes.own_nonce (answer_heard (join_value o)))) ≡ true
+  answer_right up side None some form = absurd (false≢true some)
+  answer_right up side (Some (Syn backup id token nonce)) some form = absurd (false≢true form.0)
+  answer_right up side (Some (Third hmac)) some form = absurd (false≢true form.0)
+  answer_right up side (Some (Answer backup id hmac nonce)) some form =
+      ap (λ (b : Bool). is_some {T = JoinAnswer} (result_ok (if b then Ok (record { backup = backup; id = id; nonce = nonce }) else Err BadHmac)))
+      (eq-eqb hmac (join_b64_of e.modes.own_key (peer_key_of e.modes) e.modes.own_nonce nonce) (same side))
+    where
+      known : HasKey k true s e.modes
+      known = needs_key k true s e.modes ((h.woken refl up).1 refl)
+
+      same : s ≡ A → hmac ≡ join_b64_of e.modes.own_key (peer_key_of e.modes) e.modes.own_nonce nonce
+      same side = by s side (form.1 refl) h.modes.own h.modes.nonce known
+        where
+          by : (s : Side) → s ≡ A → JoinIs k true (peer s) (Answer backup id hmac nonce) → e.modes.own_key ≡ drawn_key k true s → e.modes.own_nonce ≡ drawn_nonce k true s → HasKey k true s e.modes
+              → hmac ≡ join_b64_of e.modes.own_key (peer_key_of e.modes) e.modes.own_nonce nonce
+          by B side is own mine key = cc
+          by A side is own mine key =
+              is.0 ∙ ap (λ n. join_b64_of n k.key_b k.nonce_a k.nonce_b) (sym own) ∙ ap (λ o. join_b64_of e.modes.own_key (unwrap_or o 0) k.nonce_a k.nonce_b) (sym key)
+              ∙ ap (λ n. join_b64_of e.modes.own_key (peer_key_of e.modes) n k.nonce_b) (sym mine) ∙ ap (λ n. join_b64_of e.modes.own_key (peer_key_of e.modes) e.modes.own_nonce n) (sym is.1)
+
+  -- B demands A's HMAC
+  third_right : is_up e.tcp ≡ true → s ≡ B → (o : Option JoinForm) → is_some (third_heard (join_value o)) ≡ true → IfSome o (λ form. (true ≡ true) → JoinIs k true (peer s) form)
+      → is_hmac_right (third_heard (join_value o)) e.modes ≡ true
+  third_right up side None some form = absurd (false≢true some)
+  third_right up side (Some (Syn backup id token nonce)) some form = absurd (false≢true some)
+  third_right up side (Some (Answer backup id hmac nonce)) some form = absurd (false≢true some)
+  third_right up side (Some (Third hmac)) some form = same_octets hmac (join_a160_of (peer_key_of e.modes) e.modes.own_key e.modes.peer_nonce e.modes.own_nonce) (by s side (form refl) h.modes.own h.modes.nonce ((h.woken refl up).1 refl))
+    where
+      by : (s : Side) → s ≡ B → JoinIs k true (peer s) (Third hmac) → e.modes.own_key ≡ drawn_key k true s → e.modes.own_nonce ≡ drawn_nonce k true s → Needs k true s e.modes
+          → hmac ≡ join_a160_of (peer_key_of e.modes) e.modes.own_key e.modes.peer_nonce e.modes.own_nonce
+      by A side is own mine knows = cc
+      by B side is own mine knows =
+          is ∙ ap (λ o. join_a160_of (unwrap_or o 0) k.key_b k.nonce_a k.nonce_b) (sym knows.0) ∙ ap (λ n. join_a160_of (peer_key_of e.modes) n k.nonce_a k.nonce_b) (sym own)
+          ∙ ap (λ n. join_a160_of (peer_key_of e.modes) e.modes.own_key n k.nonce_b) (sym knows.1) ∙ ap (λ n. join_a160_of (peer_key_of e.modes) e.modes.own_key e.modes.peer_nonce n) (sym mine)
+
+-- ---- what a copy means
+
+-- no reset means one of these
+abbrev is_firm : Meaning → Bool
+is_firm means.Opens = true
+is_firm (means.Accepts acknowledged) = true
+is_firm (means.Taken pos acknowledged) = true
+is_firm _ = false
+
+not_reset : (c : Copy) → is_syn_alone c ≡ true → c.rst ≡ false
+not_reset c alone = not-true c.rst (and_parts (not c.rst) _ (and_parts (not c.fin) _ (and_parts c.syn _ alone).1).1).0
+
+-- a SYN comes to a listening end, and its answer to an opening one; no reset is taken
+record FitsState (state : EndPhase) (c : Copy) (m : Meaning) : Type 0 where
+  pub opens : is_opens m ≡ true → (is_apart A state ≡ true) × (c.syn ≡ true)
+  pub accepts : is_accepts m ≡ true → (is_apart B state ≡ true) × (c.syn ≡ true)
+  pub alive : is_accepts m ≡ true → is_closed_to_segments state ≡ false
+  pub firm : is_firm m ≡ true → c.rst ≡ false
+
+other_fits : (state : EndPhase) (c : Copy) (m : Meaning) → is_opens m ≡ false → is_accepts m ≡ false → (is_taken m ≡ true → c.rst ≡ false) → FitsState state c m
+other_fits state c m opens accepts taken = record {
+  opens = λ is. absurd (both_ways _ opens is);
+  accepts = λ is. absurd (both_ways _ accepts is);
+  alive = λ is. absurd (both_ways _ accepts is);
+  firm = firm m opens accepts taken;
+}
+  where
+    firm : (m : Meaning) → is_opens m ≡ false → is_accepts m ≡ false → (is_taken m ≡ true → c.rst ≡ false) → is_firm m ≡ true → c.rst ≡ false
+    firm means.Opens opens accepts taken is = absurd (false≢true (sym opens))
+    firm (means.Accepts acknowledged) opens accepts taken is = absurd (false≢true (sym accepts))
+    firm (means.Taken pos acknowledged) opens accepts taken is = taken refl
+    firm means.Ignored opens accepts taken is = absurd (false≢true is)
+    firm means.Unwanted opens accepts taken is = absurd (false≢true is)
+    firm means.RepeatedSyn opens accepts taken is = absurd (false≢true is)
+    firm means.Outside opens accepts taken is = absurd (false≢true is)
+    firm means.Kills opens accepts taken is = absurd (false≢true is)
+    firm means.Challenged opens accepts taken is = absurd (false≢true is)
+    firm means.Unacknowledging opens accepts taken is = absurd (false≢true is)
+    firm means.Ahead opens accepts taken is = absurd (false≢true is)
+
+state_fits : (state : EndPhase) (c : Copy) (s : EndState) → FitsState state c (meaning_at state c s)
+state_fits phase.Dead c s = by c.rst
+  where
+    by : (b : Bool) → FitsState phase.Dead c (if b then means.Ignored else means.Unwanted)
+    by true = other_fits phase.Dead c means.Ignored refl refl (λ is. absurd (false≢true is))
+    by false = other_fits phase.Dead c means.Unwanted refl refl (λ is. absurd (false≢true is))
+state_fits phase.Waiting c s = other_fits phase.Waiting c means.Ignored refl refl (λ is. absurd (false≢true is))
+state_fits phase.Listen c s = by (is_syn_alone c) refl
+  where
+    by : (b : Bool) → is_syn_alone c ≡ b → FitsState phase.Listen c (if b then means.Opens else means.Ignored)
+    by true alone = record { opens = λ is. (refl, (and_parts c.syn _ alone).0); accepts = λ is. absurd (false≢true is); alive = λ is. absurd (false≢true is); firm = λ is. not_reset c alone }
+    by false alone = other_fits phase.Listen c means.Ignored refl refl (λ is. absurd (false≢true is))
+state_fits phase.SynSent c s =
+    opening_meaning c s (FitsState phase.SynSent c) (other_fits phase.SynSent c means.Ignored refl refl (λ is. absurd (false≢true is))) (other_fits phase.SynSent c means.Kills refl refl (λ is. absurd (false≢true is)))
+    (λ acknowledged syn plain. record { opens = λ is. absurd (false≢true is); accepts = λ is. (refl, syn); alive = λ is. refl; firm = λ is. plain })
+state_fits phase.SynReceived c s = connected_meaning c s (FitsState phase.SynReceived c) (other_fits phase.SynReceived c)
+state_fits phase.Established c s = connected_meaning c s (FitsState phase.Established c) (other_fits phase.Established c)
+state_fits phase.FinWait1 c s = connected_meaning c s (FitsState phase.FinWait1 c) (other_fits phase.FinWait1 c)
+state_fits phase.FinWait2 c s = connected_meaning c s (FitsState phase.FinWait2 c) (other_fits phase.FinWait2 c)
+state_fits phase.CloseWait c s = connected_meaning c s (FitsState phase.CloseWait c) (other_fits phase.CloseWait c)
+state_fits phase.Closing c s = connected_meaning c s (FitsState phase.Closing c) (other_fits phase.Closing c)
+state_fits phase.LastAck c s = connected_meaning c s (FitsState phase.LastAck c) (other_fits phase.LastAck c)
+state_fits phase.TimeWait c s = connected_meaning c s (FitsState phase.TimeWait c) (other_fits phase.TimeWait c)
+
+half_open_is : (state : EndPhase) → is_half_open state ≡ true → (is_apart A state ≡ true) × (is_closed_to_segments state ≡ false)
+half_open_is phase.SynReceived is = (refl, refl)
+half_open_is phase.Waiting is = absurd (false≢true is)
+half_open_is _ is = absurd (false≢true is)
+
+-- ---- what an end of a path that joins makes of it
+
+module _ (k : Secrets) (w : Side → Type 0) (did : Deed → Side → Type 0) (s : Side) (e : PathEnd) (h : EndIs k true w did true s e) (role : is_apart s e.tcp.state ≡ false) (heard : HeardSegment)
+    (said : Every (ItemIs k true w did true s) (items_of true s heard)) (tells : (copy_of heard).syn ≡ true → TellsJoin s (items_of true s heard)) where
+  abbrev items : List Heard
+  items = items_of true s heard
+
+  -- A is where B never is, and the other way round
+  at_b : is_apart A e.tcp.state ≡ true → s ≡ B
+  at_b apart = by s role
+    where
+      by : (s : Side) → is_apart s e.tcp.state ≡ false → s ≡ B
+      by A none = absurd (both_ways _ none apart)
+      by B none = refl
+
+  at_a : is_apart B e.tcp.state ≡ true → s ≡ A
+  at_a apart = by s role
+    where
+      by : (s : Side) → is_apart s e.tcp.state ≡ false → s ≡ A
+      by A none = refl
+      by B none = absurd (both_ways _ none apart)
+
+  asks_to_join : s ≡ B → (copy_of heard).syn ≡ true → is_some (join_asked items) ≡ true
+  asks_to_join side syn = by (join_heard step.Syn items) (subst (λ t. TellsJoin t items) side (tells syn)) (λ form. of_form step.Syn items form)
+    where
+      by : (o : Option JoinForm) → is_some o ≡ true → ((form : JoinForm) → o ≡ Some form → is_of_step step.Syn form ≡ true) → is_some (syn_heard (join_value o)) ≡ true
+      by None some form = absurd (false≢true some)
+      by (Some (Syn backup id token nonce)) some form = refl
+      by (Some (Answer backup id hmac nonce)) some form = absurd (false≢true (form (Answer backup id hmac nonce) refl))
+      by (Some (Third hmac)) some form = absurd (false≢true (form (Third hmac) refl))
+
+  answers_join : s ≡ A → is_up e.tcp ≡ true → (copy_of heard).syn ≡ true → is_some (join_answer items e.modes) ≡ true
+  answers_join side up syn =
+      answer_right k w did s e h items said up side (join_heard step.Answer items) (subst (λ t. TellsJoin t items) side (tells syn))
+      (by (join_heard step.Answer items) (join_found k true w did true s step.Answer items said) (λ form. of_form step.Answer items form))
+    where
+      by : (o : Option JoinForm) → IfSome o (λ form. (true ≡ true) × (IsFor s form × (w (peer s) × ((true ≡ true) → JoinIs k true (peer s) form)))) → ((form : JoinForm) → o ≡ Some form → is_of_step step.Answer form ≡ true)
+          → IfSome o (λ form. (is_of_step step.Answer form ≡ true) × ((true ≡ true) → JoinIs k true (peer s) form))
+      by None found form = tt
+      by (Some f) found form = (form f refl, found.1.1.1)
+
+  not_forged : (copy_of heard).rst ≡ false → is_passed_over heard.rst items e ≡ false → is_forged items e ≡ false
+  not_forged plain heeded = by (is_half_open e.tcp.state) refl heeded
+    where
+      third : is_half_open e.tcp.state ≡ true → is_some (third_in items) ≡ true → is_third_right items e.modes ≡ true
+      third half some =
+          let is = half_open_is e.tcp.state half in
+          third_right k w did s e h items said (open_is_up e.tcp is.1) (at_b is.0) (join_heard step.Third items) some
+          (found (join_heard step.Third items) (join_found k true w did true s step.Third items said))
+        where
+          found : (o : Option JoinForm) → IfSome o (λ form. (true ≡ true) × (IsFor s form × (w (peer s) × ((true ≡ true) → JoinIs k true (peer s) form)))) → IfSome o (λ form. (true ≡ true) → JoinIs k true (peer s) form)
+          found None is = tt
+          found (Some form) is = is.1.1.1
+
+      some_third : (rst : Bool) (o : Option (List ℕ)) → rst ≡ false → not rst && is_none o ≡ false → is_some o ≡ true
+      some_third false (Some hmac) plain none = refl
+      some_third false None plain none = absurd (both_ways true none refl)
+      some_third true o plain none = absurd (false≢true (sym plain))
+
+      by : (half : Bool) → is_half_open e.tcp.state ≡ half → half && (not heard.rst && is_none (third_in items)) ≡ false → half && not (is_third_right items e.modes) ≡ false
+      by false is heeded = refl
+      by true is heeded = ap not (third is (some_third heard.rst (third_in items) plain heeded))
+
+  silent_welcome : (b : Bool) (m : Meaning) → IsWelcome (if b then judged.As means.Ignored else judged.As m)
+  silent_welcome true m = tt
+  silent_welcome false m = tt
+
+  welcome : (m : Meaning) → FitsState e.tcp.state (copy_of heard) m → IsWelcome (join_judged heard.rst items m e)
+  welcome means.Opens fit =
+      let opens = fit.opens refl in
+      subst (λ (b : Bool). IsWelcome (if b then judged.Asks else judged.Lacks)) (sym (asks_to_join (at_b opens.0) opens.1)) tt
+  welcome (means.Accepts acknowledged) fit =
+      let accepts = fit.accepts refl in
+      subst (λ (b : Bool). IsWelcome (if b then judged.As (means.Accepts acknowledged) else judged.Forged))
+      (sym (answers_join (at_a accepts.0) (open_is_up e.tcp (fit.alive refl)) accepts.1)) tt
+  welcome means.RepeatedSyn fit = tt
+  welcome (means.Taken pos acknowledged) fit = by (is_passed_over heard.rst items e) refl
+    where
+      by : (silent : Bool) → is_passed_over heard.rst items e ≡ silent
+          → IsWelcome (if silent then judged.As means.Ignored else (if is_forged items e then judged.Forged else judged.As (means.Taken pos acknowledged)))
+      by true is = tt
+      by false is = subst (λ (b : Bool). IsWelcome (if b then judged.Forged else judged.As (means.Taken pos acknowledged))) (sym (not_forged (fit.firm refl) is)) tt
+  welcome means.Ignored fit = silent_welcome (is_passed_over heard.rst items e) means.Ignored
+  welcome means.Unwanted fit = silent_welcome (is_passed_over heard.rst items e) means.Unwanted
+  welcome means.Outside fit = silent_welcome (is_passed_over heard.rst items e) means.Outside
+  welcome means.Kills fit = silent_welcome (is_passed_over heard.rst items e) means.Kills
+  welcome means.Challenged fit = silent_welcome (is_passed_over heard.rst items e) means.Challenged
+  welcome means.Unacknowledging fit = silent_welcome (is_passed_over heard.rst items e) means.Unacknowledging
+  welcome means.Ahead fit = silent_welcome (is_passed_over heard.rst items e) means.Ahead
+
+  pub end_welcomes : IsWelcome (judged_in true s heard e)
+  end_welcomes = welcome (meaning_of (copy_of heard) e.tcp) (state_fits e.tcp.state (copy_of heard) e.tcp)
+
+-- a reset is never refused
+module _ (s : Side) (e : PathEnd) (heard : HeardSegment) (reset : (copy_of heard).rst ≡ true) where
+  silent_reset : (b : Bool) (m : Meaning) → IsWelcome (if b then judged.As means.Ignored else judged.As m)
+  silent_reset true m = tt
+  silent_reset false m = tt
+
+  reset_as : (m : Meaning) → FitsState e.tcp.state (copy_of heard) m → IsWelcome (join_judged heard.rst (items_of true s heard) m e)
+  reset_as means.Opens fit = absurd (both_ways _ (fit.firm refl) reset)
+  reset_as (means.Accepts acknowledged) fit = absurd (both_ways _ (fit.firm refl) reset)
+  reset_as (means.Taken pos acknowledged) fit = absurd (both_ways _ (fit.firm refl) reset)
+  reset_as means.RepeatedSyn fit = tt
+  reset_as means.Ignored fit = silent_reset (is_passed_over heard.rst (items_of true s heard) e) means.Ignored
+  reset_as means.Unwanted fit = silent_reset (is_passed_over heard.rst (items_of true s heard) e) means.Unwanted
+  reset_as means.Outside fit = silent_reset (is_passed_over heard.rst (items_of true s heard) e) means.Outside
+  reset_as means.Kills fit = silent_reset (is_passed_over heard.rst (items_of true s heard) e) means.Kills
+  reset_as means.Challenged fit = silent_reset (is_passed_over heard.rst (items_of true s heard) e) means.Challenged
+  reset_as means.Unacknowledging fit = silent_reset (is_passed_over heard.rst (items_of true s heard) e) means.Unacknowledging
+  reset_as means.Ahead fit = silent_reset (is_passed_over heard.rst (items_of true s heard) e) means.Ahead
+
+  pub reset_welcome : (joined : Bool) → IsWelcome (judged_in joined s heard e)
+  reset_welcome false = tt
+  reset_welcome true = reset_as (meaning_of (copy_of heard) e.tcp) (state_fits e.tcp.state (copy_of heard) e.tcp)
+
+-- ---- a path
+
+pub path_welcomes : (k : Secrets) (w : Side → Type 0) (did : Deed → Side → Type 0) (p : PathState Carried) → PathIs k true w did p → HasRoles p → NextIsWelcome values p
+path_welcomes k w did p h roles due heard next is some = by (arriving due p.link) refl is
+  where
+    to_end : (f : Flight Carried) → arriving due p.link ≡ Some f → SegmentIs k true w did p.profile (peer due.to) f.carried.segment × TellsKey (is_joined p.profile) due.to f.carried.segment
+    to_end f there =
+        let found = find_every (FlightIs k true w did p.profile) (is_due due) p.link.under_way f h.copies there in
+        let told = find_every (CopyTells (is_joined p.profile)) (is_due due) p.link.under_way f roles.copies there in
+        let parts = and_parts (f.tick == due.tick) (same_side f.to due.to && f.number == due.copy) found.1 in
+        let to = one_side f.to due.to (and_parts (same_side f.to due.to) (f.number == due.copy) parts.1).0 in
+        (subst (λ s. SegmentIs k true w did p.profile (peer s) f.carried.segment) to found.0, subst (λ s. TellsKey (is_joined p.profile) s f.carried.segment) to told.0)
+
+    joined : (s : Side) (b : Bool) → is_joined p.profile ≡ b → (sg : PlainSegment) → SegmentIs k true w did p.profile (peer s) sg → TellsKey (is_joined p.profile) s sg → is_nil (meant sg).options ≡ false
+        → IsWelcome (judged_in b s (meant sg) (end_at s p))
+    joined s false joins sg said tells some = tt
+    joined s true joins sg said tells some =
+        end_welcomes k w did s (end_at s p) (subst (λ b. EndIs k true w did b s (end_at s p)) joins (end_is k true w did s p h)) (role_at s p roles joins) (meant sg)
+        (items_are k true w did true s sg (subst (λ b. Every (OptionIs k true w did b (peer s)) sg.options) joins said))
+        (tells_join s sg (subst (λ b. TellsKey b s sg) joins tells) (some_meant sg.options some))
+
+    by : (o : Option (Flight Carried)) → arriving due p.link ≡ o → heard_in values due.to o p ≡ Some heard → IsWelcome (judged_in (is_joined p.profile) due.to heard (end_at due.to p))
+    by None there is = cc
+    by (Some f) there is =
+        let both = to_end f there in
+        let same = same_Some (meant (as_arrived f.carried)) heard is in
+        subst (λ x. IsWelcome (judged_in (is_joined p.profile) due.to x (end_at due.to p))) same
+        (joined due.to (is_joined p.profile) refl (as_arrived f.carried) (arrived_is k true w did p.profile (peer due.to) f.carried both.0) (arrived_tells (is_joined p.profile) due.to f.carried both.1)
+        (ap (λ x. is_nil x.options) same ∙ some))
+
+-- ---- worlds
+
+abbrev MemberRoles : Actor Carried → Type 0
+MemberRoles (App a) = Unit {0}
+MemberRoles (Path p) = HasRoles p
+
+abbrev AllRoles : WorldState Carried → Type 0
+AllRoles w = Every (λ c. MemberRoles c.member) w.crew
+
+takes_member : (r : Reply) (m : Actor Carried) → MemberRoles m → MemberRoles (member_takes values r m)
+takes_member r (App a) h = tt
+takes_member r (Path p) h = takes_roles r p h
+
+next_member : (m : Actor Carried) → MemberRoles m → MemberRoles (member_next m)
+next_member (App a) h = tt
+next_member (Path p) h =
+    begins_roles (record p { clock = p.until; until = p.until + 100 }) (record { copies = h.copies; role_a = h.role_a; role_b = h.role_b; answer_a = h.answer_a; answer_b = h.answer_b })
+
+turn_roles : (turn : Turn) (w : WorldState Carried) → AllRoles w → AllRoles (after_turn values turn w)
+turn_roles (Turn.Step actor) w h = by (slice_get w.crew actor) refl
+  where
+    asking : (c : ActorCrew Carried) → slice_get w.crew actor ≡ Some c → (o : Option Ask) → AllRoles (asked values actor o c w)
+    asking c there None = h
+    asking c there (Some x) = record {
+      each = λ i d at. ⊎_elim
+          (λ here. subst (λ y. MemberRoles y.member) here.1 (takes_member (reply_of (books_in w.books) x) c.member (h.each actor c there)))
+          (λ other. h.each i d other.1)
+          (in_set w.crew actor (crew_after values x w.books c) i d at);
+    }
+
+    by : (o : Option (ActorCrew Carried)) → slice_get w.crew actor ≡ o → AllRoles (stepped values actor o w)
+    by None there = h
+    by (Some c) there = asking c there (member_asks values c.member)
+turn_roles Turn.Round w h = by (all_over w.crew)
+  where
+    by : (b : Bool) → AllRoles (if b then record w { crew = map (begins (greatest 0 w.crew)) w.crew } else w)
+    by true = record {
+      each = λ i d at.
+          let found = in_map (begins (greatest 0 w.crew)) w.crew i d at in
+          subst (λ y. MemberRoles y.member) found.2 (next_member found.0.member (h.each i found.0 found.1));
+    }
+    by false = h
+
+run_roles : (turns : List Turn) (w : WorldState Carried) → AllRoles w → AllRoles (world_run values turns w)
+run_roles [] w h = h
+run_roles (turn ∷ turns) w h = run_roles turns (after_turn values turn w) (turn_roles turn w h)
+
+opened_roles : (start : Start) → AllRoles (opened_world start)
+opened_roles start = record { each = opened_actors (λ actor c. MemberRoles c.member) start tt tt (λ number plan there. path number plan) }
+  where
+    path : (number : ℕ) (plan : PathPlan) → MemberRoles (new_path {C = Carried} start number plan).member
+    path number plan = begins_roles (waiting_path (path_begins start number plan) start.lines) (record {
+      copies = Every-nil _;
+      role_a = λ joins. apart number;
+      role_b = λ joins. refl;
+      answer_a = tt;
+      answer_b = tt;
+    })
+      where
+        apart : (number : ℕ) → is_apart A (waiting_path {C = Carried} (path_begins start number plan) start.lines).a.tcp.state ≡ false
+        apart zero = refl
+        apart (suc n) = refl
+
+-- ---- the law
+
+pub each_copy_is_welcome : Always values (λ start w. EachCopyIsWelcome values w)
+each_copy_is_welcome start turns = record {
+  each = λ actor c there. by c.member (met.keys.crew.each actor c there) (roles.each actor c there);
+}
+  where
+    met : WorldMet start.key_a start.key_b (world_run values turns (opened_world start))
+    met = run_met start.key_a start.key_b turns (opened_world start) (opened_met start)
+
+    roles : AllRoles (world_run values turns (opened_world start))
+    roles = run_roles turns (opened_world start) (opened_roles start)
+
+    six : SixBooks
+    six = books_in (world_run values turns (opened_world start)).books
+
+    by : (m : Actor Carried) → MemberIs start.key_a start.key_b true six m → MemberRoles m → WelcomesNext values m
+    by (App a) keys member = tt
+    by (Path p) keys member = path_welcomes (with_nonces start.key_a start.key_b true keys.nonce_a keys.nonce_b) (Joined six) (Past six NoMore) p keys.is member

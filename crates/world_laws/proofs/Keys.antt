@@ -1,0 +1,12 @@
+pub mod AreDrawn
+pub mod WhatWakes
+pub mod Held
+pub mod Copies
+pub mod StepsKeep
+pub mod AnswerHeardFirst
+pub mod LearnedByA
+pub mod RepliesKeep
+pub mod Books
+pub mod ToldAreOwn
+pub mod DssIsTheSign
+pub mod SureMaySend

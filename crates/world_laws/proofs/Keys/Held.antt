@@ -1,0 +1,723 @@
+-- What the ends of a path know of keys and nonces, and hear of them, and how they go on.
+use Rattle.std.proofs.Common.{◌≡◌, refl, sym, ◌∙◌, ap, subst, ℕ, zero, suc, ◌+◌, ◌==◌, not, ◌||◌, Bool, true, false, if◌then◌else◌, Option, Some, None, Ok, Err, List, [], ◌∷◌, remove}
+use Rattle.std.proofs.lemmas.Bool.{both_ways, false≢true}
+use Rattle.std.specs.List.{slice_get}
+use Rattle.std.specs.Option.{IfSome, option_or}
+use Rattle.std.specs.Result.{result_ok}
+use Rattle.outside_kit.specs.declared.side.Side.{Side}
+use Rattle.outside_kit.specs.declared.side.Side.TheVariants.{A, B}
+use Rattle.fallback_state.specs.declared.fall.Verdict.{Verdict}
+use Rattle.fallback_state.specs.declared.fall.Verdict.TheVariants as verdicts
+use Rattle.link_script.specs.Places.{same_side}
+use Rattle.link_model.specs.declared.flight.Flight.{Flight}
+use Rattle.link_model.specs.Fate.{is_stripped, is_altered, fate_of}
+use Rattle.link_model.specs.Steps.{peer, arrivals, changed, next_number}
+use Rattle.key_material.specs.JoinHmac.{join_b64_of}
+use Rattle.key_material.specs.KeyDigest.{token_of}
+use Rattle.key_material.specs.declared.address.Address.{Address}
+use Rattle.mptcp_options.specs.declared.capable.CapableKeys.{CapableKeys}
+use Rattle.mptcp_options.specs.declared.capable.CapableKeys.TheVariants.{NoKey, Sender, Both, WithData}
+use Rattle.mptcp_options.specs.declared.join.JoinForm.{JoinForm}
+use Rattle.mptcp_options.specs.declared.join.JoinForm.TheVariants.{Syn as JoinSyn, Answer, Third}
+use Rattle.join_handshake.specs.declared.hearing.JoinAnswer.{JoinAnswer}
+use Rattle.join_handshake.specs.declared.hearing.JoinSyn.{JoinSyn as Asked}
+use Rattle.join_handshake.specs.declared.fault.JoinFault.TheVariants.{BadHmac}
+use Rattle.path_segments.specs.declared.segment.PathOption.TheVariants.{Capable, Join, Dss, AddAddr, Remove, Prio, Fail, FastClose, Reset}
+use Rattle.path_segments.specs.Options.{PlainOption}
+use Rattle.path_segments.specs.Spelled.{PlainSegment}
+use Rattle.subflow_tcp.specs.declared.handshake.State.{State as EndPhase}
+use Rattle.subflow_tcp.specs.declared.handshake.State.TheVariants as phase
+use Rattle.subflow_tcp.specs.States.{is_dead, is_opening, is_waiting, is_closed_to_segments, may_finish}
+use Rattle.subflow_tcp.specs.Opening.{after_begin}
+use Rattle.subflow_tcp.specs.Taking.{after_syn, unkept}
+use Rattle.fallback_state.specs.declared.fall.Event.{Event as FallEvent}
+use Rattle.fallback_state.specs.declared.fall.Event.TheVariants as fall
+use Rattle.control_book.specs.declared.call.ControlReply.{ControlReply}
+use Rattle.control_book.specs.declared.call.ControlReply.TheVariants as control_replies
+use Rattle.stream_lanes.specs.Words.{Every}
+use Rattle.stream_lanes.proofs.Lists.{Every-nil}
+use Rattle.actor_desk.specs.declared.ask.Reply.{Reply}
+use Rattle.actor_desk.specs.declared.ask.Reply.TheVariants as replies
+use Rattle.path_agenda.specs.Words.{replaced}
+use Rattle.path_agenda.specs.declared.duty.Duty.{Duty}
+use Rattle.path_agenda.specs.declared.heard.Heard.{Heard}
+use Rattle.path_agenda.specs.declared.heard.Heard.TheVariants as says
+use Rattle.path_agenda.specs.declared.heard.JoinStep.{JoinStep}
+use Rattle.path_agenda.specs.declared.heard.JoinStep.TheVariants as step
+use Rattle.path_agenda.specs.declared.keys.KeyPair.{KeyPair}
+use Rattle.path_agenda.specs.declared.notice.OwnNotice.{OwnNotice}
+use Rattle.path_agenda.specs.declared.notice.OwnNotice.TheVariants as own_notes
+use Rattle.path_agenda.specs.declared.notice.PeerNotice.{PeerNotice}
+use Rattle.path_agenda.specs.declared.notice.PeerNotice.TheVariants as peer_notes
+use Rattle.path_core.specs.declared.modes.Modes.{Modes}
+use Rattle.path_core.specs.Ends.{PathEnd}
+use Rattle.path_core.specs.Events.{died, died_unless_dead}
+use Rattle.path_agenda.specs.Items.{is_of_step, join_heard, key_heard, keys_heard}
+use Rattle.path_core.specs.Joining.{joined_by, opened_by, syn_alone, is_listening, with_mode_refused}
+use Rattle.path_core.specs.Joins.{is_joined, join_answer, join_asked, join_value, peer_key_of}
+use Rattle.path_core.specs.Opening.{after_keys, keys_in}
+use Rattle.path_core.specs.Handover.{sent_on}
+use Rattle.path_core.specs.Standing.{modes_told}
+use Rattle.path_core.specs.State.{PathState, Profile, end_at, with_end, with_agenda, goes_on, left}
+use Rattle.path_core.specs.Fallback.{mode_in, fell_in, after_fell}
+use Rattle.path_core.specs.Values.{Carried, as_arrived, carried_by, stripped, altered, values}
+use Rattle.join_handshake.specs.Heard.{answer_heard, answer_taken, syn_heard}
+use Rattle.world_laws.proofs.Keys.AreDrawn.{Deed, Secrets, KeysFor, AddressIs, NoteIs, PeerNoteIs, ShownBy, twice, of_b, told_in, is_past, known_in, OfB, IsFor, sure_if, drawn_key, drawn_nonce, JoinIs, OptionIs, SegmentIs, ItemIs, ModesAre, EndIs, HasMet, Knows, met_needs, same_knows, same_end}
+use Rattle.world_laws.proofs.Keys.WhatWakes.{NoWaking, Voice, is_said_by, speaks, tail_speaks}
+use Rattle.world_laws.proofs.Lanes.Saying.{flights_kept}
+
+-- ---- what a reply says of the modes leaves the keys
+
+pub look_leaves : (r : Reply) (m : Modes) → known_in (modes_told r m) ≡ known_in m
+look_leaves (replies.Send reply) m = refl
+look_leaves (replies.Reassembly reply) m = refl
+look_leaves replies.Done m = refl
+look_leaves (replies.Control reply) m = by reply
+  where
+    by : (reply : ControlReply) → known_in (modes_told (replies.Control reply) m) ≡ known_in m
+    by (control_replies.Standing mode standby sole notice) = refl
+    by control_replies.Noted = refl
+    by _ = refl
+
+pub verdict_leaves : (r : Reply) (m : Modes) → known_in (mode_in r m) ≡ known_in m
+verdict_leaves (replies.Send reply) m = refl
+verdict_leaves (replies.Reassembly reply) m = refl
+verdict_leaves replies.Done m = refl
+verdict_leaves (replies.Control reply) m = by reply
+  where
+    by_verdict : (v : Verdict) → known_in (mode_in (replies.Control (control_replies.Verdict v)) m) ≡ known_in m
+    by_verdict (verdicts.Went mode) = refl
+    by_verdict _ = refl
+
+    by : (reply : ControlReply) → known_in (mode_in (replies.Control reply) m) ≡ known_in m
+    by (control_replies.Verdict v) = by_verdict v
+    by control_replies.Noted = refl
+    by _ = refl
+
+pub fell_leaves : (event : FallEvent) (r : Reply) (m : Modes) → known_in (fell_in event r m) ≡ known_in m
+fell_leaves fall.PlainData r m = verdict_leaves r m
+fell_leaves fall.PlainAck r m = verdict_leaves r m
+fell_leaves fall.PlainHandshake r m = verdict_leaves r m
+fell_leaves _ r m = verdict_leaves r m
+
+-- both keys are noted
+abbrev pub is_noted : Reply → Bool
+is_noted (replies.Control control_replies.Noted) = true
+is_noted _ = false
+
+-- ---- what is under way
+
+pub in_removed : {X : Type 0} (xs : List X) (i k : ℕ) (x : X) → slice_get (remove xs i) k ≡ Some x → (j : ℕ) × (slice_get xs j ≡ Some x)
+in_removed [] zero k x is = absurd (let never : None ≡ Some x = is in cc)
+in_removed [] (suc i) k x is = absurd (let never : None ≡ Some x = is in cc)
+in_removed (y ∷ xs) zero k x is = (suc k, is)
+in_removed (y ∷ xs) (suc i) zero x is = (0, is)
+in_removed (y ∷ xs) (suc i) (suc k) x is = let rest = in_removed xs i k x is in (suc rest.0, rest.1)
+
+-- an end that opens is open
+pub opening_open : (state : EndPhase) → is_opening state ≡ true → is_closed_to_segments state ≡ false
+opening_open phase.SynSent is = refl
+opening_open phase.Waiting is = absurd (false≢true is)
+opening_open phase.Listen is = absurd (false≢true is)
+opening_open phase.SynReceived is = absurd (false≢true is)
+opening_open phase.Established is = absurd (false≢true is)
+opening_open phase.FinWait1 is = absurd (false≢true is)
+opening_open phase.FinWait2 is = absurd (false≢true is)
+opening_open phase.CloseWait is = absurd (false≢true is)
+opening_open phase.Closing is = absurd (false≢true is)
+opening_open phase.LastAck is = absurd (false≢true is)
+opening_open phase.TimeWait is = absurd (false≢true is)
+opening_open phase.Dead is = absurd (false≢true is)
+
+-- an end that may finish is open
+pub finish_open : (state : EndPhase) → may_finish state ≡ true → is_closed_to_segments state ≡ false
+finish_open phase.Established is = refl
+finish_open phase.CloseWait is = refl
+finish_open phase.Waiting is = absurd (false≢true is)
+finish_open _ is = absurd (false≢true is)
+
+pub not_closed : (b : Bool) → not b ≡ true → b ≡ false
+not_closed false is = refl
+not_closed true is = absurd (false≢true is)
+
+-- an event that a path tells: not both keys, and no end of the connection
+abbrev pub IsSign : FallEvent → Type 0
+IsSign fall.MappingHeard = Unit {0}
+IsSign fall.AckHeard = Unit {0}
+IsSign fall.PlainHandshake = Unit {0}
+IsSign fall.PlainData = Unit {0}
+IsSign fall.PlainAck = Unit {0}
+IsSign fall.InfiniteHeard = Unit {0}
+IsSign fall.CheckFailed = Unit {0}
+IsSign (fall.FailHeard contiguous) = Unit {0}
+IsSign _ = ⊥
+
+module _ (k : Secrets) (right : Bool) (w : Side → Type 0) (did : Deed → Side → Type 0) where
+  abbrev pub FlightIs : Profile → Flight Carried → Type 0
+  FlightIs c f = SegmentIs k right w did c (peer f.to) f.carried.segment
+
+  -- on a path that joins
+  abbrev pub OnJoined : Profile → Type 0 → Type 0
+  OnJoined c P = is_joined c ≡ true → P
+
+  -- What is still to be said needs what its end knows, and a side that falls isn't on a path that joins. A side that aborts was stopped
+  -- by the peer, whose application asked for it.
+  abbrev pub VoiceIs : PathState Carried → Voice → Type 0
+  VoiceIs p (Voice.Says t) = OnJoined p.profile (Knows k right w did t (end_at t p).modes)
+  VoiceIs p (Voice.Falls t) = (is_joined p.profile ≡ false) × did Deed.Fell t
+  VoiceIs p (Voice.Aborts t) = did Deed.Stopped t × did Deed.Closed (peer t)
+
+  abbrev pub AreKnown : PathState Carried → List Duty → Type 0
+  AreKnown p ds = (x : Voice) → speaks x ds ≡ true → VoiceIs p x
+
+  pub record PathIs (p : PathState Carried) : Type 0 where
+    pub a : EndIs k right w did (is_joined p.profile) A p.a
+    pub b : EndIs k right w did (is_joined p.profile) B p.b
+    pub copies : Every (FlightIs p.profile) p.link.under_way
+    pub known : AreKnown p p.agenda
+    -- A waits on no path but those that join
+    pub waits : is_waiting p.a.tcp.state ≡ true → is_joined p.profile ≡ true
+
+  pub end_is : (s : Side) (p : PathState Carried) → PathIs p → EndIs k right w did (is_joined p.profile) s (end_at s p)
+  end_is A p h = h.a
+  end_is B p h = h.b
+
+  -- ---- an end goes on
+
+  -- nothing more is to be said
+  abbrev pub Fewer : PathState Carried → List Duty → Type 0
+  Fewer p ds = (x : Voice) → speaks x ds ≡ true → speaks x p.agenda ≡ true
+
+  pub none_left : (p : PathState Carried) → Fewer p (left p)
+  none_left p x is = tail_speaks x p.agenda is
+
+  -- an end of this side that knows what it knew
+  abbrev pub Stays : Side → PathEnd → PathState Carried → Type 0
+  Stays s e p = OnJoined p.profile (Knows k right w did s (end_at s p).modes → Knows k right w did s e.modes)
+
+  -- it waits only where it waited
+  abbrev Still : Side → PathEnd → PathState Carried → Type 0
+  Still s e p = is_waiting e.tcp.state ≡ true → is_waiting (end_at s p).tcp.state ≡ true
+
+  -- with other notices
+  pub requeued : (joined : Bool) (s : Side) (queue : List OwnNotice) (e : PathEnd) → Every (NoteIs k right w did s) queue → EndIs k right w did joined s e
+      → EndIs k right w did joined s (record e { notices = record e.notices { queue = queue } })
+  requeued joined s queue e each h = record { modes = h.modes; items = h.items; woken = h.woken; past = h.past; carries = h.carries; queued = each; failing = h.failing }
+
+  pub goes_by : (s : Side) (e : PathEnd) (ds : List Duty) (p : PathState Carried) → EndIs k right w did (is_joined p.profile) s e → Still s e p → AreKnown (with_end s e p) ds → PathIs p
+      → PathIs (goes_on s e ds p)
+  goes_by A e ds p own still known h = record { a = own; b = h.b; copies = h.copies; known = by known; waits = λ waiting. h.waits (still waiting) }
+    where
+      by : AreKnown (with_end A e p) ds → (x : Voice) → speaks x ds ≡ true → VoiceIs (goes_on A e ds p) x
+      by all (Voice.Says A) spoken = all (Voice.Says A) spoken
+      by all (Voice.Says B) spoken = all (Voice.Says B) spoken
+      by all (Voice.Falls t) spoken = all (Voice.Falls t) spoken
+      by all (Voice.Aborts t) spoken = all (Voice.Aborts t) spoken
+  goes_by B e ds p own still known h = record { a = h.a; b = own; copies = h.copies; known = by known; waits = h.waits }
+    where
+      by : AreKnown (with_end B e p) ds → (x : Voice) → speaks x ds ≡ true → VoiceIs (goes_on B e ds p) x
+      by all (Voice.Says A) spoken = all (Voice.Says A) spoken
+      by all (Voice.Says B) spoken = all (Voice.Says B) spoken
+      by all (Voice.Falls t) spoken = all (Voice.Falls t) spoken
+      by all (Voice.Aborts t) spoken = all (Voice.Aborts t) spoken
+
+  -- an end that knows what it knew lets all be known
+  pub with_voice : (s : Side) (e : PathEnd) (p : PathState Carried) → Stays s e p → (x : Voice) → VoiceIs p x → VoiceIs (with_end s e p) x
+  with_voice A e p stays (Voice.Says A) has = λ is. stays is (has is)
+  with_voice B e p stays (Voice.Says B) has = λ is. stays is (has is)
+  with_voice A e p stays (Voice.Says B) has = has
+  with_voice B e p stays (Voice.Says A) has = has
+  with_voice A e p stays (Voice.Falls t) has = has
+  with_voice B e p stays (Voice.Falls t) has = has
+  with_voice A e p stays (Voice.Aborts t) has = has
+  with_voice B e p stays (Voice.Aborts t) has = has
+
+  -- the other end knows what it knew
+  pub fewer_known : (s : Side) (e : PathEnd) (ds : List Duty) (p : PathState Carried) → Fewer p ds → Stays s e p → PathIs p → AreKnown (with_end s e p) ds
+  fewer_known s e ds p fewer stays h x spoken = with_voice s e p stays x (h.known x (fewer x spoken))
+
+  pub goes_is : (s : Side) (e : PathEnd) (ds : List Duty) (p : PathState Carried) → EndIs k right w did (is_joined p.profile) s e → Still s e p → Fewer p ds → Stays s e p → PathIs p → PathIs (goes_on s e ds p)
+  goes_is s e ds p own still fewer stays h = goes_by s e ds p own still (fewer_known s e ds p fewer stays h) h
+
+  pub with_is : (s : Side) (e : PathEnd) (p : PathState Carried) → EndIs k right w did (is_joined p.profile) s e → Still s e p → Stays s e p → PathIs p → PathIs (with_end s e p)
+  with_is s e p own still stays h = by s (goes_is s e p.agenda p own still (λ x is. is) stays h)
+    where
+      by : (s : Side) → PathIs (goes_on s e p.agenda p) → PathIs (with_end s e p)
+      by A g = record { a = g.a; b = g.b; copies = g.copies; known = g.known; waits = g.waits }
+      by B g = record { a = g.a; b = g.b; copies = g.copies; known = g.known; waits = g.waits }
+
+  pub agenda_is : (ds : List Duty) (p : PathState Carried) → Fewer p ds → PathIs p → PathIs (with_agenda ds p)
+  agenda_is ds p fewer h = record { a = h.a; b = h.b; copies = h.copies; known = by; waits = h.waits }
+    where
+      by : (x : Voice) → speaks x ds ≡ true → VoiceIs (with_agenda ds p) x
+      by (Voice.Says A) spoken = h.known (Voice.Says A) (fewer (Voice.Says A) spoken)
+      by (Voice.Says B) spoken = h.known (Voice.Says B) (fewer (Voice.Says B) spoken)
+      by (Voice.Falls t) spoken = h.known (Voice.Falls t) (fewer (Voice.Falls t) spoken)
+      by (Voice.Aborts t) spoken = h.known (Voice.Aborts t) (fewer (Voice.Aborts t) spoken)
+
+  -- what is said by a duty in the place of the first one may be said
+  pub replaced_known : (s : Side) (d : Duty) (e : PathEnd) (p : PathState Carried) → ((x : Voice) → is_said_by x d ≡ true → VoiceIs (with_end s e p) x) → Stays s e p → PathIs p
+      → AreKnown (with_end s e p) (replaced d p.agenda)
+  replaced_known s d e p own stays h = by p.agenda h.known
+    where
+      by : (ds : List Duty) → ((x : Voice) → speaks x ds ≡ true → VoiceIs p x) → (x : Voice) → speaks x (replaced d ds) ≡ true → VoiceIs (with_end s e p) x
+      by [] known x spoken = with_voice s e p stays x (known x spoken)
+      by (first ∷ ds) known x spoken = at (is_said_by x d) refl spoken
+        where
+          at : (b : Bool) → is_said_by x d ≡ b → b || speaks x ds ≡ true → VoiceIs (with_end s e p) x
+          at true said rest = own x said
+          at false said rest = with_voice s e p stays x (known x (tail_speaks x (first ∷ ds) rest))
+
+  pub stays_same : (s : Side) (e : PathEnd) (p : PathState Carried) → known_in e.modes ≡ known_in (end_at s p).modes → Stays s e p
+  stays_same s e p same is knows = same_knows k right w did s (end_at s p).modes e.modes same knows
+
+  pub kept_end : (joined : Bool) (s : Side) (e f : PathEnd) → known_in f.modes ≡ known_in e.modes → told_in f ≡ told_in e → NoWaking e.tcp f.tcp → EndIs k right w did joined s e
+      → EndIs k right w did joined s f
+  kept_end joined s e f same told up h = same_end k right w did joined s e f same told up.up up.past h
+
+  -- with the same keys, and nothing more heard
+  pub same_goes : (s : Side) (e : PathEnd) (ds : List Duty) (p : PathState Carried) → known_in e.modes ≡ known_in (end_at s p).modes
+      → told_in e ≡ told_in (end_at s p) → NoWaking (end_at s p).tcp e.tcp → Fewer p ds → PathIs p → PathIs (goes_on s e ds p)
+  same_goes s e ds p same told up fewer h =
+      goes_is s e ds p (kept_end (is_joined p.profile) s (end_at s p) e same told up (end_is s p h)) up.waits fewer (stays_same s e p same) h
+
+  -- ---- a segment is handed over
+
+  changed_is : (c : Profile) (s : Side) (strips alters : Bool) (carried : Carried) → SegmentIs k right w did c s carried.segment
+      → SegmentIs k right w did c s (changed stripped altered strips alters carried).segment
+  changed_is c s true true carried h = h
+  changed_is c s true false carried h = h
+  changed_is c s false true carried h = h
+  changed_is c s false false carried h = h
+
+  -- so does what arrives
+  pub arrived_is : (c : Profile) (s : Side) (carried : Carried) → SegmentIs k right w did c s carried.segment → SegmentIs k right w did c s (as_arrived carried)
+  arrived_is c s carried h = by carried.stripped
+    where
+      by : (b : Bool) → SegmentIs k right w did c s (record carried.segment { options = (if b then [] else carried.segment.options) })
+      by true = Every-nil _
+      by false = h
+
+  pub sent_is : (s : Side) (segment : PlainSegment) (e : PathEnd) (ds : List Duty) (p : PathState Carried) → SegmentIs k right w did p.profile s segment
+      → EndIs k right w did (is_joined p.profile) s e → Still s e p → Fewer p ds → Stays s e p → PathIs p → PathIs (sent_on values s segment e ds p)
+  sent_is A segment e ds p said own still fewer stays h = let g = goes_is A e ds p own still fewer stays h in record {
+    a = own;
+    b = h.b;
+    copies =
+        let number = next_number A p.link in
+        let carried = changed stripped altered (is_stripped A number p.clock p.link.lines) (is_altered A number p.link.lines) (carried_by p.profile.spelling A segment) in
+        flights_kept (FlightIs p.profile) B number carried (λ tick. changed_is p.profile A (is_stripped A number p.clock p.link.lines) (is_altered A number p.link.lines) (carried_by p.profile.spelling A segment) said)
+        (arrivals (fate_of A number p.link.lines) (p.clock + p.link.delay)) p.link.under_way h.copies;
+    known = by g.known;
+    waits = g.waits;
+  }
+    where
+      by : AreKnown (goes_on A e ds p) ds → (x : Voice) → speaks x ds ≡ true → VoiceIs (sent_on values A segment e ds p) x
+      by all (Voice.Says A) spoken = all (Voice.Says A) spoken
+      by all (Voice.Says B) spoken = all (Voice.Says B) spoken
+      by all (Voice.Falls t) spoken = all (Voice.Falls t) spoken
+      by all (Voice.Aborts t) spoken = all (Voice.Aborts t) spoken
+  sent_is B segment e ds p said own still fewer stays h = let g = goes_is B e ds p own still fewer stays h in record {
+    a = h.a;
+    b = own;
+    copies =
+        let number = next_number B p.link in
+        let carried = changed stripped altered (is_stripped B number p.clock p.link.lines) (is_altered B number p.link.lines) (carried_by p.profile.spelling B segment) in
+        flights_kept (FlightIs p.profile) A number carried (λ tick. changed_is p.profile B (is_stripped B number p.clock p.link.lines) (is_altered B number p.link.lines) (carried_by p.profile.spelling B segment) said)
+        (arrivals (fate_of B number p.link.lines) (p.clock + p.link.delay)) p.link.under_way h.copies;
+    known = by g.known;
+    waits = g.waits;
+  }
+    where
+      by : AreKnown (goes_on B e ds p) ds → (x : Voice) → speaks x ds ≡ true → VoiceIs (sent_on values B segment e ds p) x
+      by all (Voice.Says A) spoken = all (Voice.Says A) spoken
+      by all (Voice.Says B) spoken = all (Voice.Says B) spoken
+      by all (Voice.Falls t) spoken = all (Voice.Falls t) spoken
+      by all (Voice.Aborts t) spoken = all (Voice.Aborts t) spoken
+
+  -- by an end with the same keys, to which nothing more was said
+  pub same_sent : (s : Side) (segment : PlainSegment) (e : PathEnd) (ds : List Duty) (p : PathState Carried) → SegmentIs k right w did p.profile s segment
+      → known_in e.modes ≡ known_in (end_at s p).modes → told_in e ≡ told_in (end_at s p) → NoWaking (end_at s p).tcp e.tcp → Fewer p ds → PathIs p
+      → PathIs (sent_on values s segment e ds p)
+  same_sent s segment e ds p said same told up fewer h =
+      sent_is s segment e ds p said (kept_end (is_joined p.profile) s (end_at s p) e same told up (end_is s p h)) up.waits fewer (stays_same s e p same) h
+
+  -- ---- ends
+
+  pub died_is : (joined : Bool) (s : Side) (e : PathEnd) → EndIs k right w did joined s e → EndIs k right w did joined s (died e)
+  died_is joined s e h = record { modes = h.modes; items = Every-nil _; woken = λ is up. absurd (false≢true up); past = λ is so. absurd (false≢true so); carries = tt; queued = Every-nil _; failing = λ is. tt }
+
+  pub refused_is : (joined : Bool) (s : Side) (r : Reply) (e : PathEnd) → EndIs k right w did joined s e → EndIs k right w did joined s (with_mode_refused r e)
+  refused_is joined s r e h = kept_end joined s e (with_mode_refused r e) refl refl (record { up = λ x. x; waits = λ x. x; past = λ x. x }) h
+
+  pub unless_dead_is : (joined : Bool) (s : Side) (e : PathEnd) → EndIs k right w did joined s e → EndIs k right w did joined s (died_unless_dead e)
+  unless_dead_is joined s e h = by (is_dead e.tcp.state)
+    where
+      by : (b : Bool) → EndIs k right w did joined s (if b then e else died e)
+      by true = h
+      by false = died_is joined s e h
+
+  pub fell_is : (joined : Bool) (s : Side) (event : FallEvent) (r : Reply) (e : PathEnd) → EndIs k right w did joined s e → EndIs k right w did joined s (after_fell event r e)
+  fell_is joined s event r e h = kept_end joined s e (after_fell event r e) (fell_leaves event r e.modes) refl (record { up = λ x. x; waits = λ x. x; past = λ x. x }) h
+
+  -- ---- what was heard
+
+  module _ (joined : Bool) where
+    pub key_found : (s : Side) (items : List Heard) → Every (ItemIs k right w did joined s) items → IfSome (key_heard items) (λ key. key ≡ drawn_key k right (peer s))
+    key_found s [] h = tt
+    key_found s (item ∷ items) h = by item (h.each 0 item refl) (key_found s items (record { each = λ i x at. h.each (suc i) x at }))
+      where
+        by : (item : Heard) → ItemIs k right w did joined s item → IfSome (key_heard items) (λ key. key ≡ drawn_key k right (peer s))
+            → IfSome (key_heard (item ∷ items)) (λ key. key ≡ drawn_key k right (peer s))
+        by (says.PeerKey key) own rest = own
+        by says.Dss own rest = rest
+        by _ own rest = rest
+
+    abbrev pub PairIs : Side → KeyPair → Type 0
+    PairIs s keys = (joined ≡ false) × ((keys.own ≡ drawn_key k right s) × (keys.peer ≡ drawn_key k right (peer s)) × KeysFor k right w did s)
+
+    pub pair_found : (s : Side) (items : List Heard) → Every (ItemIs k right w did joined s) items → IfSome (keys_heard items) (PairIs s)
+    pair_found s [] h = tt
+    pair_found s (item ∷ items) h = by item (h.each 0 item refl) (pair_found s items (record { each = λ i x at. h.each (suc i) x at }))
+      where
+        by : (item : Heard) → ItemIs k right w did joined s item → IfSome (keys_heard items) (PairIs s) → IfSome (keys_heard (item ∷ items)) (PairIs s)
+        by (says.Keys own other) pair rest = pair
+        by says.Dss pair rest = rest
+        by _ pair rest = rest
+
+    abbrev pub FormIs : Side → JoinForm → Type 0
+    FormIs s form = (joined ≡ true) × (IsFor s form × (w (peer s) × (right ≡ true → JoinIs k right (peer s) form)))
+
+    pub join_found : (s : Side) (of_step : JoinStep) (items : List Heard) → Every (ItemIs k right w did joined s) items → IfSome (join_heard of_step items) (FormIs s)
+    join_found s of_step [] h = tt
+    join_found s of_step (item ∷ items) h = by item (h.each 0 item refl) (join_found s of_step items (record { each = λ i x at. h.each (suc i) x at }))
+      where
+        form : (f : JoinForm) (b : Bool) → FormIs s f → IfSome (join_heard of_step items) (FormIs s)
+            → IfSome (option_or (if b then Some f else None) (join_heard of_step items)) (FormIs s)
+        form f true is rest = is
+        form f false is rest = rest
+
+        by : (item : Heard) → ItemIs k right w did joined s item → IfSome (join_heard of_step items) (FormIs s) → IfSome (join_heard of_step (item ∷ items)) (FormIs s)
+        by (says.Join f) is rest = form f (is_of_step of_step f) is rest
+        by says.Dss is rest = rest
+        by _ is rest = rest
+
+    -- what is asked for, and what is answered
+    abbrev pub AskedIs : Side → Asked → Type 0
+    AskedIs s asked =
+        (joined ≡ true) × ((s ≡ B) × (w (peer s) × (right ≡ true → (asked.token ≡ token_of (drawn_key k right s)) × (asked.nonce ≡ drawn_nonce k right (peer s)))))
+
+    syn_at_b : (s : Side) (backup : Bool) (id token nonce : ℕ) → IsFor s (JoinSyn backup id token nonce) → s ≡ B
+    syn_at_b A backup id token nonce is = absurd is
+    syn_at_b B backup id token nonce is = refl
+
+    asked_for : (s : Side) (o : Option JoinForm) → IfSome o (FormIs s) → IfSome (syn_heard (join_value o)) (AskedIs s)
+    asked_for s None is = tt
+    asked_for s (Some (JoinSyn backup id token nonce)) is = (
+      is.0,
+      (
+        syn_at_b s backup id token nonce is.1.0,
+        (
+          is.1.1.0,
+          λ sure. let both = is.1.1.1 sure in (both.0 ∙ ap (λ t. token_of (drawn_key k right t)) (twice s), both.1),
+        ),
+      ),
+    )
+    asked_for s (Some (Answer backup id hmac nonce)) is = tt
+    asked_for s (Some (Third hmac)) is = tt
+
+    pub asked_is : (s : Side) (items : List Heard) → Every (ItemIs k right w did joined s) items → IfSome (join_asked items) (AskedIs s)
+    asked_is s items h = asked_for s (join_heard step.Syn items) (join_found s step.Syn items h)
+
+    abbrev pub AnswerIs : Side → JoinAnswer → Type 0
+    AnswerIs s answer = (s ≡ A) × (w (peer s) × (right ≡ true → answer.nonce ≡ drawn_nonce k right (peer s)))
+
+    answer_at_a : (s : Side) (backup : Bool) (id hmac nonce : ℕ) → IsFor s (Answer backup id hmac nonce) → s ≡ A
+    answer_at_a A backup id hmac nonce is = refl
+    answer_at_a B backup id hmac nonce is = absurd is
+
+    answered_so : (s : Side) (m : Modes) (o : Option JoinForm) → IfSome o (FormIs s)
+        → IfSome (result_ok (answer_taken m.own_key (peer_key_of m) m.own_nonce (answer_heard (join_value o)))) (AnswerIs s)
+    answered_so s m None is = tt
+    answered_so s m (Some (JoinSyn backup id token nonce)) is = tt
+    answered_so s m (Some (Third hmac)) is = tt
+    answered_so s m (Some (Answer backup id hmac nonce)) is = by (hmac == join_b64_of m.own_key (peer_key_of m) m.own_nonce nonce)
+      where
+        by : (b : Bool) → IfSome (result_ok (if b then Ok (record { backup = backup; id = id; nonce = nonce }) else Err BadHmac)) (AnswerIs s)
+        by true = (answer_at_a s backup id hmac nonce is.1.0, (is.1.1.0, λ sure. (is.1.1.1 sure).1))
+        by false = tt
+
+    pub answer_is_right : (s : Side) (m : Modes) (items : List Heard) → Every (ItemIs k right w did joined s) items → IfSome (join_answer items m) (AnswerIs s)
+    answer_is_right s m items h = answered_so s m (join_heard step.Answer items) (join_found s step.Answer items h)
+
+  -- ---- an end learns
+
+  -- the peer's key, and on the path that opens the connection, that it may send a DSS
+  pub rekeyed : (joined : Bool) (s : Side) (key : ℕ) (clear : Bool) (m : Modes) → key ≡ drawn_key k right (peer s) → (joined ≡ true → clear ≡ true → m.clear ≡ true) → did Deed.Keyed s
+      → ModesAre k right w did joined s m → ModesAre k right w did joined s (record m { peer_key = Some key; clear = clear })
+  rekeyed joined s key clear m is was keyed h = record {
+    own = h.own;
+    nonce = h.nonce;
+    peer_is = λ sure. is;
+    joins = h.joins;
+    third = λ owes. let knows = h.third owes in (knows.0, λ sure. (ap (λ n. Some n) is, (knows.1 sure).1));
+    cleared = λ joins now. h.cleared joins (was joins now);
+    fell = h.fell;
+    keyed = λ first. keyed;
+    meets = λ sure now. of_b s _ (ap (λ n. Some n) is);
+  }
+
+  pub rekeyed_knows : (s : Side) (key : ℕ) (clear : Bool) (m : Modes) → key ≡ drawn_key k right (peer s) → Knows k right w did s m → Knows k right w did s (record m { peer_key = Some key; clear = clear })
+  rekeyed_knows A key clear m is knows = (knows.0, λ sure. ap (λ n. Some n) is)
+  rekeyed_knows B key clear m is knows = (knows.0, λ sure. (ap (λ n. Some n) is, (knows.1 sure).1))
+
+  never_joins : (joined : Bool) (P : Type 0) → joined ≡ false → joined ≡ true → P
+  never_joins joined P first joins = absurd (both_ways joined first joins)
+
+  -- the book noted them, or nothing changes
+  pub keys_are : (joined : Bool) (s : Side) (r : Reply) (o : Option KeyPair) (e : PathEnd) → IfSome o (PairIs joined s) → (is_noted r ≡ true → did Deed.Keyed s)
+      → EndIs k right w did joined s e → EndIs k right w did joined s (after_keys r o e)
+  keys_are joined s r o e pair keyed h = record {
+    modes = modes r o pair keyed;
+    items = h.items;
+    woken = λ is up. knows r o pair (h.woken is up);
+    past = h.past;
+    carries = h.carries;
+    queued = h.queued;
+    failing = h.failing;
+  }
+    where
+      modes : (r : Reply) (o : Option KeyPair) → IfSome o (PairIs joined s) → (is_noted r ≡ true → did Deed.Keyed s) → ModesAre k right w did joined s (keys_in r o e.modes)
+      modes (replies.Send reply) o pair keyed = h.modes
+      modes (replies.Reassembly reply) o pair keyed = h.modes
+      modes replies.Done o pair keyed = h.modes
+      modes (replies.Control reply) o pair keyed = by reply o pair keyed
+        where
+          by : (reply : ControlReply) (o : Option KeyPair) → IfSome o (PairIs joined s) → (is_noted (replies.Control reply) ≡ true → did Deed.Keyed s)
+              → ModesAre k right w did joined s (keys_in (replies.Control reply) o e.modes)
+          by control_replies.Noted (Some keys) pair keyed = rekeyed joined s keys.peer true e.modes pair.1.1 (λ joins now. never_joins joined _ pair.0 joins) (keyed refl) h.modes
+          by control_replies.Noted None pair keyed = h.modes
+          by control_replies.NotYet o pair keyed = h.modes
+          by _ o pair keyed = h.modes
+
+      knows : (r : Reply) (o : Option KeyPair) → IfSome o (PairIs joined s) → Knows k right w did s e.modes → Knows k right w did s (keys_in r o e.modes)
+      knows (replies.Send reply) o pair has = has
+      knows (replies.Reassembly reply) o pair has = has
+      knows replies.Done o pair has = has
+      knows (replies.Control reply) o pair has = by reply o pair
+        where
+          by : (reply : ControlReply) (o : Option KeyPair) → IfSome o (PairIs joined s) → Knows k right w did s (keys_in (replies.Control reply) o e.modes)
+          by control_replies.Noted (Some keys) pair = rekeyed_knows s keys.peer true e.modes pair.1.1 has
+          by control_replies.Noted None pair = has
+          by control_replies.NotYet o pair = has
+          by _ o pair = has
+
+  pub keys_stay : (s : Side) (r : Reply) (o : Option KeyPair) (p : PathState Carried) → IfSome o (PairIs (is_joined p.profile) s) → Stays s (after_keys r o (end_at s p)) p
+  keys_stay s r o p pair is has = knows r o pair
+    where
+      m : Modes
+      m = (end_at s p).modes
+
+      knows : (r : Reply) (o : Option KeyPair) → IfSome o (PairIs (is_joined p.profile) s) → Knows k right w did s (keys_in r o m)
+      knows (replies.Send reply) o pair = has
+      knows (replies.Reassembly reply) o pair = has
+      knows replies.Done o pair = has
+      knows (replies.Control reply) o pair = by reply o pair
+        where
+          by : (reply : ControlReply) (o : Option KeyPair) → IfSome o (PairIs (is_joined p.profile) s) → Knows k right w did s (keys_in (replies.Control reply) o m)
+          by control_replies.Noted (Some keys) pair = rekeyed_knows s keys.peer true m pair.1.1 has
+          by control_replies.Noted None pair = has
+          by control_replies.NotYet o pair = has
+          by _ o pair = has
+
+  -- ---- a join begins
+
+  -- by the keys that the book of this side tells, which joined by that
+  abbrev pub BeginIs : Side → KeyPair → Type 0
+  BeginIs s keys = (keys.own ≡ drawn_key k right s) × (w s × (right ≡ true → keys.peer ≡ drawn_key k right (peer s)))
+
+  pub sure_right : (joined : Bool) → joined ≡ true → sure_if k right joined ≡ true → right ≡ true
+  sure_right true is sure = sure
+  sure_right false is sure = absurd (false≢true is)
+
+  pub opened_end : (s : Side) (o : Option KeyPair) (e : PathEnd) → IfSome o (BeginIs s) → EndIs k right w did true s e → (s ≡ A) → EndIs k right w did true s (opened_by o e)
+  opened_end s None e is h a = h
+  opened_end A (Some keys) e is h a = record {
+    modes = record {
+      own = is.0;
+      nonce = h.modes.nonce;
+      peer_is = λ sure. is.1.1 sure;
+      joins = h.modes.joins;
+      third = λ owes. let knows = h.modes.third owes in (knows.0, λ sure. (ap (λ n. Some n) (is.1.1 sure), (knows.1 sure).1));
+      cleared = h.modes.cleared;
+      fell = h.modes.fell;
+      keyed = λ first. absurd (false≢true (sym first));
+      meets = λ sure now. tt;
+    };
+    items = h.items;
+    woken = λ joined up. (is.1.0, λ sure. ap (λ n. Some n) (is.1.1 sure));
+    past = λ joined so. h.past refl (begun (is_waiting e.tcp.state) so);
+    carries = h.carries;
+    queued = h.queued;
+    failing = h.failing;
+  }
+    where
+      begun : (b : Bool) → is_past (if b then after_begin e.tcp else e.tcp).state ≡ true → is_past e.tcp.state ≡ true
+      begun true so = absurd (false≢true so)
+      begun false so = so
+  opened_end B (Some keys) e is h a = cc
+
+  pub opened_stays : (o : Option KeyPair) (e : PathEnd) → IfSome o (BeginIs A) → Knows k right w did A e.modes → Knows k right w did A (opened_by o e).modes
+  opened_stays None e is has = has
+  opened_stays (Some keys) e is has = (is.1.0, λ sure. ap (λ n. Some n) (is.1.1 sure))
+
+  -- B hears the join that A asks for
+  pub joined_end : (s : Side) (keys : KeyPair) (asked : Asked) (e : PathEnd) → BeginIs s keys → AskedIs true s asked → EndIs k right w did true s e
+      → EndIs k right w did true s (joined_by keys asked e)
+  joined_end s keys asked e is heard h = record {
+    modes = record {
+      own = is.0;
+      nonce = h.modes.nonce;
+      peer_is = λ sure. is.1.1 sure;
+      joins = λ owes. refl;
+      third = λ owes. (is.1.0, met);
+      cleared = h.modes.cleared;
+      fell = h.modes.fell;
+      keyed = λ first. absurd (false≢true (sym first));
+      meets = λ sure now. of_b s _ (ap (λ n. Some n) (is.1.1 sure));
+    };
+    items = h.items;
+    woken = λ joined up. (is.1.0, λ sure. met_needs k right s (joined_by keys asked e).modes (met sure));
+    past = λ joined so. subst w heard.1.0 is.1.0;
+    carries = h.carries;
+    queued = h.queued;
+    failing = h.failing;
+  }
+    where
+      met : right ≡ true → HasMet k right s (joined_by keys asked e).modes
+      met sure = (ap (λ n. Some n) (is.1.1 sure), (heard.1.1.1 sure).1)
+
+  pub joined_knows : (s : Side) (keys : KeyPair) (asked : Asked) (e : PathEnd) → BeginIs s keys → AskedIs true s asked → Knows k right w did s (joined_by keys asked e).modes
+  joined_knows s keys asked e is heard = (is.1.0, λ sure. met_needs k right s (joined_by keys asked e).modes (ap (λ n. Some n) (is.1.1 sure), (heard.1.1.1 sure).1))
+
+  pub joined_waits : (keys : KeyPair) (asked : Asked) (e : PathEnd) → is_waiting (joined_by keys asked e).tcp.state ≡ true → is_waiting e.tcp.state ≡ true
+  joined_waits keys asked e = by (is_listening e.tcp.state)
+    where
+      by : (b : Bool) → is_waiting (if b then after_syn (unkept None) (syn_alone e.treated.window) e.tcp else e.tcp).state ≡ true → is_waiting e.tcp.state ≡ true
+      by true waiting = absurd (false≢true waiting)
+      by false waiting = waiting
+
+  -- this side knows, and the other one does where it knew
+  pub to_both : (s t : Side) (e : PathEnd) (p : PathState Carried) → Knows k right w did s e.modes → (same_side t s ≡ false → Knows k right w did t (end_at t p).modes) → Knows k right w did t (end_at t (with_end s e p)).modes
+  to_both A A e p own other = own
+  to_both B B e p own other = own
+  to_both A B e p own other = other refl
+  to_both B A e p own other = other refl
+
+-- ---- the more sides joined
+
+module _ (k : Secrets) (right : Bool) (w u : Side → Type 0) (did does : Deed → Side → Type 0) (more : (s : Side) → w s → u s) (further : (d : Deed) (s : Side) → did d s → does d s) where
+  more_b : (s : Side) → OfB s (w B) → OfB s (u B)
+  more_b A h = h
+  more_b B h = more B h
+
+  more_shown : (s : Side) (keys : CapableKeys) → ShownBy k right w did s keys → ShownBy k right u does s keys
+  more_shown s NoKey h = h
+  more_shown s (Sender sender) h = h
+  more_shown s (Both sender receiver) h = further Deed.Keyed s h
+  more_shown s (WithData sender receiver len checksum) h = further Deed.Keyed s h
+
+  more_address : (s : Side) (echo : Bool) (id : ℕ) (address : Address) (port hmac : Option ℕ) → AddressIs k right w did s echo id address port hmac → AddressIs k right u does s echo id address port hmac
+  more_address s true id address port hmac h = h
+  more_address s false id address port (Some hmac) h = (h.0, further Deed.Keyed (peer s) h.1)
+  more_address s false id address port None h = h
+
+  more_for : (s : Side) → KeysFor k right w did s → KeysFor k right u does s
+  more_for A h = h
+  more_for B h = further Deed.Keyed A h
+
+  more_heard : (s : Side) (notice : PeerNotice) → PeerNoteIs k right w did s notice → PeerNoteIs k right u does s notice
+  more_heard s (peer_notes.AddAddr id address port hmac) h = (h.0, further Deed.Keyed s h.1)
+  more_heard s (peer_notes.AddEcho id) h = h
+  more_heard s (peer_notes.Removed id) h = h
+  more_heard s (peer_notes.Prio backup) h = h
+
+  more_note : (s : Side) (notice : OwnNotice) → NoteIs k right w did s notice → NoteIs k right u does s notice
+  more_note s (own_notes.AddAddr id) h = (h.0, further Deed.Keyed (peer s) h.1)
+  more_note s (own_notes.AddEcho id address port) h = h
+  more_note s (own_notes.Removes id) h = h
+  more_note s (own_notes.Prio backup) h = h
+
+  more_option : (joined : Bool) (s : Side) (o : PlainOption) → OptionIs k right w did joined s o → OptionIs k right u does joined s o
+  more_option joined s (Capable flag_a flag_c keys) h = (h.0, λ first. more_shown s keys (h.1 first))
+  more_option joined s (Join form) h = (h.0, (more s h.1.0, h.1.1))
+  more_option joined s (Dss next mapping) h = λ joins. more_b s (h joins)
+  more_option joined s (AddAddr echo id address port hmac) h = more_address s echo id address port hmac h
+  more_option joined s (Remove ids) h = h
+  more_option joined s (Prio backup) h = h
+  more_option joined s (Fail place) h = λ joins. more_b s (h joins)
+  more_option joined s (FastClose key) h = further Deed.Closed s h
+  more_option joined s (Reset transient reason) h = h
+
+  more_item : (joined : Bool) (s : Side) (item : Heard) → ItemIs k right w did joined s item → ItemIs k right u does joined s item
+  more_item joined s (says.Keys own other) h = (h.0, (h.1.0, h.1.1, more_for s h.1.2))
+  more_item joined s (says.PeerKey key) h = h
+  more_item joined s (says.Join form) h = (h.0, (h.1.0, (more (peer s) h.1.1.0, h.1.1.1)))
+  more_item joined s (says.Notice notice) h = more_heard s notice h
+  more_item joined s says.Fail h = λ joins. more_b (peer s) (h joins)
+  more_item joined s (says.FastClose key) h = further Deed.Closed (peer s) h
+  more_item joined s says.Dss h = λ joins. more_b (peer s) (h joins)
+  more_item joined s (says.Mapping fin) h = h
+  more_item joined s (says.InfiniteMapping place position) h = h
+  more_item joined s (says.DataAck next window) h = h
+  more_item joined s (says.DataFin place) h = h
+
+  more_knows : (s : Side) (m : Modes) → Knows k right w did s m → Knows k right u does s m
+  more_knows s m h = (more s h.0, h.1)
+
+  more_end : (joined : Bool) (s : Side) (e : PathEnd) → EndIs k right w did joined s e → EndIs k right u does joined s e
+  more_end joined s e h = record {
+    modes = record {
+      own = h.modes.own;
+      nonce = h.modes.nonce;
+      peer_is = h.modes.peer_is;
+      joins = h.modes.joins;
+      third = λ owes. let knows = h.modes.third owes in (more s knows.0, knows.1);
+      cleared = λ joins now. more B (h.modes.cleared joins now);
+      fell = λ is. let both = h.modes.fell is in (both.0, further Deed.Fell s both.1);
+      keyed = λ first. has e.modes.peer_key (h.modes.keyed first);
+      meets = h.modes.meets;
+    };
+    items = record { each = λ i x at. more_item joined s x (h.items.each i x at) };
+    woken = λ joins up. more_knows s e.modes (h.woken joins up);
+    past = λ joins so. more B (h.past joins so);
+    carries = by e.notices.carrier h.carries;
+    queued = record { each = λ i x at. more_note s x (h.queued.each i x at) };
+    failing = λ joins. failed e.treated.failed_mapping (h.failing joins);
+  }
+    where
+      failed : (o : Option ℕ) → IfSome o (λ place. OfB s (w B)) → IfSome o (λ place. OfB s (u B))
+      failed None joins = tt
+      failed (Some place) joins = more_b s joins
+
+      has : (o : Option ℕ) → IfSome o (λ key. did Deed.Keyed s) → IfSome o (λ key. does Deed.Keyed s)
+      has None keyed = tt
+      has (Some key) keyed = further Deed.Keyed s keyed
+
+      by : (o : Option ℕ) → IfSome o (λ key. did Deed.Closed s) → IfSome o (λ key. does Deed.Closed s)
+      by None closed = tt
+      by (Some key) closed = further Deed.Closed s closed
+
+  pub more_is : (p : PathState Carried) → PathIs k right w did p → PathIs k right u does p
+  more_is p h = record {
+    a = more_end (is_joined p.profile) A p.a h.a;
+    b = more_end (is_joined p.profile) B p.b h.b;
+    copies = record { each = λ i f at. record { each = λ j o there. more_option (is_joined p.profile) (peer f.to) o ((h.copies.each i f at).each j o there) } };
+    known = λ x spoken. more_voice x (h.known x spoken);
+    waits = h.waits;
+  }
+    where
+      more_voice : (x : Voice) → VoiceIs k right w did p x → VoiceIs k right u does p x
+      more_voice (Voice.Says t) has = λ joins. more_knows t (end_at t p).modes (has joins)
+      more_voice (Voice.Falls t) has = (has.0, further Deed.Fell t has.1)
+      more_voice (Voice.Aborts t) has = (further Deed.Stopped t has.0, further Deed.Closed (peer t) has.1)

@@ -1,0 +1,584 @@
+-- A's side is sure of Multipath TCP only where A may send a DSS on path 0; so no other path begins before.
+use Rattle.std.proofs.Common.{◌≡◌, refl, sym, ◌∙◌, ap, subst, ℕ, zero, suc, ◌+◌, ◌⊎◌, inl, inr, ⊎_elim, ◌==◌, Bool, true, false, if◌then◌else◌, Option, Some, None, List, [], ◌∷◌, map, set, arith, ◌&&◌, not, is_none}
+use Rattle.std.proofs.lemmas.Bool.{false≢true, both_ways, and_parts}
+use Rattle.std.specs.List.{slice_get, list_all}
+use Rattle.outside_kit.specs.declared.side.Side.{Side}
+use Rattle.outside_kit.specs.declared.side.Side.TheVariants.{A, B}
+use Rattle.fallback_state.specs.declared.fall.Event.TheVariants as events
+use Rattle.fallback_state.specs.declared.fall.Fall.{Fall}
+use Rattle.fallback_state.specs.declared.fall.Mode.{Mode}
+use Rattle.fallback_state.specs.Modes.{is_identity, is_starting, reads_mappings, writes_mappings, receiving, sending}
+use Rattle.fallback_state.specs.declared.fall.Verdict.TheVariants.{Stay, SendFail}
+use Rattle.fallback_state.specs.Table.{stays, after_keys as fall_keys, after_plain as fall_plain, goes, breaks, fall_step, is_failed_path}
+use Rattle.fallback_state.specs.declared.fall.Event.{Event as FallEvent}
+use Rattle.fallback_state.specs.declared.fall.Verdict.{Verdict}
+use Rattle.fallback_state.specs.declared.fall.Mode.TheVariants as modes
+use Rattle.loss_recovery.specs.declared.windows.Pending.{Pending}
+use Rattle.reassembly_book.specs.declared.call.ReassemblyCall.TheVariants as reassembly_calls
+use Rattle.control_book.specs.declared.call.ControlCall.{ControlCall}
+use Rattle.control_book.specs.declared.call.ControlCall.TheVariants as calls
+use Rattle.control_book.specs.declared.call.Notice.{Notice}
+use Rattle.control_book.specs.declared.call.Notice.TheVariants as notices
+use Rattle.control_book.specs.Control.{Control}
+use Rattle.control_book.specs.Replies as control
+use Rattle.control_book.specs.Replies.{is_sure}
+use Rattle.control_book.specs.Steps as controlling
+use Rattle.control_book.specs.Registry.{sole as sole_path}
+use Rattle.subflow_send.specs.Records.{Record}
+use Rattle.stream_lanes.specs.Words.{Every}
+use Rattle.stream_lanes.proofs.Lists.{in_set, in_map}
+use Rattle.actor_desk.specs.declared.ask.Ask.{Ask}
+use Rattle.actor_desk.specs.declared.ask.Ask.TheVariants as asks
+use Rattle.actor_desk.specs.Books.{books_in}
+use Rattle.actor_desk.specs.Desk.{SixBooks, reply_of, after_ask}
+use Rattle.stream_apps.specs.declared.duty.AppDuty.{AppDuty}
+use Rattle.stream_apps.specs.declared.duty.AppDuty.TheVariants as app_duties
+use Rattle.stream_apps.specs.Apps.{AppState}
+use Rattle.stream_apps.specs.AppSteps.{app_ask}
+use Rattle.join_handshake.specs.declared.hearing.JoinSyn.{JoinSyn}
+use Rattle.path_agenda.specs.declared.notice.PeerNotice.{PeerNotice}
+use Rattle.path_agenda.specs.declared.notice.PeerNotice.TheVariants as peer_notes
+use Rattle.path_agenda.specs.Agenda.{start_of_turn}
+use Rattle.path_agenda.specs.Items.{key_heard, keys_heard}
+use Rattle.path_agenda.specs.declared.duty.Duty.{Duty}
+use Rattle.path_agenda.specs.declared.duty.Duty.TheVariants as duties
+use Rattle.path_agenda.specs.declared.duty.AskDuty.TheVariants as ask_duties
+use Rattle.path_agenda.specs.declared.duty.SendDuty.TheVariants as send_duties
+use Rattle.path_agenda.specs.declared.duty.SilentDuty.TheVariants as silent_duties
+use Rattle.path_agenda.specs.declared.duty.StepDuty.TheVariants as step_duties
+use Rattle.path_agenda.specs.declared.heard.Heard.{Heard}
+use Rattle.path_agenda.specs.declared.heard.Heard.TheVariants as says
+use Rattle.path_agenda.specs.declared.keys.KeyPair.{KeyPair}
+use Rattle.path_core.specs.Addressing.{notice_ask}
+use Rattle.path_core.specs.declared.event.Event.{Event}
+use Rattle.path_core.specs.declared.event.Event.TheVariants as happening
+use Rattle.path_core.specs.Breaking.{break_ask, reset_of}
+use Rattle.path_core.specs.Duties.{stands, ask_for, passed}
+use Rattle.path_core.specs.Emission.{first_unsent, data_ask}
+use Rattle.path_core.specs.Events.{next_event, step_for}
+use Rattle.path_core.specs.Joining.{asked_at, join_heard_ask}
+use Rattle.path_core.specs.Opening.{peer_key_ask, opened_ask}
+use Rattle.path_core.specs.Passing.{piece_of, piece_ask, data_fin_of, fin_ask, rate_ask, plain_fin}
+use Rattle.path_core.specs.Deliver.{Piece}
+use Rattle.path_core.specs.Handover.{sends}
+use Rattle.path_core.specs.Starts.{waiting_path}
+use Rattle.path_core.specs.State.{PathState, end_at, path_of, with_agenda}
+use Rattle.path_core.specs.Steps.{settled, asks_first, answers}
+use Rattle.path_core.specs.Treating.{is_clash, fell_ask, mapping_ask, item_ask, item_of, plain_ack_ask, breaks_by_ack}
+use Rattle.path_core.specs.Turns.{IsSettled}
+use Rattle.path_core.specs.Values.{Carried, values}
+use Rattle.path_core.specs.Words.{item_at}
+use Rattle.world_laws.specs.Actors.{ActorCrew}
+use Rattle.world_laws.specs.Laws.{Always}
+use Rattle.world_laws.specs.Openings.{PathPlan, Start, path_begins, opened_world}
+use Rattle.world_laws.specs.Worlds.{greatest, world_run}
+use Rattle.world_laws.proofs.Joins.Asleep.{is_idle, AreIdle, IsAsleep, begins_nothing, takes_asleep, begins_asleep, first_asleep}
+use Rattle.world_laws.proofs.Worlds.CastLifting.{Has, turns_have}
+use Rattle.world_laws.proofs.Worlds.Casts.{Walker, Cast, world_of, walking, walked, after_a, after_b, after_path, Every-put, walks_on, next_cast, first_cast, first_fare, opened_is, new_walker, walker_there}
+use Rattle.world_laws.proofs.Falls.ClearStays.{takes_clear, next_clear}
+use Rattle.world_laws.proofs.Weaving.Journals.{books_after}
+use Rattle.world_laws.proofs.Lanes.OfAWorld.{FirstIsClear, IsClearAt, SureIsClear}
+use Rattle.world_laws.proofs.Keys.DssIsTheSign.{IsLed, Leads, IsUnclear, LeadsWell, unled, takes_leads, begins_lead, next_leads, unheard}
+use Rattle.world_laws.proofs.Lanes.Settling.{stands_anyway}
+use Rattle.world_laws.proofs.Falls.FailedChecks.{fail_asks_so, subflow_acks_so}
+
+-- ---- calls by which A's side doesn't become sure
+
+abbrev IsOfB : Side → Type 0
+IsOfB A = ⊥
+IsOfB B = Unit {0}
+
+-- no sign of Multipath TCP that A hears
+abbrev IsMildEvent : FallEvent → Side → Type 0
+IsMildEvent events.MappingHeard s = IsOfB s
+IsMildEvent events.AckHeard s = IsOfB s
+IsMildEvent _ s = Unit {0}
+
+abbrev IsMildCall : ControlCall → Side → Type 0
+IsMildCall (calls.Fell path event) s = IsMildEvent event s
+IsMildCall _ s = Unit {0}
+
+abbrev IsMild : Ask → Type 0
+IsMild (asks.Control s call) = IsMildCall call s
+IsMild _ = Unit {0}
+
+either_mode : (m : Mode) (b : Bool) (c d : Control) → c.fall.mode ≡ m → d.fall.mode ≡ m → (if b then c else d).fall.mode ≡ m
+either_mode m true c d x y = x
+either_mode m false c d x y = y
+
+notice_mode : (n : Notice) (path : ℕ) (c : Control) → (controlling.after_notice n path c).fall.mode ≡ c.fall.mode
+notice_mode (notices.Withdraw id) path c = refl
+notice_mode notices.Nothing path c = refl
+notice_mode (notices.Announce id) path c = refl
+notice_mode (notices.Carrier key) path c = refl
+notice_mode notices.Reset path c = refl
+
+-- keys that are heard confirm the side, and leave its mode
+keys_mode : (fall : Fall) → (fall_keys fall).0.mode ≡ fall.mode
+keys_mode fall = by (is_identity fall.mode)
+  where
+    by : (b : Bool) → (if b then stays fall else (record fall { confirmed = true }, Stay)).0.mode ≡ fall.mode
+    by true = refl
+    by false = refl
+
+-- a side that is sure now was sure before
+abbrev WasSure : Fall → Fall → Type 0
+WasSure f g = is_sure g.mode ≡ true → is_sure f.mode ≡ true
+
+row_sure : (b : Bool) (f : Fall) (x y : Fall × Verdict) → WasSure f x.0 → WasSure f y.0 → WasSure f (if b then x else y).0
+row_sure true f x y p q = p
+row_sure false f x y p q = q
+
+receiving_unsure : (m : Mode) → is_sure (receiving m) ≡ true → ⊥
+receiving_unsure modes.Starting is = false≢true is
+receiving_unsure modes.Sure is = false≢true is
+receiving_unsure modes.Identity is = false≢true is
+receiving_unsure modes.InfiniteSend is = false≢true is
+receiving_unsure modes.InfiniteReceive is = false≢true is
+receiving_unsure modes.InfiniteBoth is = false≢true is
+receiving_unsure modes.Aborted is = false≢true is
+
+sending_unsure : (m : Mode) → is_sure (sending m) ≡ true → ⊥
+sending_unsure modes.Starting is = false≢true is
+sending_unsure modes.Sure is = false≢true is
+sending_unsure modes.Identity is = false≢true is
+sending_unsure modes.InfiniteSend is = false≢true is
+sending_unsure modes.InfiniteReceive is = false≢true is
+sending_unsure modes.InfiniteBoth is = false≢true is
+sending_unsure modes.Aborted is = false≢true is
+
+plain_sure : (f : Fall) → WasSure f (fall_plain f).0
+plain_sure f = row_sure (is_starting f.mode && not f.joined) f (goes modes.Identity f) (stays f) (λ is. absurd (false≢true is)) (λ is. is)
+
+event_sure : (path : ℕ) (sole : Bool) (event : FallEvent) (f : Fall) → IsMildEvent event A → WasSure f (fall_step f path sole event).0
+event_sure path sole events.MappingHeard f mild = absurd mild
+event_sure path sole events.AckHeard f mild = absurd mild
+event_sure path sole events.PlainHandshake f mild = plain_sure f
+event_sure path sole events.PlainData f mild = plain_sure f
+event_sure path sole events.PlainAck f mild = plain_sure f
+event_sure path sole events.InfiniteHeard f mild =
+    row_sure (not (reads_mappings f.mode)) f (stays f) _ (λ is. is)
+    (row_sure (sole && is_failed_path f.failed path) f (goes (receiving f.mode) f) _ (λ is. absurd (receiving_unsure f.mode is))
+    (row_sure (writes_mappings f.mode && not f.joined && is_none f.failed) f (goes modes.Identity f) (breaks 1 f) (λ is. absurd (false≢true is)) (λ is. is)))
+event_sure path sole events.KeysHeard f mild = row_sure (is_identity f.mode) f (stays f) (record f { confirmed = true }, Stay) (λ is. is) (λ is. is)
+event_sure path sole events.CheckFailed f mild =
+    row_sure (not (reads_mappings f.mode)) f (stays f) _ (λ is. is) (row_sure sole f (record f { failed = Some path }, SendFail) (breaks 6 f) (λ is. is) (λ is. is))
+event_sure path sole (events.FailHeard contiguous) f mild =
+    row_sure (not (writes_mappings f.mode)) f (stays f) _ (λ is. is) (row_sure (sole && contiguous) f (goes (sending f.mode) f) (breaks 1 f) (λ is. absurd (sending_unsure f.mode is)) (λ is. is))
+event_sure path sole events.Stop f mild = λ is. absurd (false≢true is)
+
+abbrev IsNoEvent : ControlCall → Type 0
+IsNoEvent (calls.Fell path event) = ⊥
+IsNoEvent calls.FastClose = ⊥
+IsNoEvent (calls.FastHeard key) = ⊥
+IsNoEvent _ = Unit {0}
+
+call_mode : (c : Control) (call : ControlCall) → IsNoEvent call → IsMildCall call A → (controlling.after c call).fall.mode ≡ c.fall.mode
+call_mode c (calls.Look path) none mild = notice_mode (control.notice_on c path) path c
+call_mode c (calls.PeerKey key) none mild = refl
+call_mode c (calls.Keys own other) none mild = either_mode c.fall.mode (own == c.keys.own) _ _ (keys_mode c.fall) refl
+call_mode c (calls.Fell path event) none mild = absurd none
+call_mode c (calls.JoinBegin path) none mild = either_mode c.fall.mode _ _ _ refl refl
+call_mode c (calls.JoinHeard path token) none mild = either_mode c.fall.mode _ _ _ refl refl
+call_mode c (calls.Live path backup) none mild = refl
+call_mode c (calls.Dead path) none mild = refl
+call_mode c (calls.Backup path on) none mild = refl
+call_mode c (calls.Rate path window rtt) none mild = refl
+call_mode c (calls.Announce id) none mild = refl
+call_mode c (calls.Withdraw id) none mild = either_mode c.fall.mode _ _ _ refl refl
+call_mode c (calls.Heard id address port hmac) none mild = refl
+call_mode c (calls.Echoed id) none mild = either_mode c.fall.mode _ _ _ refl refl
+call_mode c (calls.Removed id) none mild = either_mode c.fall.mode _ _ _ refl refl
+call_mode c calls.FastClose none mild = absurd none
+call_mode c (calls.FastHeard key) none mild = absurd none
+
+call_sure : (c : Control) (call : ControlCall) → IsMildCall call A → WasSure c.fall (controlling.after c call).fall
+call_sure c (calls.Look path) mild = λ is. ap is_sure (sym (call_mode c (calls.Look path) tt mild)) ∙ is
+call_sure c (calls.PeerKey key) mild = λ is. ap is_sure (sym (call_mode c (calls.PeerKey key) tt mild)) ∙ is
+call_sure c (calls.Keys own other) mild = λ is. ap is_sure (sym (call_mode c (calls.Keys own other) tt mild)) ∙ is
+call_sure c (calls.Fell path event) mild = event_sure path (sole_path c.paths path) event c.fall mild
+call_sure c (calls.JoinBegin path) mild = λ is. ap is_sure (sym (call_mode c (calls.JoinBegin path) tt mild)) ∙ is
+call_sure c (calls.JoinHeard path token) mild = λ is. ap is_sure (sym (call_mode c (calls.JoinHeard path token) tt mild)) ∙ is
+call_sure c (calls.Live path backup) mild = λ is. ap is_sure (sym (call_mode c (calls.Live path backup) tt mild)) ∙ is
+call_sure c (calls.Dead path) mild = λ is. ap is_sure (sym (call_mode c (calls.Dead path) tt mild)) ∙ is
+call_sure c (calls.Backup path on) mild = λ is. ap is_sure (sym (call_mode c (calls.Backup path on) tt mild)) ∙ is
+call_sure c (calls.Rate path window rtt) mild = λ is. ap is_sure (sym (call_mode c (calls.Rate path window rtt) tt mild)) ∙ is
+call_sure c (calls.Announce id) mild = λ is. ap is_sure (sym (call_mode c (calls.Announce id) tt mild)) ∙ is
+call_sure c (calls.Withdraw id) mild = λ is. ap is_sure (sym (call_mode c (calls.Withdraw id) tt mild)) ∙ is
+call_sure c (calls.Heard id address port hmac) mild = λ is. ap is_sure (sym (call_mode c (calls.Heard id address port hmac) tt mild)) ∙ is
+call_sure c (calls.Echoed id) mild = λ is. ap is_sure (sym (call_mode c (calls.Echoed id) tt mild)) ∙ is
+call_sure c (calls.Removed id) mild = λ is. ap is_sure (sym (call_mode c (calls.Removed id) tt mild)) ∙ is
+call_sure c calls.FastClose mild = λ is. absurd (false≢true is)
+call_sure c (calls.FastHeard key) mild = by (key == c.keys.own)
+  where
+    by : (b : Bool) → WasSure c.fall (if b then controlling.after_event 0 false events.Stop c else c).fall
+    by true = λ is. absurd (false≢true is)
+    by false = λ is. is
+
+mild_sure : (six : SixBooks) (x : Ask) → IsMild x → WasSure six.control_a.fall (after_ask x six).control_a.fall
+mild_sure six (asks.Control A call) mild = call_sure six.control_a call mild
+mild_sure six (asks.Control B call) mild = λ is. is
+mild_sure six (asks.Send A call) mild = λ is. is
+mild_sure six (asks.Send B call) mild = λ is. is
+mild_sure six (asks.Reassembly A call) mild = λ is. is
+mild_sure six (asks.Reassembly B call) mild = λ is. is
+mild_sure six (asks.Local step) mild = λ is. is
+
+app_mild : (d : AppDuty) (a : AppState) → IsMild (app_ask d a)
+app_mild app_duties.FastClose a = tt
+app_mild app_duties.AbortSend a = tt
+app_mild app_duties.AbortReceive a = tt
+app_mild app_duties.Write a = tt
+app_mild app_duties.Close a = tt
+app_mild app_duties.Read a = tt
+app_mild app_duties.End a = tt
+
+-- ---- what a path asks while A's end isn't clear
+
+module _ (p : PathState Carried) where
+  data_mild : (s : Side) (o : Option Record) → IsMild (data_ask values s o p)
+  data_mild s None = tt
+  data_mild s (Some r) = tt
+
+  step_mild : (o : Option Event) → IsMild (step_for (path_of p) o)
+  step_mild None = tt
+  step_mild (Some (happening.Joins tick)) = tt
+  step_mild (Some (happening.Takes line)) = tt
+  step_mild (Some (happening.Arrives due)) = tt
+  step_mild (Some (happening.Fires s tick)) = tt
+
+  key_mild : (s : Side) (o : Option ℕ) → IsMild (peer_key_ask s o p)
+  key_mild s None = tt
+  key_mild s (Some key) = tt
+
+  opened_mild : (s : Side) (o : Option KeyPair) → IsMild (opened_ask s o p)
+  opened_mild s None = tt
+  opened_mild s (Some keys) = tt
+
+  join_mild : (s : Side) (o : Option JoinSyn) → IsMild (join_heard_ask s o p)
+  join_mild s None = tt
+  join_mild s (Some asked) = tt
+
+  break_mild : (s : Side) (reason : ℕ) → IsMild (break_ask values s reason p)
+  break_mild s reason = by (end_at s p).treated.asked
+    where
+      by : (b : Bool) → IsMild (if b then asks.Reassembly s reassembly_calls.AckOut else sends values s (reset_of s (Some reason) p) p)
+      by true = tt
+      by false = tt
+
+  piece_mild : (s : Side) (o : Option Piece) → IsMild (piece_ask s o)
+  piece_mild s None = tt
+  piece_mild s (Some piece) = tt
+
+  fin_mild : (s : Side) (o : Option ℕ) → IsMild (fin_ask s o)
+  fin_mild s None = tt
+  fin_mild s (Some place) = tt
+
+  rate_mild : (s : Side) (o : Option Pending) → IsMild (rate_ask s o p)
+  rate_mild s None = tt
+  rate_mild s (Some pending) = tt
+
+  plain_ack_mild : (s : Side) → IsMild (plain_ack_ask values s p)
+  plain_ack_mild s = by (breaks_by_ack p.profile (end_at s p))
+    where
+      by : (b : Bool) → IsMild (if b then break_ask values s 6 p else fell_ask s events.PlainAck p)
+      by true = break_mild s 6
+      by false = tt
+
+  mapping_b : IsMild (mapping_ask values B p)
+  mapping_b = by (is_clash p.b)
+    where
+      by : (b : Bool) → IsMild (if b then break_ask values B 1 p else fell_ask B events.MappingHeard p)
+      by true = break_mild B 1
+      by false = tt
+
+  note_mild : (s : Side) (notice : PeerNotice) → IsMild (notice_ask s notice p)
+  note_mild s (peer_notes.AddAddr id address port hmac) = tt
+  note_mild s (peer_notes.AddEcho id) = tt
+  note_mild s (peer_notes.Removed id) = tt
+  note_mild s (peer_notes.Prio backup) = tt
+
+  item_b : (o : Option Heard) → IsMild (item_ask values B o p)
+  item_b None = tt
+  item_b (Some says.Dss) = tt
+  item_b (Some (says.DataAck next window)) = tt
+  item_b (Some (says.Mapping fin)) = mapping_b
+  item_b (Some (says.DataFin place)) = tt
+  item_b (Some (says.InfiniteMapping place position)) = tt
+  item_b (Some (says.PeerKey key)) = tt
+  item_b (Some (says.Keys own other)) = tt
+  item_b (Some (says.Join form)) = tt
+  item_b (Some (says.Notice notice)) = note_mild B notice
+  item_b (Some says.Fail) = fail_asks_so IsMild B p tt tt
+  item_b (Some (says.FastClose key)) = tt
+
+  -- a sign that A hears comes behind a DSS
+  led_by : (index : ℕ) (ds : List Duty) (item : Heard) → Leads (duties.Step (step_duties.Heard A index) ∷ ds) p → p.a.modes.clear ≡ false → p.a.modes.identity ≡ false → item_at index p.a.treated.items ≡ Some item → IsLed false item
+  led_by index ds item h unclear above is = ⊎_elim
+      (λ is_clear. absurd (both_ways p.a.modes.clear unclear is_clear))
+      (λ (u : IsUnclear (duties.Step (step_duties.Heard A index) ∷ ds) p). unled u.n p.a.treated.items item h.led (unheard p u.n above u.none) (subst (λ n. item_at n p.a.treated.items ≡ Some item) u.follows.0 is))
+      h.clear
+
+  item_a : (index : ℕ) (ds : List Duty) → p.a.modes.identity ≡ false → (o : Option Heard) → item_at index p.a.treated.items ≡ o → Leads (duties.Step (step_duties.Heard A index) ∷ ds) p → p.a.modes.clear ≡ false → IsMild (item_ask values A o p)
+  item_a index ds above None is h unclear = tt
+  item_a index ds above (Some says.Dss) is h unclear = tt
+  item_a index ds above (Some (says.DataAck next window)) is h unclear = tt
+  item_a index ds above (Some (says.Mapping fin)) is h unclear = absurd (false≢true (led_by index ds (says.Mapping fin) h unclear above is))
+  item_a index ds above (Some (says.DataFin place)) is h unclear = absurd (false≢true (led_by index ds (says.DataFin place) h unclear above is))
+  item_a index ds above (Some (says.InfiniteMapping place position)) is h unclear = tt
+  item_a index ds above (Some (says.PeerKey key)) is h unclear = tt
+  item_a index ds above (Some (says.Keys own other)) is h unclear = tt
+  item_a index ds above (Some (says.Join form)) is h unclear = tt
+  item_a index ds above (Some (says.Notice notice)) is h unclear = note_mild A notice
+  item_a index ds above (Some says.Fail) is h unclear = fail_asks_so IsMild A p tt tt
+  item_a index ds above (Some (says.FastClose key)) is h unclear = tt
+
+  item_mild : (index : ℕ) (ds : List Duty) → Leads (duties.Step (step_duties.Heard A index) ∷ ds) p → p.a.modes.clear ≡ false → IsMild (item_ask values A (item_of index p.a) p)
+  item_mild index ds h unclear = by p.a.modes.identity refl
+    where
+      by : (b : Bool) → p.a.modes.identity ≡ b → IsMild (item_ask values A (if b then None else item_at index p.a.treated.items) p)
+      by true plain = tt
+      by false above = item_a index ds above (item_at index p.a.treated.items) refl h unclear
+
+  first_mild : (d : Duty) (ds : List Duty) → Leads (d ∷ ds) p → p.a.modes.clear ≡ false → IsMild (ask_for values d p)
+  first_mild (duties.Ask ask_duties.JoinAgain) ds h unclear = tt
+  first_mild (duties.Step (step_duties.Look s)) ds h unclear = tt
+  first_mild (duties.Ask (ask_duties.Window s)) ds h unclear = tt
+  first_mild (duties.Send (send_duties.Update s)) ds h unclear = tt
+  first_mild (duties.Send (send_duties.FastClose s)) ds h unclear = tt
+  first_mild (duties.Send (send_duties.Notice s)) ds h unclear = tt
+  first_mild (duties.Send (send_duties.Syn s)) ds h unclear = tt
+  first_mild (duties.Step (step_duties.Data s)) ds h unclear = data_mild s (first_unsent (end_at s p))
+  first_mild (duties.Send (send_duties.DataFin s)) ds h unclear = tt
+  first_mild (duties.Send (send_duties.Fin s)) ds h unclear = tt
+  first_mild (duties.Silent (silent_duties.Timer s)) ds h unclear = tt
+  first_mild (duties.Step step_duties.Events) ds h unclear = step_mild (next_event p)
+  first_mild (duties.Ask (ask_duties.SynHeard s)) ds h unclear = tt
+  first_mild (duties.Ask (ask_duties.SynAnswered s)) ds h unclear = tt
+  first_mild (duties.Ask (ask_duties.PeerKey s)) ds h unclear = key_mild s (key_heard (end_at s p).treated.items)
+  first_mild (duties.Send (send_duties.SynAck s)) ds h unclear = tt
+  first_mild (duties.Ask (ask_duties.JoinHeard s)) ds h unclear = join_mild s (asked_at s p)
+  first_mild (duties.Send (send_duties.Refuse s)) ds h unclear = tt
+  first_mild (duties.Ask (ask_duties.Opened s)) ds h unclear = opened_mild s (keys_heard (end_at s p).treated.items)
+  first_mild (duties.Ask (ask_duties.Live s)) ds h unclear = tt
+  first_mild (duties.Step (step_duties.Heard A index)) ds h unclear = item_mild index ds h unclear
+  first_mild (duties.Step (step_duties.Heard B index)) ds h unclear = item_b (item_of index p.b)
+  first_mild (duties.Ask (ask_duties.AckHeard A)) ds h unclear = ⊎_elim (λ is. absurd (both_ways p.a.modes.clear unclear is)) (λ (u : IsUnclear (duties.Ask (ask_duties.AckHeard A) ∷ ds) p). absurd u.follows) h.clear
+  first_mild (duties.Ask (ask_duties.AckHeard B)) ds h unclear = tt
+  first_mild (duties.Ask (ask_duties.FailHeard s)) ds h unclear = tt
+  first_mild (duties.Step (step_duties.PlainAck s)) ds h unclear = plain_ack_mild s
+  first_mild (duties.Ask (ask_duties.PlainHandshake s)) ds h unclear = tt
+  first_mild (duties.Ask (ask_duties.SubflowAck s)) ds h unclear = subflow_acks_so IsMild s (end_at s p) tt (λ next. tt)
+  first_mild (duties.Ask (ask_duties.PlainData s)) ds h unclear = tt
+  first_mild (duties.Ask (ask_duties.GoIdentity s)) ds h unclear = tt
+  first_mild (duties.Step (step_duties.Unmapped s)) ds h unclear = break_mild s 6
+  first_mild (duties.Ask (ask_duties.SubflowFin s)) ds h unclear = fin_mild s (plain_fin (end_at s p))
+  first_mild (duties.Silent (silent_duties.Keep s)) ds h unclear = tt
+  first_mild (duties.Ask (ask_duties.Edge s)) ds h unclear = piece_mild s (piece_of s p)
+  first_mild (duties.Ask (ask_duties.CheckFailed s)) ds h unclear = tt
+  first_mild (duties.Ask (ask_duties.HeardFin s index)) ds h unclear = fin_mild s (data_fin_of index (end_at s p))
+  first_mild (duties.Silent (silent_duties.PassFin s)) ds h unclear = tt
+  first_mild (duties.Ask (ask_duties.AckOut s)) ds h unclear = tt
+  first_mild (duties.Ask (ask_duties.Rate s)) ds h unclear = rate_mild s (end_at s p).tcp.congestion.pending
+  first_mild (duties.Send (send_duties.Acknowledge s)) ds h unclear = tt
+  first_mild (duties.Send (send_duties.Again s)) ds h unclear = tt
+  first_mild (duties.Send (send_duties.Answer s)) ds h unclear = tt
+  first_mild (duties.Send (send_duties.ResetAnswer s)) ds h unclear = tt
+  first_mild (duties.Ask (ask_duties.Return s)) ds h unclear = tt
+  first_mild (duties.Ask (ask_duties.AbortSend s)) ds h unclear = tt
+  first_mild (duties.Ask (ask_duties.AbortReceive s)) ds h unclear = tt
+  first_mild (duties.Ask (ask_duties.Announce s id)) ds h unclear = tt
+  first_mild (duties.Ask (ask_duties.Withdraw s id)) ds h unclear = tt
+  first_mild (duties.Send (send_duties.Resend s)) ds h unclear = tt
+  first_mild (duties.Ask (ask_duties.BreakAck s reason)) ds h unclear = tt
+  first_mild (duties.Send (send_duties.BreakReset s reason)) ds h unclear = tt
+  first_mild (duties.Send (send_duties.Reset s)) ds h unclear = tt
+  first_mild (duties.Send (send_duties.ResetNoted s)) ds h unclear = tt
+  first_mild (duties.Ask (ask_duties.Leave s)) ds h unclear = tt
+  first_mild (duties.Ask (ask_duties.LeaveNoted s)) ds h unclear = tt
+  first_mild (duties.Ask (ask_duties.Dead s)) ds h unclear = tt
+  first_mild duties.End ds h unclear = tt
+
+  -- and one that sleeps
+  idle_mild : (d : Duty) → is_idle d ≡ true → IsMild (ask_for values d p)
+  idle_mild (duties.Ask ask_duties.JoinAgain) idle = tt
+  idle_mild (duties.Step (step_duties.Look s)) idle = tt
+  idle_mild (duties.Ask (ask_duties.Window s)) idle = tt
+  idle_mild (duties.Send (send_duties.Update s)) idle = tt
+  idle_mild (duties.Send (send_duties.FastClose s)) idle = tt
+  idle_mild (duties.Send (send_duties.Notice s)) idle = tt
+  idle_mild (duties.Send (send_duties.Syn s)) idle = tt
+  idle_mild (duties.Step (step_duties.Data s)) idle = data_mild s (first_unsent (end_at s p))
+  idle_mild (duties.Send (send_duties.DataFin s)) idle = tt
+  idle_mild (duties.Send (send_duties.Fin s)) idle = tt
+  idle_mild (duties.Silent (silent_duties.Timer s)) idle = tt
+  idle_mild (duties.Step step_duties.Events) idle = step_mild (next_event p)
+  idle_mild (duties.Ask (ask_duties.Leave s)) idle = tt
+  idle_mild (duties.Ask (ask_duties.LeaveNoted s)) idle = tt
+  idle_mild (duties.Send (send_duties.ResetNoted s)) idle = tt
+  idle_mild (duties.Ask (ask_duties.Announce s id)) idle = tt
+  idle_mild (duties.Ask (ask_duties.Withdraw s id)) idle = tt
+  idle_mild (duties.Ask (ask_duties.Dead s)) idle = tt
+  idle_mild duties.End idle = tt
+  idle_mild _ idle = absurd (false≢true idle)
+
+-- ---- the world
+
+settled_first : (ds : List Duty) (p : PathState Carried) → IsSettled (settled ds p)
+settled_first [] p = tt
+settled_first (d ∷ ds) p = by (stands d p) refl (settled_first ds (passed d p))
+  where
+    by : (b : Bool) → stands d p ≡ b → IsSettled (settled ds (passed d p)) → IsSettled (if b then with_agenda (d ∷ ds) p else settled ds (passed d p))
+    by true is rest = stands_anyway d (d ∷ ds) p ∙ is
+    by false is rest = rest
+
+record Surely (t : Cast Carried) : Type 0 where
+  settled : Every (λ x. IsSettled x.path) t.paths
+  leads : Every (λ x. LeadsWell x.path) t.paths
+  sure : is_sure (books_in t.books).control_a.fall.mode ≡ true → FirstIsClear t.paths
+  others : (n : ℕ) (x : Walker Carried) → slice_get t.paths (suc n) ≡ Some x → IsAsleep x.path ⊎ FirstIsClear t.paths
+
+module _ (t : Cast Carried) (number : ℕ) (x : Walker Carried) (there : slice_get t.paths number ≡ Some x) (d : Duty) (ds : List Duty) (agenda : x.path.agenda ≡ d ∷ ds) (h : Surely t) where
+  abbrev six : SixBooks
+  six = books_in t.books
+
+  abbrev ask : Ask
+  ask = ask_for values d x.path
+
+  abbrev y : Walker Carried
+  y = walked values ask t.books x
+
+  -- path 0 stays clear
+  first_stays : FirstIsClear t.paths → FirstIsClear (set t.paths number y)
+  first_stays clear z at = ⊎_elim
+      (λ same. subst (λ (w : Walker Carried). w.path.a.modes.clear ≡ true) same.1
+      ((takes_clear values (reply_of six ask) x.path).a.0 (clear x (subst (λ n. slice_get t.paths n ≡ Some x) (sym same.0) there))))
+      (λ other. clear z other.1)
+      (in_set t.paths number y 0 z at)
+
+  own_clear : number ≡ 0 → x.path.a.modes.clear ≡ true → FirstIsClear (set t.paths number y)
+  own_clear first clear z at = ⊎_elim
+      (λ same. subst (λ (w : Walker Carried). w.path.a.modes.clear ≡ true) same.1 ((takes_clear values (reply_of six ask) x.path).a.0 clear))
+      (λ other. absurd (other.0 (sym first)))
+      (in_set t.paths number y 0 z at)
+
+  settled_here : IsSettled x.path
+  settled_here = h.settled.each number x there
+
+  leads_here : Leads (d ∷ ds) x.path
+  leads_here = subst (λ xs. Leads xs x.path) agenda (h.leads.each number x there)
+
+  asleep_mild : IsAsleep x.path → IsMild ask
+  asleep_mild sleeps = idle_mild x.path d (and_parts (is_idle d) (list_all is_idle ds) (subst AreIdle agenda sleeps.idle)).0
+
+  clear_or_mild : (n : ℕ) → number ≡ n → FirstIsClear (set t.paths number y) ⊎ IsMild ask
+  clear_or_mild zero is = by x.path.a.modes.clear refl
+    where
+      by : (b : Bool) → x.path.a.modes.clear ≡ b → FirstIsClear (set t.paths number y) ⊎ IsMild ask
+      by true clear = inl (own_clear is clear)
+      by false unclear = inr (first_mild x.path d ds leads_here unclear)
+  clear_or_mild (suc n) is = ⊎_elim
+      (λ sleeps. inr (asleep_mild sleeps))
+      (λ clear. inl (first_stays clear))
+      (h.others n x (subst (λ m. slice_get t.paths m ≡ Some x) is there))
+
+  after_sure : is_sure (books_in (after_path values number x ask t).books).control_a.fall.mode ≡ true → FirstIsClear (set t.paths number y)
+  after_sure is = ⊎_elim
+      (λ clear. clear)
+      (λ mild.
+      first_stays (h.sure (mild_sure six ask mild (subst (λ (books : SixBooks). is_sure books.control_a.fall.mode ≡ true) (books_after ask x.at.pass t.books) is))))
+      (clear_or_mild number refl)
+
+  asleep_after : IsAsleep x.path → IsAsleep y.path ⊎ FirstIsClear (set t.paths number y)
+  asleep_after sleeps = by (is_sure six.control_a.fall.mode) refl
+    where
+      by : (b : Bool) → is_sure six.control_a.fall.mode ≡ b → IsAsleep y.path ⊎ FirstIsClear (set t.paths number y)
+      by true is = inr (first_stays (h.sure is))
+      by false is =
+          let none = begins_nothing values six ask x.path is (ap (λ xs. asks_first values xs x.path) agenda) sleeps in
+          inl (takes_asleep values (reply_of six ask) x.path none settled_here sleeps)
+
+  others_after : (n : ℕ) (z : Walker Carried) → slice_get (set t.paths number y) (suc n) ≡ Some z → IsAsleep z.path ⊎ FirstIsClear (set t.paths number y)
+  others_after n z at = ⊎_elim
+      (λ same. subst (λ (w : Walker Carried). IsAsleep w.path ⊎ FirstIsClear (set t.paths number y)) same.1
+      (⊎_elim asleep_after (λ clear. inr (first_stays clear)) (h.others n x (subst (λ m. slice_get t.paths m ≡ Some x) (sym same.0) there))))
+      (λ other. ⊎_elim (λ sleeps. inl sleeps) (λ clear. inr (first_stays clear)) (h.others n z other.1))
+      (in_set t.paths number y (suc n) z at)
+
+  path_surely : Surely (after_path values number x ask t)
+  path_surely = record {
+    settled = Every-put number y (settled_first (answers values x.path.agenda (reply_of six ask) x.path).agenda (answers values x.path.agenda (reply_of six ask) x.path)) h.settled;
+    leads = Every-put number y (takes_leads values (reply_of six ask) x.path settled_here (h.leads.each number x there)) h.leads;
+    sure = after_sure;
+    others = others_after;
+  }
+
+app_surely_a : (t : Cast Carried) (d : AppDuty) → Surely t → Surely (after_a (app_ask d t.a) t)
+app_surely_a t d h = record {
+  settled = h.settled;
+  leads = h.leads;
+  sure = λ is. h.sure (mild_sure (books_in t.books) (app_ask d t.a) (app_mild d t.a) (subst (λ (books : SixBooks). is_sure books.control_a.fall.mode ≡ true) (books_after (app_ask d t.a) t.at_a.pass t.books) is));
+  others = h.others;
+}
+
+app_surely_b : (t : Cast Carried) (d : AppDuty) → Surely t → Surely (after_b (app_ask d t.b) t)
+app_surely_b t d h = record {
+  settled = h.settled;
+  leads = h.leads;
+  sure = λ is. h.sure (mild_sure (books_in t.books) (app_ask d t.b) (app_mild d t.b) (subst (λ (books : SixBooks). is_sure books.control_a.fall.mode ≡ true) (books_after (app_ask d t.b) t.at_b.pass t.books) is));
+  others = h.others;
+}
+
+next_surely : (t : Cast Carried) → Surely t → Surely (next_cast t)
+next_surely t h = record {
+  settled = record {
+    each = λ i y at.
+        let found = in_map on t.paths i y at in
+        subst (λ (w : Walker Carried). IsSettled w.path) found.2 (settled_first start_of_turn (with_agenda start_of_turn (record found.0.path { clock = found.0.path.until; until = found.0.path.until + 100 })));
+  };
+  leads = record { each = λ i y at. let found = in_map on t.paths i y at in subst (λ (w : Walker Carried). LeadsWell w.path) found.2 (next_leads found.0.path (h.leads.each i found.0 found.1)) };
+  sure = λ is. first_on (h.sure is);
+  others = λ n y at.
+      let found = in_map on t.paths (suc n) y at in
+      ⊎_elim (λ sleeps. inl (subst (λ (w : Walker Carried). IsAsleep w.path) found.2 (begins_asleep found.0.path sleeps))) (λ clear. inr (first_on clear)) (h.others n found.0 found.1);
+}
+  where
+    on : Walker Carried → Walker Carried
+    on = walks_on (greatest 0 (world_of t).crew)
+
+    first_on : FirstIsClear t.paths → FirstIsClear (map on t.paths)
+    first_on clear z at = let found = in_map on t.paths 0 z at in subst (λ (w : Walker Carried). w.path.a.modes.clear ≡ true) found.2 ((next_clear found.0.path).a.0 (clear found.0 found.1))
+
+opened_surely : (start : Start) → Surely (first_cast start)
+opened_surely start = record {
+  settled = record { each = λ i x there. let found = walker_there start 0 i i start.paths x (omega arith) there in subst (λ (w : Walker Carried). IsSettled w.path) (sym found.2) (new_settled i found.0) };
+  leads = record { each = λ i x there. let found = walker_there start 0 i i start.paths x (omega arith) there in subst (λ (w : Walker Carried). LeadsWell w.path) (sym found.2) (new_leads i found.0) };
+  sure = λ is. absurd (false≢true is);
+  others = λ n x there.
+      let found = walker_there start 0 (suc n) (suc n) start.paths x (omega arith) there in
+      inl (subst (λ (w : Walker Carried). IsAsleep w.path) (sym found.2) (first_asleep (path_begins start (suc n) found.0) start.lines found.0.join refl));
+}
+  where
+    new_settled : (number : ℕ) (plan : PathPlan) → IsSettled (new_walker {C = Carried} start number plan).path
+    new_settled number plan = settled_first start_of_turn (with_agenda start_of_turn (waiting_path (path_begins start number plan) start.lines))
+
+    new_leads : (number : ℕ) (plan : PathPlan) → LeadsWell (new_walker {C = Carried} start number plan).path
+    new_leads number plan =
+        begins_lead (waiting_path (path_begins start number plan) start.lines) (record { led = tt; clear = inr (record { n = 0; none = inr tt; follows = tt }) })
+
+-- at every moment
+pub sure_is_clear : Always values (λ start w. SureIsClear w)
+sure_is_clear start turns =
+    let run : Has start Surely (world_run values turns (opened_world start)) =
+    turns_have values start Surely
+    (record {
+      a = λ t f d ds is h. app_surely_a t d h;
+      b = λ t f d ds is h. app_surely_b t d h;
+      path = λ t f number x there d ds is h. path_surely t number x there d ds is h;
+    })
+    (λ t f h. next_surely t h) turns (opened_world start)
+    (record { cast = first_cast start; is = opened_is start; fare = first_fare start; holds = opened_surely start }) in
+    subst SureIsClear (sym run.is) (λ is c at. first_clear run.cast (run.holds.sure is) c at)
+  where
+    first_clear : (t : Cast Carried) → FirstIsClear t.paths → (c : ActorCrew Carried) → slice_get (world_of t).crew 2 ≡ Some c → IsClearAt c.member
+    first_clear t clear c at = let found = in_map walking t.paths 0 c at in subst (λ (d : ActorCrew Carried). IsClearAt d.member) found.2 (clear found.0 found.1)

@@ -1,0 +1,244 @@
+-- The duties that come to nothing are passed, and the lanes go on by moves alone.
+use Rattle.std.proofs.Common.{◌≡◌, refl, Bool, true, false, if◌then◌else◌, Option, Some, None, List, [], ◌∷◌, ℕ}
+use Rattle.std.specs.Option.{IfSome}
+use Rattle.outside_kit.specs.declared.side.Side.{Side}
+use Rattle.outside_kit.specs.declared.side.Side.TheVariants.{A, B}
+use Rattle.stream_lanes.specs.Holding.{Holds}
+use Rattle.stream_lanes.specs.Lane.{Lane}
+use Rattle.actor_desk.specs.Desk.{SixBooks}
+use Rattle.actor_desk.specs.Words.{pick}
+use Rattle.path_agenda.specs.declared.duty.Duty.{Duty}
+use Rattle.path_agenda.specs.declared.duty.Duty.TheVariants as duties
+use Rattle.path_agenda.specs.declared.duty.AskDuty.TheVariants as ask_duties
+use Rattle.path_agenda.specs.declared.duty.SendDuty.TheVariants as send_duties
+use Rattle.path_agenda.specs.declared.duty.SilentDuty.TheVariants as silent_duties
+use Rattle.path_agenda.specs.declared.duty.StepDuty.TheVariants as step_duties
+use Rattle.path_agenda.specs.declared.heard.Heard.{Heard}
+use Rattle.path_agenda.specs.declared.heard.Heard.TheVariants as says
+use Rattle.path_core.specs.Duties.{stands, passed}
+use Rattle.path_core.specs.Emission.{after_timer}
+use Rattle.path_core.specs.Ends.{PathEnd}
+use Rattle.path_core.specs.Passing.{after_pass_fin}
+use Rattle.path_core.specs.Deliver.{after_check, with_learned, with_skipped, mapping_here, after_pieces}
+use Rattle.path_core.specs.State.{PathState, Profile, end_at, with_end, with_agenda}
+use Rattle.path_core.specs.Steps.{settled}
+use Rattle.path_core.specs.Treating.{counts, with_data_fin, after_dss, after_keep, heard_passed, item_passed, item_of, with_plain_ack, with_data_ack}
+use Rattle.path_core.specs.Values.{Carried}
+use Rattle.path_core.specs.Words.{item_at}
+use Rattle.world_laws.proofs.Lanes.Ending.{Did, did_nothing}
+use Rattle.world_laws.proofs.Lanes.OfAWorld.{Others, duo_at}
+use Rattle.world_laws.proofs.Lanes.Placing.{learned_end, skipped_shows, passed_fin}
+use Rattle.world_laws.proofs.Lanes.Replying.{fin_shows, every_item}
+use Rattle.world_laws.proofs.Lanes.Roads.{stays, then_strolls}
+use Rattle.world_laws.proofs.Lanes.RulesLeaveAlone.{dss_shows, timer_shows, check_did, keep_did, plain_ack_shows, unmapped_shows}
+use Rattle.world_laws.proofs.Lanes.Showing.{ItemShows, EndShows, PathShows}
+use Rattle.world_laws.proofs.Lanes.Sides.{longer_link}
+use Rattle.world_laws.proofs.Lanes.Strolling.{Strolled, strolls_held, agrees, back_holds, side_shows, did_on_path}
+
+-- whether a duty comes to something doesn't depend on the agenda
+pub stands_anyway : (d : Duty) (es : List Duty) (p : PathState Carried) → stands d (with_agenda es p) ≡ stands d p
+stands_anyway (duties.Ask ask_duties.JoinAgain) es p = refl
+stands_anyway (duties.Step (step_duties.Look s)) es p = refl
+stands_anyway (duties.Ask (ask_duties.Window s)) es p = refl
+stands_anyway (duties.Send (send_duties.Update s)) es p = refl
+stands_anyway (duties.Send (send_duties.FastClose s)) es p = refl
+stands_anyway (duties.Send (send_duties.Notice s)) es p = refl
+stands_anyway (duties.Send (send_duties.Syn s)) es p = refl
+stands_anyway (duties.Step (step_duties.Data s)) es p = refl
+stands_anyway (duties.Send (send_duties.DataFin s)) es p = refl
+stands_anyway (duties.Send (send_duties.Fin s)) es p = refl
+stands_anyway (duties.Silent (silent_duties.Timer s)) es p = refl
+stands_anyway (duties.Step step_duties.Events) es p = refl
+stands_anyway (duties.Ask (ask_duties.SynHeard s)) es p = refl
+stands_anyway (duties.Ask (ask_duties.SynAnswered s)) es p = refl
+stands_anyway (duties.Ask (ask_duties.PeerKey s)) es p = refl
+stands_anyway (duties.Send (send_duties.SynAck s)) es p = refl
+stands_anyway (duties.Ask (ask_duties.JoinHeard s)) es p = refl
+stands_anyway (duties.Send (send_duties.Refuse s)) es p = refl
+stands_anyway (duties.Ask (ask_duties.Opened s)) es p = refl
+stands_anyway (duties.Ask (ask_duties.Live s)) es p = refl
+stands_anyway (duties.Step (step_duties.Heard s index)) es p = refl
+stands_anyway (duties.Ask (ask_duties.AckHeard s)) es p = refl
+stands_anyway (duties.Ask (ask_duties.FailHeard s)) es p = refl
+stands_anyway (duties.Step (step_duties.PlainAck s)) es p = refl
+stands_anyway (duties.Ask (ask_duties.PlainHandshake s)) es p = refl
+stands_anyway (duties.Ask (ask_duties.SubflowAck s)) es p = refl
+stands_anyway (duties.Ask (ask_duties.PlainData s)) es p = refl
+stands_anyway (duties.Ask (ask_duties.GoIdentity s)) es p = refl
+stands_anyway (duties.Step (step_duties.Unmapped s)) es p = refl
+stands_anyway (duties.Ask (ask_duties.SubflowFin s)) es p = refl
+stands_anyway (duties.Silent (silent_duties.Keep s)) es p = refl
+stands_anyway (duties.Ask (ask_duties.Edge s)) es p = refl
+stands_anyway (duties.Ask (ask_duties.CheckFailed s)) es p = refl
+stands_anyway (duties.Ask (ask_duties.HeardFin s index)) es p = refl
+stands_anyway (duties.Silent (silent_duties.PassFin s)) es p = refl
+stands_anyway (duties.Ask (ask_duties.AckOut s)) es p = refl
+stands_anyway (duties.Ask (ask_duties.Rate s)) es p = refl
+stands_anyway (duties.Send (send_duties.Acknowledge s)) es p = refl
+stands_anyway (duties.Send (send_duties.Again s)) es p = refl
+stands_anyway (duties.Send (send_duties.Answer s)) es p = refl
+stands_anyway (duties.Send (send_duties.ResetAnswer s)) es p = refl
+stands_anyway (duties.Ask (ask_duties.Return s)) es p = refl
+stands_anyway (duties.Ask (ask_duties.AbortSend s)) es p = refl
+stands_anyway (duties.Ask (ask_duties.AbortReceive s)) es p = refl
+stands_anyway (duties.Ask (ask_duties.Announce s id)) es p = refl
+stands_anyway (duties.Ask (ask_duties.Withdraw s id)) es p = refl
+stands_anyway (duties.Send (send_duties.Resend s)) es p = refl
+stands_anyway (duties.Ask (ask_duties.BreakAck s reason)) es p = refl
+stands_anyway (duties.Send (send_duties.BreakReset s reason)) es p = refl
+stands_anyway (duties.Send (send_duties.Reset s)) es p = refl
+stands_anyway (duties.Send (send_duties.ResetNoted s)) es p = refl
+stands_anyway (duties.Ask (ask_duties.Leave s)) es p = refl
+stands_anyway (duties.Ask (ask_duties.LeaveNoted s)) es p = refl
+stands_anyway (duties.Ask (ask_duties.Dead s)) es p = refl
+stands_anyway duties.End es p = refl
+
+-- on the same lanes
+pub stays_so : (c : Profile) (q : PathState Carried) (ab ba : Lane) → PathShows c q ab ba → Strolled c q ab ba
+stays_so c q ab ba h = record { ab_after = ab; ba_after = ba; ab_moves = stays ab; ba_moves = stays ba; shows = h }
+
+-- first this, and then that from there
+pub then_strolled : (c : Profile) (p q : PathState Carried) (ab ba : Lane) (w : Strolled c p ab ba) → Strolled c q w.ab_after w.ba_after → Strolled c q ab ba
+then_strolled c p q ab ba w x = record {
+  ab_after = x.ab_after;
+  ba_after = x.ba_after;
+  ab_moves = then_strolls ab w.ab_after x.ab_after w.ab_moves x.ab_moves;
+  ba_moves = then_strolls ba w.ba_after x.ba_after w.ba_moves x.ba_moves;
+  shows = x.shows;
+}
+
+module _ (six : SixBooks) (others : Others) (c : Profile) where
+  module _ (p : PathState Carried) (ab ba : Lane) (h : PathShows c p ab ba) (holds : Holds (duo_at six ab ba others)) where
+    -- the end of a side becomes this
+    end_strolled : (s : Side) (e : PathEnd) → Did c s e (pick s ab ba) (pick s ab ba) (pick s ba ab) (pick s ba ab) → Strolled c (with_end s e p) ab ba
+    end_strolled A e d = did_on_path c p (with_end A e p) ab ba h refl A ab ba d refl (longer_link c p ab ba h A ab ba e d)
+    end_strolled B e d = did_on_path c p (with_end B e p) ab ba h refl B ba ab d refl (longer_link c p ab ba h B ba ab e d)
+
+    same_lanes : (s : Side) (e : PathEnd) → EndShows c s e (pick s ab ba) (pick s ba ab) → Strolled c (with_end s e p) ab ba
+    same_lanes s e shows = end_strolled s e (did_nothing c s (pick s ab ba) (pick s ba ab) e shows)
+
+    module _ (s : Side) where
+      abbrev out : Lane
+      out = pick s ab ba
+
+      abbrev back : Lane
+      back = pick s ba ab
+
+      abbrev e : PathEnd
+      e = end_at s p
+
+      abbrev shows : EndShows c s e out back
+      shows = side_shows c s p ab ba h
+
+      -- a thing that a copy said
+      item_did : (item : Heard) → ItemShows out.acks back item → Did c s (heard_passed s item e) out out back back
+      item_did says.Dss has = did_nothing c s out back (after_dss s e) (dss_shows c s out back e shows)
+      item_did (says.DataAck next window) has = did_nothing c s out back (with_data_ack next e) (record {
+        sender = shows.sender;
+        receiver = shows.receiver;
+        acks = shows.acks;
+        told = shows.told;
+        treated = shows.treated;
+        pairs = shows.pairs;
+        held = shows.held;
+      })
+      item_did (says.Mapping fin) has = by (counts e)
+        where
+          by : (b : Bool) → Did c s (if b then with_learned e else with_skipped e) out out back back
+          by true = learned_end c s out back e (agrees six others s ab ba holds) shows
+          by false = did_nothing c s out back (with_skipped e) (skipped_shows c s out back e shows)
+      item_did (says.DataFin place) has = by (counts e)
+        where
+          by : (b : Bool) → Did c s (if b then with_data_fin place e else e) out out back back
+          by true = did_nothing c s out back (with_data_fin place e) (fin_shows c s place e out back has shows)
+          by false = did_nothing c s out back e shows
+      item_did (says.InfiniteMapping place position) has = did_nothing c s out back e shows
+      item_did (says.PeerKey key) has = did_nothing c s out back e shows
+      item_did (says.Keys own peer) has = did_nothing c s out back e shows
+      item_did (says.Join form) has = did_nothing c s out back e shows
+      item_did (says.Notice notice) has = did_nothing c s out back e shows
+      item_did says.Fail has = did_nothing c s out back e shows
+      item_did (says.FastClose key) has = did_nothing c s out back e shows
+
+      maybe_did : (o : Option Heard) → IfSome o (ItemShows out.acks back) → Did c s (item_passed s o e) out out back back
+      maybe_did None has = did_nothing c s out back e shows
+      maybe_did (Some item) has = item_did item has
+
+    item_shows : (s : Side) (index : ℕ) (plain : Bool) → IfSome (if plain then None else item_at index (end_at s p).treated.items) (ItemShows (pick s ab ba).acks (pick s ba ab))
+    item_shows s index true = tt
+    item_shows s index false = every_item index (end_at s p).treated.items (side_shows c s p ab ba h).treated.items
+
+    pub passes : (d : Duty) → Strolled c (passed d p) ab ba
+    passes (duties.Silent (silent_duties.Timer s)) = same_lanes s (after_timer p.clock (end_at s p)) (timer_shows c s (pick s ab ba) (pick s ba ab) p.clock (end_at s p) (side_shows c s p ab ba h))
+    passes (duties.Step (step_duties.Heard s index)) =
+        end_strolled s (item_passed s (item_of index (end_at s p)) (end_at s p)) (maybe_did s (item_of index (end_at s p)) (item_shows s index (end_at s p).modes.identity))
+    passes (duties.Silent (silent_duties.Keep s)) = end_strolled s (after_keep s (end_at s p)) (keep_did c s (pick s ab ba) (pick s ba ab) (end_at s p) (side_shows c s p ab ba h))
+    passes (duties.Ask (ask_duties.CheckFailed s)) = end_strolled s (after_check p.profile (end_at s p))
+        (check_did c s (pick s ab ba) (pick s ba ab) p.profile.spelling.checksums (mapping_here (end_at s p)) (end_at s p) (side_shows c s p ab ba h))
+    passes (duties.Silent (silent_duties.PassFin s)) =
+        end_strolled s (after_pass_fin (end_at s p)) (passed_fin c s (pick s ab ba) (pick s ba ab) _ _ (end_at s p) (back_holds six others s ab ba holds) (side_shows c s p ab ba h))
+    passes (duties.Ask ask_duties.JoinAgain) = stays_so c p ab ba h
+    passes (duties.Step (step_duties.Look s)) = stays_so c p ab ba h
+    passes (duties.Ask (ask_duties.Window s)) = stays_so c p ab ba h
+    passes (duties.Send (send_duties.Update s)) = stays_so c p ab ba h
+    passes (duties.Send (send_duties.FastClose s)) = stays_so c p ab ba h
+    passes (duties.Send (send_duties.Notice s)) = stays_so c p ab ba h
+    passes (duties.Send (send_duties.Syn s)) = stays_so c p ab ba h
+    passes (duties.Step (step_duties.Data s)) = stays_so c p ab ba h
+    passes (duties.Send (send_duties.DataFin s)) = stays_so c p ab ba h
+    passes (duties.Send (send_duties.Fin s)) = stays_so c p ab ba h
+    passes (duties.Step step_duties.Events) = stays_so c p ab ba h
+    passes (duties.Ask (ask_duties.SynHeard s)) = stays_so c p ab ba h
+    passes (duties.Ask (ask_duties.SynAnswered s)) = stays_so c p ab ba h
+    passes (duties.Ask (ask_duties.PeerKey s)) = stays_so c p ab ba h
+    passes (duties.Send (send_duties.SynAck s)) = stays_so c p ab ba h
+    passes (duties.Ask (ask_duties.JoinHeard s)) = stays_so c p ab ba h
+    passes (duties.Send (send_duties.Refuse s)) = stays_so c p ab ba h
+    passes (duties.Ask (ask_duties.Opened s)) = stays_so c p ab ba h
+    passes (duties.Ask (ask_duties.Live s)) = stays_so c p ab ba h
+    passes (duties.Ask (ask_duties.AckHeard s)) = stays_so c p ab ba h
+    passes (duties.Ask (ask_duties.FailHeard s)) = stays_so c p ab ba h
+    passes (duties.Ask (ask_duties.Edge s)) = stays_so c p ab ba h
+    passes (duties.Step (step_duties.PlainAck s)) = same_lanes s (with_plain_ack (end_at s p)) (plain_ack_shows c s (pick s ab ba) (pick s ba ab) (end_at s p) (side_shows c s p ab ba h))
+    passes (duties.Step (step_duties.Unmapped s)) = same_lanes s (after_pieces (end_at s p)) (unmapped_shows c s (pick s ab ba) (pick s ba ab) (end_at s p) (side_shows c s p ab ba h))
+    passes (duties.Ask (ask_duties.PlainHandshake s)) = stays_so c p ab ba h
+    passes (duties.Ask (ask_duties.SubflowAck s)) = stays_so c p ab ba h
+    passes (duties.Ask (ask_duties.PlainData s)) = stays_so c p ab ba h
+    passes (duties.Ask (ask_duties.GoIdentity s)) = stays_so c p ab ba h
+    passes (duties.Ask (ask_duties.SubflowFin s)) = stays_so c p ab ba h
+    passes (duties.Ask (ask_duties.HeardFin s index)) = stays_so c p ab ba h
+    passes (duties.Ask (ask_duties.AckOut s)) = stays_so c p ab ba h
+    passes (duties.Ask (ask_duties.Rate s)) = stays_so c p ab ba h
+    passes (duties.Send (send_duties.Acknowledge s)) = stays_so c p ab ba h
+    passes (duties.Send (send_duties.Again s)) = stays_so c p ab ba h
+    passes (duties.Send (send_duties.Answer s)) = stays_so c p ab ba h
+    passes (duties.Send (send_duties.ResetAnswer s)) = stays_so c p ab ba h
+    passes (duties.Ask (ask_duties.Return s)) = stays_so c p ab ba h
+    passes (duties.Ask (ask_duties.AbortSend s)) = stays_so c p ab ba h
+    passes (duties.Ask (ask_duties.AbortReceive s)) = stays_so c p ab ba h
+    passes (duties.Ask (ask_duties.Announce s id)) = stays_so c p ab ba h
+    passes (duties.Ask (ask_duties.Withdraw s id)) = stays_so c p ab ba h
+    passes (duties.Send (send_duties.Resend s)) = stays_so c p ab ba h
+    passes (duties.Ask (ask_duties.BreakAck s reason)) = stays_so c p ab ba h
+    passes (duties.Send (send_duties.BreakReset s reason)) = stays_so c p ab ba h
+    passes (duties.Send (send_duties.Reset s)) = stays_so c p ab ba h
+    passes (duties.Send (send_duties.ResetNoted s)) = stays_so c p ab ba h
+    passes (duties.Ask (ask_duties.Leave s)) = stays_so c p ab ba h
+    passes (duties.Ask (ask_duties.LeaveNoted s)) = stays_so c p ab ba h
+    passes (duties.Ask (ask_duties.Dead s)) = stays_so c p ab ba h
+    passes duties.End = stays_so c p ab ba h
+
+  agenda_stays : (ds : List Duty) (p : PathState Carried) (ab ba : Lane) → PathShows c p ab ba → Strolled c (with_agenda ds p) ab ba
+  agenda_stays ds p ab ba h = stays_so c (with_agenda ds p) ab ba (record { profile = h.profile; may = h.may; a = h.a; b = h.b; copies = h.copies })
+
+  pub settles : (ds : List Duty) (p : PathState Carried) (ab ba : Lane) → PathShows c p ab ba → Holds (duo_at six ab ba others) → Strolled c (settled ds p) ab ba
+  settles [] p ab ba h holds = agenda_stays [] p ab ba h
+  settles (d ∷ ds) p ab ba h holds =
+      let w : Strolled c (passed d p) ab ba = passes p ab ba h holds d in
+      by (stands d p)
+      (then_strolled c (passed d p) (settled ds (passed d p)) ab ba w
+      (settles ds (passed d p) w.ab_after w.ba_after w.shows (strolls_held six others ab w.ab_after ba w.ba_after w.ab_moves w.ba_moves holds)))
+    where
+      by : (b : Bool) → Strolled c (settled ds (passed d p)) ab ba → Strolled c (if b then with_agenda (d ∷ ds) p else settled ds (passed d p)) ab ba
+      by true rest = agenda_stays (d ∷ ds) p ab ba h
+      by false rest = rest

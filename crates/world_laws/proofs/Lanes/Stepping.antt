@@ -1,0 +1,184 @@
+-- A step of the path: the duty that stands first asks, its reply is taken, and the lanes show the path then.
+use Rattle.std.proofs.Common.{◌≡◌, refl, sym, subst, ℕ, ◌^◌, ◌<◌, ◌≤◌, ◌&&◌, ◌||◌, is_some, true, Option, Some, None, List, [], length, arith, false, Bool, if◌then◌else◌, ap, ◌∙◌}
+use Rattle.std.proofs.lemmas.Bool.{and_parts}
+use Rattle.outside_kit.specs.declared.side.Side.{Side}
+use Rattle.outside_kit.specs.declared.side.Side.TheVariants.{A, B}
+use Rattle.send_book.specs.declared.call.SendCall.TheVariants.{Return as ReturnBytes}
+use Rattle.fallback_state.specs.declared.fall.Event.TheVariants as events
+use Rattle.subflow_send.specs.Records.{Record}
+use Rattle.subflow_tcp.specs.States as states
+use Rattle.stream_lanes.specs.Holding.{Holds}
+use Rattle.stream_lanes.specs.Lane.{Lane}
+use Rattle.stream_lanes.specs.Moves.{is_whole}
+use Rattle.actor_desk.specs.declared.ask.Ask.{Ask}
+use Rattle.actor_desk.specs.declared.ask.Ask.TheVariants as asks
+use Rattle.actor_desk.specs.declared.ask.Reply.{Reply}
+use Rattle.actor_desk.specs.Desk.{SixBooks, send_of, reply_of}
+use Rattle.actor_desk.specs.Words.{pick}
+use Rattle.path_agenda.specs.declared.duty.Duty.{Duty}
+use Rattle.path_agenda.specs.declared.duty.Duty.TheVariants as duties
+use Rattle.path_agenda.specs.declared.duty.AskDuty.TheVariants as ask_duties
+use Rattle.path_agenda.specs.declared.duty.SendDuty.TheVariants as send_duties
+use Rattle.path_agenda.specs.declared.duty.SilentDuty.TheVariants as silent_duties
+use Rattle.path_agenda.specs.declared.duty.StepDuty.TheVariants as step_duties
+use Rattle.path_agenda.specs.Agenda.{leaves, resets}
+use Rattle.path_core.specs.Duties.{stands, ask_for, answered}
+use Rattle.path_core.specs.Emission.{first_unsent, data_stands, data_ask, answered_data, payload_size}
+use Rattle.path_core.specs.declared.infinite_mapping.InfiniteMapping.{InfiniteMapping}
+use Rattle.path_core.specs.Ends.{PathEnd}
+use Rattle.std.specs.Option.{IfSome}
+use Rattle.path_core.specs.Events.{next_event, step_for, died}
+use Rattle.path_core.specs.Joining.{join_begin_ask, asked_at, join_heard_ask}
+use Rattle.path_agenda.specs.Items.{key_heard, keys_heard}
+use Rattle.path_core.specs.Passing.{piece_of, plain_fin}
+use Rattle.path_core.specs.Standing.{look_ask, after_look}
+use Rattle.path_core.specs.State.{PathState, end_at, left, path_of, with_agenda}
+use Rattle.path_core.specs.Values.{Carried, values}
+use Rattle.path_core.specs.StreamEnds.{is_all_granted}
+use Rattle.path_core.specs.FastClosing.{answered_leave_noted}
+use Rattle.path_agenda.specs.Words.{replaced}
+use Rattle.world_laws.proofs.Lanes.Answering as answering
+use Rattle.world_laws.proofs.Lanes.Answering.{IsReady, FailOpens, Steps}
+use Rattle.world_laws.proofs.Lanes.Doing.{with_fin_sent, sends_the_fin, sends_own_fin}
+use Rattle.world_laws.proofs.Lanes.Roads.{Strolls}
+use Rattle.world_laws.proofs.Lanes.Ending.{did_nothing}
+use Rattle.world_laws.proofs.Lanes.Happening.{join_step, events_step}
+use Rattle.world_laws.proofs.Lanes.OfAWorld.{Others, duo_at, MayDo}
+use Rattle.world_laws.proofs.Lanes.Replying as replying
+use Rattle.world_laws.proofs.Lanes.RulesLeaveAlone.{looked_shows, died_shows}
+use Rattle.world_laws.proofs.Lanes.Showing.{OwnIs, EndShows, PathShows}
+use Rattle.world_laws.proofs.Lanes.Sides.{return_side, abort_send_side, abort_receive_side, SideDid, side_kept}
+use Rattle.world_laws.proofs.Asks.AckOutDuties.{is_shield}
+use Rattle.world_laws.proofs.Falls.FinAtTheWhole.{whole, whole_by_pair}
+
+module _ (six : SixBooks) (others : Others) (p : PathState Carried) (ab ba : Lane) (h : PathShows p.profile p ab ba) (holds : Holds (duo_at six ab ba others))
+    (ready : IsReady p ab ba) (numbered : path_of p ≡ others.number)
+    (size : 29 ≤ p.profile.mss) (short : (s : Side) → length (send_of s six).marks < 2 ^ 63) where
+  abbrev Makes : Ask → PathState Carried → Type 0
+  Makes ask q = Steps six others p ab ba h ready ask q
+
+  abbrev Answers : Duty → Type 0
+  Answers d = Makes (ask_for values d p) (answered values d (reply_of six (ask_for values d p)) p)
+
+  tiles : (s : Side) → length (send_of s six).marks ≡ length (send_of s six).written
+  tiles A = holds.ab.send.whole
+  tiles B = holds.ba.send.whole
+
+  module _ (s : Side) where
+    abbrev e : PathEnd
+    e = end_at s p
+
+    abbrev shows : EndShows p.profile s e (pick s ab ba) (pick s ba ab)
+    shows = answering.shows_at six others p ab ba h ready s
+
+    -- what the end holds is given back, and then these are to be done
+    abbrev ReturnsAt : List Duty → ℕ → Type 0
+    ReturnsAt ds path = Makes (asks.Send s (ReturnBytes path)) (with_agenda ds p)
+
+    returns : (ds : List Duty) → ReturnsAt ds (path_of p)
+    returns ds = subst (ReturnsAt ds) (sym numbered) (return_side p.profile six others s p (with_agenda ds p) ab ba h
+        (answering.agenda_side six others p ab ba h ready s (pick s ab ba) (pick s ba ab) ds (did_nothing p.profile s (pick s ab ba) (pick s ba ab) e shows)))
+
+    -- only the agenda changes
+    done_side : SideDid p.profile s p (with_agenda (left p) p) ab ba (pick s ab ba) (pick s ba ab)
+    done_side = answering.agenda_side six others p ab ba h ready s (pick s ab ba) (pick s ba ab) (left p) (did_nothing p.profile s (pick s ab ba) (pick s ba ab) e shows)
+
+    -- what the end holds is given back, and it is dead
+    abbrev LeavesAt : ℕ → Type 0
+    LeavesAt path = Makes (asks.Send s (ReturnBytes path)) (answered_leave_noted s p)
+
+    leaves_noted : e.treated.asked ≡ false → LeavesAt (path_of p)
+    leaves_noted calm = subst LeavesAt (sym numbered) (return_side p.profile six others s p (answered_leave_noted s p) ab ba h
+        (side_kept p.profile p ab ba h s (pick s ab ba) (pick s ba ab) (died e) (replaced (duties.Ask (ask_duties.Dead s)) p.agenda)
+        (did_nothing p.profile s (pick s ab ba) (pick s ba ab) (died e) (died_shows p.profile s (pick s ab ba) (pick s ba ab) e calm shows))))
+
+    data_by : e.treated.asked ≡ false → (o : Option Record) → first_unsent e ≡ o → data_stands p.profile s e o ≡ true
+        → Makes (data_ask values s o p) (answered_data values s o (reply_of six (data_ask values s o p)) p)
+    data_by calm (Some r) is stands = answering.unsent_step six others p ab ba h ready s calm p.agenda
+    data_by calm None is stands =
+        replying.granted_step six others p ab ba h holds ready s (payload_size p.profile) e.modes.standby (omega (arith, size)) (short s) (tiles s)
+        (and_parts (states.may_finish e.tcp.state) _ stands).0 numbered
+
+    fin_due : e.treated.asked ≡ false → stands (duties.Send (send_duties.Fin s)) p ≡ true → Answers (duties.Send (send_duties.Fin s))
+    fin_due calm is =
+        let parts = and_parts (states.may_finish e.tcp.state) _ is in
+        answering.fin_step six others p ab ba h ready s calm parts.0 (finishes (ready.opened s parts.0) e.modes.identity refl e.modes.own_infinite refl parts.1)
+      where
+        out : Lane
+        out = pick s ab ba
+
+        finishes : out.opened ≡ true → (b : Bool) → e.modes.identity ≡ b → (o : Option InfiniteMapping) → e.modes.own_infinite ≡ o
+            → (if b || is_some o then is_all_granted e.sending.known_end e.sending else (e.sending.close.own_acked && e.sending.close.peer_came)) ≡ true → Strolls out (with_fin_sent out)
+        finishes opened true plain o own is = sends_the_fin out opened (
+            ap (λ (b : Bool). if b then is_whole out.known_end out else out.fin_acked) (shows.sender.plain ∙ plain)
+            ∙ whole six others s ab ba holds e (shows.sender.plain ∙ plain) shows.sender.same_end shows.sender.heard shows.sender.granted is)
+        finishes opened false above None own is = sends_the_fin out opened (
+            ap (λ (b : Bool). if b then is_whole out.known_end out else out.fin_acked) (shows.sender.plain ∙ above)
+            ∙ shows.sender.fin_acked (and_parts e.sending.close.own_acked e.sending.close.peer_came is).0)
+        finishes opened false above (Some mapping) own is =
+            let goes = subst (λ o. IfSome o (OwnIs out.pair out.pairs out.fins out.alters)) own shows.pairs.0 in
+            sends_own_fin out goes.item goes.there opened
+            (whole_by_pair six others s ab ba holds e goes.item goes.there shows.sender.same_end shows.sender.heard shows.sender.sent is)
+
+  -- A duty that comes to something, as far as it sends or ends something nothing is to be asked before; B hears only of joins that
+  -- were begun.
+  pub duty_step : (d : Duty) → stands d p ≡ true → ((s : Side) → is_shield s d ≡ false → (end_at s p).treated.asked ≡ false) → MayDo six d → FailOpens p ab ba d → Answers d
+  duty_step (duties.Ask ask_duties.JoinAgain) is calm may opens =
+      let r : Reply = reply_of six (join_begin_ask (path_of p)) in
+      join_step six others p ab ba h holds (λ s. calm s refl) (join_begin_ask (path_of p)) r (replaced (duties.Ask (ask_duties.Leave A)) p.agenda) (left p) p tt (λ s. calm s refl) h
+  duty_step (duties.Step (step_duties.Look s)) is calm may opens =
+      let r : Reply = reply_of six (look_ask s p) in
+      answering.end_step six others p ab ba h ready s (look_ask s p) (after_look r (end_at s p)) (left p) tt (looked_shows p.profile s (pick s ab ba) (pick s ba ab) r (end_at s p) (shows s))
+  duty_step (duties.Ask (ask_duties.Window s)) is calm may opens = answering.told_step six others p ab ba h ready s (left p)
+  duty_step (duties.Send (send_duties.Update s)) is calm may opens = answering.acknowledges_step six others p ab ba h ready s (calm s refl) (left p)
+  duty_step (duties.Send (send_duties.FastClose s)) is calm may opens = answering.fast_close_step six others p ab ba h ready s (calm s refl)
+  duty_step (duties.Send (send_duties.Notice s)) is calm may opens = answering.note_step six others p ab ba h ready s (calm s refl)
+  duty_step (duties.Send (send_duties.Syn s)) is calm may opens = answering.unsent_step six others p ab ba h ready s (calm s refl) (left p)
+  duty_step (duties.Step (step_duties.Data s)) is calm may opens = data_by s (calm s refl) (first_unsent (end_at s p)) refl is
+  duty_step (duties.Send (send_duties.DataFin s)) is calm may opens = answering.data_fin_step six others p ab ba h ready s (calm s refl)
+  duty_step (duties.Send (send_duties.Fin s)) is calm may opens = fin_due s (calm s refl) is
+  duty_step (duties.Silent (silent_duties.Timer s)) is calm may opens = answering.agenda_step six others p ab ba h ready _ (left p) tt
+  duty_step (duties.Step step_duties.Events) is calm may opens = events_step six others p ab ba h holds (λ s. calm s refl) (next_event p) (reply_of six (step_for (path_of p) (next_event p)))
+  duty_step (duties.Ask (ask_duties.SynHeard s)) is calm may opens = replying.syn_window_step six others p ab ba h holds ready s
+  duty_step (duties.Ask (ask_duties.SynAnswered s)) is calm may opens = replying.syn_window_step six others p ab ba h holds ready s
+  duty_step (duties.Ask (ask_duties.PlainHandshake s)) is calm may opens = replying.told_fell six others p ab ba h holds ready s events.PlainHandshake tt
+  duty_step (duties.Ask (ask_duties.PeerKey s)) is calm may opens = replying.peer_key_step six others p ab ba h holds ready s (key_heard (end_at s p).treated.items)
+  duty_step (duties.Send (send_duties.SynAck s)) is calm may opens = answering.syn_ack_step six others p ab ba h ready s (left p)
+  duty_step (duties.Ask (ask_duties.JoinHeard s)) is calm may opens = answering.join_heard_step six others p ab ba h ready s (reply_of six (join_heard_ask s (asked_at s p) p)) may
+  duty_step (duties.Send (send_duties.Refuse s)) is calm may opens = answering.refuse_step six others p ab ba h ready s
+  duty_step (duties.Ask (ask_duties.Opened s)) is calm may opens = replying.opened_step six others p ab ba h holds ready s (keys_heard (end_at s p).treated.items)
+  duty_step (duties.Ask (ask_duties.Live s)) is calm may opens = answering.agenda_step six others p ab ba h ready _ (left p) tt
+  duty_step (duties.Step (step_duties.Heard s index)) is calm may opens = replying.item_step six others p ab ba h holds ready s index (λ fail. (opens fail, numbered, short s)) is
+  duty_step (duties.Ask (ask_duties.AckHeard s)) is calm may opens = replying.told_fell six others p ab ba h holds ready s events.AckHeard tt
+  duty_step (duties.Ask (ask_duties.CheckFailed s)) is calm may opens = replying.check_failed_step six others p ab ba h holds ready s
+  duty_step (duties.Ask (ask_duties.FailHeard s)) is calm may opens = replying.fail_heard_step six others p ab ba h holds ready s
+  duty_step (duties.Step (step_duties.PlainAck s)) is calm may opens = replying.plain_ack_step six others p ab ba h holds ready s
+  duty_step (duties.Ask (ask_duties.SubflowAck s)) is calm may opens = replying.subflow_ack_step six others p ab ba h holds ready s is
+  duty_step (duties.Ask (ask_duties.PlainData s)) is calm may opens = replying.told_fell six others p ab ba h holds ready s events.PlainData tt
+  duty_step (duties.Ask (ask_duties.GoIdentity s)) is calm may opens = replying.identity_step six others p ab ba h holds ready s may
+  duty_step (duties.Step (step_duties.Unmapped s)) is calm may opens = answering.break_step six others p ab ba h ready s 6
+  duty_step (duties.Ask (ask_duties.SubflowFin s)) is calm may opens = replying.plain_fin_step six others p ab ba h holds ready s (plain_fin (end_at s p)) refl
+  duty_step (duties.Silent (silent_duties.Keep s)) is calm may opens = answering.agenda_step six others p ab ba h ready _ (left p) tt
+  duty_step (duties.Ask (ask_duties.Edge s)) is calm may opens = replying.piece_step six others p ab ba h holds ready s (piece_of s p) refl
+  duty_step (duties.Ask (ask_duties.HeardFin s index)) is calm may opens = replying.fin_heard_step six others p ab ba h holds ready s index
+  duty_step (duties.Silent (silent_duties.PassFin s)) is calm may opens = answering.agenda_step six others p ab ba h ready _ (left p) tt
+  duty_step (duties.Ask (ask_duties.AckOut s)) is calm may opens = answering.told_step six others p ab ba h ready s (left p)
+  duty_step (duties.Ask (ask_duties.Rate s)) is calm may opens = replying.rate_step six others p ab ba h holds ready s
+  duty_step (duties.Send (send_duties.Acknowledge s)) is calm may opens = answering.acknowledges_step six others p ab ba h ready s (calm s refl) (left p)
+  duty_step (duties.Send (send_duties.Again s)) is calm may opens = answering.again_step six others p ab ba h ready s (calm s refl)
+  duty_step (duties.Send (send_duties.Answer s)) is calm may opens = answering.answer_step six others p ab ba h ready s (calm s refl)
+  duty_step (duties.Send (send_duties.ResetAnswer s)) is calm may opens = answering.dead_step six others p ab ba h ready s
+  duty_step (duties.Ask (ask_duties.Return s)) is calm may opens = returns s (left p)
+  duty_step (duties.Ask (ask_duties.AbortSend s)) is calm may opens = abort_send_side p.profile six others s p (with_agenda (left p) p) ab ba h (done_side s)
+  duty_step (duties.Ask (ask_duties.AbortReceive s)) is calm may opens = abort_receive_side p.profile six others s p (with_agenda (left p) p) ab ba h (done_side s)
+  duty_step (duties.Ask (ask_duties.Announce s id)) is calm may opens = answering.agenda_step six others p ab ba h ready _ (left p) tt
+  duty_step (duties.Ask (ask_duties.Withdraw s id)) is calm may opens = answering.agenda_step six others p ab ba h ready _ (left p) tt
+  duty_step (duties.Send (send_duties.Resend s)) is calm may opens = answering.resend_step six others p ab ba h ready s (calm s refl)
+  duty_step (duties.Ask (ask_duties.BreakAck s reason)) is calm may opens = answering.told_step six others p ab ba h ready s (resets s reason)
+  duty_step (duties.Send (send_duties.BreakReset s reason)) is calm may opens = answering.reset_step six others p ab ba h ready s (calm s refl) (Some reason) (leaves s)
+  duty_step (duties.Send (send_duties.Reset s)) is calm may opens = answering.reset_step six others p ab ba h ready s (calm s refl) None (replaced (duties.Ask (ask_duties.Leave s)) p.agenda)
+  duty_step (duties.Send (send_duties.ResetNoted s)) is calm may opens = answering.reset_step six others p ab ba h ready s (calm s refl) None (replaced (duties.Ask (ask_duties.Leave s)) p.agenda)
+  duty_step (duties.Ask (ask_duties.Leave s)) is calm may opens = returns s (replaced (duties.Ask (ask_duties.Dead s)) p.agenda)
+  duty_step (duties.Ask (ask_duties.LeaveNoted s)) is calm may opens = leaves_noted s (calm s refl)
+  duty_step (duties.Ask (ask_duties.Dead s)) is calm may opens = answering.agenda_step six others p ab ba h ready _ (left p) tt
+  duty_step duties.End is calm may opens = answering.agenda_step six others p ab ba h ready _ [] tt

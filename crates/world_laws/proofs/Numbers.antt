@@ -1,0 +1,12 @@
+pub mod LowHalves
+pub mod TellSmall
+pub mod EndRules
+pub mod Arrivals
+pub mod IdsFit
+pub mod PathSteps
+pub mod KeysFit
+pub mod Events
+pub mod Duties
+pub mod SettlingTells
+pub mod EveryTurn
+pub mod WrittenShort

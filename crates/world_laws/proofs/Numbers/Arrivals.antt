@@ -1,0 +1,309 @@
+-- What a copy that arrives tells, and what it leaves of the numbers that its end tells.
+use Rattle.std.proofs.Common.{◌≡◌, refl, ℕ, ◌+◌, ◌^◌, ◌<◌, nat_le, nat_lt, Bool, true, false, if◌then◌else◌, option_map, Option, Some, None, List, [], ◌∷◌, map, flat_map, arith}
+use Rattle.std.specs.Prelude.{All}
+use Rattle.std.specs.Option.{IfSome, unwrap_or}
+use Rattle.std.proofs.lemmas.List.Elements.{All-head, All-tail}
+use Rattle.outside_kit.specs.declared.side.Side.{Side}
+use Rattle.outside_kit.specs.declared.side.Side.TheVariants.{A, B}
+use Rattle.link_model.specs.Steps.{peer}
+use Rattle.mptcp_options.specs.declared.capable.CapableKeys.{CapableKeys}
+use Rattle.mptcp_options.specs.declared.capable.CapableKeys.TheVariants.{NoKey, Sender, Both, WithData}
+use Rattle.mptcp_options.specs.Capable.{KeysFit}
+use Rattle.mptcp_options.specs.declared.join.JoinForm.{JoinForm}
+use Rattle.mptcp_options.specs.declared.join.JoinForm.TheVariants as joins
+use Rattle.mptcp_options.specs.Join.{FormFits}
+use Rattle.join_handshake.specs.declared.hearing.JoinAnswer.{JoinAnswer}
+use Rattle.join_handshake.specs.declared.hearing.JoinSyn.{JoinSyn}
+use Rattle.path_segments.specs.declared.segment.PathMapping.{PathMapping}
+use Rattle.path_segments.specs.declared.segment.PathMapping.TheVariants.{Bytes, End, Infinite}
+use Rattle.path_segments.specs.declared.segment.PathOption.TheVariants.{Capable, Join, Dss, AddAddr, Remove, Prio, Fail, FastClose, Reset}
+use Rattle.path_segments.specs.Laws.{meant, meant_option, meant_mapping}
+use Rattle.path_segments.specs.Options.{PlainOption}
+use Rattle.path_segments.specs.Spelled.{PlainSegment}
+use Rattle.subflow_send.specs.declared.record.AckKind.{AckKind}
+use Rattle.subflow_send.specs.declared.record.AckKind.TheVariants as acks
+use Rattle.subflow_send.specs.Rules.{after_acknowledge, ack_kind, sample_of}
+use Rattle.subflow_tcp.specs.declared.segments.Hint.{Hint}
+use Rattle.subflow_tcp.specs.declared.verdicts.Meaning.{Meaning}
+use Rattle.subflow_tcp.specs.declared.verdicts.Meaning.TheVariants as means
+use Rattle.subflow_tcp.specs.declared.handshake.State.{State as EndPhase}
+use Rattle.subflow_tcp.specs.Segments.{Copy, occupied}
+use Rattle.subflow_tcp.specs.State.{EndState}
+use Rattle.subflow_tcp.specs.Taking as taking
+use Rattle.loss_recovery.specs.declared.windows.Told.{Told}
+use Rattle.stream_lanes.specs.Words.{Every}
+use Rattle.stream_lanes.proofs.Lists.{Every-nil, Every-append}
+use Rattle.actor_desk.specs.Words.{is_nil}
+use Rattle.path_agenda.specs.declared.heard.Heard.{Heard}
+use Rattle.path_agenda.specs.declared.heard.Heard.TheVariants as says
+use Rattle.path_agenda.specs.declared.keys.KeyPair.{KeyPair}
+use Rattle.path_core.specs.Arriving.{copy_of, ack_items, is_mapping, mapping_items, map_items, key_items, join_items, items_in, items_of, HeardOption, hint_of, reset_by, owing_if, owes_by, asked_in, is_taken, with_payload, with_answer, answered_in, cleared_in, judged_in, taken_as, after_judged, position_numbered, item_removed}
+use Rattle.path_core.specs.declared.modes.Modes.{Modes}
+use Rattle.path_core.specs.Joining.{with_keys, syn_alone, is_listening, joined_by}
+use Rattle.path_core.specs.Joins.{is_joined, join_answer}
+use Rattle.path_core.specs.Ends.{PathEnd}
+use Rattle.path_core.specs.State.{Profile}
+use Rattle.world_laws.proofs.Lanes.Records.{every_cons}
+use Rattle.path_agenda.specs.declared.notice.PeerNotice.TheVariants as notes
+use Rattle.world_laws.proofs.Numbers.TellSmall.{IsShort, MappingIsShort, OptionTells, SegmentTells, IsNonce, ItemTells, AnswerTells, SenderTells, ModesTell, EndTells}
+use Rattle.world_laws.proofs.Numbers.EndRules.{acknowledged_tells, AreKeys, answer_nonce}
+use Rattle.dss_mapping.specs.Mappings.{octets_in}
+use Rattle.path_segments.specs.declared.position.HeardPosition.TheVariants.{At}
+
+-- ---- what it says
+
+abbrev Tell : List Heard → Type 0
+Tell items = Every ItemTells items
+
+one : (item : Heard) → ItemTells item → Tell (item ∷ [])
+one item h = every_cons item [] h (Every-nil ItemTells)
+
+tell_if : (b : Bool) (item : Heard) → ItemTells item → Tell (if b then item ∷ [] else [])
+tell_if true item h = one item h
+tell_if false item h = Every-nil ItemTells
+
+acks_tell : (o : Option ℕ) (window : ℕ) → IfSome o IsShort → Tell (ack_items (option_map (λ n. Some n) o) window)
+acks_tell None window h = Every-nil ItemTells
+acks_tell (Some n) window h = tell_if (nat_lt n (2 ^ 62)) (says.DataAck n window) h
+
+mapping_tells : (place position count : ℕ) (fin : Bool) → Tell (mapping_items place position count fin)
+mapping_tells place position count fin = tell_if (is_mapping place position count) (says.Mapping fin) tt
+
+map_tells : (o : Option (PathMapping ℕ)) → IfSome o MappingIsShort → Tell (map_items (option_map meant_mapping o))
+map_tells None h = Every-nil ItemTells
+map_tells (Some (Bytes place position len fin checksum)) h = mapping_tells place position (octets_in len fin) fin
+map_tells (Some (End place checksum)) h = tell_if (nat_le place (2 ^ 62)) (says.DataFin place) h
+map_tells (Some (Infinite place position)) h = tell_if (nat_lt place (2 ^ 62)) (says.InfiniteMapping place (Some position)) tt
+
+keys_tell : (s : Side) (keys : CapableKeys) → KeysFit keys → Tell (key_items s keys)
+keys_tell A NoKey h = Every-nil ItemTells
+keys_tell A (Sender sender) h = one (says.PeerKey sender) h
+keys_tell A (Both sender receiver) h = Every-nil ItemTells
+keys_tell A (WithData sender receiver len checksum) h = Every-nil ItemTells
+keys_tell B NoKey h = Every-nil ItemTells
+keys_tell B (Sender sender) h = Every-nil ItemTells
+keys_tell B (Both sender receiver) h = one (says.Keys receiver sender) (h.1, h.0)
+keys_tell B (WithData sender receiver len checksum) h = every_cons (says.Keys receiver sender) (mapping_items 0 1 len false) (h.1, h.0) (mapping_tells 0 1 len false)
+
+joins_tell : (s : Side) (form : JoinForm) → FormFits form → Tell (join_items s form)
+joins_tell A (joins.Answer backup id hmac nonce) h = one (says.Join (joins.Answer backup id hmac nonce)) h
+joins_tell A (joins.Syn backup id token nonce) h = Every-nil ItemTells
+joins_tell A (joins.Third hmac) h = Every-nil ItemTells
+joins_tell B (joins.Syn backup id token nonce) h = one (says.Join (joins.Syn backup id token nonce)) h
+joins_tell B (joins.Third hmac) h = one (says.Join (joins.Third hmac)) h
+joins_tell B (joins.Answer backup id hmac nonce) h = Every-nil ItemTells
+
+removed_tell : (ids : List ℕ) → Tell (map item_removed ids)
+removed_tell [] = Every-nil ItemTells
+removed_tell (id ∷ ids) = every_cons (item_removed id) _ tt (removed_tell ids)
+
+module _ (c : Profile) (from : Side) (joined : Bool) (s : Side) (window : ℕ) where
+  option_tells : (o : PlainOption) → OptionTells c from o → Tell (items_in joined s window (meant_option o))
+  option_tells (Capable flag_a flag_c keys) h = by joined
+    where
+      by : (b : Bool) → Tell (if b then [] else key_items s keys)
+      by true = Every-nil ItemTells
+      by false = keys_tell s keys h.fits
+  option_tells (Dss next mapping) h = every_cons says.Dss _ tt (Every-append (acks_tell next window h.short.0) (map_tells mapping h.short.1))
+  option_tells (Join form) h = joins_tell s form h.fits
+  option_tells (AddAddr true id address port hmac) h = one (says.Notice (notes.AddEcho id)) tt
+  option_tells (AddAddr false id address port (Some hmac)) h = one (says.Notice (notes.AddAddr id address port hmac)) (h.fits.0, h.fits.1, h.fits.2)
+  option_tells (AddAddr false id address port None) h = Every-nil ItemTells
+  option_tells (Remove ids) h = removed_tell ids
+  option_tells (Prio backup) h = one (says.Notice (notes.Prio backup)) tt
+  option_tells (Fail place) h = one says.Fail tt
+  option_tells (FastClose key) h = one (says.FastClose key) tt
+  option_tells (Reset transient reason) h = Every-nil ItemTells
+
+  options_tell : (os : List PlainOption) → All (OptionTells c from) os → Tell (flat_map (items_in joined s window) (map meant_option os))
+  options_tell [] h = Every-nil ItemTells
+  options_tell (o ∷ os) h = Every-append (option_tells o (All-head (OptionTells c from) o os h)) (options_tell os (All-tail (OptionTells c from) o os h))
+
+-- ---- the answer of a dead end
+
+zero_low : (c : Profile) (s : Side) → position_numbered c s 0 < 2 ^ 32
+zero_low c s = omega arith
+
+answer_tells : (c : Profile) (s : Side) (o : Option ℕ) (position occupied : ℕ) → IfSome o IsShort → (o ≡ None → IsShort (position + occupied))
+    → AnswerTells (reset_by c s (option_map (λ n. At n) o) (At position) occupied)
+answer_tells c s None position occupied short reaches = record { rst = refl; low = zero_low c s; acknowledged = reaches refl; reaches = λ is. cc; syn = refl; fin = refl }
+answer_tells c s (Some acknowledged) position occupied short reaches = record { rst = refl; low = omega (arith, short); acknowledged = tt; reaches = λ is. short; syn = refl; fin = refl }
+
+-- ---- the subflow
+
+record Subflow (c : Profile) (s : Side) (tcp : EndState) : Type 0 where
+  sender : SenderTells c s tcp.send
+  edge : IsShort tcp.recv.edge
+
+module _ (c : Profile) (s : Side) where
+  abbrev Flows : EndState → Type 0
+  Flows tcp = Subflow c s tcp
+
+  held_flows : (m : Meaning) (octets : List ℕ) (tcp : EndState) → Flows tcp → Flows (with_payload m octets tcp)
+  held_flows (means.Taken pos acknowledged) octets tcp h = by (is_nil octets)
+    where
+      by : (b : Bool) → Flows (if b then tcp else taking.after_holding pos octets tcp)
+      by true = h
+      by false = record { sender = h.sender; edge = h.edge }
+  held_flows means.Ignored octets tcp h = h
+  held_flows means.Unwanted octets tcp h = h
+  held_flows means.Opens octets tcp h = h
+  held_flows (means.Accepts acknowledged) octets tcp h = h
+  held_flows means.RepeatedSyn octets tcp h = h
+  held_flows means.Outside octets tcp h = h
+  held_flows means.Kills octets tcp h = h
+  held_flows means.Challenged octets tcp h = h
+  held_flows means.Unacknowledging octets tcp h = h
+  held_flows means.Ahead octets tcp h = h
+
+  payload_flows : (pos : ℕ) (hint : Hint) (copy : Copy) (tcp : EndState) → hint.keep ≡ false → Flows tcp → Flows (taking.after_payload pos hint copy tcp)
+  payload_flows pos hint copy tcp keep h = record { sender = h.sender; edge = by hint.keep keep }
+    where
+      by : (b : Bool) → b ≡ false → IsShort (taking.after_keeping b pos copy.payload tcp).recv.edge
+      by false is = h.edge
+      by true is = cc
+
+  acknowledged_flows : (pos now : ℕ) (tcp : EndState) → Flows tcp → Flows (taking.after_acknowledgement pos now tcp)
+  acknowledged_flows pos now tcp h = by (ack_kind pos tcp.send)
+    where
+      by : (kind : AckKind) → Flows (taking.after_ack_kind kind (sample_of pos tcp.send) now (record tcp { send = after_acknowledge pos tcp.send }))
+      by (acks.New octets) = record { sender = acknowledged_tells c s tcp.send h.sender pos; edge = h.edge }
+      by acks.Duplicate = record { sender = acknowledged_tells c s tcp.send h.sender pos; edge = h.edge }
+      by acks.Old = record { sender = acknowledged_tells c s tcp.send h.sender pos; edge = h.edge }
+      by acks.Future = record { sender = acknowledged_tells c s tcp.send h.sender pos; edge = h.edge }
+
+  row_flows : (kind : AckKind) (told : Told) (copy : Copy) (tcp : EndState) → Flows tcp → Flows (taking.after_row kind told copy tcp)
+  row_flows kind told copy tcp h = by (taking.is_duplicate kind told copy tcp)
+    where
+      by : (b : Bool) → Flows (if b then taking.after_duplicate tcp else taking.after_interruption tcp)
+      by true = record { sender = h.sender; edge = h.edge }
+      by false = record { sender = h.sender; edge = h.edge }
+
+  arrived_flows : (m : Meaning) (hint : Hint) (now : ℕ) (copy : Copy) (tcp : EndState) → hint.keep ≡ false → Flows tcp → Flows (taking.after_arrival m hint now copy tcp)
+  arrived_flows (means.Taken pos acknowledged) hint now copy tcp keep h =
+      let p = payload_flows pos hint copy tcp keep h in
+      let t : EndState = taking.after_established (taking.after_hearing (taking.after_payload pos hint copy tcp)) in
+      let a = acknowledged_flows acknowledged now t (record { sender = p.sender; edge = p.edge }) in
+      let r = row_flows (ack_kind acknowledged t.send) (taking.told_by hint copy) copy (taking.after_acknowledgement acknowledged now t) a in
+      record { sender = r.sender; edge = r.edge }
+  arrived_flows (means.Accepts acknowledged) hint now copy tcp keep h =
+      let p = payload_flows 1 hint copy tcp keep h in
+      let a = acknowledged_flows acknowledged now _ (record { sender = p.sender; edge = p.edge }) in
+      record { sender = a.sender; edge = a.edge }
+  arrived_flows means.Opens hint now copy tcp keep h = let p = payload_flows 1 hint copy tcp keep h in record { sender = p.sender; edge = p.edge }
+  arrived_flows means.Kills hint now copy tcp keep h = record { sender = acknowledged_tells c s tcp.send h.sender tcp.send.nxt; edge = h.edge }
+  arrived_flows means.Ignored hint now copy tcp keep h = h
+  arrived_flows means.Unwanted hint now copy tcp keep h = h
+  arrived_flows means.RepeatedSyn hint now copy tcp keep h = record { sender = h.sender; edge = h.edge }
+  arrived_flows means.Outside hint now copy tcp keep h = record { sender = h.sender; edge = h.edge }
+  arrived_flows means.Challenged hint now copy tcp keep h = record { sender = h.sender; edge = h.edge }
+  arrived_flows means.Unacknowledging hint now copy tcp keep h = record { sender = h.sender; edge = h.edge }
+  arrived_flows means.Ahead hint now copy tcp keep h = record { sender = h.sender; edge = h.edge }
+
+  owing_flows : (b : Bool) (tcp : EndState) → Flows tcp → Flows (owing_if b tcp)
+  owing_flows true tcp h = record { sender = h.sender; edge = h.edge }
+  owing_flows false tcp h = h
+
+-- ---- joins
+
+answered_modes : (o : Option JoinAnswer) (m : Modes) → IfSome o (λ answer. IsNonce answer.nonce) → ModesTell m → ModesTell (with_answer o m)
+answered_modes None m nonce h = h
+answered_modes (Some answer) m nonce h = record { own_key = h.own_key; peer_key = h.peer_key; own_nonce = h.own_nonce; peer_nonce = nonce; failed_mapping = h.failed_mapping }
+
+answered_by : (meaning : Meaning) (items : List Heard) (m : Modes) → Tell items → ModesTell m → ModesTell (answered_in meaning items m)
+answered_by (means.Accepts acknowledged) items m said h = answered_modes (join_answer items m) m (answer_nonce items m said) h
+answered_by (means.Taken position acknowledged) items m said h = h
+answered_by means.Ignored items m said h = h
+answered_by means.Unwanted items m said h = h
+answered_by means.Opens items m said h = h
+answered_by means.RepeatedSyn items m said h = h
+answered_by means.Outside items m said h = h
+answered_by means.Kills items m said h = h
+answered_by means.Challenged items m said h = h
+answered_by means.Unacknowledging items m said h = h
+answered_by means.Ahead items m said h = h
+
+cleared_by : (meaning : Meaning) (state : EndPhase) (m : Modes) → ModesTell m → ModesTell (cleared_in meaning state m)
+cleared_by (means.Taken position acknowledged) state m h = record { own_key = h.own_key; peer_key = h.peer_key; own_nonce = h.own_nonce; peer_nonce = h.peer_nonce; failed_mapping = h.failed_mapping }
+cleared_by (means.Accepts acknowledged) state m h = h
+cleared_by means.Ignored state m h = h
+cleared_by means.Unwanted state m h = h
+cleared_by means.Opens state m h = h
+cleared_by means.RepeatedSyn state m h = h
+cleared_by means.Outside state m h = h
+cleared_by means.Kills state m h = h
+cleared_by means.Challenged state m h = h
+cleared_by means.Unacknowledging state m h = h
+cleared_by means.Ahead state m h = h
+
+asked_modes : (meaning : Meaning) (options : List HeardOption) (m : Modes) → ModesTell m → ModesTell (asked_in meaning options m)
+asked_modes means.Opens options m h = record { own_key = h.own_key; peer_key = h.peer_key; own_nonce = h.own_nonce; peer_nonce = h.peer_nonce; failed_mapping = h.failed_mapping }
+asked_modes (means.Accepts acknowledged) options m h = h
+asked_modes (means.Taken position acknowledged) options m h = h
+asked_modes means.Ignored options m h = h
+asked_modes means.Unwanted options m h = h
+asked_modes means.RepeatedSyn options m h = h
+asked_modes means.Outside options m h = h
+asked_modes means.Kills options m h = h
+asked_modes means.Challenged options m h = h
+asked_modes means.Unacknowledging options m h = h
+asked_modes means.Ahead options m h = h
+
+joined_modes : (joined : Bool) (meaning : Meaning) (items : List Heard) (state : EndPhase) (m : Modes) → Tell items → ModesTell m
+    → ModesTell (if joined then cleared_in meaning state (answered_in meaning items m) else m)
+joined_modes true meaning items state m said h = cleared_by meaning state (answered_in meaning items m) (answered_by meaning items m said h)
+joined_modes false meaning items state m said h = h
+
+-- the listening end takes the SYN that joins
+pub joined_tells : (c : Profile) (s : Side) (keys : KeyPair) (asked : JoinSyn) (e : PathEnd) → AreKeys keys → IsNonce asked.nonce → EndTells c s e → EndTells c s (joined_by keys asked e)
+joined_tells c s keys asked e pair nonce h = by (is_listening e.tcp.state)
+  where
+    modes : ModesTell (record (with_keys keys e.modes) { peer_nonce = asked.nonce; backup_heard = asked.backup })
+    modes = record { own_key = pair.0; peer_key = pair.1; own_nonce = h.modes.own_nonce; peer_nonce = nonce; failed_mapping = h.modes.failed_mapping }
+
+    by : (b : Bool) → EndTells c s (record e {
+      tcp = if b then taking.after_syn (taking.unkept None) (syn_alone e.treated.window) e.tcp else e.tcp;
+      modes = record (with_keys keys e.modes) { peer_nonce = asked.nonce; backup_heard = asked.backup };
+    })
+    by true =
+        let flows = arrived_flows c s means.Opens (taking.unkept None) 0 (syn_alone e.treated.window) e.tcp refl (record { sender = h.sender; edge = h.edge }) in
+        record { sender = flows.sender; edge = flows.edge; stream = h.stream; window = h.window; modes = modes; treated = h.treated; notices = h.notices }
+    by false = record { sender = h.sender; edge = h.edge; stream = h.stream; window = h.window; modes = modes; treated = h.treated; notices = h.notices }
+
+-- ---- the end
+
+pub arrived_tells : (c : Profile) (s : Side) (now : ℕ) (sg : PlainSegment) (e : PathEnd) → SegmentTells c (peer s) sg → EndTells c s e
+    → EndTells c s (after_judged c s now (meant sg) (judged_in (is_joined c) s (meant sg) e) e)
+arrived_tells c s now sg e tells h =
+    let m : Meaning = taken_as (judged_in (is_joined c) s (meant sg) e) in
+    let items : List Heard = items_of (is_joined c) s (meant sg) in
+    let said : Tell items = options_tell c (peer s) (is_joined c) s _ sg.options tells.options in
+    let held = held_flows c s m sg.payload e.tcp (record { sender = h.sender; edge = h.edge }) in
+    let tcp : EndState = with_payload m sg.payload e.tcp in
+    let arrived = arrived_flows c s m (hint_of items) now (copy_of (meant sg)) tcp refl held in
+    let owed = owing_flows c s (owes_by m items) (taking.after_arrival m (hint_of items) now (copy_of (meant sg)) tcp) arrived in
+    record {
+      sender = owed.sender;
+      edge = owed.edge;
+      stream = h.stream;
+      window = record { next = h.window.next; window = h.window.window };
+      modes = asked_modes m (meant sg).options (if is_joined c then cleared_in m tcp.state (answered_in m items e.modes) else e.modes) (joined_modes (is_joined c) m items tcp.state e.modes said h.modes);
+      treated = record {
+        items = said;
+        answer = by sg.acknowledged tells.acknowledged tells.reaches;
+        acknowledged = position_told (is_taken m) sg.acknowledged tells.acknowledged;
+        failed_mapping = tt;
+      };
+      notices = h.notices;
+    }
+  where
+    position_told : (taken : Bool) (o : Option ℕ) → IfSome o IsShort
+        → IsShort (if taken then unwrap_or (copy_of (record (meant sg) { acknowledged = option_map (λ n. At n) o })).acknowledged 0 else 0)
+    position_told false o short = omega arith
+    position_told true None short = omega arith
+    position_told true (Some n) short = short
+
+    by : (o : Option ℕ) → IfSome o IsShort → (o ≡ None → IsShort (sg.position + occupied (copy_of (meant sg))))
+        → AnswerTells (reset_by c s (option_map (λ n. At n) o) (At sg.position) (occupied (copy_of (meant sg))))
+    by None short reaches = answer_tells c s None sg.position (occupied (copy_of (meant sg))) tt reaches
+    by (Some n) short reaches = answer_tells c s (Some n) sg.position (occupied (copy_of (meant sg))) short (λ is. cc)

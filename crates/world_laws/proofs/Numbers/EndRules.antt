@@ -1,0 +1,677 @@
+-- What each rule of an end leaves of the numbers that it tells.
+use Rattle.std.proofs.Common.{◌≡◌, refl, sym, subst, ℕ, ◌+◌, ◌^◌, ◌<◌, ◌≤◌, ◌==◌, ◌&&◌, nat_lt, nat_le, Bool, true, false, if◌then◌else◌, Option, Some, None, Ok, Err, List, [], ◌∷◌, ◌++◌, length, arith, ap, ⊎_elim, ◌-◌, min}
+use Rattle.std.proofs.lemmas.Bool.{and_parts, leb-true, ltb-false}
+use Rattle.std.specs.Option.{IfSome, option_or}
+use Rattle.std.specs.Result.{result_ok}
+use Rattle.outside_kit.specs.declared.side.Side.{Side}
+use Rattle.control_book.specs.declared.call.ControlReply.TheVariants as control_replies
+use Rattle.control_book.specs.declared.call.Notice.{Notice}
+use Rattle.control_book.specs.declared.call.Notice.TheVariants as told_notice
+use Rattle.dss_mapping.specs.declared.kept.KeptMapping.{KeptMapping}
+use Rattle.fallback_state.specs.declared.fall.Event.{Event}
+use Rattle.fallback_state.specs.declared.fall.Event.TheVariants as events
+use Rattle.fallback_state.specs.declared.fall.Verdict.TheVariants as verdicts
+use Rattle.fallback_state.specs.declared.fall.Mode.{Mode}
+use Rattle.join_handshake.specs.Heard.{syn_heard, answer_heard, answer_taken}
+use Rattle.join_handshake.specs.declared.fault.JoinFault.TheVariants.{BadHmac}
+use Rattle.join_handshake.specs.declared.hearing.JoinAnswer.{JoinAnswer}
+use Rattle.key_material.specs.JoinHmac.{join_b64_of}
+use Rattle.mptcp_options.specs.declared.join.JoinForm.{JoinForm}
+use Rattle.mptcp_options.specs.declared.join.JoinForm.TheVariants as joins
+use Rattle.mptcp_options.specs.Join.{FormFits}
+use Rattle.reassembly_book.specs.declared.call.ReassemblyReply.TheVariants as reassembly_replies
+use Rattle.send_book.specs.declared.call.SendReply.{SendReply}
+use Rattle.send_book.specs.declared.call.SendReply.TheVariants as send_replies
+use Rattle.send_book.specs.declared.call.Span.{Span}
+use Rattle.send_book.specs.declared.call.Why.{Why}
+use Rattle.subflow_send.specs.declared.record.RecordKind.{RecordKind}
+use Rattle.subflow_send.specs.declared.record.RecordKind.TheVariants.{Syn, Data, Fin}
+use Rattle.subflow_send.specs.declared.record.Sending.{Sending as RecordSending}
+use Rattle.subflow_send.specs.Records.{Record, SendState}
+use Rattle.subflow_send.specs.Rules.{after_acknowledge, after_sent, after_resent, after_expired, after_fin_sent, uncovered}
+use Rattle.subflow_tcp.specs.declared.segments.Occasion.{Occasion}
+use Rattle.subflow_tcp.specs.declared.segments.Occasion.TheVariants as to_send
+use Rattle.subflow_tcp.specs.Closing.{is_fin_next, after_finishing, after_passing_fin}
+use Rattle.subflow_tcp.specs.Emitting.{syn_resent, after_sending}
+use Rattle.subflow_tcp.specs.Expiring as expiring
+use Rattle.subflow_tcp.specs.Opening.{after_begin}
+use Rattle.subflow_recv.specs.Receiving.{after_forget_from, without_held, after_keep_held, Receiving}
+use Rattle.subflow_tcp.specs.State.{EndState, is_fin_passed}
+use Rattle.subflow_tcp.specs.States as states
+use Rattle.subflow_tcp.specs.Taking as taking
+use Rattle.stream_lanes.specs.Words.{Every}
+use Rattle.stream_lanes.proofs.Lists.{Every-nil, Every-push}
+use Rattle.actor_desk.specs.declared.ask.Reply.{Reply}
+use Rattle.actor_desk.specs.declared.ask.Reply.TheVariants as replies
+use Rattle.path_agenda.specs.declared.heard.Heard.{Heard}
+use Rattle.path_agenda.specs.declared.heard.Heard.TheVariants as says
+use Rattle.path_agenda.specs.declared.heard.JoinStep.{JoinStep}
+use Rattle.path_agenda.specs.declared.heard.JoinStep.TheVariants as step
+use Rattle.path_agenda.specs.declared.keys.KeyPair.{KeyPair}
+use Rattle.path_core.specs.declared.modes.Modes.{Modes}
+use Rattle.path_core.specs.StreamEnds.{with_data_fin_sent}
+use Rattle.path_core.specs.Emission.{granted, refused, after_timer}
+use Rattle.path_core.specs.Ends.{PathEnd, Treated, Notices, nothing_treated, Sending}
+use Rattle.path_core.specs.Events.{died, died_unless_dead, after_firing, with_priority}
+use Rattle.path_agenda.specs.Items.{key_in, key_heard, pair_in, keys_heard, is_of_step, join_in, join_heard}
+use Rattle.path_core.specs.Joining.{with_keys, opened_by, with_mode_refused}
+use Rattle.path_core.specs.Joins.{peer_key_of, join_value, join_asked, join_answer}
+use Rattle.path_core.specs.Opening.{with_peer_key, keys_in, after_keys}
+use Rattle.path_core.specs.Fallback.{mode_in, fell_in, after_fell, in_identity}
+use Rattle.path_core.specs.Passing.{having_asked, with_peer_data_fin, with_fin_told, after_rate, after_pass_fin}
+use Rattle.path_core.specs.Deliver.{Piece, is_wrong, forgotten_by, after_piece, with_learned, with_skipped, after_pieces, failing_by, mapping_here}
+use Rattle.path_core.specs.OptionsOut.{bare_mapping}
+use Rattle.path_core.specs.Handover.{with_told, having_sent}
+use Rattle.path_core.specs.Standing.{modes_told, after_look, after_ack_out, may_note, notices_told}
+use Rattle.path_core.specs.State.{Profile}
+use Rattle.path_core.specs.Treating.{with_acked, with_plain_ack, with_data_fin, after_dss, is_dropped, after_keep, acked_in, plainly_acked, with_data_ack, covered_by}
+use Rattle.path_core.specs.Words.{told_last}
+use Rattle.path_core.specs.Noticing.{without_first, after_notice}
+use Rattle.path_core.specs.Addressing.{with_noted, is_kept, with_echo, after_peer_notice}
+use Rattle.path_agenda.specs.declared.notice.OwnNotice.{OwnNotice}
+use Rattle.path_agenda.specs.declared.notice.OwnNotice.TheVariants as notes
+use Rattle.path_agenda.specs.declared.notice.PeerNotice.{PeerNotice}
+use Rattle.path_agenda.specs.declared.notice.PeerNotice.TheVariants as peer_notes
+use Rattle.key_material.specs.declared.address.Address.{Address}
+use Rattle.actor_desk.specs.Words.{tail_of}
+use Rattle.path_core.specs.FastClosing.{with_fast_closed}
+use Rattle.path_segments.specs.Spelled.{PlainSegment}
+use Rattle.world_laws.proofs.Lanes.Doing.{place_is}
+use Rattle.world_laws.proofs.Lanes.Records.{unsent_sent_kept, first_sent_kept, fin_sent_kept, expired_kept, uncovered_kept, every_first, every_rest}
+use Rattle.world_laws.proofs.Numbers.TellSmall.{IsShort, RecordKindTells, RecordTells, IsKey, IsNonce, ItemTells, AddressTells, NoteTells, PeerTells, SenderTells, ModesTell, TreatedTells, NoticesTell, EndTells, sum_small, StreamTells}
+use Rattle.send_book.specs.Steps.{ack_reply, is_future, fin_after}
+use Rattle.path_core.specs.FailedChecks.{after_check_failed}
+use Rattle.path_core.specs.InfiniteSending.{after_fail_heard, with_infinite}
+use Rattle.path_core.specs.InfiniteReceiving.{after_infinite}
+use Rattle.world_laws.proofs.Falls.FailedChecks.{Forgets, IsMarked, check_failed_marked, fail_heard_so, infinite_came_so}
+use Rattle.send_book.specs.State.{Sending as SendBook, acked_len}
+
+-- ---- records
+
+same_kind : (c : Profile) (s : Side) (kind : RecordKind) (r : Record) (x : RecordSending) → RecordKindTells c s kind r → RecordKindTells c s kind (record r { sending = x })
+same_kind c s Syn r x h = h
+same_kind c s Data r x h = h
+same_kind c s Fin r x h = h
+
+same_record : (c : Profile) (s : Side) (r : Record) (x : RecordSending) → RecordTells c s r → RecordTells c s (record r { sending = x })
+same_record c s r x h = record { reaches = h.reaches; octets = h.octets; mapped = same_kind c s r.kind r x h.mapped }
+
+module _ (c : Profile) (s : Side) (v : SendState) (h : SenderTells c s v) where
+  with_records : (rs : List Record) → Every (RecordTells c s) rs → SenderTells c s (record v { records = rs })
+  with_records rs records = record { next = h.next; unacknowledged = h.unacknowledged; records = records }
+
+  sent_tells : (now : ℕ) → SenderTells c s (after_sent now v)
+  sent_tells now = with_records _ (unsent_sent_kept _ (same_record c s) now v.records h.records)
+
+  resent_tells : (now : ℕ) → SenderTells c s (after_resent now v)
+  resent_tells now = with_records _ (first_sent_kept _ (same_record c s) now v.records h.records)
+
+  fin_sent_tells : (now : ℕ) → SenderTells c s (after_fin_sent now v)
+  fin_sent_tells now = with_records _ (fin_sent_kept _ (same_record c s) now v.records h.records)
+
+  expired_tells : SenderTells c s (after_expired v)
+  expired_tells = with_records _ (expired_kept _ (same_record c s) v.records h.records)
+
+  syn_resent_tells : (now : ℕ) → SenderTells c s (syn_resent now v)
+  syn_resent_tells now = by (v.una == 0)
+    where
+      by : (b : Bool) → SenderTells c s (if b then after_resent now v else v)
+      by true = resent_tells now
+      by false = h
+
+  pub acknowledged_tells : (pos : ℕ) → SenderTells c s (after_acknowledge pos v)
+  acknowledged_tells pos = by (nat_lt v.una pos && nat_le pos v.nxt) refl
+    where
+      by : (b : Bool) → (nat_lt v.una pos && nat_le pos v.nxt) ≡ b → SenderTells c s (if b then record v { una = pos; records = uncovered pos v.records } else v)
+      by true is = record { next = h.next; unacknowledged = leb-true pos v.nxt (and_parts (nat_lt v.una pos) (nat_le pos v.nxt) is).1; records = uncovered_kept pos v.records h.records }
+      by false is = h
+
+-- ---- modes
+
+told_modes : (r : Reply) (m : Modes) → ModesTell m → ModesTell (modes_told r m)
+told_modes (replies.Control (control_replies.Standing mode standby sole notice)) m h = record { own_key = h.own_key; peer_key = h.peer_key; own_nonce = h.own_nonce; peer_nonce = h.peer_nonce; failed_mapping = h.failed_mapping }
+told_modes _ m h = h
+
+went_modes : (r : Reply) (m : Modes) → ModesTell m → ModesTell (mode_in r m)
+went_modes (replies.Control (control_replies.Verdict (verdicts.Went mode))) m h = record { own_key = h.own_key; peer_key = h.peer_key; own_nonce = h.own_nonce; peer_nonce = h.peer_nonce; failed_mapping = h.failed_mapping }
+went_modes _ m h = h
+
+fell_modes : (event : Event) (r : Reply) (m : Modes) → ModesTell m → ModesTell (fell_in event r m)
+fell_modes events.PlainData r m h = let w = went_modes r m h in record { own_key = w.own_key; peer_key = w.peer_key; own_nonce = w.own_nonce; peer_nonce = w.peer_nonce; failed_mapping = w.failed_mapping }
+fell_modes events.PlainAck r m h = let w = went_modes r m h in record { own_key = w.own_key; peer_key = w.peer_key; own_nonce = w.own_nonce; peer_nonce = w.peer_nonce; failed_mapping = w.failed_mapping }
+fell_modes _ r m h = went_modes r m h
+
+keyed_modes : (r : Reply) (o : Option KeyPair) (m : Modes) → IfSome o (λ k. IsKey k.peer) → ModesTell m → ModesTell (keys_in r o m)
+keyed_modes (replies.Control control_replies.Noted) (Some keys) m k h = record { own_key = h.own_key; peer_key = k; own_nonce = h.own_nonce; peer_nonce = h.peer_nonce; failed_mapping = h.failed_mapping }
+keyed_modes _ _ m k h = h
+
+pub keys_modes : (keys : KeyPair) (m : Modes) → IsKey keys.own × IsKey keys.peer → ModesTell m → ModesTell (with_keys keys m)
+keys_modes keys m k h = record { own_key = k.0; peer_key = k.1; own_nonce = h.own_nonce; peer_nonce = h.peer_nonce; failed_mapping = h.failed_mapping }
+
+-- a key that was heard
+key_of : (item : Heard) → ItemTells item → IfSome (key_in item) IsKey
+key_of (says.PeerKey key) h = h
+key_of _ h = tt
+
+first_key : (o other : Option ℕ) → IfSome o IsKey → IfSome other IsKey → IfSome (option_or o other) IsKey
+first_key None other a b = b
+first_key (Some key) other a b = a
+
+pub heard_key : (items : List Heard) → Every ItemTells items → IfSome (key_heard items) IsKey
+heard_key [] h = tt
+heard_key (item ∷ items) h = first_key (key_in item) (key_heard items) (key_of item (every_first item items h)) (heard_key items (every_rest item items h))
+
+pair_of : (item : Heard) → ItemTells item → IfSome (pair_in item) (λ k. IsKey k.peer)
+pair_of (says.Keys own peer) h = h.1
+pair_of _ h = tt
+
+first_pair : (o other : Option KeyPair) → IfSome o (λ k. IsKey k.peer) → IfSome other (λ k. IsKey k.peer) → IfSome (option_or o other) (λ k. IsKey k.peer)
+first_pair None other a b = b
+first_pair (Some keys) other a b = a
+
+pub heard_keys : (items : List Heard) → Every ItemTells items → IfSome (keys_heard items) (λ k. IsKey k.peer)
+heard_keys [] h = tt
+heard_keys (item ∷ items) h = first_pair (pair_in item) (keys_heard items) (pair_of item (every_first item items h)) (heard_keys items (every_rest item items h))
+
+-- ---- joins that were heard
+
+form_of : (step : JoinStep) (item : Heard) → ItemTells item → IfSome (join_in step item) FormFits
+form_of step (says.Join form) h = by (is_of_step step form)
+  where
+    by : (b : Bool) → IfSome (if b then Some form else None) FormFits
+    by true = h
+    by false = tt
+form_of step _ h = tt
+
+first_form : (o other : Option JoinForm) → IfSome o FormFits → IfSome other FormFits → IfSome (option_or o other) FormFits
+first_form None other a b = b
+first_form (Some form) other a b = a
+
+heard_form : (step : JoinStep) (items : List Heard) → Every ItemTells items → IfSome (join_heard step items) FormFits
+heard_form step [] h = tt
+heard_form step (item ∷ items) h =
+    first_form (join_in step item) (join_heard step items) (form_of step item (every_first item items h)) (heard_form step items (every_rest item items h))
+
+asked_by_form : (o : Option JoinForm) → IfSome o FormFits → IfSome (syn_heard (join_value o)) (λ asked. IsNonce asked.nonce)
+asked_by_form None h = tt
+asked_by_form (Some (joins.Syn backup id token nonce)) h = h.2
+asked_by_form (Some (joins.Answer backup id hmac nonce)) h = tt
+asked_by_form (Some (joins.Third hmac)) h = tt
+
+-- what A asks for
+pub asked_nonce : (items : List Heard) → Every ItemTells items → IfSome (join_asked items) (λ asked. IsNonce asked.nonce)
+asked_nonce items h = asked_by_form (join_heard step.Syn items) (heard_form step.Syn items h)
+
+answered_by_form : (own other nonce : ℕ) (o : Option JoinForm) → IfSome o FormFits
+    → IfSome (result_ok (answer_taken own other nonce (answer_heard (join_value o)))) (λ answer. IsNonce answer.nonce)
+answered_by_form own other nonce None h = tt
+answered_by_form own other nonce (Some (joins.Syn backup id token n)) h = tt
+answered_by_form own other nonce (Some (joins.Answer backup id hmac n)) h = by (hmac == join_b64_of own other nonce n)
+  where
+    by : (b : Bool) → IfSome (result_ok (if b then Ok (record { backup = backup; id = id; nonce = n }) else Err BadHmac)) (λ (answer : JoinAnswer). IsNonce answer.nonce)
+    by true = h.2
+    by false = tt
+answered_by_form own other nonce (Some (joins.Third hmac)) h = tt
+
+-- and what B answers
+pub answer_nonce : (items : List Heard) (m : Modes) → Every ItemTells items → IfSome (join_answer items m) (λ answer. IsNonce answer.nonce)
+answer_nonce items m h = answered_by_form m.own_key (peer_key_of m) m.own_nonce (join_heard step.Answer items) (heard_form step.Answer items h)
+
+-- both keys of a join
+abbrev pub AreKeys : KeyPair → Type 0
+AreKeys keys = IsKey keys.own × IsKey keys.peer
+
+-- ---- an end
+
+-- the key that the side tells to an end that carries the fast close, and the id that it tells to announce or to take back
+abbrev pub NoticeTells : Reply → Type 0
+NoticeTells (replies.Control (control_replies.Standing mode standby sole (told_notice.Carrier key))) = IsKey key
+NoticeTells (replies.Control (control_replies.Standing mode standby sole (told_notice.Announce id))) = id < 256
+NoticeTells (replies.Control (control_replies.Standing mode standby sole (told_notice.Withdraw id))) = id < 256
+NoticeTells _ = Unit {0}
+
+module _ (c : Profile) (s : Side) (e : PathEnd) (h : EndTells c s e) where
+  with_modes : (m : Modes) → ModesTell m → EndTells c s (record e { modes = m })
+  with_modes m modes = record { sender = h.sender; edge = h.edge; stream = h.stream; window = h.window; modes = modes; treated = h.treated; notices = h.notices }
+
+  -- a join is refused, which tells the mode
+  pub join_refused_tells : (r : Reply) → EndTells c s (with_mode_refused r e)
+  join_refused_tells r = with_modes (with_mode_refused r e).modes (record { own_key = h.modes.own_key; peer_key = h.modes.peer_key; own_nonce = h.modes.own_nonce; peer_nonce = h.modes.peer_nonce; failed_mapping = h.modes.failed_mapping })
+
+  notice_noted : (notice : Notice) (may : Bool) → (mode : Mode) (standby sole : Bool) → NoticeTells (replies.Control (control_replies.Standing mode standby sole notice))
+      → NoticesTell (after_notice notice may e.notices)
+  notice_noted told_notice.Nothing may mode standby sole told = h.notices
+  notice_noted (told_notice.Announce id) true mode standby sole told =
+      record { carrier = h.notices.carrier; queue = Every-push (notes.AddAddr id) h.notices.queue told }
+  notice_noted (told_notice.Announce id) false mode standby sole told = h.notices
+  notice_noted (told_notice.Withdraw id) may mode standby sole told =
+      record { carrier = h.notices.carrier; queue = Every-push (notes.Removes id) h.notices.queue told }
+  notice_noted told_notice.Reset may mode standby sole told = record { carrier = h.notices.carrier; queue = h.notices.queue }
+  notice_noted (told_notice.Carrier other) may mode standby sole told = record { carrier = by e.notices.fast_closed; queue = h.notices.queue }
+    where
+      by : (closed : Bool) → IfSome (if closed then e.notices.carrier else Some other) IsKey
+      by true = h.notices.carrier
+      by false = told
+
+  notices_noted : (r : Reply) → NoticeTells r → NoticesTell (notices_told r e)
+  notices_noted (replies.Control (control_replies.Standing mode standby sole notice)) told = by (states.is_dead e.tcp.state)
+    where
+      by : (dead : Bool) → NoticesTell (if dead then e.notices else after_notice notice (may_note e) e.notices)
+      by true = h.notices
+      by false = notice_noted notice (may_note e) mode standby sole told
+  notices_noted (replies.Control control_replies.Noted) told = h.notices
+  notices_noted (replies.Control _) told = h.notices
+  notices_noted (replies.Send reply) told = h.notices
+  notices_noted (replies.Reassembly reply) told = h.notices
+  notices_noted replies.Done told = h.notices
+
+  with_notices : (n : Notices) → NoticesTell n → EndTells c s (record e { notices = n })
+  with_notices n told = record { sender = h.sender; edge = h.edge; stream = h.stream; window = h.window; modes = h.modes; treated = h.treated; notices = told }
+
+  -- a notice goes out, is echoed, or waits
+  pub noted_out_tells : EndTells c s (with_noted e)
+  noted_out_tells = with_notices (without_first e.notices) (record { carrier = h.notices.carrier; queue = rest e.notices.queue h.notices.queue })
+    where
+      rest : (queue : List OwnNotice) → Every NoteTells queue → Every NoteTells (tail_of queue)
+      rest [] each = each
+      rest (notice ∷ queue) each = every_rest notice queue each
+
+  with_queue : (queue : List OwnNotice) → Every NoteTells queue → EndTells c s (record e { notices = record e.notices { queue = queue } })
+  with_queue queue told = with_notices (record e.notices { queue = queue }) (record { carrier = h.notices.carrier; queue = told })
+
+  pub peer_notice_tells : (notice : PeerNotice) (r : Reply) → PeerTells notice → EndTells c s (after_peer_notice notice r e)
+  peer_notice_tells notice r said = with_queue (with_echo notice r e.notices.queue) (by notice said)
+    where
+      kept : (b : Bool) (id : ℕ) (address : Address) (port : Option ℕ) → AddressTells id address port
+          → Every NoteTells (if b then e.notices.queue ++ notes.AddEcho id address port ∷ [] else e.notices.queue)
+      kept true id address port said = Every-push (notes.AddEcho id address port) h.notices.queue said
+      kept false id address port said = h.notices.queue
+
+      by : (notice : PeerNotice) → PeerTells notice → Every NoteTells (with_echo notice r e.notices.queue)
+      by (peer_notes.AddAddr id address port hmac) said = kept (is_kept r) id address port said
+      by (peer_notes.AddEcho id) said = h.notices.queue
+      by (peer_notes.Removed id) said = h.notices.queue
+      by (peer_notes.Prio backup) said = h.notices.queue
+
+  pub priority_tells : (backup : Bool) → EndTells c s (with_priority backup e)
+  priority_tells backup = with_queue (with_priority backup e).notices.queue (by (states.is_dead e.tcp.state))
+    where
+      by : (dead : Bool) → Every NoteTells (if dead then e.notices.queue else e.notices.queue ++ notes.Prio backup ∷ [])
+      by true = h.notices.queue
+      by false = Every-push (notes.Prio backup) h.notices.queue tt
+
+  pub look_tells : (r : Reply) → NoticeTells r → EndTells c s (after_look r e)
+  look_tells r key =
+      let told = with_modes (modes_told r e.modes) (told_modes r e.modes h.modes) in
+      record { sender = told.sender; edge = told.edge; stream = told.stream; window = told.window; modes = told.modes; treated = told.treated; notices = notices_noted r key }
+
+  pub fast_closed_tells : EndTells c s (with_fast_closed e)
+  fast_closed_tells = record { sender = h.sender; edge = h.edge; stream = h.stream; window = h.window; modes = h.modes; treated = h.treated; notices = record { carrier = h.notices.carrier; queue = h.notices.queue } }
+
+  pub fell_tells : (event : Event) (r : Reply) → EndTells c s (after_fell event r e)
+  fell_tells event r = with_modes (fell_in event r e.modes) (fell_modes event r e.modes h.modes)
+
+  pub identity_tells : EndTells c s (in_identity e)
+  identity_tells = with_modes (record e.modes { identity = true }) (record { own_key = h.modes.own_key; peer_key = h.modes.peer_key; own_nonce = h.modes.own_nonce; peer_nonce = h.modes.peer_nonce; failed_mapping = h.modes.failed_mapping })
+
+  pub plain_ack_tells : EndTells c s (with_plain_ack e)
+  plain_ack_tells = with_modes (with_plain_ack e).modes (record { own_key = h.modes.own_key; peer_key = h.modes.peer_key; own_nonce = h.modes.own_nonce; peer_nonce = h.modes.peer_nonce; failed_mapping = h.modes.failed_mapping })
+
+  pub peer_key_tells : (o : Option ℕ) → IfSome o IsKey → EndTells c s (with_peer_key o e)
+  peer_key_tells o key = with_modes (record e.modes { peer_key = o }) (record { own_key = h.modes.own_key; peer_key = key; own_nonce = h.modes.own_nonce; peer_nonce = h.modes.peer_nonce; failed_mapping = h.modes.failed_mapping })
+
+  -- A's end opens where the join may begin
+  pub opened_tells : (o : Option KeyPair) → IfSome o AreKeys → EndTells c s (opened_by o e)
+  opened_tells None keys = h
+  opened_tells (Some pair) keys = by (states.is_waiting e.tcp.state)
+    where
+      by : (b : Bool) → EndTells c s (record e { tcp = (if b then after_begin e.tcp else e.tcp); modes = with_keys pair e.modes })
+      by true = record { sender = h.sender; edge = h.edge; stream = h.stream; window = h.window; modes = keys_modes pair e.modes keys h.modes; treated = h.treated; notices = h.notices }
+      by false = with_modes (with_keys pair e.modes) (keys_modes pair e.modes keys h.modes)
+
+  pub dss_tells : EndTells c s (after_dss s e)
+  dss_tells = record {
+    sender = h.sender;
+    edge = h.edge;
+    stream = record { heard = h.stream.heard; known_end = h.stream.known_end };
+    window = h.window;
+    modes = record { own_key = h.modes.own_key; peer_key = h.modes.peer_key; own_nonce = h.modes.own_nonce; peer_nonce = h.modes.peer_nonce; failed_mapping = h.modes.failed_mapping };
+    treated = h.treated;
+    notices = h.notices;
+  }
+
+  pub keys_tell : (r : Reply) (o : Option KeyPair) → IfSome o (λ k. IsKey k.peer) → EndTells c s (after_keys r o e)
+  keys_tell r o key = record {
+    sender = h.sender;
+    edge = h.edge;
+    stream = h.stream;
+    window = h.window;
+    modes = keyed_modes r o e.modes key h.modes;
+    treated = record { items = h.treated.items; answer = h.treated.answer; acknowledged = h.treated.acknowledged; failed_mapping = h.treated.failed_mapping };
+    notices = h.notices;
+  }
+
+  -- ---- what is to be acknowledged
+
+  pub told_tells : (next window : ℕ) → IsShort next → window ≤ 2 ^ 20 → EndTells c s (after_ack_out (replies.Reassembly (reassembly_replies.Ack next window)) e)
+  told_tells next window short most = record {
+    sender = h.sender;
+    edge = h.edge;
+    stream = h.stream;
+    window = record { next = short; window = most };
+    modes = h.modes;
+    treated = record { items = h.treated.items; answer = h.treated.answer; acknowledged = h.treated.acknowledged; failed_mapping = h.treated.failed_mapping };
+    notices = h.notices;
+  }
+
+  -- ---- what was heard
+
+  pub stream_acked : (next : ℕ) (r : SendReply) → IsShort next → EndTells c s (with_acked next (replies.Send r) e)
+  stream_acked next (send_replies.Acked bytes fin) short = record {
+    sender = h.sender;
+    edge = h.edge;
+    stream = record { heard = let heard = h.stream.heard in omega (arith, heard, short); known_end = h.stream.known_end };
+    window = h.window;
+    modes = record { own_key = h.modes.own_key; peer_key = h.modes.peer_key; own_nonce = h.modes.own_nonce; peer_nonce = h.modes.peer_nonce; failed_mapping = h.modes.failed_mapping };
+    treated = record { items = h.treated.items; answer = h.treated.answer; acknowledged = h.treated.acknowledged; failed_mapping = h.treated.failed_mapping };
+    notices = h.notices;
+  }
+  stream_acked next _ short = record {
+    sender = h.sender;
+    edge = h.edge;
+    stream = h.stream;
+    window = h.window;
+    modes = record { own_key = h.modes.own_key; peer_key = h.modes.peer_key; own_nonce = h.modes.own_nonce; peer_nonce = h.modes.peer_nonce; failed_mapping = h.modes.failed_mapping };
+    treated = record { items = h.treated.items; answer = h.treated.answer; acknowledged = h.treated.acknowledged; failed_mapping = h.treated.failed_mapping };
+    notices = h.notices;
+  }
+
+  -- where an acknowledgement of the subflow stands for one of the stream, it says as much
+  with_sending : (v : Sending) → StreamTells v → EndTells c s (record e { sending = v })
+  with_sending v stream = record { sender = h.sender; edge = h.edge; stream = stream; window = h.window; modes = h.modes; treated = h.treated; notices = h.notices }
+
+  pub plain_acked : (next : ℕ) (b : SendBook) → IsShort (length b.written + 1) → EndTells c s (record e { sending = acked_in next (replies.Send (ack_reply next b)) e.sending })
+  plain_acked next b short = by (is_future next b) refl
+    where
+      one_more : (closed : Bool) → length b.written + (if closed then 1 else 0) ≤ length b.written + 1
+      one_more true = omega arith
+      one_more false = omega arith
+
+      by : (future : Bool) → is_future next b ≡ future
+          → EndTells c s (record e {
+            sending = acked_in next (replies.Send (if future then send_replies.AckFuture (length b.written) else send_replies.Acked (min next (length b.written) - acked_len b.marks) (fin_after next b))) e.sending;
+          })
+      by true is = with_sending e.sending h.stream
+      by false is =
+          let most = one_more b.closed in
+          let within = ltb-false (length b.written + (if b.closed then 1 else 0)) next is in
+          let heard = h.stream.heard in
+          with_sending _ (record { heard = omega (arith, heard, most, within, short); known_end = h.stream.known_end })
+
+  pub unacked : (r : Reply) → EndTells c s (record e { sending = plainly_acked None r e.sending })
+  unacked r = with_sending e.sending h.stream
+
+  -- a Data ACK that counts for nothing but itself
+  pub data_ack_tells : (next : ℕ) → EndTells c s (with_data_ack next e)
+  data_ack_tells next = with_modes (covered_by next e.modes) (record { own_key = h.modes.own_key; peer_key = h.modes.peer_key; own_nonce = h.modes.own_nonce; peer_nonce = h.modes.peer_nonce; failed_mapping = h.modes.failed_mapping })
+
+  -- ---- failed checks, and infinite mappings
+
+  marked_tells : (failing : Option KeptMapping) (old new : Option ℕ) → IsMarked failing old new → IfSome failing (λ kept. IsShort kept.place) → IfSome old IsShort → IfSome new IsShort
+  marked_tells failing old new is failed short =
+      ⊎_elim (λ same. subst (λ o. IfSome o IsShort) (sym same) short)
+      (λ found. subst (λ o. IfSome o IsShort) (sym found.2) (subst (λ o. IfSome o (λ (kept : KeptMapping). IsShort kept.place)) found.1 failed)) is
+
+  pub failed_tells : (checksums : Bool) (r : Reply) → IfSome (failing_by checksums (mapping_here e) e.tcp) (λ kept. IsShort kept.place) → EndTells c s (after_check_failed checksums r e)
+  failed_tells checksums r failed =
+      check_failed_marked (λ f. EndTells c s f) checksums r e (λ told broken recv is so forgotten.
+      let w = went_modes r e.modes h.modes in
+      record {
+        sender = h.sender;
+        edge = subst IsShort (sym (forgotten_edge recv forgotten)) h.edge;
+        stream = h.stream;
+        window = h.window;
+        modes = record {
+          own_key = w.own_key;
+          peer_key = w.peer_key;
+          own_nonce = w.own_nonce;
+          peer_nonce = w.peer_nonce;
+          failed_mapping = marked_tells _ e.modes.failed_mapping told is failed h.modes.failed_mapping;
+        };
+        treated = record {
+          items = h.treated.items;
+          answer = h.treated.answer;
+          acknowledged = h.treated.acknowledged;
+          failed_mapping = marked_tells _ e.treated.failed_mapping broken so failed h.treated.failed_mapping;
+        };
+        notices = h.notices;
+      })
+    where
+      forgotten_edge : (recv : Receiving) → Forgets e.tcp.recv recv → recv.edge ≡ e.tcp.recv.edge
+      forgotten_edge recv forgotten = ⊎_elim (λ same. ap (λ (v : Receiving). v.edge) same) (λ found. ap (λ (v : Receiving). v.edge) found.1) forgotten
+
+  pub fail_heard_tells : (r : Reply) → EndTells c s (after_fail_heard r e)
+  fail_heard_tells r =
+      fail_heard_so (λ f. EndTells c s f) r e (λ own owes. let w = went_modes r e.modes h.modes in
+      with_modes _ (record { own_key = w.own_key; peer_key = w.peer_key; own_nonce = w.own_nonce; peer_nonce = w.peer_nonce; failed_mapping = w.failed_mapping }))
+
+  pub infinite_tells : (place : ℕ) (position : Option ℕ) (r : Reply) → EndTells c s (after_infinite place position r e)
+  infinite_tells place position r =
+      infinite_came_so (λ f. EndTells c s f) place position r e (λ other. let w = went_modes r e.modes h.modes in
+      with_modes _ (record { own_key = w.own_key; peer_key = w.peer_key; own_nonce = w.own_nonce; peer_nonce = w.peer_nonce; failed_mapping = w.failed_mapping }))
+
+  pub with_infinite_tells : (r : Reply) → EndTells c s (with_infinite r e)
+  with_infinite_tells r = record {
+    sender = h.sender;
+    edge = h.edge;
+    stream = h.stream;
+    window = h.window;
+    modes = h.modes;
+    treated = record { items = h.treated.items; answer = h.treated.answer; acknowledged = h.treated.acknowledged; failed_mapping = h.treated.failed_mapping };
+    notices = h.notices;
+  }
+
+  pub fin_tells : (place : ℕ) → EndTells c s (with_data_fin place e)
+  fin_tells place = record { sender = h.sender; edge = h.edge; stream = h.stream; window = h.window; modes = h.modes; treated = record { items = h.treated.items; answer = h.treated.answer; acknowledged = h.treated.acknowledged; failed_mapping = h.treated.failed_mapping }; notices = h.notices }
+
+  pub learned_tells : EndTells c s (with_learned e)
+  learned_tells = record { sender = h.sender; edge = h.edge; stream = h.stream; window = record { next = h.window.next; window = h.window.window }; modes = h.modes; treated = h.treated; notices = h.notices }
+
+  pub skipped_tells : EndTells c s (with_skipped e)
+  skipped_tells = record { sender = h.sender; edge = h.edge; stream = h.stream; window = record { next = h.window.next; window = h.window.window }; modes = h.modes; treated = h.treated; notices = h.notices }
+
+  pub asked_tells : EndTells c s (having_asked e)
+  asked_tells = record { sender = h.sender; edge = h.edge; stream = h.stream; window = h.window; modes = h.modes; treated = record { items = h.treated.items; answer = h.treated.answer; acknowledged = h.treated.acknowledged; failed_mapping = h.treated.failed_mapping }; notices = h.notices }
+
+  pub peer_end_tells : EndTells c s (with_peer_data_fin e)
+  peer_end_tells = record { sender = h.sender; edge = h.edge; stream = record { heard = h.stream.heard; known_end = h.stream.known_end }; window = h.window; modes = h.modes; treated = h.treated; notices = h.notices }
+
+  pub fin_told_tells : EndTells c s (with_fin_told e)
+  fin_told_tells = record { sender = h.sender; edge = h.edge; stream = h.stream; window = record { next = h.window.next; window = h.window.window }; modes = h.modes; treated = h.treated; notices = h.notices }
+
+  pub unmapped_tells : EndTells c s (after_pieces e)
+  unmapped_tells = record { sender = h.sender; edge = h.edge; stream = h.stream; window = record { next = h.window.next; window = h.window.window }; modes = h.modes; treated = record { items = h.treated.items; answer = h.treated.answer; acknowledged = h.treated.acknowledged; failed_mapping = h.treated.failed_mapping }; notices = h.notices }
+
+  pub piece_tells : (piece : Piece) → IsShort (e.tcp.recv.edge + length piece.octets) → EndTells c s (after_piece piece e)
+  piece_tells piece short = record { sender = h.sender; edge = short; stream = h.stream; window = record { next = h.window.next; window = h.window.window }; modes = h.modes; treated = h.treated; notices = h.notices }
+
+  pub rate_tells : (path mss : ℕ) (r : Reply) → EndTells c s (after_rate path mss r e)
+  rate_tells path mss r = record { sender = h.sender; edge = h.edge; stream = h.stream; window = h.window; modes = h.modes; treated = h.treated; notices = h.notices }
+
+  pub timer_tells : (now : ℕ) → EndTells c s (after_timer now e)
+  timer_tells now = record { sender = h.sender; edge = h.edge; stream = record { heard = h.stream.heard; known_end = h.stream.known_end }; window = h.window; modes = h.modes; treated = h.treated; notices = h.notices }
+
+  -- ---- grants
+
+  pub granted_tells : (span : Span) (piece : List ℕ) → 1 ≤ length piece → length piece ≤ 65475 → IsShort span.from → IsShort (e.tcp.send.nxt + length piece + 1)
+      → EndTells c s (granted c s span piece e)
+  granted_tells span piece some most place reaches =
+      let una = h.sender.unacknowledged in
+      record {
+        sender = record {
+          next = omega (arith, reaches);
+          unacknowledged = omega (arith, una);
+          records = Every-push _ h.sender.records (record {
+            reaches = reaches;
+            octets = most;
+            mapped = (
+              some,
+              omega (arith, most),
+              sum_small c (bare_mapping c s span.from e.tcp.send.nxt (length piece)) piece,
+              subst IsShort (sym (place_is c s span.from e.tcp.send.nxt (length piece) (omega (arith, place)))) place,
+              refl,
+            );
+          });
+        };
+        edge = h.edge;
+        stream = record { heard = h.stream.heard; known_end = h.stream.known_end };
+        window = h.window;
+        modes = h.modes;
+        treated = h.treated;
+        notices = h.notices;
+      }
+
+  pub refused_tells : (why : Why) (known : Option ℕ) → IfSome known IsShort → EndTells c s (refused (replies.Send (send_replies.NoGrant why known)) e)
+  refused_tells why known short = record {
+    sender = h.sender;
+    edge = h.edge;
+    stream = record { heard = h.stream.heard; known_end = by known short };
+    window = h.window;
+    modes = h.modes;
+    treated = h.treated;
+    notices = h.notices;
+  }
+    where
+      by : (known : Option ℕ) → IfSome known IsShort → IfSome (told_last known e.sending.known_end) IsShort
+      by None short = h.stream.known_end
+      by (Some place) short = short
+
+  -- ---- sendings
+
+  with_sender : (tcp : EndState) → tcp.recv ≡ e.tcp.recv → SenderTells c s tcp.send → (sg : PlainSegment) → EndTells c s (record (with_told sg e) { tcp = tcp })
+  with_sender tcp same sender sg = record {
+    sender = sender;
+    edge = subst (λ recv. IsShort recv.edge) (sym same) h.edge;
+    stream = h.stream;
+    window = record { next = h.window.next; window = h.window.window };
+    modes = record { own_key = h.modes.own_key; peer_key = h.modes.peer_key; own_nonce = h.modes.own_nonce; peer_nonce = h.modes.peer_nonce; failed_mapping = h.modes.failed_mapping };
+    treated = h.treated;
+    notices = h.notices;
+  }
+
+  pub sent_end_tells : (occasion : Occasion) (now : ℕ) (sg : PlainSegment) → EndTells c s (having_sent occasion now sg e)
+  sent_end_tells to_send.Reset now sg = with_sender _ refl h.sender sg
+  sent_end_tells to_send.Answer now sg = with_sender _ refl h.sender sg
+  sent_end_tells to_send.SynAck now sg = with_sender _ refl (syn_resent_tells c s e.tcp.send h.sender now) sg
+  sent_end_tells to_send.Ack now sg = with_sender _ refl h.sender sg
+  sent_end_tells to_send.Probe now sg = with_sender _ refl h.sender sg
+  sent_end_tells to_send.First now sg = with_sender _ refl (resent_tells c s e.tcp.send h.sender now) sg
+  sent_end_tells to_send.Unsent now sg = with_sender _ refl (sent_tells c s e.tcp.send h.sender now) sg
+  sent_end_tells to_send.Fin now sg = with_sender _ refl (fin_sent_tells c s e.tcp.send h.sender now) sg
+
+  pub told_end_tells : (sg : PlainSegment) → EndTells c s (with_told sg e)
+  told_end_tells sg = with_sender e.tcp refl h.sender sg
+
+  -- the record of the FIN, which is sent at once
+  pub fin_record_tells : (now : ℕ) → EndTells c s (record e { tcp = after_sending to_send.Fin now e.tcp })
+  fin_record_tells now = record { sender = fin_sent_tells c s e.tcp.send h.sender now; edge = h.edge; stream = h.stream; window = h.window; modes = h.modes; treated = h.treated; notices = h.notices }
+
+  pub end_sent_tells : EndTells c s (record e { sending = with_data_fin_sent e.sending })
+  end_sent_tells = record { sender = h.sender; edge = h.edge; stream = record { heard = h.stream.heard; known_end = h.stream.known_end }; window = h.window; modes = h.modes; treated = h.treated; notices = h.notices }
+
+  pub finished_tells : IsShort (e.tcp.send.nxt + 1) → EndTells c s (record e { tcp = after_finishing e.tcp })
+  finished_tells short =
+      let una = h.sender.unacknowledged in
+      record {
+        sender = record {
+          next = short;
+          unacknowledged = omega (arith, una);
+          records = Every-push _ h.sender.records (record { reaches = omega (arith, short); octets = omega arith; mapped = tt });
+        };
+        edge = h.edge;
+        stream = h.stream;
+        window = h.window;
+        modes = h.modes;
+        treated = h.treated;
+        notices = h.notices;
+      }
+
+  -- ---- death and the timer
+
+  dead_tells : (reset : Bool) (t : Treated) → TreatedTells t → EndTells c s (record e { tcp = taking.after_death reset e.tcp; treated = t })
+  dead_tells reset t treated = record { sender = acknowledged_tells c s e.tcp.send h.sender e.tcp.send.nxt; edge = h.edge; stream = h.stream; window = h.window; modes = h.modes; treated = treated; notices = h.notices }
+
+  pub died_tells : EndTells c s (died e)
+  died_tells =
+      let told = dead_tells false nothing_treated (record { items = Every-nil _; answer = tt; acknowledged = omega arith; failed_mapping = tt }) in
+      record { sender = told.sender; edge = told.edge; stream = told.stream; window = told.window; modes = told.modes; treated = told.treated; notices = record { carrier = tt; queue = Every-nil _ } }
+
+  pub died_unless_tells : EndTells c s (died_unless_dead e)
+  died_unless_tells = by (states.is_dead e.tcp.state)
+    where
+      by : (b : Bool) → EndTells c s (if b then e else died e)
+      by true = h
+      by false = died_tells
+
+  pub fired_tells : (now : ℕ) → EndTells c s (after_firing now e)
+  fired_tells now = by (expiring.is_sixth e.tcp)
+    where
+      by : (b : Bool) → EndTells c s (record e { tcp = if b then taking.after_death true e.tcp else expiring.after_expiry now e.tcp })
+      by true = dead_tells true e.treated h.treated
+      by false = record { sender = expired_tells c s e.tcp.send h.sender; edge = h.edge; stream = h.stream; window = h.window; modes = h.modes; treated = h.treated; notices = h.notices }
+
+  -- ---- what is kept
+
+  same_edge : (tcp : EndState) → tcp.send ≡ e.tcp.send → tcp.recv.edge ≡ e.tcp.recv.edge → EndTells c s (record e { tcp = tcp })
+  same_edge tcp send edge = record {
+    sender = subst (SenderTells c s) (sym send) h.sender;
+    edge = subst IsShort (sym edge) h.edge;
+    stream = h.stream;
+    window = h.window;
+    modes = h.modes;
+    treated = h.treated;
+    notices = h.notices;
+  }
+
+  pub check_tells : (checksums : Bool) (o : Option KeptMapping) → EndTells c s (forgotten_by checksums o e)
+  check_tells checksums None = h
+  check_tells checksums (Some kept) = by (is_wrong checksums kept e.tcp)
+    where
+      by : (b : Bool) → EndTells c s (if b then record e { tcp = record e.tcp { recv = after_forget_from kept.pos e.tcp.recv } } else e)
+      by false = h
+      by true = same_edge (record e.tcp { recv = after_forget_from kept.pos e.tcp.recv }) refl refl
+
+  pub keep_tells : EndTells c s (after_keep s e)
+  keep_tells = kept_so (is_dropped s e)
+    where
+      kept : (b : Bool) → (if b then taking.after_dropping_held e.tcp else taking.after_keeping_held e.tcp).recv.edge ≡ e.tcp.recv.edge
+      kept true = refl
+      kept false = passed (is_fin_passed e.tcp)
+        where
+          passed : (b : Bool) → (if b then without_held e.tcp.recv else after_keep_held e.tcp.recv).edge ≡ e.tcp.recv.edge
+          passed true = refl
+          passed false = refl
+
+      by : (b : Bool) → EndTells c s (record e { tcp = if b then taking.after_dropping_held e.tcp else taking.after_keeping_held e.tcp })
+      by true = same_edge (taking.after_dropping_held e.tcp) refl (kept true)
+      by false = same_edge (taking.after_keeping_held e.tcp) refl (kept false)
+
+      kept_so : (b : Bool) → EndTells c s (record e { tcp = (if b then taking.after_dropping_held e.tcp else taking.after_keeping_held e.tcp); treated = (after_keep s e).treated })
+      kept_so b =
+          let f = by b in
+          record {
+            sender = f.sender;
+            edge = f.edge;
+            stream = h.stream;
+            window = h.window;
+            modes = h.modes;
+            treated = record { items = h.treated.items; answer = h.treated.answer; acknowledged = h.treated.acknowledged; failed_mapping = h.treated.failed_mapping };
+            notices = h.notices;
+          }
+
+  pub pass_fin_tells : (is_fin_next e.tcp ≡ true → IsShort (e.tcp.recv.edge + 1)) → EndTells c s (after_pass_fin e)
+  pass_fin_tells short = by (is_fin_next e.tcp) refl
+    where
+      by : (b : Bool) → is_fin_next e.tcp ≡ b → EndTells c s (record e { tcp = if b then after_passing_fin e.tcp else e.tcp })
+      by false is = h
+      by true is = record { sender = h.sender; edge = short is; stream = h.stream; window = h.window; modes = h.modes; treated = h.treated; notices = h.notices }

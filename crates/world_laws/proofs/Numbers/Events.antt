@@ -1,0 +1,183 @@
+-- What happens on a path by itself leaves the numbers that its ends and its copies tell small.
+use Rattle.std.proofs.Common.{◌≡◌, refl, ℕ, zero, suc, ◌+◌, Bool, true, false, if◌then◌else◌, Option, Some, None, List, [], ◌∷◌, ◌++◌, length, find, position}
+use Rattle.std.specs.Option.{IfSome}
+use Rattle.std.proofs.lemmas.Bool.{false≢true}
+use Rattle.outside_kit.specs.declared.side.Side.{Side}
+use Rattle.outside_kit.specs.declared.side.Side.TheVariants.{A, B}
+use Rattle.link_model.specs.declared.flight.Due.{Due}
+use Rattle.link_model.specs.declared.flight.Flight.{Flight}
+use Rattle.link_model.specs.Steps.{peer, is_due, arriving, after_delivery}
+use Rattle.link_script.specs.Places.{same_side}
+use Rattle.path_segments.specs.Laws.{meant}
+use Rattle.path_segments.specs.Spelled.{PlainSegment}
+use Rattle.subflow_tcp.specs.declared.verdicts.Meaning.{Meaning}
+use Rattle.subflow_tcp.specs.declared.verdicts.Meaning.TheVariants as means
+use Rattle.subflow_tcp.specs.Expiring.{is_sixth}
+use Rattle.subflow_tcp.specs.States.{is_dead}
+use Rattle.stream_lanes.proofs.Lists.{Every-nil}
+use Rattle.actor_desk.specs.declared.ask.Reply.{Reply}
+use Rattle.actor_desk.specs.Words.{tail_of}
+use Rattle.path_agenda.specs.declared.duty.Duty.{Duty}
+use Rattle.path_agenda.specs.declared.duty.Duty.TheVariants as duties
+use Rattle.path_agenda.specs.declared.duty.AskDuty.TheVariants as ask_duties
+use Rattle.path_agenda.specs.Agenda.{rest_of_turn, emission, leaves, heard_and, payload_came, announces, withdraws}
+use Rattle.path_core.specs.declared.event.Event.{Event}
+use Rattle.path_core.specs.declared.event.Event.TheVariants as happenings
+use Rattle.path_core.specs.Arriving.{items_of, judged_in, after_judged, template_by, template_judged, template_of}
+use Rattle.path_core.specs.declared.judged.Judged.{Judged}
+use Rattle.path_core.specs.declared.judged.Judged.TheVariants as judged
+use Rattle.path_core.specs.Joining.{is_never, keys_begun, opened_by}
+use Rattle.path_core.specs.Joins.{is_joined}
+use Rattle.path_core.specs.Ends.{PathEnd}
+use Rattle.path_core.specs.Events.{at_tick, died, join_begun, after_line, told_at, heard_in, copy_heard, copy_taken, after_firing, template_fired, timer_fired, happens, happens_if, never_joined, with_priority}
+use Rattle.path_core.specs.declared.lines.LineAction.{LineAction}
+use Rattle.path_core.specs.declared.lines.LineAction.TheVariants as actions
+use Rattle.path_core.specs.State.{PathState, Profile, end_at, goes_on}
+use Rattle.path_core.specs.Values.{Carried, as_arrived, values}
+use Rattle.world_laws.proofs.Lanes.Happening.{without_kept, found_due, side_is}
+use Rattle.world_laws.proofs.Lanes.Records.{every_find}
+use Rattle.world_laws.proofs.Numbers.TellSmall.{SegmentTells, bare_tells}
+use Rattle.world_laws.proofs.Numbers.Arrivals.{arrived_tells}
+use Rattle.world_laws.proofs.Numbers.EndRules.{AreKeys, opened_tells, died_tells, join_refused_tells, died_unless_tells, fired_tells, priority_tells}
+use Rattle.world_laws.proofs.Numbers.PathSteps.{CopyTells, AreFair, PathTells, tells_at, tells_on, tells_agenda}
+
+-- ---- templates
+
+heard_fair : (s : Side) (from count : ℕ) (ds : List Duty) → AreFair ds → AreFair (heard_and s from count ds)
+heard_fair s from zero ds h = h
+heard_fair s from (suc count) ds h = heard_fair s (from + 1) count ds h
+
+template_fair : (joined : Bool) (s : Side) (count : ℕ) (m : Meaning) → AreFair (template_by joined s count m)
+template_fair joined s count means.Ignored = refl
+template_fair joined s count means.Unwanted = refl
+template_fair joined s count means.Opens = refl
+template_fair true s count (means.Accepts acknowledged) = refl
+template_fair false s count (means.Accepts acknowledged) = refl
+template_fair joined s count means.RepeatedSyn = refl
+template_fair joined s count means.Outside = refl
+template_fair joined s count means.Kills = refl
+template_fair joined s count means.Challenged = refl
+template_fair joined s count means.Unacknowledging = refl
+template_fair joined s count means.Ahead = refl
+template_fair joined s count (means.Taken position acknowledged) = heard_fair s 0 count (payload_came s) refl
+
+judged_fair : (joined : Bool) (s : Side) (count : ℕ) (verdict : Judged) → AreFair (template_judged joined s count verdict)
+judged_fair joined s count (judged.As meaning) = template_fair joined s count meaning
+judged_fair joined s count judged.Asks = refl
+judged_fair joined s count judged.Lacks = refl
+judged_fair joined s count judged.Forged = refl
+
+fired_fair : (sixth : Bool) (s : Side) → AreFair (template_fired sixth s)
+fired_fair true s = refl
+fired_fair false s = refl
+
+died_fair : (a b : Bool) → AreFair ((if a then [] else duties.Ask (ask_duties.Leave A) ∷ []) ++ ((if b then [] else duties.Ask (ask_duties.Leave B) ∷ []) ++ rest_of_turn))
+died_fair true true = refl
+died_fair true false = refl
+died_fair false true = refl
+died_fair false false = refl
+
+-- a copy to this side
+pub told_to : (c : Profile) (s to : Side) (carried : Carried) → same_side to s ≡ true → CopyTells c to carried → CopyTells c s carried
+told_to c A A carried same h = h
+told_to c B B carried same h = h
+told_to c A B carried same h = absurd (false≢true same)
+told_to c B A carried same h = absurd (false≢true same)
+
+-- the copy that is due
+pub due_tells : (c : Profile) (p : PathState Carried) → PathTells c p → (due : Due) → IfSome (arriving due p.link) (λ f. CopyTells c due.to f.carried)
+due_tells c p h due = by (find (is_due due) p.link.under_way) refl (every_find (is_due due) p.link.under_way h.copies)
+  where
+    by : (o : Option (Flight Carried)) → find (is_due due) p.link.under_way ≡ o → IfSome o (λ f. CopyTells c f.to f.carried) → IfSome o (λ f. CopyTells c due.to f.carried)
+    by None found tells = tt
+    by (Some f) found tells = told_to c due.to f.to f.carried (side_is due f (found_due due p.link.under_way f found)) tells
+
+module _ (p : PathState Carried) (h : PathTells p.profile p) where
+  abbrev Tells : PathState Carried → Type 0
+  Tells q = PathTells p.profile q
+
+  -- ---- lines
+
+  line_tells : (action : LineAction) (q : PathState Carried) → Tells q → Tells (after_line action q)
+  line_tells actions.Die q x = record {
+    a = died_unless_tells p.profile A q.a x.a;
+    b = died_unless_tells p.profile B q.b x.b;
+    copies = Every-nil _;
+    agenda = died_fair (is_dead q.a.tcp.state) (is_dead q.b.tcp.state);
+  }
+  line_tells (actions.Prio s backup) q x =
+      tells_on p.profile q x s (with_priority backup (end_at s q)) (emission s)
+      (priority_tells p.profile s (end_at s q) (tells_at p.profile q x s) backup) refl
+  line_tells (actions.Announce s id) q x = tells_agenda p.profile q x (announces s id) refl
+  line_tells (actions.Withdraw s id) q x = tells_agenda p.profile q x (withdraws s id) refl
+
+  -- ---- copies
+
+  abbrev after : Due → PathState Carried
+  after due = record (at_tick due.tick p) { link = after_delivery due p.link }
+
+  delivered : (due : Due) → Tells (after due)
+  delivered due = record { a = h.a; b = h.b; copies = without_kept (position (is_due due) p.link.under_way) p.link.under_way h.copies; agenda = h.agenda }
+
+  -- what it says
+  told_tells : (due : Due) (sg : PlainSegment) → SegmentTells p.profile (peer due.to) sg → Tells (told_at (after due).clock due.to (meant sg) (after due))
+  told_tells due sg tells =
+      let s = due.to in
+      let e : PathEnd = end_at s (after due) in
+      let joined = is_joined p.profile in
+      let items = items_of joined s (meant sg) in
+      let verdict : Judged = judged_in joined s (meant sg) e in
+      tells_on p.profile (after due) (delivered due) s (after_judged p.profile s (after due).clock (meant sg) verdict e) (template_of joined s items verdict)
+      (arrived_tells p.profile s (after due).clock sg e tells (tells_at p.profile (after due) (delivered due) s))
+      (judged_fair joined s (length items) verdict)
+
+  -- or without options after a fallback
+  heard_tells : (due : Due) (identity : Bool) (sg : PlainSegment) → SegmentTells p.profile (peer due.to) sg
+      → Tells (told_at (after due).clock due.to (record (meant sg) { options = (if identity then [] else (meant sg).options) }) (after due))
+  heard_tells due true sg tells = told_tells due (record sg { options = [] }) (bare_tells p.profile (peer due.to) sg tells)
+  heard_tells due false sg tells = told_tells due sg tells
+
+  -- or where they were taken away
+  arrived : (due : Due) (carried : Carried) → SegmentTells p.profile (peer due.to) carried.segment → SegmentTells p.profile (peer due.to) (as_arrived carried)
+  arrived due carried tells = by carried.stripped
+    where
+      by : (b : Bool) → SegmentTells p.profile (peer due.to) (record carried.segment { options = (if b then [] else carried.segment.options) })
+      by true = bare_tells p.profile (peer due.to) carried.segment tells
+      by false = tells
+
+  copy_tells : (due : Due) → Tells (copy_taken values due p)
+  copy_tells due = by (arriving due p.link) (due_tells p.profile p h due)
+    where
+      by : (o : Option (Flight Carried)) → IfSome o (λ f. CopyTells p.profile due.to f.carried) → Tells (copy_heard due.to (heard_in values due.to o p) (after due))
+      by None tells = tells_agenda p.profile (after due) (delivered due) (emission due.to) refl
+      by (Some f) tells =
+          heard_tells due (end_at due.to (after due)).modes.identity (as_arrived f.carried) (arrived due f.carried tells.segment)
+
+  -- ---- timers
+
+  fire_tells : (s : Side) (q : PathState Carried) → Tells q → Tells (timer_fired s q)
+  fire_tells s q x = tells_on p.profile q x s (after_firing q.clock (end_at s q)) (template_fired (is_sixth (end_at s q).tcp) s)
+      (fired_tells p.profile s (end_at s q) (tells_at p.profile q x s) q.clock) (fired_fair (is_sixth (end_at s q).tcp) s)
+
+  -- ---- a join
+
+  -- it is begun or not, with these to be done
+  pub join_tells : (r : Reply) (dead living : List Duty) (q : PathState Carried) → IfSome (keys_begun r) AreKeys → AreFair dead → AreFair living → Tells q → Tells (join_begun r dead living q)
+  join_tells r dead living q keys dead_fair living_fair x = by (is_never r)
+    where
+      by : (b : Bool) → Tells (if b then goes_on A (never_joined r q.a) dead q else goes_on A (opened_by (keys_begun r) q.a) living q)
+      by true = tells_on p.profile q x A (never_joined r q.a) dead (join_refused_tells p.profile A (died q.a) (died_tells p.profile A q.a x.a) r) dead_fair
+      by false = tells_on p.profile q x A (opened_by (keys_begun r) q.a) living (opened_tells p.profile A q.a x.a (keys_begun r) keys) living_fair
+
+  -- ---- the earliest
+
+  event_tells : (event : Event) (r : Reply) → IfSome (keys_begun r) AreKeys → Tells (happens values event r p)
+  event_tells (happenings.Joins tick) r keys =
+      join_tells r (leaves A) (emission A) (record (at_tick tick p) { joined_at = None }) keys refl refl (record { a = h.a; b = h.b; copies = h.copies; agenda = h.agenda })
+  event_tells (happenings.Takes line) r keys = line_tells line.action (record (at_tick line.tick p) { lines = tail_of p.lines }) (record { a = h.a; b = h.b; copies = h.copies; agenda = h.agenda })
+  event_tells (happenings.Arrives due) r keys = copy_tells due
+  event_tells (happenings.Fires s tick) r keys = fire_tells s (at_tick tick p) (record { a = h.a; b = h.b; copies = h.copies; agenda = h.agenda })
+
+  pub events_tell : (o : Option Event) (r : Reply) → IfSome (keys_begun r) AreKeys → Tells (happens_if values o r p)
+  events_tell None r keys = tells_agenda p.profile p h rest_of_turn refl
+  events_tell (Some event) r keys = event_tells event r keys

@@ -1,0 +1,322 @@
+-- The keys that control books have, and those that they answer, have 64 bits: each key that a path tells one was heard or drawn.
+use Rattle.std.proofs.Common.{ℕ, ◌<◌, ◌==◌, ◌&&◌, ◌||◌, not, Bool, true, false, if◌then◌else◌, Option, Some, None, List, arith}
+use Rattle.std.specs.Option.{IfSome}
+use Rattle.outside_kit.specs.declared.side.Side.{Side}
+use Rattle.outside_kit.specs.declared.side.Side.TheVariants.{A, B}
+use Rattle.key_material.specs.KeyDigest.{token_of}
+use Rattle.loss_recovery.specs.declared.windows.Pending.{Pending}
+use Rattle.reassembly_book.specs.declared.call.ReassemblyCall.TheVariants as reassembly_calls
+use Rattle.fallback_state.specs.declared.fall.Event.TheVariants as events
+use Rattle.control_book.specs.declared.call.ControlCall.{ControlCall}
+use Rattle.control_book.specs.declared.call.ControlCall.TheVariants as calls
+use Rattle.control_book.specs.declared.call.ControlReply.TheVariants as answers
+use Rattle.control_book.specs.declared.call.Notice.{Notice}
+use Rattle.control_book.specs.declared.call.Notice.TheVariants as notices
+use Rattle.control_book.specs.Control.{Control, peer_or_zero, withdrawals_on}
+use Rattle.control_book.specs.Registry.{stands as stands_path, sole, standby}
+use Rattle.control_book.specs.Replies as control
+use Rattle.control_book.specs.Steps as controlling
+use Rattle.control_book.specs.Replies.{address_notice, announcement, carries, look_reply, resets}
+use Rattle.subflow_send.specs.Records.{Record}
+use Rattle.stream_lanes.specs.Words.{Every}
+use Rattle.actor_desk.specs.declared.ask.Ask.{Ask}
+use Rattle.actor_desk.specs.declared.ask.Ask.TheVariants as asks
+use Rattle.actor_desk.specs.declared.ask.Reply.TheVariants as replies
+use Rattle.actor_desk.specs.Desk.{SixBooks, control_of, reply_of, after_ask}
+use Rattle.join_handshake.specs.declared.hearing.JoinSyn.{JoinSyn}
+use Rattle.path_agenda.specs.declared.duty.Duty.{Duty}
+use Rattle.path_agenda.specs.declared.duty.Duty.TheVariants as duties
+use Rattle.path_agenda.specs.declared.duty.AskDuty.TheVariants as ask_duties
+use Rattle.path_agenda.specs.declared.duty.SendDuty.TheVariants as send_duties
+use Rattle.path_agenda.specs.declared.duty.SilentDuty.TheVariants as silent_duties
+use Rattle.path_agenda.specs.declared.duty.StepDuty.TheVariants as step_duties
+use Rattle.path_agenda.specs.declared.heard.Heard.{Heard}
+use Rattle.path_agenda.specs.declared.heard.Heard.TheVariants as says
+use Rattle.path_agenda.specs.declared.keys.KeyPair.{KeyPair}
+use Rattle.path_agenda.specs.Items.{key_heard, keys_heard}
+use Rattle.path_core.specs.declared.event.Event.{Event}
+use Rattle.path_core.specs.declared.event.Event.TheVariants as happening
+use Rattle.path_core.specs.Breaking.{break_ask, reset_of}
+use Rattle.path_core.specs.Duties.{ask_for}
+use Rattle.path_core.specs.Emission.{first_unsent, data_ask}
+use Rattle.path_core.specs.Events.{next_event, step_for}
+use Rattle.path_core.specs.Joining.{keys_begun, asked_at, join_begin_ask, join_heard_ask}
+use Rattle.path_core.specs.Opening.{peer_key_ask, opened_ask}
+use Rattle.path_core.specs.Passing.{piece_of, piece_ask, data_fin_of, fin_ask, plain_fin, rate_ask}
+use Rattle.path_core.specs.Deliver.{Piece}
+use Rattle.path_core.specs.Handover.{sends}
+use Rattle.path_core.specs.State.{PathState, Profile, end_at, path_of}
+use Rattle.path_core.specs.Treating.{is_clash, fell_ask, mapping_ask, breaks_by_ack, plain_ack_ask, item_ask, item_of}
+use Rattle.path_core.specs.Values.{Carried, values}
+use Rattle.path_core.specs.Standing.{look_ask}
+use Rattle.path_agenda.specs.declared.notice.PeerNotice.TheVariants as peer_notes
+use Rattle.world_laws.proofs.Lanes.Replying.{every_item}
+use Rattle.world_laws.proofs.Numbers.TellSmall.{IsKey, ItemTells, known_item}
+use Rattle.world_laws.proofs.Numbers.EndRules.{AreKeys, heard_key, heard_keys, NoticeTells}
+use Rattle.world_laws.proofs.Numbers.PathSteps.{KeysAreShort, ControlIsShort, PathTells, tells_at}
+use Rattle.world_laws.proofs.Numbers.IdsFit.{AreIds, lowest_fits, on_fits, call_fits}
+use Rattle.address_manager.specs.IdSet.{lowest}
+use Rattle.world_laws.proofs.Falls.FailedChecks.{fail_asks_so, subflow_acks_so}
+
+-- ---- what a control book answers
+
+peer_short : (o : Option ℕ) → IfSome o IsKey → IsKey (peer_or_zero o)
+peer_short None h = omega arith
+peer_short (Some key) h = h
+
+module _ (c : Control) (h : KeysAreShort c.keys) where
+  both_short : AreKeys (record { own = c.keys.own; peer = peer_or_zero c.keys.peer })
+  both_short = (h.own, peer_short c.keys.peer h.peer)
+
+  begin_keys : IfSome (keys_begun (replies.Control (control.join_begin_reply c))) AreKeys
+  begin_keys = by (control.is_sure c.fall.mode) (control.is_starting c.fall.mode && stands_path c.paths 0)
+    where
+      by : (sure waits : Bool) → IfSome (keys_begun (replies.Control (if sure then control.begin c else (if waits then answers.NotYet else answers.Never c.fall.mode)))) AreKeys
+      by true waits = both_short
+      by false true = tt
+      by false false = tt
+
+  heard_reply_keys : (token : ℕ) → IfSome (keys_begun (replies.Control (control.join_heard_reply token c))) AreKeys
+  heard_reply_keys token = by (not (token == token_of c.keys.own)) (not c.fall.confirmed) (control.is_starting c.fall.mode || control.is_sure c.fall.mode)
+    where
+      by : (other unconfirmed open_mode : Bool) → IfSome (keys_begun (replies.Control (if other then answers.UnknownToken (token_of c.keys.own)
+          else (if unconfirmed then answers.NotConfirmed else (if open_mode then control.begin c else answers.Fallen c.fall.mode))))) AreKeys
+      by true unconfirmed open_mode = tt
+      by false true open_mode = tt
+      by false false true = both_short
+      by false false false = tt
+
+-- the key of a fast close is the peer's, and ids are those of the book's sets
+announced_fits : (b : Bool) (ids : List Bool) → AreIds ids → IfSome (if b then lowest ids else None) (λ id. id < 256)
+announced_fits true ids are = lowest_fits ids are
+announced_fits false ids are = tt
+
+notice_key : (c : Control) (h : ControlIsShort c) (path : ℕ) → NoticeTells (replies.Control (look_reply path c))
+notice_key c h path =
+    by (resets c path) (carries c path) (announcement c path) (lowest (withdrawals_on c.notices.withdrawals path))
+    (announced_fits _ c.addresses.due h.ids.due) (lowest_fits (withdrawals_on c.notices.withdrawals path) (on_fits c.notices.withdrawals path h.ids.withdrawals))
+  where
+    by : (resets carries : Bool) (announced withdrawn : Option ℕ) → IfSome announced (λ id. id < 256) → IfSome withdrawn (λ id. id < 256)
+        → NoticeTells (replies.Control (answers.Standing c.fall.mode (standby c.paths c.addresses.backups path) (sole c.paths path)
+        (if resets then notices.Reset else (if carries then notices.Carrier (peer_or_zero c.keys.peer) else address_notice announced withdrawn))))
+    by true carries announced withdrawn a w = tt
+    by false true announced withdrawn a w = peer_short c.keys.peer h.keys.peer
+    by false false (Some id) withdrawn a w = a
+    by false false None (Some id) a w = w
+    by false false None None a w = tt
+
+module _ (six : SixBooks) (h : (s : Side) → ControlIsShort (control_of s six)) where
+  pub look_key : (s : Side) (p : PathState Carried) → NoticeTells (reply_of six (look_ask s p))
+  look_key A p = notice_key six.control_a (h A) (path_of p)
+  look_key B p = notice_key six.control_b (h B) (path_of p)
+
+  pub step_keys : (path : ℕ) (o : Option Event) → IfSome (keys_begun (reply_of six (step_for path o))) AreKeys
+  step_keys path None = tt
+  step_keys path (Some (happening.Joins tick)) = begin_keys six.control_a (h A).keys
+  step_keys path (Some (happening.Takes line)) = tt
+  step_keys path (Some (happening.Arrives due)) = tt
+  step_keys path (Some (happening.Fires s tick)) = tt
+
+  pub again_keys : (p : PathState Carried) → IfSome (keys_begun (reply_of six (join_begin_ask (path_of p)))) AreKeys
+  again_keys p = begin_keys six.control_a (h A).keys
+
+  pub joined_keys : (s : Side) (o : Option JoinSyn) (p : PathState Carried) → IfSome (keys_begun (reply_of six (join_heard_ask s o p))) AreKeys
+  joined_keys s None p = tt
+  joined_keys s (Some asked) p = heard_reply_keys (control_of s six) (h s).keys asked.token
+
+-- ---- what a control book keeps
+
+-- the key that is told has 64 bits
+abbrev pub CallTells : ControlCall → Type 0
+CallTells (calls.PeerKey key) = IsKey key
+CallTells (calls.Keys own peer) = IsKey peer
+CallTells _ = Unit {0}
+
+abbrev pub AskTells : Ask → Type 0
+AskTells (asks.Control s call) = CallTells call
+AskTells _ = Unit {0}
+
+either_short : (b : Bool) (c d : Control) → KeysAreShort c.keys → KeysAreShort d.keys → KeysAreShort (if b then c else d).keys
+either_short true c d x y = x
+either_short false c d x y = y
+
+notice_short : (n : Notice) (path : ℕ) (c : Control) → KeysAreShort c.keys → KeysAreShort (controlling.after_notice n path c).keys
+notice_short (notices.Withdraw id) path c h = h
+notice_short notices.Nothing path c h = h
+notice_short (notices.Announce id) path c h = h
+notice_short (notices.Carrier key) path c h = h
+notice_short notices.Reset path c h = h
+
+call_short : (c : Control) (call : ControlCall) → CallTells call → KeysAreShort c.keys → KeysAreShort (controlling.after c call).keys
+call_short c (calls.Look path) told h = notice_short (control.notice_on c path) path c h
+call_short c (calls.PeerKey key) told h = record { own = h.own; peer = told }
+call_short c (calls.Keys own other) told h = either_short (own == c.keys.own) _ _ (record { own = h.own; peer = told }) h
+call_short c (calls.Fell path event) told h = h
+call_short c (calls.JoinBegin path) told h = either_short _ _ _ h h
+call_short c (calls.JoinHeard path token) told h = either_short _ _ _ h h
+call_short c (calls.Live path backup) told h = h
+call_short c (calls.Dead path) told h = h
+call_short c (calls.Backup path on) told h = h
+call_short c (calls.Rate path window rtt) told h = h
+call_short c (calls.Announce id) told h = h
+call_short c (calls.Withdraw id) told h = either_short _ _ _ h h
+call_short c (calls.Heard id address port hmac) told h = h
+call_short c (calls.Echoed id) told h = either_short _ _ _ h h
+call_short c (calls.Removed id) told h = either_short _ _ _ h h
+call_short c calls.FastClose told h = h
+call_short c (calls.FastHeard key) told h = either_short _ _ _ h h
+
+control_short : (c : Control) (call : ControlCall) → CallTells call → ControlIsShort c → ControlIsShort (controlling.after c call)
+control_short c call told h = record { keys = call_short c call told h.keys; ids = call_fits c call h.ids }
+
+-- both books
+pub record BooksKeepShort (six : SixBooks) : Type 0 where
+  pub a : ControlIsShort six.control_a
+  pub b : ControlIsShort six.control_b
+
+pub kept_at : (six : SixBooks) → BooksKeepShort six → (s : Side) → ControlIsShort (control_of s six)
+kept_at six h A = h.a
+kept_at six h B = h.b
+
+pub ask_short : (six : SixBooks) (x : Ask) → AskTells x → BooksKeepShort six → BooksKeepShort (after_ask x six)
+ask_short six (asks.Control A call) told h = record { a = control_short six.control_a call told h.a; b = h.b }
+ask_short six (asks.Control B call) told h = record { a = h.a; b = control_short six.control_b call told h.b }
+ask_short six (asks.Send s call) told h = record { a = h.a; b = h.b }
+ask_short six (asks.Reassembly s call) told h = record { a = h.a; b = h.b }
+ask_short six (asks.Local step) told h = h
+
+-- ---- what a path tells one
+
+module _ (c : Profile) (p : PathState Carried) (h : PathTells c p) where
+  data_tells : (s : Side) (o : Option Record) → AskTells (data_ask values s o p)
+  data_tells s None = tt
+  data_tells s (Some r) = tt
+
+  step_tells : (o : Option Event) → AskTells (step_for (path_of p) o)
+  step_tells None = tt
+  step_tells (Some (happening.Joins tick)) = tt
+  step_tells (Some (happening.Takes line)) = tt
+  step_tells (Some (happening.Arrives due)) = tt
+  step_tells (Some (happening.Fires s tick)) = tt
+
+  key_tells : (s : Side) (o : Option ℕ) → IfSome o IsKey → AskTells (peer_key_ask s o p)
+  key_tells s None key = tt
+  key_tells s (Some key) is = is
+
+  opened_tells : (s : Side) (o : Option KeyPair) → IfSome o (λ keys. IsKey keys.peer) → AskTells (opened_ask s o p)
+  opened_tells s None keys = tt
+  opened_tells s (Some keys) is = is
+
+  join_tells : (s : Side) (o : Option JoinSyn) → AskTells (join_heard_ask s o p)
+  join_tells s None = tt
+  join_tells s (Some asked) = tt
+
+  break_tells : (s : Side) (reason : ℕ) → AskTells (break_ask values s reason p)
+  break_tells s reason = by (end_at s p).treated.asked
+    where
+      by : (b : Bool) → AskTells (if b then asks.Reassembly s reassembly_calls.AckOut else sends values s (reset_of s (Some reason) p) p)
+      by true = tt
+      by false = tt
+
+  plain_ack_tells : (s : Side) → AskTells (plain_ack_ask values s p)
+  plain_ack_tells s = by (breaks_by_ack p.profile (end_at s p))
+    where
+      by : (b : Bool) → AskTells (if b then break_ask values s 6 p else fell_ask s events.PlainAck p)
+      by true = break_tells s 6
+      by false = tt
+
+  mapping_tells : (s : Side) → AskTells (mapping_ask values s p)
+  mapping_tells s = by (is_clash (end_at s p))
+    where
+      by : (b : Bool) → AskTells (if b then break_ask values s 1 p else fell_ask s events.MappingHeard p)
+      by true = break_tells s 1
+      by false = tt
+
+  item_tells : (s : Side) (o : Option Heard) → IfSome o ItemTells → AskTells (item_ask values s o p)
+  item_tells s None said = tt
+  item_tells s (Some says.Dss) said = tt
+  item_tells s (Some (says.DataAck next window)) said = tt
+  item_tells s (Some (says.Mapping fin)) said = mapping_tells s
+  item_tells s (Some (says.DataFin place)) said = tt
+  item_tells s (Some (says.InfiniteMapping place position)) said = tt
+  item_tells s (Some (says.PeerKey key)) said = tt
+  item_tells s (Some (says.Keys own other)) said = said.1
+  item_tells s (Some (says.Join form)) said = tt
+  item_tells s (Some (says.Notice (peer_notes.AddAddr id address port hmac))) said = tt
+  item_tells s (Some (says.Notice (peer_notes.AddEcho id))) said = tt
+  item_tells s (Some (says.Notice (peer_notes.Removed id))) said = tt
+  item_tells s (Some (says.Notice (peer_notes.Prio backup))) said = tt
+  item_tells s (Some says.Fail) said = fail_asks_so AskTells s p tt tt
+  item_tells s (Some (says.FastClose key)) said = tt
+
+  piece_tells : (s : Side) (o : Option Piece) → AskTells (piece_ask s o)
+  piece_tells s None = tt
+  piece_tells s (Some piece) = tt
+
+  fin_tells : (s : Side) (o : Option ℕ) → AskTells (fin_ask s o)
+  fin_tells s None = tt
+  fin_tells s (Some place) = tt
+
+  rate_tells : (s : Side) (o : Option Pending) → AskTells (rate_ask s o p)
+  rate_tells s None = tt
+  rate_tells s (Some pending) = tt
+
+  items_at : (s : Side) → Every ItemTells (end_at s p).treated.items
+  items_at s = (tells_at c p h s).treated.items
+
+  pub asks_tell : (d : Duty) → AskTells (ask_for values d p)
+  asks_tell (duties.Ask ask_duties.JoinAgain) = tt
+  asks_tell (duties.Step (step_duties.Look s)) = tt
+  asks_tell (duties.Ask (ask_duties.Window s)) = tt
+  asks_tell (duties.Send (send_duties.Update s)) = tt
+  asks_tell (duties.Send (send_duties.FastClose s)) = tt
+  asks_tell (duties.Send (send_duties.Notice s)) = tt
+  asks_tell (duties.Send (send_duties.Syn s)) = tt
+  asks_tell (duties.Step (step_duties.Data s)) = data_tells s (first_unsent (end_at s p))
+  asks_tell (duties.Send (send_duties.DataFin s)) = tt
+  asks_tell (duties.Send (send_duties.Fin s)) = tt
+  asks_tell (duties.Silent (silent_duties.Timer s)) = tt
+  asks_tell (duties.Step step_duties.Events) = step_tells (next_event p)
+  asks_tell (duties.Ask (ask_duties.SynHeard s)) = tt
+  asks_tell (duties.Ask (ask_duties.SynAnswered s)) = tt
+  asks_tell (duties.Ask (ask_duties.PlainHandshake s)) = tt
+  asks_tell (duties.Ask (ask_duties.PeerKey s)) = key_tells s (key_heard (end_at s p).treated.items) (heard_key (end_at s p).treated.items (items_at s))
+  asks_tell (duties.Send (send_duties.SynAck s)) = tt
+  asks_tell (duties.Ask (ask_duties.JoinHeard s)) = join_tells s (asked_at s p)
+  asks_tell (duties.Send (send_duties.Refuse s)) = tt
+  asks_tell (duties.Ask (ask_duties.Opened s)) = opened_tells s (keys_heard (end_at s p).treated.items) (heard_keys (end_at s p).treated.items (items_at s))
+  asks_tell (duties.Ask (ask_duties.Live s)) = tt
+  asks_tell (duties.Step (step_duties.Heard s index)) = item_tells s (item_of index (end_at s p)) (known_item (end_at s p).modes.identity _ (every_item index (end_at s p).treated.items (items_at s)))
+  asks_tell (duties.Ask (ask_duties.AckHeard s)) = tt
+  asks_tell (duties.Ask (ask_duties.FailHeard s)) = tt
+  asks_tell (duties.Step (step_duties.PlainAck s)) = plain_ack_tells s
+  asks_tell (duties.Ask (ask_duties.SubflowAck s)) = subflow_acks_so AskTells s (end_at s p) tt (λ next. tt)
+  asks_tell (duties.Ask (ask_duties.PlainData s)) = tt
+  asks_tell (duties.Ask (ask_duties.GoIdentity s)) = tt
+  asks_tell (duties.Step (step_duties.Unmapped s)) = break_tells s 6
+  asks_tell (duties.Ask (ask_duties.SubflowFin s)) = fin_tells s (plain_fin (end_at s p))
+  asks_tell (duties.Silent (silent_duties.Keep s)) = tt
+  asks_tell (duties.Ask (ask_duties.Edge s)) = piece_tells s (piece_of s p)
+  asks_tell (duties.Ask (ask_duties.CheckFailed s)) = tt
+  asks_tell (duties.Ask (ask_duties.HeardFin s index)) = fin_tells s (data_fin_of index (end_at s p))
+  asks_tell (duties.Silent (silent_duties.PassFin s)) = tt
+  asks_tell (duties.Ask (ask_duties.AckOut s)) = tt
+  asks_tell (duties.Ask (ask_duties.Rate s)) = rate_tells s (end_at s p).tcp.congestion.pending
+  asks_tell (duties.Send (send_duties.Acknowledge s)) = tt
+  asks_tell (duties.Send (send_duties.Again s)) = tt
+  asks_tell (duties.Send (send_duties.Answer s)) = tt
+  asks_tell (duties.Send (send_duties.ResetAnswer s)) = tt
+  asks_tell (duties.Ask (ask_duties.Return s)) = tt
+  asks_tell (duties.Ask (ask_duties.AbortSend s)) = tt
+  asks_tell (duties.Ask (ask_duties.AbortReceive s)) = tt
+  asks_tell (duties.Ask (ask_duties.Announce s id)) = tt
+  asks_tell (duties.Ask (ask_duties.Withdraw s id)) = tt
+  asks_tell (duties.Send (send_duties.Resend s)) = tt
+  asks_tell (duties.Ask (ask_duties.BreakAck s reason)) = tt
+  asks_tell (duties.Send (send_duties.BreakReset s reason)) = tt
+  asks_tell (duties.Send (send_duties.Reset s)) = tt
+  asks_tell (duties.Send (send_duties.ResetNoted s)) = tt
+  asks_tell (duties.Ask (ask_duties.Leave s)) = tt
+  asks_tell (duties.Ask (ask_duties.LeaveNoted s)) = tt
+  asks_tell (duties.Ask (ask_duties.Dead s)) = tt
+  asks_tell duties.End = tt

@@ -1,0 +1,154 @@
+-- The duties that come to nothing leave the numbers that a path tells small, and so does a turn of the path.
+use Rattle.std.proofs.Common.{◌≡◌, refl, ℕ, ◌+◌, ◌^◌, ◌≤◌, Bool, true, false, if◌then◌else◌, Option, Some, None, List, [], ◌∷◌, length, arith}
+use Rattle.std.proofs.lemmas.Bool.{and_parts, eqb-true, false≢true}
+use Rattle.std.specs.List.{list_all}
+use Rattle.std.specs.Option.{IfSome}
+use Rattle.outside_kit.specs.declared.side.Side.{Side}
+use Rattle.link_model.specs.Steps.{peer}
+use Rattle.subflow_tcp.specs.Judging.{is_at}
+use Rattle.stream_lanes.specs.Holding.{Holds}
+use Rattle.stream_lanes.specs.Lane.{Lane}
+use Rattle.stream_lanes.specs.Laws.{LaneIsShort}
+use Rattle.actor_desk.specs.Desk.{SixBooks, send_of}
+use Rattle.actor_desk.specs.Words.{pick}
+use Rattle.path_agenda.specs.declared.duty.Duty.{Duty}
+use Rattle.path_agenda.specs.declared.duty.Duty.TheVariants as duties
+use Rattle.path_agenda.specs.declared.duty.AskDuty.TheVariants as ask_duties
+use Rattle.path_agenda.specs.declared.duty.SendDuty.TheVariants as send_duties
+use Rattle.path_agenda.specs.declared.duty.SilentDuty.TheVariants as silent_duties
+use Rattle.path_agenda.specs.declared.duty.StepDuty.TheVariants as step_duties
+use Rattle.path_agenda.specs.declared.heard.Heard.{Heard}
+use Rattle.path_agenda.specs.declared.heard.Heard.TheVariants as says
+use Rattle.path_core.specs.Duties.{stands, passed}
+use Rattle.path_core.specs.Emission.{after_timer}
+use Rattle.path_core.specs.Ends.{PathEnd}
+use Rattle.path_core.specs.Passing.{after_pass_fin}
+use Rattle.path_core.specs.Deliver.{mapping_here, after_check, with_learned, with_skipped, after_pieces}
+use Rattle.path_core.specs.State.{PathState, Profile, end_at, with_end, with_agenda}
+use Rattle.path_core.specs.Steps.{settled}
+use Rattle.path_core.specs.Treating.{counts, with_data_fin, with_plain_ack, after_keep, heard_passed, item_passed, item_of}
+use Rattle.path_core.specs.Values.{Carried}
+use Rattle.world_laws.proofs.Lanes.OfAWorld.{Others, duo_at}
+use Rattle.world_laws.proofs.Lanes.Settling.{passes}
+use Rattle.world_laws.proofs.Lanes.Showing.{HasFin, PathShows}
+use Rattle.world_laws.proofs.Lanes.Strolling.{Strolled, side_shows, strolls_held}
+use Rattle.world_laws.proofs.Numbers.TellSmall.{IsShort, EndTells}
+use Rattle.world_laws.proofs.Numbers.EndRules as rules
+use Rattle.world_laws.proofs.Numbers.PathSteps.{is_fair, AreFair, PathTells, BooksAreShort, back_short, tells_at, tells_on, tells_agenda}
+
+-- the end of a side becomes this
+end_tells : (c : Profile) (p : PathState Carried) → PathTells c p → (s : Side) (e : PathEnd) → EndTells c s e → PathTells c (with_end s e p)
+end_tells c p t s e x = tells_on c p t s e p.agenda x t.agenda
+
+-- ---- things that are passed
+
+item_told : (c : Profile) (s : Side) (e : PathEnd) → EndTells c s e → (item : Heard) → EndTells c s (heard_passed s item e)
+item_told c s e h says.Dss = rules.dss_tells c s e h
+item_told c s e h (says.DataAck next window) = rules.data_ack_tells c s e h next
+item_told c s e h (says.Mapping fin) = by (counts e)
+  where
+    by : (b : Bool) → EndTells c s (if b then with_learned e else with_skipped e)
+    by true = rules.learned_tells c s e h
+    by false = rules.skipped_tells c s e h
+item_told c s e h (says.DataFin place) = by (counts e)
+  where
+    by : (b : Bool) → EndTells c s (if b then with_data_fin place e else e)
+    by true = rules.fin_tells c s e h place
+    by false = h
+item_told c s e h (says.PeerKey key) = h
+item_told c s e h (says.Keys own peer) = h
+item_told c s e h (says.Join form) = h
+item_told c s e h (says.Notice notice) = h
+item_told c s e h says.Fail = h
+item_told c s e h (says.FastClose key) = h
+item_told c s e h (says.InfiniteMapping place position) = h
+
+maybe_told : (c : Profile) (s : Side) (e : PathEnd) → EndTells c s e → (o : Option Heard) → EndTells c s (item_passed s o e)
+maybe_told c s e h None = h
+maybe_told c s e h (Some item) = item_told c s e h item
+
+-- the FIN that is next stands behind the last octet
+fin_short : (n edge : ℕ) (back : Lane) (fin : Option ℕ) → LaneIsShort n back → n + 3 ≤ 2 ^ 31 → IfSome fin (HasFin back.fins) → is_at edge fin ≡ true → IsShort (edge + 1)
+fin_short n edge back None lane short has is = absurd (false≢true is)
+fin_short n edge back (Some at) lane short has is =
+    let same : at ≡ edge = eqb-true at edge is in
+    let below = lane.fins.each has.at has.item has.there in
+    let position = has.holds in
+    omega (arith, same, below, position, short)
+
+module _ (six : SixBooks) (others : Others) (c : Profile) (short : BooksAreShort six) where
+  passed_tells : (p : PathState Carried) (ab ba : Lane) → PathShows c p ab ba → Holds (duo_at six ab ba others) → PathTells c p → (d : Duty) → PathTells c (passed d p)
+  passed_tells p ab ba h holds t (duties.Silent (silent_duties.Timer s)) = end_tells c p t s (after_timer p.clock (end_at s p)) (rules.timer_tells c s (end_at s p) (tells_at c p t s) p.clock)
+  passed_tells p ab ba h holds t (duties.Step (step_duties.Heard s index)) =
+      end_tells c p t s (item_passed s (item_of index (end_at s p)) (end_at s p)) (maybe_told c s (end_at s p) (tells_at c p t s) (item_of index (end_at s p)))
+  passed_tells p ab ba h holds t (duties.Silent (silent_duties.Keep s)) = end_tells c p t s (after_keep s (end_at s p)) (rules.keep_tells c s (end_at s p) (tells_at c p t s))
+  passed_tells p ab ba h holds t (duties.Ask (ask_duties.CheckFailed s)) =
+      end_tells c p t s (after_check p.profile (end_at s p))
+      (rules.check_tells c s (end_at s p) (tells_at c p t s) p.profile.spelling.checksums (mapping_here (end_at s p)))
+  passed_tells p ab ba h holds t (duties.Step (step_duties.PlainAck s)) = end_tells c p t s (with_plain_ack (end_at s p)) (rules.plain_ack_tells c s (end_at s p) (tells_at c p t s))
+  passed_tells p ab ba h holds t (duties.Step (step_duties.Unmapped s)) = end_tells c p t s (after_pieces (end_at s p)) (rules.unmapped_tells c s (end_at s p) (tells_at c p t s))
+  passed_tells p ab ba h holds t (duties.Silent (silent_duties.PassFin s)) =
+      let e : PathEnd = end_at s p in
+      end_tells c p t s (after_pass_fin e) (rules.pass_fin_tells c s e (tells_at c p t s)
+      (λ is. fin_short (length (send_of (peer s) six).written) e.tcp.recv.edge (pick s ba ab) e.tcp.fin_at (back_short six others ab ba holds short s) (short.written (peer s))
+      (side_shows c s p ab ba h).receiver.fin (and_parts (is_at e.tcp.recv.edge e.tcp.fin_at) _ is).0))
+  passed_tells p ab ba h holds t (duties.Ask ask_duties.JoinAgain) = t
+  passed_tells p ab ba h holds t (duties.Step (step_duties.Look s)) = t
+  passed_tells p ab ba h holds t (duties.Ask (ask_duties.Window s)) = t
+  passed_tells p ab ba h holds t (duties.Send (send_duties.Update s)) = t
+  passed_tells p ab ba h holds t (duties.Send (send_duties.FastClose s)) = t
+  passed_tells p ab ba h holds t (duties.Send (send_duties.Notice s)) = t
+  passed_tells p ab ba h holds t (duties.Send (send_duties.Syn s)) = t
+  passed_tells p ab ba h holds t (duties.Step (step_duties.Data s)) = t
+  passed_tells p ab ba h holds t (duties.Send (send_duties.DataFin s)) = t
+  passed_tells p ab ba h holds t (duties.Send (send_duties.Fin s)) = t
+  passed_tells p ab ba h holds t (duties.Step step_duties.Events) = t
+  passed_tells p ab ba h holds t (duties.Ask (ask_duties.SynHeard s)) = t
+  passed_tells p ab ba h holds t (duties.Ask (ask_duties.SynAnswered s)) = t
+  passed_tells p ab ba h holds t (duties.Ask (ask_duties.PeerKey s)) = t
+  passed_tells p ab ba h holds t (duties.Send (send_duties.SynAck s)) = t
+  passed_tells p ab ba h holds t (duties.Ask (ask_duties.JoinHeard s)) = t
+  passed_tells p ab ba h holds t (duties.Send (send_duties.Refuse s)) = t
+  passed_tells p ab ba h holds t (duties.Ask (ask_duties.Opened s)) = t
+  passed_tells p ab ba h holds t (duties.Ask (ask_duties.Live s)) = t
+  passed_tells p ab ba h holds t (duties.Ask (ask_duties.AckHeard s)) = t
+  passed_tells p ab ba h holds t (duties.Ask (ask_duties.FailHeard s)) = t
+  passed_tells p ab ba h holds t (duties.Ask (ask_duties.Edge s)) = t
+  passed_tells p ab ba h holds t (duties.Ask (ask_duties.PlainHandshake s)) = t
+  passed_tells p ab ba h holds t (duties.Ask (ask_duties.SubflowAck s)) = t
+  passed_tells p ab ba h holds t (duties.Ask (ask_duties.PlainData s)) = t
+  passed_tells p ab ba h holds t (duties.Ask (ask_duties.GoIdentity s)) = t
+  passed_tells p ab ba h holds t (duties.Ask (ask_duties.SubflowFin s)) = t
+  passed_tells p ab ba h holds t (duties.Ask (ask_duties.HeardFin s index)) = t
+  passed_tells p ab ba h holds t (duties.Ask (ask_duties.AckOut s)) = t
+  passed_tells p ab ba h holds t (duties.Ask (ask_duties.Rate s)) = t
+  passed_tells p ab ba h holds t (duties.Send (send_duties.Acknowledge s)) = t
+  passed_tells p ab ba h holds t (duties.Send (send_duties.Again s)) = t
+  passed_tells p ab ba h holds t (duties.Send (send_duties.Answer s)) = t
+  passed_tells p ab ba h holds t (duties.Send (send_duties.ResetAnswer s)) = t
+  passed_tells p ab ba h holds t (duties.Ask (ask_duties.Return s)) = t
+  passed_tells p ab ba h holds t (duties.Ask (ask_duties.AbortSend s)) = t
+  passed_tells p ab ba h holds t (duties.Ask (ask_duties.AbortReceive s)) = t
+  passed_tells p ab ba h holds t (duties.Ask (ask_duties.Announce s id)) = t
+  passed_tells p ab ba h holds t (duties.Ask (ask_duties.Withdraw s id)) = t
+  passed_tells p ab ba h holds t (duties.Send (send_duties.Resend s)) = t
+  passed_tells p ab ba h holds t (duties.Ask (ask_duties.BreakAck s reason)) = t
+  passed_tells p ab ba h holds t (duties.Send (send_duties.BreakReset s reason)) = t
+  passed_tells p ab ba h holds t (duties.Send (send_duties.Reset s)) = t
+  passed_tells p ab ba h holds t (duties.Send (send_duties.ResetNoted s)) = t
+  passed_tells p ab ba h holds t (duties.Ask (ask_duties.Leave s)) = t
+  passed_tells p ab ba h holds t (duties.Ask (ask_duties.LeaveNoted s)) = t
+  passed_tells p ab ba h holds t (duties.Ask (ask_duties.Dead s)) = t
+  passed_tells p ab ba h holds t duties.End = t
+
+  pub settled_tells : (ds : List Duty) (p : PathState Carried) (ab ba : Lane) → PathShows c p ab ba → Holds (duo_at six ab ba others) → PathTells c p → AreFair ds → PathTells c (settled ds p)
+  settled_tells [] p ab ba h holds t fair = tells_agenda c p t [] refl
+  settled_tells (d ∷ ds) p ab ba h holds t fair =
+      let w : Strolled c (passed d p) ab ba = passes six others c p ab ba h holds d in
+      by (stands d p)
+      (settled_tells ds (passed d p) w.ab_after w.ba_after w.shows (strolls_held six others ab w.ab_after ba w.ba_after w.ab_moves w.ba_moves holds)
+      (passed_tells p ab ba h holds t d) (and_parts (is_fair d) (list_all is_fair ds) fair).1)
+    where
+      by : (b : Bool) → PathTells c (settled ds (passed d p)) → PathTells c (if b then with_agenda (d ∷ ds) p else settled ds (passed d p))
+      by true rest = tells_agenda c p t (d ∷ ds) fair
+      by false rest = rest

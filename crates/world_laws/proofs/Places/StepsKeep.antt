@@ -1,0 +1,421 @@
+-- The places that the ends of a path learned are those of a record, and so are those of the mappings that they heard: every step
+-- of the path keeps it, where the mappings of the copies under way tell the record's places.
+use Rattle.std.proofs.Common.{◌≡◌, refl, sym, subst, ℕ, suc, ◌<◌, ◌≤◌, ◌&&◌, ◌==◌, nat_le, nat_lt, Bool, true, false, cond, if◌then◌else◌, Option, Some, None, List, [], ◌∷◌}
+use Rattle.std.proofs.lemmas.Bool.{and_parts, leb-true, ltb-true}
+use Rattle.std.specs.Option.{IfSome}
+use Rattle.outside_kit.specs.declared.side.Side.{Side}
+use Rattle.outside_kit.specs.declared.side.Side.TheVariants.{A, B}
+use Rattle.dss_mapping.specs.declared.kept.KeptMapping.{KeptMapping}
+use Rattle.dss_mapping.specs.declared.learn.Learn.{Learn}
+use Rattle.dss_mapping.specs.declared.learn.Learn.TheVariants.{New, Same, Clash}
+use Rattle.dss_mapping.specs.declared.run.Run.{Run}
+use Rattle.dss_mapping.specs.Learning.{first_of, others_of, learn_of, learned_if, after_skip_held, after_learn_held}
+use Rattle.dss_mapping.specs.Mappings.{Mappings, run_of, place_at, after_learn, after_forget}
+use Rattle.dss_mapping.specs.Runs.{covers, place_in}
+use Rattle.dss_mapping.proofs.LawsProved.{learned_places}
+use Rattle.link_script.specs.Places.{same_side}
+use Rattle.link_model.specs.declared.flight.Flight.{Flight}
+use Rattle.link_model.specs.Steps.{is_due, arriving, after_delivery}
+use Rattle.path_segments.specs.Laws.{meant}
+use Rattle.path_segments.specs.Spelled.{PlainSegment}
+use Rattle.fallback_state.specs.declared.fall.Event.TheVariants as events
+use Rattle.reassembly_book.specs.declared.call.ReassemblyReply.{ReassemblyReply}
+use Rattle.reassembly_book.specs.declared.call.ReassemblyReply.TheVariants as reassembly_replies
+use Rattle.subflow_recv.specs.Receiving.{after_forget_from}
+use Rattle.subflow_send.specs.Records.{Record}
+use Rattle.subflow_tcp.specs.States.{is_dead}
+use Rattle.stream_lanes.specs.Words.{Every}
+use Rattle.stream_lanes.proofs.Lists.{Every-nil}
+use Rattle.actor_desk.specs.declared.ask.Reply.{Reply}
+use Rattle.actor_desk.specs.declared.ask.Reply.TheVariants as replies
+use Rattle.actor_desk.specs.Words.{tail_of}
+use Rattle.path_agenda.specs.declared.duty.Duty.{Duty}
+use Rattle.path_agenda.specs.declared.duty.Duty.TheVariants as duties
+use Rattle.path_agenda.specs.declared.duty.AskDuty.TheVariants as ask_duties
+use Rattle.path_agenda.specs.declared.duty.SendDuty.TheVariants as send_duties
+use Rattle.path_agenda.specs.declared.duty.SilentDuty.TheVariants as silent_duties
+use Rattle.path_agenda.specs.declared.duty.StepDuty.TheVariants as step_duties
+use Rattle.path_agenda.specs.declared.heard.Heard.{Heard}
+use Rattle.path_agenda.specs.declared.heard.Heard.TheVariants as says
+use Rattle.path_agenda.specs.Agenda.{emission, leaves, resets, start_of_turn}
+use Rattle.path_agenda.specs.Words.{replaced}
+use Rattle.path_agenda.specs.declared.keys.KeyPair.{KeyPair}
+use Rattle.path_agenda.specs.Items.{key_heard, keys_heard}
+use Rattle.join_handshake.specs.declared.hearing.JoinSyn.{JoinSyn}
+use Rattle.path_core.specs.declared.event.Event.{Event}
+use Rattle.path_core.specs.declared.event.Event.TheVariants as happenings
+use Rattle.path_core.specs.Arriving.{held_of}
+use Rattle.path_core.specs.Breaking.{reset_of, reset_on, answered_break}
+use Rattle.path_core.specs.Duties.{stands, passed, answered}
+use Rattle.path_core.specs.Emission.{Grant, grant_in, answered_grant, answered_data, first_unsent}
+use Rattle.path_core.specs.Ends.{PathEnd, Receiving}
+use Rattle.path_core.specs.Events.{next_event, heard_in, at_tick, died, died_unless_dead, after_line, copy_heard, happens_if, join_begun, told_at, never_joined}
+use Rattle.path_core.specs.declared.lines.LineAction.{LineAction}
+use Rattle.path_core.specs.declared.lines.LineAction.TheVariants as actions
+use Rattle.path_core.specs.Joining.{asked_at, is_never, join_taken, keys_begun, opened_by}
+use Rattle.path_core.specs.Passing.{is_placed, piece_of, answered_piece, is_fin_set, answered_fin_heard, answered_plain_fin}
+use Rattle.path_core.specs.Deliver.{Piece, with_learned, with_skipped, is_wrong, forgotten_by, mapping_here}
+use Rattle.path_core.specs.Handover.{sent_on}
+use Rattle.path_core.specs.Standing.{window_in, answered_ack_out}
+use Rattle.path_core.specs.State.{PathState, end_at, with_end, with_agenda, goes_on, left}
+use Rattle.path_core.specs.Steps.{settled, answers, takes, begins_turn}
+use Rattle.path_core.specs.Treating.{counts, is_clash, with_data_fin, answered_heard, answered_item, item_of, item_passed, breaks_by_ack, with_plain_ack}
+use Rattle.path_core.specs.Values.{Carried, values}
+use Rattle.path_core.specs.Opening.{answered_opened, answered_peer_key}
+use Rattle.path_core.specs.Fallback.{after_fell, fell_duties}
+use Rattle.world_laws.proofs.Worlds.Finding.{find_every, one_side}
+use Rattle.world_laws.proofs.Falls.FailedChecks.{check_failed_so, fail_heard_so, infinite_came_so, fail_answered_so}
+
+-- ---- mappings
+
+-- each position of the run has its place in the record
+pub record Tells (R : ℕ → ℕ → Type 0) (run : Run) : Type 0 where
+  pub each : (p : ℕ) → run.pos ≤ p → p < run.to → R p (place_in p run)
+
+-- each place that was learned, and each of a mapping that is held, is the record's
+pub record Knows (R : ℕ → ℕ → Type 0) (v : Mappings) : Type 0 where
+  pub places : (p : ℕ) → IfSome (place_at v p) (R p)
+  pub held : Every (λ kept. Tells R (run_of kept)) v.held
+
+module _ (R : ℕ → ℕ → Type 0) where
+  abbrev pub AllTell : List KeptMapping → Type 0
+  AllTell held = Every (λ kept. Tells R (run_of kept)) held
+
+  told : (p : ℕ) (run : Run) (b : Bool) → covers p run ≡ b → (o : Option ℕ) → Tells R run → IfSome o (R p) → IfSome (cond b (Some (place_in p run)) o) (R p)
+  told p run true is o tells rest =
+      let parts = and_parts (nat_le run.pos p) (nat_lt p run.to) is in tells.each p (leb-true run.pos p parts.0) (ltb-true p run.to parts.1)
+  told p run false is o tells rest = rest
+
+  learned_knows : (kept : KeptMapping) (answer : Learn) (v : Mappings) → Tells R (run_of kept) → Knows R v → Knows R (after_learn kept answer v)
+  learned_knows kept New v tells h = record {
+    places = λ p. subst (λ o. IfSome o (R p)) (sym (learned_places v kept p)) (told p (run_of kept) (covers p (run_of kept)) refl (place_at v p) tells (h.places p));
+    held = h.held;
+  }
+  learned_knows kept Same v tells h = h
+  learned_knows kept (Clash pos place here) v tells h = h
+
+  others_tell : (xs : List KeptMapping) → AllTell xs → AllTell (others_of xs)
+  others_tell [] h = h
+  others_tell (kept ∷ xs) h = record { each = λ i x at. h.each (suc i) x at }
+
+  skipped_knows : (v : Mappings) → Knows R v → Knows R (after_skip_held v)
+  skipped_knows v h = record { places = h.places; held = others_tell v.held h.held }
+
+  learned_held : (v : Mappings) → Knows R v → Knows R (after_learn_held v)
+  learned_held v h = by v.held h.held
+    where
+      by : (xs : List KeptMapping) → AllTell xs → Knows R (after_skip_held (learned_if (first_of xs) v))
+      by [] tell = skipped_knows v h
+      by (kept ∷ xs) tell = skipped_knows _ (learned_knows kept (learn_of kept v) v (tell.each 0 kept refl) h)
+
+  forgotten_knows : (pos : ℕ) (v : Mappings) → Knows R v → Knows R (after_forget pos v)
+  forgotten_knows pos v h = record { places = h.places; held = h.held }
+
+  hold_knows : (held : List KeptMapping) (v : Mappings) → AllTell held → Knows R v → Knows R (record v { held = held })
+  hold_knows held v tell h = record { places = h.places; held = tell }
+
+-- the window changes no mapping
+window_same : (r : Reply) (v : Receiving) → (window_in r v).mappings ≡ v.mappings
+window_same (replies.Send reply) v = refl
+window_same (replies.Control reply) v = refl
+window_same replies.Done v = refl
+window_same (replies.Reassembly reply) v = by reply
+  where
+    by : (reply : ReassemblyReply) → (window_in (replies.Reassembly reply) v).mappings ≡ v.mappings
+    by (reassembly_replies.Ack next window) = refl
+    by _ = refl
+
+-- ---- a path; the end of each side has a record
+
+module _ (R : Side → ℕ → ℕ → Type 0) where
+  abbrev pub EndKnows : Side → PathEnd → Type 0
+  EndKnows s e = Knows (R s) e.receiving.mappings
+
+  pub record PathKnows (p : PathState Carried) : Type 0 where
+    pub a : EndKnows A p.a
+    pub b : EndKnows B p.b
+
+  -- the mappings of a copy tell the record of the end that it goes to
+  abbrev pub FlightTells : PathState Carried → Flight Carried → Type 0
+  FlightTells p f = AllTell (R f.to) (held_of p.profile f.to (meant f.carried.segment))
+
+  abbrev pub CopiesTell : PathState Carried → Type 0
+  CopiesTell p = Every (FlightTells p) p.link.under_way
+
+  pub end_knows : (s : Side) (p : PathState Carried) → PathKnows p → EndKnows s (end_at s p)
+  end_knows A p h = h.a
+  end_knows B p h = h.b
+
+  -- ---- an end goes on
+
+  goes : (s : Side) (e : PathEnd) (ds : List Duty) (p : PathState Carried) → EndKnows s e → PathKnows p → PathKnows (goes_on s e ds p)
+  goes A e ds p own h = record { a = own; b = h.b }
+  goes B e ds p own h = record { a = h.a; b = own }
+
+  with_own : (s : Side) (e : PathEnd) (p : PathState Carried) → EndKnows s e → PathKnows p → PathKnows (with_end s e p)
+  with_own A e p own h = record { a = own; b = h.b }
+  with_own B e p own h = record { a = h.a; b = own }
+
+  agenda : (ds : List Duty) (p : PathState Carried) → PathKnows p → PathKnows (with_agenda ds p)
+  agenda ds p h = record { a = h.a; b = h.b }
+
+  -- with the same mappings
+  same_goes : (s : Side) (e : PathEnd) (ds : List Duty) (p : PathState Carried) → e.receiving.mappings ≡ (end_at s p).receiving.mappings → PathKnows p
+      → PathKnows (goes_on s e ds p)
+  same_goes s e ds p same h = goes s e ds p (subst (Knows (R s)) (sym same) (end_knows s p h)) h
+
+  same_sent : (s : Side) (segment : PlainSegment) (e : PathEnd) (ds : List Duty) (p : PathState Carried) → e.receiving.mappings ≡ (end_at s p).receiving.mappings
+      → PathKnows p → PathKnows (sent_on values s segment e ds p)
+  same_sent s segment e ds p same h = let next = same_goes s e ds p same h in record { a = next.a; b = next.b }
+
+  -- ---- duties that come to nothing
+
+  item_knows : (s : Side) (o : Option Heard) (e : PathEnd) → EndKnows s e → EndKnows s (item_passed s o e)
+  item_knows s None e h = h
+  item_knows s (Some says.Dss) e h = h
+  item_knows s (Some (says.DataAck next window)) e h = h
+  item_knows s (Some (says.Mapping fin)) e h = by (counts e)
+    where
+      by : (b : Bool) → EndKnows s (if b then with_learned e else with_skipped e)
+      by true = learned_held (R s) e.receiving.mappings h
+      by false = skipped_knows (R s) e.receiving.mappings h
+  item_knows s (Some (says.DataFin place)) e h = by (counts e)
+    where
+      by : (b : Bool) → EndKnows s (if b then with_data_fin place e else e)
+      by true = h
+      by false = h
+  item_knows s (Some (says.InfiniteMapping place position)) e h = h
+  item_knows s (Some (says.PeerKey key)) e h = h
+  item_knows s (Some (says.Keys own other)) e h = h
+  item_knows s (Some (says.Join form)) e h = h
+  item_knows s (Some (says.Notice notice)) e h = h
+  item_knows s (Some says.Fail) e h = h
+  item_knows s (Some (says.FastClose key)) e h = h
+
+  check_knows : (s : Side) (checksums : Bool) (o : Option KeptMapping) (e : PathEnd) → EndKnows s e → EndKnows s (forgotten_by checksums o e)
+  check_knows s checksums None e h = h
+  check_knows s checksums (Some kept) e h = by (is_wrong checksums kept e.tcp)
+    where
+      by : (b : Bool) → EndKnows s (if b then record e { tcp = record e.tcp { recv = after_forget_from kept.pos e.tcp.recv } } else e)
+      by true = h
+      by false = h
+
+  passed_knows : (d : Duty) (p : PathState Carried) → PathKnows p → PathKnows (passed d p)
+  passed_knows (duties.Silent (silent_duties.Timer s)) p h = with_own s _ p (end_knows s p h) h
+  passed_knows (duties.Step (step_duties.Heard s index)) p h = with_own s _ p (item_knows s (item_of index (end_at s p)) (end_at s p) (end_knows s p h)) h
+  passed_knows (duties.Silent (silent_duties.Keep s)) p h = with_own s _ p (end_knows s p h) h
+  passed_knows (duties.Ask (ask_duties.CheckFailed s)) p h =
+      let e = end_at s p in with_own s _ p (check_knows s p.profile.spelling.checksums (mapping_here e) e (end_knows s p h)) h
+  passed_knows (duties.Silent (silent_duties.PassFin s)) p h = with_own s _ p (end_knows s p h) h
+  passed_knows (duties.Step (step_duties.PlainAck s)) p h = with_own s _ p (end_knows s p h) h
+  passed_knows (duties.Step (step_duties.Unmapped s)) p h = with_own s _ p (end_knows s p h) h
+  passed_knows _ p h = h
+
+  settled_knows : (ds : List Duty) (p : PathState Carried) → PathKnows p → PathKnows (settled ds p)
+  settled_knows [] p h = agenda [] p h
+  settled_knows (d ∷ ds) p h = by (stands d p) (settled_knows ds (passed d p) (passed_knows d p h))
+    where
+      by : (b : Bool) → PathKnows (settled ds (passed d p)) → PathKnows (if b then with_agenda (d ∷ ds) p else settled ds (passed d p))
+      by true rest = agenda (d ∷ ds) p h
+      by false rest = rest
+
+  -- ---- events
+
+  unless_dead : (s : Side) (e : PathEnd) → EndKnows s e → EndKnows s (died_unless_dead e)
+  unless_dead s e h = by (is_dead e.tcp.state)
+    where
+      by : (b : Bool) → EndKnows s (if b then e else died e)
+      by true = h
+      by false = h
+
+  line_knows : (action : LineAction) (p : PathState Carried) → PathKnows p → PathKnows (after_line action p)
+  line_knows actions.Die p h = record { a = unless_dead A p.a h.a; b = unless_dead B p.b h.b }
+  line_knows (actions.Prio s backup) p h = same_goes s _ _ p refl h
+  line_knows (actions.Announce s id) p h = agenda _ p h
+  line_knows (actions.Withdraw s id) p h = agenda _ p h
+
+  copy_knows : (s : Side) (o : Option (Flight Carried)) (q p : PathState Carried)
+      → ((f : Flight Carried) → o ≡ Some f → AllTell (R s) (held_of p.profile s (meant f.carried.segment))) → PathKnows p → PathKnows (copy_heard s (heard_in values s o q) p)
+  copy_knows s None q p tell h = agenda _ p h
+  copy_knows s (Some f) q p tell h = by (end_at s p).modes.identity f.carried.stripped
+    where
+      by : (plain stripped : Bool) → let sg = record f.carried.segment { options = (if stripped then [] else f.carried.segment.options) } in
+          PathKnows (told_at p.clock s (record (meant sg) { options = (if plain then [] else (meant sg).options) }) p)
+      by true stripped = goes s _ _ p (hold_knows (R s) _ (end_at s p).receiving.mappings (Every-nil _) (end_knows s p h)) h
+      by false true = goes s _ _ p (hold_knows (R s) _ (end_at s p).receiving.mappings (Every-nil _) (end_knows s p h)) h
+      by false false = goes s _ _ p (hold_knows (R s) _ (end_at s p).receiving.mappings (tell f refl) (end_knows s p h)) h
+
+  -- A begins a join, or waits on
+  begun_knows : (r : Reply) (dead living : List Duty) (p : PathState Carried) → PathKnows p → PathKnows (join_begun r dead living p)
+  begun_knows r dead living p h = by (is_never r) (opened_knows (keys_begun r))
+    where
+      opened_knows : (o : Option KeyPair) → EndKnows A (opened_by o p.a)
+      opened_knows None = h.a
+      opened_knows (Some keys) = h.a
+
+      by : (b : Bool) → EndKnows A (opened_by (keys_begun r) p.a) → PathKnows (if b then goes_on A (never_joined r p.a) dead p else goes_on A (opened_by (keys_begun r) p.a) living p)
+      by true own = goes A (never_joined r p.a) dead p h.a h
+      by false own = goes A (opened_by (keys_begun r) p.a) living p own h
+
+  event_knows : (o : Option Event) (r : Reply) (p : PathState Carried) → CopiesTell p → PathKnows p → PathKnows (happens_if values o r p)
+  event_knows None r p tell h = agenda _ p h
+  event_knows (Some (happenings.Joins tick)) r p tell h = begun_knows r (leaves A) (emission A) (record (at_tick tick p) { joined_at = None }) (record { a = h.a; b = h.b })
+  event_knows (Some (happenings.Takes line)) r p tell h =
+      line_knows line.action (record (at_tick line.tick p) { lines = tail_of p.lines }) (record { a = h.a; b = h.b })
+  event_knows (Some (happenings.Arrives due)) r p tell h =
+      copy_knows due.to (arriving due p.link) p (record (at_tick due.tick p) { link = after_delivery due p.link }) arrives (record { a = h.a; b = h.b })
+    where
+      arrives : (f : Flight Carried) → arriving due p.link ≡ Some f → AllTell (R due.to) (held_of p.profile due.to (meant f.carried.segment))
+      arrives f is =
+          let found = find_every (FlightTells p) (is_due due) p.link.under_way f tell is in
+          let parts = and_parts (f.tick == due.tick) (same_side f.to due.to && f.number == due.copy) found.1 in
+          let to = one_side f.to due.to (and_parts (same_side f.to due.to) (f.number == due.copy) parts.1).0 in
+          subst (λ s. AllTell (R s) (held_of p.profile s (meant f.carried.segment))) to found.0
+  event_knows (Some (happenings.Fires s tick)) r p tell h = same_goes s _ _ (at_tick tick p) refl (record { a = h.a; b = h.b })
+
+  -- ---- replies
+
+  ack_out_knows : (s : Side) (r : Reply) (ds : List Duty) (p : PathState Carried) → PathKnows p → PathKnows (answered_ack_out s r ds p)
+  ack_out_knows s r ds p h = same_goes s _ ds p (window_same r (end_at s p).receiving) h
+
+  reset_knows : (s : Side) (reason : Option ℕ) (ds : List Duty) (p : PathState Carried) → PathKnows p → PathKnows (reset_on values s reason ds p)
+  reset_knows s reason ds p h = same_sent s (reset_of s reason p) (died (end_at s p)) ds p refl h
+
+  break_knows : (s : Side) (reason : ℕ) (r : Reply) (p : PathState Carried) → PathKnows p → PathKnows (answered_break values s reason r p)
+  break_knows s reason r p h = by (end_at s p).treated.asked
+    where
+      by : (b : Bool) → PathKnows (if b then answered_ack_out s r (resets s reason) p else reset_on values s (Some reason) (leaves s) p)
+      by true = ack_out_knows s r (resets s reason) p h
+      by false = reset_knows s (Some reason) (leaves s) p h
+
+  grant_knows : (s : Side) (o : Option Grant) (r : Reply) (p : PathState Carried) → PathKnows p → PathKnows (answered_grant s o r p)
+  grant_knows s None r p h = same_goes s _ _ p refl h
+  grant_knows s (Some grant) r p h = same_goes s _ _ p refl h
+
+  data_knows : (s : Side) (o : Option Record) (r : Reply) (p : PathState Carried) → PathKnows p → PathKnows (answered_data values s o r p)
+  data_knows s (Some unsent) r p h = same_sent s _ _ _ p refl h
+  data_knows s None r p h = grant_knows s (grant_in r) r p h
+
+  heard_knows : (s : Side) (item : Heard) (r : Reply) (p : PathState Carried) → PathKnows p → PathKnows (answered_heard values s item r p)
+  heard_knows s (says.DataAck next window) r p h = same_goes s _ _ p refl h
+  heard_knows s (says.Mapping fin) r p h = by (is_clash (end_at s p))
+    where
+      by : (b : Bool) → PathKnows (if b then answered_break values s 1 r p else goes_on s (with_learned (after_fell events.MappingHeard r (end_at s p))) (fell_duties s r p) p)
+      by true = break_knows s 1 r p h
+      by false = goes s _ _ p (learned_held (R s) (end_at s p).receiving.mappings (end_knows s p h)) h
+  heard_knows s (says.DataFin place) r p h = same_goes s _ _ p refl h
+  heard_knows s (says.InfiniteMapping place position) r p h =
+      infinite_came_so (λ e. PathKnows (goes_on s e (fell_duties s r p) p)) place position r (end_at s p) (λ other. same_goes s _ _ p refl h)
+  heard_knows s (says.Keys mine other) r p h = same_goes s _ _ p refl h
+  heard_knows s says.Dss r p h = agenda _ p h
+  heard_knows s (says.PeerKey key) r p h = agenda _ p h
+  heard_knows s (says.Join form) r p h = agenda _ p h
+  heard_knows s (says.Notice notice) r p h = same_goes s _ _ p refl h
+  heard_knows s says.Fail r p h = fail_answered_so PathKnows s r p (same_goes s _ _ p refl h) (same_goes s _ _ p refl h)
+  heard_knows s (says.FastClose key) r p h = agenda _ p h
+
+  answered_item_knows : (s : Side) (o : Option Heard) (r : Reply) (p : PathState Carried) → PathKnows p → PathKnows (answered_item values s o r p)
+  answered_item_knows s None r p h = agenda _ p h
+  answered_item_knows s (Some item) r p h = heard_knows s item r p h
+
+  piece_knows : (s : Side) (o : Option Piece) (taken : Bool) (p : PathState Carried) → PathKnows p → PathKnows (answered_piece s o taken p)
+  piece_knows s None taken p h = same_goes s _ _ p refl h
+  piece_knows s (Some piece) true p h = goes s _ _ p (forgotten_knows (R s) _ (end_at s p).receiving.mappings (end_knows s p h)) h
+  piece_knows s (Some piece) false p h = same_goes s _ _ p refl h
+
+  fin_knows : (s : Side) (set : Bool) (p : PathState Carried) → PathKnows p → PathKnows (answered_fin_heard s set p)
+  fin_knows s true p h = same_goes s _ _ p refl h
+  fin_knows s false p h = same_goes s _ _ p refl h
+
+  plain_fin_knows : (s : Side) (set : Bool) (p : PathState Carried) → PathKnows p → PathKnows (answered_plain_fin s set p)
+  plain_fin_knows s true p h = same_goes s _ _ p refl h
+  plain_fin_knows s false p h = same_goes s _ _ p refl h
+
+  peer_key_knows : (s : Side) (o : Option ℕ) (r : Reply) (p : PathState Carried) → PathKnows p → PathKnows (answered_peer_key s o r p)
+  peer_key_knows s None r p h = same_goes s _ _ p refl h
+  peer_key_knows s (Some key) r p h = same_goes s _ _ p refl h
+
+  opened_knows : (s : Side) (o : Option KeyPair) (r : Reply) (p : PathState Carried) → PathKnows p → PathKnows (answered_opened s o r p)
+  opened_knows s None r p h = same_goes s _ _ p refl h
+  opened_knows s (Some keys) r p h = same_goes s _ _ p refl h
+
+  -- B hears of a join
+  joined_knows : (s : Side) (o : Option KeyPair) (asked : Option JoinSyn) (r : Reply) (p : PathState Carried) → PathKnows p → PathKnows (join_taken s o asked r p)
+  joined_knows s None None r p h = agenda _ p h
+  joined_knows s None (Some asked) r p h = same_goes s _ _ p refl h
+  joined_knows s (Some keys) None r p h = agenda _ p h
+  joined_knows s (Some keys) (Some asked) r p h = same_goes s _ _ p refl h
+
+  answered_knows : (d : Duty) (r : Reply) (p : PathState Carried) → CopiesTell p → PathKnows p → PathKnows (answered values d r p)
+  answered_knows (duties.Ask ask_duties.JoinAgain) r p tell h = begun_knows r (replaced (duties.Ask (ask_duties.Leave A)) p.agenda) (left p) p h
+  answered_knows (duties.Ask (ask_duties.JoinHeard s)) r p tell h = joined_knows s (keys_begun r) (asked_at s p) r p h
+  answered_knows (duties.Send (send_duties.Refuse s)) r p tell h = same_sent s _ _ _ p refl h
+  answered_knows (duties.Ask (ask_duties.PlainHandshake s)) r p tell h = same_goes s _ _ p refl h
+  answered_knows (duties.Step (step_duties.PlainAck s)) r p tell h = by (breaks_by_ack p.profile (end_at s p))
+    where
+      by : (b : Bool) → PathKnows (if b then answered_break values s 6 r p else goes_on s (with_plain_ack (after_fell events.PlainAck r (end_at s p))) (fell_duties s r p) p)
+      by true = break_knows s 6 r p h
+      by false = same_goes s _ _ p refl h
+  answered_knows (duties.Ask (ask_duties.SubflowAck s)) r p tell h = same_goes s _ _ p refl h
+  answered_knows (duties.Ask (ask_duties.PlainData s)) r p tell h = same_goes s _ _ p refl h
+  answered_knows (duties.Ask (ask_duties.GoIdentity s)) r p tell h = same_goes s _ _ p refl h
+  answered_knows (duties.Step (step_duties.Unmapped s)) r p tell h = break_knows s 6 r p h
+  answered_knows (duties.Ask (ask_duties.SubflowFin s)) r p tell h = plain_fin_knows s (is_fin_set r) p h
+  answered_knows (duties.Step (step_duties.Look s)) r p tell h = same_goes s _ _ p refl h
+  answered_knows (duties.Ask (ask_duties.Window s)) r p tell h = ack_out_knows s r _ p h
+  answered_knows (duties.Send (send_duties.Update s)) r p tell h = same_sent s _ _ _ p refl h
+  answered_knows (duties.Send (send_duties.FastClose s)) r p tell h = same_sent s _ _ _ p refl h
+  answered_knows (duties.Send (send_duties.Notice s)) r p tell h = same_sent s _ _ _ p refl h
+  answered_knows (duties.Send (send_duties.Syn s)) r p tell h = same_sent s _ _ _ p refl h
+  answered_knows (duties.Step (step_duties.Data s)) r p tell h = data_knows s (first_unsent (end_at s p)) r p h
+  answered_knows (duties.Send (send_duties.DataFin s)) r p tell h = same_sent s _ _ _ p refl h
+  answered_knows (duties.Send (send_duties.Fin s)) r p tell h = same_sent s _ _ _ p refl h
+  answered_knows (duties.Step step_duties.Events) r p tell h = event_knows (next_event p) r p tell h
+  answered_knows (duties.Ask (ask_duties.PeerKey s)) r p tell h = peer_key_knows s (key_heard (end_at s p).treated.items) r p h
+  answered_knows (duties.Send (send_duties.SynAck s)) r p tell h = same_sent s _ _ _ p refl h
+  answered_knows (duties.Ask (ask_duties.Opened s)) r p tell h = opened_knows s (keys_heard (end_at s p).treated.items) r p h
+  answered_knows (duties.Step (step_duties.Heard s index)) r p tell h = answered_item_knows s (item_of index (end_at s p)) r p h
+  answered_knows (duties.Ask (ask_duties.AckHeard s)) r p tell h = same_goes s _ _ p refl h
+  answered_knows (duties.Ask (ask_duties.FailHeard s)) r p tell h =
+      fail_heard_so (λ e. PathKnows (goes_on s e (fell_duties s r p) p)) r (end_at s p) (λ own owes. same_goes s _ _ p refl h)
+  answered_knows (duties.Ask (ask_duties.Edge s)) r p tell h = piece_knows s (piece_of s p) (is_placed r) p h
+  answered_knows (duties.Ask (ask_duties.CheckFailed s)) r p tell h =
+      check_failed_so (λ e. PathKnows (goes_on s e (fell_duties s r p) p)) p.profile.spelling.checksums r (end_at s p)
+      (λ sent broken recv forgotten. same_goes s _ _ p refl h)
+  answered_knows (duties.Ask (ask_duties.HeardFin s index)) r p tell h = fin_knows s (is_fin_set r) p h
+  answered_knows (duties.Ask (ask_duties.AckOut s)) r p tell h = ack_out_knows s r _ p h
+  answered_knows (duties.Ask (ask_duties.Rate s)) r p tell h = same_goes s _ _ p refl h
+  answered_knows (duties.Send (send_duties.Acknowledge s)) r p tell h = same_sent s _ _ _ p refl h
+  answered_knows (duties.Send (send_duties.Again s)) r p tell h = same_sent s _ _ _ p refl h
+  answered_knows (duties.Send (send_duties.Answer s)) r p tell h = same_sent s _ _ _ p refl h
+  answered_knows (duties.Send (send_duties.ResetAnswer s)) r p tell h = same_sent s _ _ _ p refl h
+  answered_knows (duties.Send (send_duties.Resend s)) r p tell h = same_sent s _ _ _ p refl h
+  answered_knows (duties.Ask (ask_duties.BreakAck s reason)) r p tell h = ack_out_knows s r _ p h
+  answered_knows (duties.Send (send_duties.BreakReset s reason)) r p tell h = reset_knows s (Some reason) (leaves s) p h
+  answered_knows (duties.Send (send_duties.Reset s)) r p tell h = reset_knows s None (replaced (duties.Ask (ask_duties.Leave s)) p.agenda) p h
+  answered_knows (duties.Send (send_duties.ResetNoted s)) r p tell h = reset_knows s None (replaced (duties.Ask (ask_duties.Leave s)) p.agenda) p h
+  answered_knows (duties.Ask (ask_duties.Leave s)) r p tell h = agenda _ p h
+  answered_knows (duties.Ask (ask_duties.LeaveNoted s)) r p tell h = same_goes s _ _ p refl h
+  answered_knows duties.End r p tell h = agenda _ p h
+  answered_knows _ r p tell h = agenda _ p h
+
+  answers_know : (ds : List Duty) (r : Reply) (p : PathState Carried) → CopiesTell p → PathKnows p → PathKnows (answers values ds r p)
+  answers_know [] r p tell h = h
+  answers_know (d ∷ ds) r p tell h = answered_knows d r p tell h
+
+  pub takes_knows : (r : Reply) (p : PathState Carried) → CopiesTell p → PathKnows p → PathKnows (takes values r p)
+  takes_knows r p tell h = let q : PathState Carried = answers values p.agenda r p in settled_knows q.agenda q (answers_know p.agenda r p tell h)
+
+  pub begins_knows : (p : PathState Carried) → PathKnows p → PathKnows (begins_turn p)
+  begins_knows p h = settled_knows start_of_turn (with_agenda start_of_turn p) (agenda start_of_turn p h)
+
+-- a record that has more
+pub more_known : (R S : ℕ → ℕ → Type 0) → ((p place : ℕ) → R p place → S p place) → (v : Mappings) → Knows R v → Knows S v
+more_known R S more v h = record {
+  places = λ p. by p (place_at v p) (h.places p);
+  held = record { each = λ i kept at. let tells = h.held.each i kept at in record { each = λ p from to. more p _ (tells.each p from to) } };
+}
+  where
+    by : (p : ℕ) (o : Option ℕ) → IfSome o (R p) → IfSome o (S p)
+    by p None is = tt
+    by p (Some place) is = more p place is

@@ -1,0 +1,10 @@
+pub mod WhateverIsAltered
+pub mod NoSuchNote
+pub mod OverOctets
+pub mod Shown
+pub mod EveryList
+pub mod Made
+pub mod OfScripts
+pub mod InfiniteMappingsAreRight
+pub mod AbortedHearThatAlone
+pub mod AbortsHaveACause

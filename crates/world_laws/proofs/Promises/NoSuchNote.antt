@@ -1,0 +1,64 @@
+-- An answer that no step is given is in no note.
+use Rattle.std.proofs.Common.{◌≡◌, refl, sym, ◌∙◌, ap, subst, ℕ, Bool, true, false, if◌then◌else◌, ⊎_elim, Option, Some, None, List, [], ◌∷◌, ◌++◌, map}
+use Rattle.std.proofs.lemmas.Bool.{or_from, or_parts}
+use Rattle.std.specs.List.{slice_get}
+use Rattle.stream_lanes.proofs.Lists.{in_set, in_map}
+use Rattle.actor_desk.specs.declared.ask.Ask.{Ask}
+use Rattle.actor_desk.specs.declared.ask.Note.{Note}
+use Rattle.actor_desk.specs.declared.ask.Reply.{Reply}
+use Rattle.path_core.specs.Codec.{Codec}
+use Rattle.world_laws.specs.Actors.{ActorCrew, member_asks}
+use Rattle.world_laws.specs.Openings.{Start, opened_world}
+use Rattle.world_laws.specs.Outcomes.{was_told, notes_or, notes_at}
+use Rattle.world_laws.specs.StampedBooks.{answer_to}
+use Rattle.world_laws.specs.Worlds.{WorldState, Turn, note_of, crew_after, asked, stepped, all_over, greatest, begins, after_turn}
+use Rattle.world_laws.proofs.Worlds.Opened.{opened_actors}
+
+module _ (test : Reply → Bool) where
+  told_more : (notes : List Note) (n : Note) → was_told test notes ≡ false → test n.reply ≡ false → was_told test (notes ++ n ∷ []) ≡ false
+  told_more [] n none untold = or_from (test n.reply) false untold refl
+  told_more (m ∷ notes) n none untold =
+      let parts = or_parts (test m.reply) (was_told test notes) none in
+      or_from (test m.reply) (was_told test (notes ++ n ∷ [])) parts.0 (told_more notes n parts.1 untold)
+
+  module _ {C : Type 0} (k : Codec C) where
+    -- by actor
+    abbrev pub NoneTold : WorldState C → Type 0
+    NoneTold w = (i : ℕ) (c : ActorCrew C) → slice_get w.crew i ≡ Some c → was_told test c.list ≡ false
+
+    pub from_each : (w : WorldState C) → NoneTold w → (actor : ℕ) → was_told test (notes_at actor w.crew) ≡ false
+    from_each w h actor = by (slice_get w.crew actor) refl
+      where
+        by : (o : Option (ActorCrew C)) → slice_get w.crew actor ≡ o → was_told test (notes_or o) ≡ false
+        by None is = refl
+        by (Some c) is = h actor c is
+
+    asked_none : (actor : ℕ) (w : WorldState C) (c : ActorCrew C) (x : Ask) → slice_get w.crew actor ≡ Some c → test (answer_to w.books x) ≡ false → NoneTold w
+        → NoneTold (asked k actor (Some x) c w)
+    asked_none actor w c x there untold h i d at = ⊎_elim
+        (λ here. subst (λ y. was_told test y.list ≡ false) here.1 (told_more c.list (note_of w.books c.pass x) (h actor c there) untold))
+        (λ other. h i d other.1)
+        (in_set w.crew actor (crew_after k x w.books c) i d at)
+
+    -- whatever an actor asks next is answered otherwise
+    abbrev pub Untold : WorldState C → Type 0
+    Untold w = (actor : ℕ) (c : ActorCrew C) (x : Ask) → slice_get w.crew actor ≡ Some c → member_asks k c.member ≡ Some x → test (answer_to w.books x) ≡ false
+
+    pub turn_none : (turn : Turn) (w : WorldState C) → Untold w → NoneTold w → NoneTold (after_turn k turn w)
+    turn_none (Turn.Step actor) w untold h = by (slice_get w.crew actor) refl
+      where
+        asks : (c : ActorCrew C) → slice_get w.crew actor ≡ Some c → (o : Option Ask) → member_asks k c.member ≡ o → NoneTold (asked k actor o c w)
+        asks c there None is = h
+        asks c there (Some x) is = asked_none actor w c x there (untold actor c x there is) h
+
+        by : (o : Option (ActorCrew C)) → slice_get w.crew actor ≡ o → NoneTold (stepped k actor o w)
+        by None there = h
+        by (Some c) there = asks c there (member_asks k c.member) refl
+    turn_none Turn.Round w untold h = by (all_over w.crew)
+      where
+        by : (b : Bool) → NoneTold (if b then record w { crew = map (begins (greatest 0 w.crew)) w.crew } else w)
+        by true = λ i d at. let found = in_map (begins (greatest 0 w.crew)) w.crew i d at in ap (λ y. was_told test y.list) (sym found.2) ∙ h i found.0 found.1
+        by false = h
+
+    pub opened_none : (start : Start) → NoneTold (opened_world start)
+    opened_none start = opened_actors (λ actor c. was_told test c.list ≡ false) start refl refl (λ number plan there. refl)

@@ -1,0 +1,408 @@
+-- A turn of a path is over only where nothing is due before the round's end.
+use Rattle.std.proofs.Common.{◌≡◌, refl, sym, subst, ℕ, zero, suc, ◌+◌, ◌⊎◌, inl, inr, Bool, true, false, if◌then◌else◌, is_some, Option, Some, None, List, [], ◌∷◌, ◌++◌, length}
+use Rattle.std.proofs.lemmas.Bool.{true≢false}
+use Rattle.outside_kit.specs.declared.side.Side.{Side}
+use Rattle.outside_kit.specs.declared.side.Side.TheVariants.{A, B}
+use Rattle.fallback_state.specs.declared.fall.Verdict.TheVariants as verdicts
+use Rattle.fallback_state.specs.declared.fall.Mode.TheVariants as modes
+use Rattle.fallback_state.specs.declared.fall.Event.TheVariants as events
+use Rattle.control_book.specs.declared.call.ControlReply.TheVariants as control_replies
+use Rattle.subflow_tcp.specs.declared.verdicts.Meaning.{Meaning}
+use Rattle.subflow_tcp.specs.declared.verdicts.Meaning.TheVariants as means
+use Rattle.subflow_tcp.specs.Expiring.{is_sixth}
+use Rattle.subflow_tcp.specs.States.{is_dead}
+use Rattle.subflow_send.specs.Records.{Record}
+use Rattle.link_model.specs.Steps.{arriving, after_delivery}
+use Rattle.actor_desk.specs.Words.{tail_of}
+use Rattle.actor_desk.specs.declared.ask.Reply.{Reply}
+use Rattle.actor_desk.specs.declared.ask.Reply.TheVariants as replies
+use Rattle.path_agenda.specs.declared.duty.Duty.{Duty}
+use Rattle.path_agenda.specs.declared.duty.Duty.TheVariants as duties
+use Rattle.path_agenda.specs.declared.duty.AskDuty.TheVariants as ask_duties
+use Rattle.path_agenda.specs.declared.duty.SendDuty.TheVariants as send_duties
+use Rattle.path_agenda.specs.declared.duty.SilentDuty.TheVariants as silent_duties
+use Rattle.path_agenda.specs.declared.duty.StepDuty.TheVariants as step_duties
+use Rattle.path_core.specs.declared.event.Event.{Event}
+use Rattle.path_core.specs.declared.event.Event.TheVariants as happening
+use Rattle.path_agenda.specs.declared.heard.Heard.{Heard}
+use Rattle.path_agenda.specs.declared.heard.Heard.TheVariants as says
+use Rattle.path_agenda.specs.declared.keys.KeyPair.{KeyPair}
+use Rattle.path_agenda.specs.Agenda.{start_of_turn, heard_and, payload_came, rest_of_turn, emission, resets, leaves, breaks, stops}
+use Rattle.path_core.specs.Arriving.{items_of, judged_in, template_by, template_judged, options_heard}
+use Rattle.path_core.specs.Breaking.{answered_break, reset_on}
+use Rattle.path_core.specs.Codec.{Codec, HeardSegment}
+use Rattle.path_core.specs.Duties.{stands, passed, answered}
+use Rattle.path_core.specs.Emission.{first_unsent, Grant, grant_in, answered_grant, answered_data}
+use Rattle.path_core.specs.declared.judged.Judged.{Judged}
+use Rattle.path_core.specs.declared.judged.Judged.TheVariants as judged
+use Rattle.path_core.specs.Events.{next_event, heard_in, at_tick, join_begun, after_line, copy_heard, template_fired, happens_if, never_joined}
+use Rattle.path_core.specs.declared.lines.LineAction.{LineAction}
+use Rattle.path_core.specs.declared.lines.LineAction.TheVariants as actions
+use Rattle.path_core.specs.Joining.{is_never, keys_begun, opened_by, asked_at, join_taken}
+use Rattle.path_core.specs.Joins.{is_joined}
+use Rattle.join_handshake.specs.declared.hearing.JoinSyn.{JoinSyn}
+use Rattle.path_core.specs.Passing.{piece_of, is_placed, answered_piece, is_fin_set, answered_fin_heard, answered_plain_fin}
+use Rattle.path_core.specs.Deliver.{Piece, with_learned}
+use Rattle.path_core.specs.Standing.{answered_ack_out}
+use Rattle.path_core.specs.State.{PathState, end_at, with_agenda, goes_on, left}
+use Rattle.path_agenda.specs.Words.{replaced}
+use Rattle.path_agenda.specs.Items.{key_heard, keys_heard}
+use Rattle.path_core.specs.Steps.{settled, takes}
+use Rattle.path_core.specs.Treating.{is_clash, told_next, answered_mapping, answered_item, item_of, answered_plain_ack, breaks_by_ack, with_plain_ack}
+use Rattle.path_core.specs.Opening.{answered_opened, answered_peer_key}
+use Rattle.path_core.specs.Fallback.{after_fell, fell_duties}
+use Rattle.path_core.specs.FastClosing.{is_stopped_by}
+use Rattle.world_laws.proofs.Falls.FailedChecks.{fail_answered_so}
+
+-- the events of the turn, and its end, are ahead
+abbrev pub Ahead : List Duty → Type 0
+Ahead [] = ⊥
+Ahead ((duties.Step step_duties.Events) ∷ ds) = ds ≡ duties.End ∷ []
+Ahead (duties.End ∷ ds) = ⊥
+Ahead (d ∷ ds) = Ahead ds
+
+nothing_next : (o : Option Event) → is_some o ≡ false → o ≡ None
+nothing_next None is = refl
+nothing_next (Some event) is = absurd (true≢false is)
+
+heard_ahead : (s : Side) (from count : ℕ) (ds : List Duty) → Ahead ds → Ahead (heard_and s from count ds)
+heard_ahead s from zero ds h = h
+heard_ahead s from (suc count) ds h = heard_ahead s (from + 1) count ds h
+
+template_ahead : (joined : Bool) (s : Side) (count : ℕ) (m : Meaning) → Ahead (template_by joined s count m)
+template_ahead joined s count means.Ignored = refl
+template_ahead joined s count means.Unwanted = refl
+template_ahead joined s count means.Opens = refl
+template_ahead true s count (means.Accepts acknowledged) = refl
+template_ahead false s count (means.Accepts acknowledged) = refl
+template_ahead joined s count means.RepeatedSyn = refl
+template_ahead joined s count means.Outside = refl
+template_ahead joined s count means.Kills = refl
+template_ahead joined s count means.Challenged = refl
+template_ahead joined s count means.Unacknowledging = refl
+template_ahead joined s count means.Ahead = refl
+template_ahead joined s count (means.Taken position acknowledged) = heard_ahead s 0 count (payload_came s) refl
+
+judged_ahead : (joined : Bool) (s : Side) (count : ℕ) (verdict : Judged) → Ahead (template_judged joined s count verdict)
+judged_ahead joined s count (judged.As meaning) = template_ahead joined s count meaning
+judged_ahead joined s count judged.Asks = refl
+judged_ahead joined s count judged.Lacks = refl
+judged_ahead joined s count judged.Forged = refl
+
+died_ahead : (dead_a dead_b : Bool) → Ahead ((if dead_a then [] else duties.Ask (ask_duties.Leave A) ∷ []) ++ ((if dead_b then [] else duties.Ask (ask_duties.Leave B) ∷ []) ++ rest_of_turn))
+died_ahead true true = refl
+died_ahead true false = refl
+died_ahead false true = refl
+died_ahead false false = refl
+
+fired_ahead : (sixth : Bool) (s : Side) → Ahead (template_fired sixth s)
+fired_ahead true s = refl
+fired_ahead false s = refl
+
+with_ahead : {X : Type 0} (ds : List Duty) → Ahead ds ⊎ ⊥ → (Ahead ds → X) → X
+with_ahead ds (inl ahead) f = f ahead
+with_ahead ds (inr never) f = absurd never
+
+module _ {C : Type 0} where
+  -- only its end is, and nothing is due
+  abbrev pub IsLast : List Duty → PathState C → Type 0
+  IsLast [] p = next_event p ≡ None
+  IsLast (duties.End ∷ ds) p = (ds ≡ []) × (next_event p ≡ None)
+  IsLast (d ∷ ds) p = ⊥
+
+  abbrev pub Shaped : List Duty → PathState C → Type 0
+  Shaped ds p = Ahead ds ⊎ IsLast ds p
+
+  -- ---- passing
+
+  onward : (ds : List Duty) (q : PathState C) → Ahead ds ⊎ ⊥ → Shaped ds q
+  onward ds q (inl ahead) = inl ahead
+  onward ds q (inr never) = absurd never
+
+  past_events : (ds : List Duty) (p : PathState C) → next_event p ≡ None → ds ≡ duties.End ∷ [] → Shaped ds p
+  past_events ds p none is = subst (λ xs. Shaped xs p) (sym is) (inr (refl, none))
+
+  next_shaped : (d : Duty) (ds : List Duty) (p : PathState C) → Shaped (d ∷ ds) p → stands d p ≡ false → Shaped ds (passed d p)
+  next_shaped (duties.Step step_duties.Events) ds p (inl is) no_more = past_events ds p (nothing_next (next_event p) no_more) is
+  next_shaped (duties.Step step_duties.Events) ds p (inr never) no_more = absurd never
+  next_shaped duties.End ds p h no_more = absurd (true≢false no_more)
+  next_shaped (duties.Ask ask_duties.JoinAgain) ds p h no_more = onward ds _ h
+  next_shaped (duties.Step (step_duties.Look s)) ds p h no_more = onward ds _ h
+  next_shaped (duties.Ask (ask_duties.Window s)) ds p h no_more = onward ds _ h
+  next_shaped (duties.Send (send_duties.Update s)) ds p h no_more = onward ds _ h
+  next_shaped (duties.Send (send_duties.FastClose s)) ds p h no_more = onward ds _ h
+  next_shaped (duties.Send (send_duties.Notice s)) ds p h no_more = onward ds _ h
+  next_shaped (duties.Send (send_duties.Syn s)) ds p h no_more = onward ds _ h
+  next_shaped (duties.Step (step_duties.Data s)) ds p h no_more = onward ds _ h
+  next_shaped (duties.Send (send_duties.DataFin s)) ds p h no_more = onward ds _ h
+  next_shaped (duties.Send (send_duties.Fin s)) ds p h no_more = onward ds _ h
+  next_shaped (duties.Silent (silent_duties.Timer s)) ds p h no_more = onward ds _ h
+  next_shaped (duties.Ask (ask_duties.SynHeard s)) ds p h no_more = onward ds _ h
+  next_shaped (duties.Ask (ask_duties.SynAnswered s)) ds p h no_more = onward ds _ h
+  next_shaped (duties.Ask (ask_duties.PeerKey s)) ds p h no_more = onward ds _ h
+  next_shaped (duties.Send (send_duties.SynAck s)) ds p h no_more = onward ds _ h
+  next_shaped (duties.Ask (ask_duties.JoinHeard s)) ds p h no_more = onward ds _ h
+  next_shaped (duties.Send (send_duties.Refuse s)) ds p h no_more = onward ds _ h
+  next_shaped (duties.Ask (ask_duties.Opened s)) ds p h no_more = onward ds _ h
+  next_shaped (duties.Ask (ask_duties.Live s)) ds p h no_more = onward ds _ h
+  next_shaped (duties.Step (step_duties.Heard s index)) ds p h no_more = onward ds _ h
+  next_shaped (duties.Ask (ask_duties.AckHeard s)) ds p h no_more = onward ds _ h
+  next_shaped (duties.Ask (ask_duties.FailHeard s)) ds p h no_more = onward ds _ h
+  next_shaped (duties.Step (step_duties.PlainAck s)) ds p h no_more = onward ds _ h
+  next_shaped (duties.Ask (ask_duties.PlainHandshake s)) ds p h no_more = onward ds _ h
+  next_shaped (duties.Ask (ask_duties.SubflowAck s)) ds p h no_more = onward ds _ h
+  next_shaped (duties.Ask (ask_duties.PlainData s)) ds p h no_more = onward ds _ h
+  next_shaped (duties.Ask (ask_duties.GoIdentity s)) ds p h no_more = onward ds _ h
+  next_shaped (duties.Step (step_duties.Unmapped s)) ds p h no_more = onward ds _ h
+  next_shaped (duties.Ask (ask_duties.SubflowFin s)) ds p h no_more = onward ds _ h
+  next_shaped (duties.Silent (silent_duties.Keep s)) ds p h no_more = onward ds _ h
+  next_shaped (duties.Ask (ask_duties.Edge s)) ds p h no_more = onward ds _ h
+  next_shaped (duties.Ask (ask_duties.CheckFailed s)) ds p h no_more = onward ds _ h
+  next_shaped (duties.Ask (ask_duties.HeardFin s index)) ds p h no_more = onward ds _ h
+  next_shaped (duties.Silent (silent_duties.PassFin s)) ds p h no_more = onward ds _ h
+  next_shaped (duties.Ask (ask_duties.AckOut s)) ds p h no_more = onward ds _ h
+  next_shaped (duties.Ask (ask_duties.Rate s)) ds p h no_more = onward ds _ h
+  next_shaped (duties.Send (send_duties.Acknowledge s)) ds p h no_more = onward ds _ h
+  next_shaped (duties.Send (send_duties.Again s)) ds p h no_more = onward ds _ h
+  next_shaped (duties.Send (send_duties.Answer s)) ds p h no_more = onward ds _ h
+  next_shaped (duties.Send (send_duties.ResetAnswer s)) ds p h no_more = onward ds _ h
+  next_shaped (duties.Ask (ask_duties.Return s)) ds p h no_more = onward ds _ h
+  next_shaped (duties.Ask (ask_duties.AbortSend s)) ds p h no_more = onward ds _ h
+  next_shaped (duties.Ask (ask_duties.AbortReceive s)) ds p h no_more = onward ds _ h
+  next_shaped (duties.Ask (ask_duties.Announce s id)) ds p h no_more = onward ds _ h
+  next_shaped (duties.Ask (ask_duties.Withdraw s id)) ds p h no_more = onward ds _ h
+  next_shaped (duties.Send (send_duties.Resend s)) ds p h no_more = onward ds _ h
+  next_shaped (duties.Ask (ask_duties.BreakAck s reason)) ds p h no_more = onward ds _ h
+  next_shaped (duties.Send (send_duties.BreakReset s reason)) ds p h no_more = onward ds _ h
+  next_shaped (duties.Send (send_duties.Reset s)) ds p h no_more = onward ds _ h
+  next_shaped (duties.Send (send_duties.ResetNoted s)) ds p h no_more = onward ds _ h
+  next_shaped (duties.Ask (ask_duties.Leave s)) ds p h no_more = onward ds _ h
+  next_shaped (duties.Ask (ask_duties.LeaveNoted s)) ds p h no_more = onward ds _ h
+  next_shaped (duties.Ask (ask_duties.Dead s)) ds p h no_more = onward ds _ h
+
+  same_last : (ds : List Duty) (p : PathState C) → IsLast ds p → IsLast ds (with_agenda ds p)
+  same_last [] p h = h
+  same_last (duties.End ∷ ds) p h = h
+  same_last (duties.Step (step_duties.Look s) ∷ ds) p h = absurd h
+  same_last (d ∷ ds) p h = last_or d h
+    where
+      last_or : (d : Duty) → IsLast (d ∷ ds) p → IsLast (d ∷ ds) (with_agenda (d ∷ ds) p)
+      last_or duties.End h = h
+      last_or _ h = absurd h
+
+  settled_shaped : (ds : List Duty) (p : PathState C) → Shaped ds p → Shaped (settled ds p).agenda (settled ds p)
+  settled_shaped [] p h = onto h
+    where
+      onto : Shaped [] p → Shaped [] (with_agenda [] p)
+      onto (inl never) = absurd never
+      onto (inr none) = inr none
+  settled_shaped (d ∷ ds) p h = by (stands d p) refl (λ no_more. settled_shaped ds (passed d p) (next_shaped d ds p h no_more))
+    where
+      by : (b : Bool) → stands d p ≡ b → (stands d p ≡ false → Shaped (settled ds (passed d p)).agenda (settled ds (passed d p)))
+          → Shaped (if b then with_agenda (d ∷ ds) p else settled ds (passed d p)).agenda (if b then with_agenda (d ∷ ds) p else settled ds (passed d p))
+      by true is rest = onto h
+        where
+          onto : Shaped (d ∷ ds) p → Shaped (d ∷ ds) (with_agenda (d ∷ ds) p)
+          onto (inl ahead) = inl ahead
+          onto (inr last) = inr (same_last (d ∷ ds) p last)
+      by false is rest = rest is
+
+  -- ---- replies
+
+  copy_ahead : (s : Side) (o : Option HeardSegment) (p : PathState C) → Ahead (copy_heard s o p).agenda
+  copy_ahead s None p = refl
+  copy_ahead s (Some segment) p =
+      let h = options_heard (end_at s p) segment in let joined = is_joined p.profile in judged_ahead joined s (length (items_of joined s h)) (judged_in joined s h (end_at s p))
+
+  line_ahead : (action : LineAction) (p : PathState C) → Ahead (after_line action p).agenda
+  line_ahead actions.Die p = died_ahead (is_dead p.a.tcp.state) (is_dead p.b.tcp.state)
+  line_ahead (actions.Prio s backup) p = refl
+  line_ahead (actions.Announce s id) p = refl
+  line_ahead (actions.Withdraw s id) p = refl
+
+  -- a join is begun or not, with these to be done
+  begun_ahead : (r : Reply) (dead living : List Duty) (p : PathState C) → Ahead dead → Ahead living → Ahead (join_begun r dead living p).agenda
+  begun_ahead r dead living p x y = by (is_never r)
+    where
+      by : (b : Bool) → Ahead (if b then goes_on A (never_joined r (end_at A p)) dead p else goes_on A (opened_by (keys_begun r) (end_at A p)) living p).agenda
+      by true = x
+      by false = y
+
+  event_ahead : (k : Codec C) (o : Option Event) (r : Reply) (p : PathState C) → Ahead (happens_if k o r p).agenda
+  event_ahead k None r p = refl
+  event_ahead k (Some (happening.Joins tick)) r p = begun_ahead r (leaves A) (emission A) (record (at_tick tick p) { joined_at = None }) refl refl
+  event_ahead k (Some (happening.Takes line)) r p = line_ahead line.action (record (at_tick line.tick p) { lines = tail_of p.lines })
+  event_ahead k (Some (happening.Arrives due)) r p = copy_ahead due.to (heard_in k due.to (arriving due p.link) p) (record (at_tick due.tick p) { link = after_delivery due p.link })
+  event_ahead k (Some (happening.Fires s tick)) r p = fired_ahead (is_sixth (end_at s (at_tick tick p)).tcp) s
+
+  break_ahead : (k : Codec C) (s : Side) (reason : ℕ) (r : Reply) (p : PathState C) → Ahead (answered_break k s reason r p).agenda
+  break_ahead k s reason r p = by (end_at s p).treated.asked
+    where
+      by : (b : Bool) → Ahead (if b then answered_ack_out s r (resets s reason) p else reset_on k s (Some reason) (leaves s) p).agenda
+      by true = refl
+      by false = refl
+
+  -- after a fall the send book is told, and a path may be broken
+  fell_ahead : (s : Side) (r : Reply) (p : PathState C) → Ahead (left p) → Ahead (replaced (duties.Ask (ask_duties.GoIdentity s)) p.agenda) → Ahead (fell_duties s r p)
+  fell_ahead s (replies.Control (control_replies.Verdict (verdicts.Went modes.Identity))) p left_ahead told = told
+  fell_ahead s (replies.Control (control_replies.Verdict (verdicts.BreakPath reason))) p left_ahead told = by (end_at s p).treated.asked
+    where
+      by : (b : Bool) → Ahead (if b then breaks s reason else resets s reason)
+      by true = refl
+      by false = refl
+  fell_ahead s _ p left_ahead told = left_ahead
+
+  module _ (k : Codec C) (s : Side) (r : Reply) (p : PathState C) (same : Ahead p.agenda) (left_ahead : Ahead (left p)) (told : Ahead (replaced (duties.Ask (ask_duties.GoIdentity s)) p.agenda)) where
+    data_ahead : (o : Option Record) → Ahead (answered_data k s o r p).agenda
+    data_ahead (Some record_unsent) = same
+    data_ahead None = by (grant_in r)
+      where
+        by : (o : Option Grant) → Ahead (answered_grant s o r p).agenda
+        by (Some grant) = same
+        by None = left_ahead
+
+    piece_ahead : (o : Option Piece) (taken : Bool) → Ahead (answered_piece s o taken p).agenda
+    piece_ahead (Some piece) true = same
+    piece_ahead (Some piece) false = refl
+    piece_ahead None taken = refl
+
+    plain_ack_ahead : Ahead (answered_plain_ack k s r p).agenda
+    plain_ack_ahead = by (breaks_by_ack p.profile (end_at s p))
+      where
+        by : (b : Bool) → Ahead (if b then answered_break k s 6 r p else goes_on s (with_plain_ack (after_fell events.PlainAck r (end_at s p))) (fell_duties s r p) p).agenda
+        by true = break_ahead k s 6 r p
+        by false = fell_ahead s r p left_ahead told
+
+    key_ahead : (o : Option ℕ) → Ahead (answered_peer_key s o r p).agenda
+    key_ahead None = fell_ahead s r p left_ahead told
+    key_ahead (Some key) = left_ahead
+
+    keys_ahead : (o : Option KeyPair) → Ahead (answered_opened s o r p).agenda
+    keys_ahead None = fell_ahead s r p left_ahead told
+    keys_ahead (Some keys) = left_ahead
+
+    plain_fin_ahead : (set : Bool) → Ahead (answered_plain_fin s set p).agenda
+    plain_fin_ahead true = left_ahead
+    plain_fin_ahead false = refl
+
+    fin_ahead : (set : Bool) → Ahead (answered_fin_heard s set p).agenda
+    fin_ahead true = left_ahead
+    fin_ahead false = refl
+
+    module _ (index : ℕ) (acked_ahead : Ahead (replaced (duties.Ask (ask_duties.AckHeard s)) p.agenda)) (failed_ahead : Ahead (replaced (duties.Ask (ask_duties.FailHeard s)) p.agenda)) where
+      told_ahead : (b : Bool) → Ahead (told_next s b p)
+      told_ahead true = acked_ahead
+      told_ahead false = left_ahead
+
+      mapping_ahead : Ahead (answered_mapping k s r p).agenda
+      mapping_ahead = by (is_clash (end_at s p))
+        where
+          by : (b : Bool) → Ahead (if b then answered_break k s 1 r p else goes_on s (with_learned (after_fell events.MappingHeard r (end_at s p))) (fell_duties s r p) p).agenda
+          by true = break_ahead k s 1 r p
+          by false = fell_ahead s r p left_ahead told
+
+      stopped_ahead : (stopped : Bool) → Ahead (if stopped then stops s else left p)
+      stopped_ahead true = refl
+      stopped_ahead false = left_ahead
+
+      item_ahead : (o : Option Heard) → Ahead (answered_item k s o r p).agenda
+      item_ahead None = left_ahead
+      item_ahead (Some (says.DataAck next window)) = told_ahead _
+      item_ahead (Some (says.Mapping fin)) = mapping_ahead
+      item_ahead (Some (says.DataFin place)) = fell_ahead s r p left_ahead told
+      item_ahead (Some (says.InfiniteMapping place position)) = fell_ahead s r p left_ahead told
+      item_ahead (Some (says.Keys own peer)) = left_ahead
+      item_ahead (Some (says.PeerKey key)) = left_ahead
+      item_ahead (Some (says.Join form)) = left_ahead
+      item_ahead (Some (says.Notice notice)) = left_ahead
+      item_ahead (Some says.Fail) = fail_answered_so (λ (x : PathState C). Ahead x.agenda) s r p failed_ahead (fell_ahead s r p left_ahead told)
+      item_ahead (Some (says.FastClose key)) = stopped_ahead (is_stopped_by r)
+      item_ahead (Some says.Dss) = left_ahead
+
+  join_ahead : (s : Side) (keys : Option KeyPair) (asked : Option JoinSyn) (r : Reply) (ds : List Duty) (p : PathState C) → Ahead ds → Ahead (join_taken s keys asked r (with_agenda (duties.Ask (ask_duties.JoinHeard s) ∷ ds) p)).agenda
+  join_ahead s None (Some asked) r ds p a = a
+  join_ahead s None None r ds p a = a
+  join_ahead s (Some keys) None r ds p a = a
+  join_ahead s (Some keys) (Some asked) r ds p a = a
+
+  from_left : (ds : List Duty) (q : PathState C) → Ahead ds ⊎ ⊥ → Shaped ds q
+  from_left ds q h = onward ds q h
+
+  answered_shaped : (k : Codec C) (d : Duty) (ds : List Duty) (r : Reply) (p : PathState C) → Shaped (d ∷ ds) (with_agenda (d ∷ ds) p)
+      → Shaped (answered k d r (with_agenda (d ∷ ds) p)).agenda (answered k d r (with_agenda (d ∷ ds) p))
+  answered_shaped k (duties.Step step_duties.Events) ds r p h = inl (event_ahead k (next_event p) r (with_agenda ((duties.Step step_duties.Events) ∷ ds) p))
+  answered_shaped k duties.End ds r p (inl never) = absurd never
+  answered_shaped k duties.End ds r p (inr last) = inr last.1
+  answered_shaped k (duties.Ask ask_duties.JoinAgain) ds r p h = with_ahead ds h (λ a. inl (begun_ahead r (duties.Ask (ask_duties.Leave A) ∷ ds) ds (with_agenda ((duties.Ask ask_duties.JoinAgain) ∷ ds) p) a a))
+  answered_shaped k (duties.Step (step_duties.Look s)) ds r p h = from_left ds _ h
+  answered_shaped k (duties.Ask (ask_duties.Window s)) ds r p h = from_left ds _ h
+  answered_shaped k (duties.Send (send_duties.Update s)) ds r p h = from_left ds _ h
+  answered_shaped k (duties.Send (send_duties.FastClose s)) ds r p h = from_left ds _ h
+  answered_shaped k (duties.Send (send_duties.Notice s)) ds r p h = with_ahead ds h (λ a. inl a)
+  answered_shaped k (duties.Send (send_duties.Syn s)) ds r p h = from_left ds _ h
+  answered_shaped k (duties.Step (step_duties.Data s)) ds r p h = with_ahead ds h (λ a. inl (data_ahead k s r (with_agenda (duties.Step (step_duties.Data s) ∷ ds) p) a a a (first_unsent (end_at s p))))
+  answered_shaped k (duties.Send (send_duties.DataFin s)) ds r p h = from_left ds _ h
+  answered_shaped k (duties.Send (send_duties.Fin s)) ds r p h = from_left ds _ h
+  answered_shaped k (duties.Silent (silent_duties.Timer s)) ds r p h = from_left ds _ h
+  answered_shaped k (duties.Ask (ask_duties.SynHeard s)) ds r p h = from_left ds _ h
+  answered_shaped k (duties.Ask (ask_duties.SynAnswered s)) ds r p h = from_left ds _ h
+  answered_shaped k (duties.Ask (ask_duties.PlainHandshake s)) ds r p h = with_ahead ds h (λ a. inl (fell_ahead s r (with_agenda (duties.Ask (ask_duties.PlainHandshake s) ∷ ds) p) a a))
+  answered_shaped k (duties.Ask (ask_duties.PeerKey s)) ds r p h = with_ahead ds h (λ a. inl (key_ahead k s r (with_agenda (duties.Ask (ask_duties.PeerKey s) ∷ ds) p) a a a (key_heard (end_at s p).treated.items)))
+  answered_shaped k (duties.Send (send_duties.SynAck s)) ds r p h = from_left ds _ h
+  answered_shaped k (duties.Ask (ask_duties.JoinHeard s)) ds r p h = with_ahead ds h (λ a. inl (join_ahead s (keys_begun r) (asked_at s p) r ds p a))
+  answered_shaped k (duties.Send (send_duties.Refuse s)) ds r p h = from_left ds _ h
+  answered_shaped k (duties.Ask (ask_duties.Opened s)) ds r p h = with_ahead ds h (λ a. inl (keys_ahead k s r (with_agenda (duties.Ask (ask_duties.Opened s) ∷ ds) p) a a a (keys_heard (end_at s p).treated.items)))
+  answered_shaped k (duties.Ask (ask_duties.Live s)) ds r p h = from_left ds _ h
+  answered_shaped k (duties.Step (step_duties.Heard s index)) ds r p h = with_ahead ds h (λ a. inl (item_ahead k s r (with_agenda (duties.Step (step_duties.Heard s index) ∷ ds) p) a a a index a a (item_of index (end_at s p))))
+  answered_shaped k (duties.Ask (ask_duties.AckHeard s)) ds r p h = with_ahead ds h (λ a. inl (fell_ahead s r (with_agenda (duties.Ask (ask_duties.AckHeard s) ∷ ds) p) a a))
+  answered_shaped k (duties.Ask (ask_duties.FailHeard s)) ds r p h = with_ahead ds h (λ a. inl (fell_ahead s r (with_agenda (duties.Ask (ask_duties.FailHeard s) ∷ ds) p) a a))
+  answered_shaped k (duties.Step (step_duties.PlainAck s)) ds r p h = with_ahead ds h (λ a. inl (plain_ack_ahead k s r (with_agenda (duties.Step (step_duties.PlainAck s) ∷ ds) p) a a a))
+  answered_shaped k (duties.Ask (ask_duties.SubflowAck s)) ds r p h = from_left ds _ h
+  answered_shaped k (duties.Ask (ask_duties.PlainData s)) ds r p h = with_ahead ds h (λ a. inl (fell_ahead s r (with_agenda (duties.Ask (ask_duties.PlainData s) ∷ ds) p) a a))
+  answered_shaped k (duties.Ask (ask_duties.GoIdentity s)) ds r p h = from_left ds _ h
+  answered_shaped k (duties.Step (step_duties.Unmapped s)) ds r p h = inl (break_ahead k s 6 r (with_agenda (duties.Step (step_duties.Unmapped s) ∷ ds) p))
+  answered_shaped k (duties.Ask (ask_duties.SubflowFin s)) ds r p h = with_ahead ds h (λ a. inl (plain_fin_ahead k s r (with_agenda (duties.Ask (ask_duties.SubflowFin s) ∷ ds) p) a a a (is_fin_set r)))
+  answered_shaped k (duties.Silent (silent_duties.Keep s)) ds r p h = from_left ds _ h
+  answered_shaped k (duties.Ask (ask_duties.Edge s)) ds r p h = with_ahead ds h (λ a. inl (piece_ahead k s r (with_agenda (duties.Ask (ask_duties.Edge s) ∷ ds) p) a a a (piece_of s p) (is_placed r)))
+  answered_shaped k (duties.Ask (ask_duties.CheckFailed s)) ds r p h = with_ahead ds h (λ a. inl (fell_ahead s r (with_agenda (duties.Ask (ask_duties.CheckFailed s) ∷ ds) p) a a))
+  answered_shaped k (duties.Ask (ask_duties.HeardFin s index)) ds r p h = with_ahead ds h (λ a. inl (fin_ahead k s r (with_agenda (duties.Ask (ask_duties.HeardFin s index) ∷ ds) p) a a a (is_fin_set r)))
+  answered_shaped k (duties.Silent (silent_duties.PassFin s)) ds r p h = from_left ds _ h
+  answered_shaped k (duties.Ask (ask_duties.AckOut s)) ds r p h = from_left ds _ h
+  answered_shaped k (duties.Ask (ask_duties.Rate s)) ds r p h = from_left ds _ h
+  answered_shaped k (duties.Send (send_duties.Acknowledge s)) ds r p h = from_left ds _ h
+  answered_shaped k (duties.Send (send_duties.Again s)) ds r p h = from_left ds _ h
+  answered_shaped k (duties.Send (send_duties.Answer s)) ds r p h = from_left ds _ h
+  answered_shaped k (duties.Send (send_duties.ResetAnswer s)) ds r p h = from_left ds _ h
+  answered_shaped k (duties.Ask (ask_duties.Return s)) ds r p h = from_left ds _ h
+  answered_shaped k (duties.Ask (ask_duties.AbortSend s)) ds r p h = from_left ds _ h
+  answered_shaped k (duties.Ask (ask_duties.AbortReceive s)) ds r p h = from_left ds _ h
+  answered_shaped k (duties.Ask (ask_duties.Announce s id)) ds r p h = from_left ds _ h
+  answered_shaped k (duties.Ask (ask_duties.Withdraw s id)) ds r p h = from_left ds _ h
+  answered_shaped k (duties.Send (send_duties.Resend s)) ds r p h = from_left ds _ h
+  answered_shaped k (duties.Ask (ask_duties.BreakAck s reason)) ds r p h = inl refl
+  answered_shaped k (duties.Send (send_duties.BreakReset s reason)) ds r p h = inl refl
+  answered_shaped k (duties.Send (send_duties.Reset s)) ds r p h = with_ahead ds h (λ a. inl a)
+  answered_shaped k (duties.Send (send_duties.ResetNoted s)) ds r p h = with_ahead ds h (λ a. inl a)
+  answered_shaped k (duties.Ask (ask_duties.Leave s)) ds r p h = with_ahead ds h (λ a. inl a)
+  answered_shaped k (duties.Ask (ask_duties.LeaveNoted s)) ds r p h = with_ahead ds h (λ a. inl a)
+  answered_shaped k (duties.Ask (ask_duties.Dead s)) ds r p h = from_left ds _ h
+
+  pub takes_shaped : (k : Codec C) (r : Reply) (p : PathState C) → Shaped p.agenda p → Shaped (takes k r p).agenda (takes k r p)
+  takes_shaped k r p h = by p.agenda h
+    where
+      by : (ds : List Duty) → Shaped ds (with_agenda ds p) → Shaped (takes k r (with_agenda ds p)).agenda (takes k r (with_agenda ds p))
+      by [] h = settled_shaped [] (with_agenda [] p) h
+      by (d ∷ ds) h =
+          let q : PathState C = answered k d r (with_agenda (d ∷ ds) p) in
+          settled_shaped q.agenda q (answered_shaped k d ds r p h)
+
+  pub begun_shaped : (p : PathState C) → Shaped (settled start_of_turn (with_agenda start_of_turn p)).agenda (settled start_of_turn (with_agenda start_of_turn p))
+  begun_shaped p = settled_shaped start_of_turn (with_agenda start_of_turn p) (inl refl)
+
+  -- where the turn is over nothing is due
+  pub nothing_due : (p : PathState C) → Shaped p.agenda p → p.agenda ≡ [] → next_event p ≡ None
+  nothing_due p h over = by (subst (λ ds. Shaped ds p) over h)
+    where
+      by : Shaped [] p → next_event p ≡ None
+      by (inl never) = absurd never
+      by (inr none) = none

@@ -1,0 +1,567 @@
+-- Where the turn of a path is over, an end that may ask for bytes was refused over all that was written as the round began.
+use Rattle.std.proofs.Common.{◌≡◌, refl, sym, ◌∙◌, ap, subst, ℕ, ◌+◌, ◌≤◌, not, nat_lt, ◌||◌, inl, Bool, true, false, if◌then◌else◌, Option, Some, None, List, [], ◌∷◌, ◌++◌, arith}
+use Rattle.std.proofs.lemmas.Bool.{and_parts, false≢true, ltb-false}
+use Rattle.std.specs.List.{count_by}
+use Rattle.outside_kit.specs.declared.side.Side.{Side}
+use Rattle.outside_kit.specs.declared.side.Side.TheVariants.{A, B}
+use Rattle.link_model.specs.Steps.{peer}
+use Rattle.send_book.specs.declared.call.SendCall.{SendCall}
+use Rattle.send_book.specs.declared.call.SendCall.TheVariants as send_calls
+use Rattle.send_book.specs.State.{Sending}
+use Rattle.send_book.specs.Marks.{is_held_by}
+use Rattle.send_book.specs.Steps.{reply_to, after_call}
+use Rattle.subflow_send.specs.Records.{Record}
+use Rattle.actor_desk.specs.declared.ask.Ask.{Ask}
+use Rattle.actor_desk.specs.declared.ask.Ask.TheVariants as asks
+use Rattle.actor_desk.specs.declared.ask.Note.{Note}
+use Rattle.actor_desk.specs.declared.ask.Reply.{Reply}
+use Rattle.actor_desk.specs.declared.ask.Reply.TheVariants as replies
+use Rattle.actor_desk.specs.Desk.{SixBooks, send_of, reply_of, after_ask, after_send_call}
+use Rattle.stream_apps.specs.declared.duty.AppDuty.{AppDuty}
+use Rattle.stream_apps.specs.declared.duty.AppDuty.TheVariants as app_duties
+use Rattle.stream_apps.specs.Apps.{AppState}
+use Rattle.stream_apps.specs.AppSteps.{app_ask, offered}
+use Rattle.path_agenda.specs.declared.duty.Duty.{Duty}
+use Rattle.path_agenda.specs.declared.duty.Duty.TheVariants as duties
+use Rattle.path_agenda.specs.declared.duty.AskDuty.TheVariants as ask_duties
+use Rattle.path_agenda.specs.declared.duty.SendDuty.TheVariants as send_duties
+use Rattle.path_agenda.specs.declared.duty.SilentDuty.TheVariants as silent_duties
+use Rattle.path_agenda.specs.declared.duty.StepDuty.TheVariants as step_duties
+use Rattle.path_core.specs.Codec.{Codec}
+use Rattle.path_core.specs.Duties.{ask_for, answered}
+use Rattle.path_core.specs.Emission.{first_unsent, Grant, grant_in, grant_ask, answered_grant, answered_data, data_ask}
+use Rattle.path_core.specs.State.{PathState, end_at, with_agenda, path_of}
+use Rattle.path_core.specs.Steps.{takes}
+use Rattle.path_core.specs.Treating.{item_of}
+use Rattle.world_laws.specs.RoundEnd.{asks_grant}
+use Rattle.world_laws.specs.RoundNumbers.{is_standby, frees_bytes, AskedForAll}
+use Rattle.world_laws.proofs.Asks.SendBooks.{IsOnes, IsQuiet, ones_after, all_after, all_acknowledged, all_returned, ones_other, all_other, grant_refused, asked_more, FallsSo, all_gone}
+use Rattle.world_laws.proofs.Asks.OfPaths.{IsCallOf, IsQuietAsk, IsHeardAsk, IsQuietDuty, quiet_asks, heard_asks, subflow_asks}
+use Rattle.world_laws.proofs.Rounds.GrantAtOneDuty.{MayNotAsk, ask_isn't, asks_none}
+use Rattle.world_laws.proofs.Rounds.EndsRefused.{Pays, Granting, needs, is_followed, is_owed, settled_done, data_sent, granted_done, refused_done, answered_done}
+use Rattle.path_core.specs.Fallback.{identity_ask}
+
+-- an acknowledgement by which the window reaches past this edge, or a return of some bytes
+abbrev is_freeing : ℕ → Sending → SendCall → Bool
+is_freeing edge b (send_calls.AckIn next window) = nat_lt edge (next + window)
+is_freeing edge b (send_calls.Return path) = nat_lt 0 (count_by (is_held_by path) b.marks)
+is_freeing edge b _ = false
+
+-- what is asked of a send book, where it falls back
+abbrev pub FallsAsk : SixBooks → Ask → Type 0
+FallsAsk six (asks.Send s call) = FallsSo (send_of s six) call
+FallsAsk six _ = Unit {0}
+
+-- ---- one side's book in a round
+
+-- where the last grant was refused, and no acknowledgement came since, all was asked for, as long as no other path freed bytes
+pub record SideAsks (path written : ℕ) (s : Side) (steps : List Note) (refused freed : Bool) (b : Sending) : Type 0 where
+  pub ones : IsOnes path written b
+  pub all : refused ≡ true → freed ≡ false → AskedForAll path s steps written b
+
+module _ (path written : ℕ) (s : Side) where
+  -- a call that is neither grant nor acknowledgement
+  quiet_side : (steps : List Note) (refused freed : Bool) (b : Sending) (call : SendCall) → IsQuiet path call → FallsSo b call → SideAsks path written s steps refused freed b
+      → SideAsks path written s steps refused freed (after_call b call)
+  quiet_side steps refused freed b (send_calls.Write bytes) is falls h =
+      record { ones = ones_after path written b h.ones (send_calls.Write bytes) tt; all = λ on alone. all_after path written b h.ones s steps (send_calls.Write bytes) tt falls (h.all on alone) }
+  quiet_side steps refused freed b send_calls.Close is falls h =
+      record { ones = ones_after path written b h.ones send_calls.Close tt; all = λ on alone. all_after path written b h.ones s steps send_calls.Close tt falls (h.all on alone) }
+  quiet_side steps refused freed b (send_calls.Return asker) is falls h =
+      record { ones = ones_after path written b h.ones (send_calls.Return asker) tt; all = λ on alone. all_after path written b h.ones s steps (send_calls.Return asker) is falls (h.all on alone) }
+  quiet_side steps refused freed b (send_calls.Grant asker max standby) is falls h = absurd is
+  quiet_side steps refused freed b (send_calls.AckIn next window) is falls h = absurd is
+  quiet_side steps refused freed b send_calls.GoIdentity is falls h =
+      record { ones = ones_after path written b h.ones send_calls.GoIdentity tt; all = λ on alone. all_after path written b h.ones s steps send_calls.GoIdentity tt falls (h.all on alone) }
+  quiet_side steps refused freed b (send_calls.GoInfinite asker) is falls h = absurd is
+  quiet_side steps refused freed b send_calls.Abort is falls h =
+      record { ones = ones_after path written b h.ones send_calls.Abort tt; all = λ on alone. all_after path written b h.ones s steps send_calls.Abort tt falls (h.all on alone) }
+
+  noted_side : (steps : List Note) (n : Note) (refused freed : Bool) (b : Sending) → asks_grant s n.ask ≡ false → SideAsks path written s steps refused freed b
+      → SideAsks path written s (steps ++ n ∷ []) refused freed b
+  noted_side steps n refused freed b isn't h = record { ones = h.ones; all = λ on alone. asked_more path s steps n written b isn't (h.all on alone) }
+
+-- ---- an application
+
+module _ (path written : ℕ) (steps : List Note) (refused freed : Bool) (a : AppState) (six : SixBooks) where
+  pub own_a : (d : AppDuty) → a.side ≡ A → SideAsks path written A steps refused freed six.send_a → SideAsks path written A steps refused freed (after_ask (app_ask d a) six).send_a
+  own_a app_duties.FastClose is h = h
+  own_a app_duties.AbortSend is h =
+      subst (λ s. SideAsks path written A steps refused freed (after_send_call s send_calls.Abort six).send_a) (sym is) (quiet_side path written A steps refused freed six.send_a send_calls.Abort tt tt h)
+  own_a app_duties.AbortReceive is h = h
+  own_a app_duties.Write is h =
+      subst (λ s. SideAsks path written A steps refused freed (after_send_call s (send_calls.Write (offered a)) six).send_a) (sym is) (quiet_side path written A steps refused freed six.send_a (send_calls.Write (offered a)) tt tt h)
+  own_a app_duties.Close is h =
+      subst (λ s. SideAsks path written A steps refused freed (after_send_call s send_calls.Close six).send_a) (sym is) (quiet_side path written A steps refused freed six.send_a send_calls.Close tt tt h)
+  own_a app_duties.Read is h = h
+  own_a app_duties.End is h = h
+
+  pub own_b : (d : AppDuty) → a.side ≡ B → SideAsks path written B steps refused freed six.send_b → SideAsks path written B steps refused freed (after_ask (app_ask d a) six).send_b
+  own_b app_duties.FastClose is h = h
+  own_b app_duties.AbortSend is h =
+      subst (λ s. SideAsks path written B steps refused freed (after_send_call s send_calls.Abort six).send_b) (sym is) (quiet_side path written B steps refused freed six.send_b send_calls.Abort tt tt h)
+  own_b app_duties.AbortReceive is h = h
+  own_b app_duties.Write is h =
+      subst (λ s. SideAsks path written B steps refused freed (after_send_call s (send_calls.Write (offered a)) six).send_b) (sym is) (quiet_side path written B steps refused freed six.send_b (send_calls.Write (offered a)) tt tt h)
+  own_b app_duties.Close is h =
+      subst (λ s. SideAsks path written B steps refused freed (after_send_call s send_calls.Close six).send_b) (sym is) (quiet_side path written B steps refused freed six.send_b send_calls.Close tt tt h)
+  own_b app_duties.Read is h = h
+  own_b app_duties.End is h = h
+
+  pub other_a : (d : AppDuty) → a.side ≡ B → SideAsks path written A steps refused freed six.send_a → SideAsks path written A steps refused freed (after_ask (app_ask d a) six).send_a
+  other_a app_duties.FastClose is h = h
+  other_a app_duties.AbortSend is h = subst (λ s. SideAsks path written A steps refused freed (after_send_call s send_calls.Abort six).send_a) (sym is) h
+  other_a app_duties.AbortReceive is h = h
+  other_a app_duties.Write is h = subst (λ s. SideAsks path written A steps refused freed (after_send_call s (send_calls.Write (offered a)) six).send_a) (sym is) h
+  other_a app_duties.Close is h = subst (λ s. SideAsks path written A steps refused freed (after_send_call s send_calls.Close six).send_a) (sym is) h
+  other_a app_duties.Read is h = h
+  other_a app_duties.End is h = h
+
+  pub other_b : (d : AppDuty) → a.side ≡ A → SideAsks path written B steps refused freed six.send_b → SideAsks path written B steps refused freed (after_ask (app_ask d a) six).send_b
+  other_b app_duties.FastClose is h = h
+  other_b app_duties.AbortSend is h = subst (λ s. SideAsks path written B steps refused freed (after_send_call s send_calls.Abort six).send_b) (sym is) h
+  other_b app_duties.AbortReceive is h = h
+  other_b app_duties.Write is h = subst (λ s. SideAsks path written B steps refused freed (after_send_call s (send_calls.Write (offered a)) six).send_b) (sym is) h
+  other_b app_duties.Close is h = subst (λ s. SideAsks path written B steps refused freed (after_send_call s send_calls.Close six).send_b) (sym is) h
+  other_b app_duties.Read is h = h
+  other_b app_duties.End is h = h
+
+-- ---- both sides' books, and what is ahead on the path
+
+pub record BothAsk (path written_a written_b : ℕ) (steps : List Note) (refused freed : Side → Bool) (six : SixBooks) : Type 0 where
+  pub a : SideAsks path written_a A steps (refused A) (freed A) six.send_a
+  pub b : SideAsks path written_b B steps (refused B) (freed B) six.send_b
+
+-- one side's flag is another
+abbrev with_flag : Side → Bool → (Side → Bool) → Side → Bool
+with_flag A flag refused A = flag
+with_flag A flag refused B = refused B
+with_flag B flag refused A = refused A
+with_flag B flag refused B = flag
+
+own_flag : (s : Side) (flag : Bool) (refused : Side → Bool) → with_flag s flag refused s ≡ flag
+own_flag A flag refused = refl
+own_flag B flag refused = refl
+
+never_on : {X : Type 0} → false ≡ true → X
+never_on is = absurd (false≢true is)
+
+module _ (path written_a written_b : ℕ) (steps : List Note) (n : Note) (refused freed : Side → Bool) (six : SixBooks) (h : BothAsk path written_a written_b steps refused freed six) where
+  abbrev Asks : (Side → Bool) → (Side → Bool) → SixBooks → Type 0
+  Asks flags others books = BothAsk path written_a written_b (steps ++ n ∷ []) flags others books
+
+  noted_a : asks_grant A n.ask ≡ false → SideAsks path written_a A (steps ++ n ∷ []) (refused A) (freed A) six.send_a
+  noted_a isn't = noted_side path written_a A steps n (refused A) (freed A) six.send_a isn't h.a
+
+  noted_b : asks_grant B n.ask ≡ false → SideAsks path written_b B (steps ++ n ∷ []) (refused B) (freed B) six.send_b
+  noted_b isn't = noted_side path written_b B steps n (refused B) (freed B) six.send_b isn't h.b
+
+  -- asks for no bytes
+  module _ (isn't : (t : Side) → asks_grant t n.ask ≡ false) where
+    -- an ask that is neither grant nor acknowledgement
+    -- it is no fallback
+    quiet_is : (s : Side) (call : SendCall) → IsQuietAsk path (asks.Send s call) → IsQuiet path call
+    quiet_is s (send_calls.Write bytes) is = is
+    quiet_is s send_calls.Close is = is
+    quiet_is s (send_calls.Grant asker max standby) is = is
+    quiet_is s (send_calls.AckIn next window) is = is
+    quiet_is s (send_calls.Return asker) is = is
+    quiet_is s send_calls.GoIdentity is = absurd is
+    quiet_is s (send_calls.GoInfinite asker) is = is
+    quiet_is s send_calls.Abort is = is
+
+    quiet_falls : (s : Side) (b : Sending) (call : SendCall) → IsQuietAsk path (asks.Send s call) → FallsSo b call
+    quiet_falls s b (send_calls.Write bytes) is = tt
+    quiet_falls s b send_calls.Close is = tt
+    quiet_falls s b (send_calls.Grant asker max standby) is = tt
+    quiet_falls s b (send_calls.AckIn next window) is = tt
+    quiet_falls s b (send_calls.Return asker) is = tt
+    quiet_falls s b send_calls.GoIdentity is = absurd is
+    quiet_falls s b (send_calls.GoInfinite asker) is = tt
+    quiet_falls s b send_calls.Abort is = tt
+
+    quiet_both : (ask : Ask) → IsQuietAsk path ask → Asks refused freed (after_ask ask six)
+    quiet_both (asks.Send A call) is = record {
+      a = quiet_side path written_a A (steps ++ n ∷ []) (refused A) (freed A) six.send_a call (quiet_is A call is) (quiet_falls A six.send_a call is) (noted_a (isn't A));
+      b = noted_b (isn't B);
+    }
+    quiet_both (asks.Send B call) is = record {
+      a = noted_a (isn't A);
+      b = quiet_side path written_b B (steps ++ n ∷ []) (refused B) (freed B) six.send_b call (quiet_is B call is) (quiet_falls B six.send_b call is) (noted_b (isn't B));
+    }
+    quiet_both (asks.Reassembly s call) is = record { a = noted_a (isn't A); b = noted_b (isn't B) }
+    quiet_both (asks.Control s call) is = record { a = noted_a (isn't A); b = noted_b (isn't B) }
+    quiet_both (asks.Local step) is = record { a = noted_a (isn't A); b = noted_b (isn't B) }
+
+    -- a fallback
+    identity_both : (s : Side) → FallsSo (send_of s six) send_calls.GoIdentity → Asks refused freed (after_ask (asks.Send s send_calls.GoIdentity) six)
+    identity_both A falls = record { a = quiet_side path written_a A (steps ++ n ∷ []) (refused A) (freed A) six.send_a send_calls.GoIdentity tt falls (noted_a (isn't A)); b = noted_b (isn't B) }
+    identity_both B falls = record { a = noted_a (isn't A); b = quiet_side path written_b B (steps ++ n ∷ []) (refused B) (freed B) six.send_b send_calls.GoIdentity tt falls (noted_b (isn't B)) }
+
+    -- what was heard at one side: an acknowledgement, whether a path goes on alone, or nothing for the send books
+    lowered : (s : Side) → Asks (with_flag s false refused) freed six
+    lowered A = record { a = record { ones = h.a.ones; all = λ on alone. never_on on }; b = noted_b (isn't B) }
+    lowered B = record { a = noted_a (isn't A); b = record { ones = h.b.ones; all = λ on alone. never_on on } }
+
+    heard_call : (s : Side) (call : SendCall) → IsHeardAsk path s (asks.Send s call) → Asks (with_flag s false refused) freed (after_send_call s call six)
+    heard_call A (send_calls.AckIn next window) is = record {
+      a = record { ones = ones_after path written_a six.send_a h.a.ones (send_calls.AckIn next window) tt; all = λ on alone. never_on on };
+      b = noted_b (isn't B);
+    }
+    heard_call B (send_calls.AckIn next window) is = record {
+      a = noted_a (isn't A);
+      b = record { ones = ones_after path written_b six.send_b h.b.ones (send_calls.AckIn next window) tt; all = λ on alone. never_on on };
+    }
+    heard_call s (send_calls.Write bytes) is = absurd is
+    heard_call s send_calls.Close is = absurd is
+    heard_call s (send_calls.Grant asker max standby) is = absurd is
+    heard_call s (send_calls.Return asker) is = absurd is
+    heard_call s send_calls.GoIdentity is = absurd is
+    heard_call A (send_calls.GoInfinite asker) is = record {
+      a = record { ones = ones_after path written_a six.send_a h.a.ones (send_calls.GoInfinite asker) tt; all = λ on alone. never_on on };
+      b = noted_b (isn't B);
+    }
+    heard_call B (send_calls.GoInfinite asker) is = record {
+      a = noted_a (isn't A);
+      b = record { ones = ones_after path written_b six.send_b h.b.ones (send_calls.GoInfinite asker) tt; all = λ on alone. never_on on };
+    }
+    heard_call s send_calls.Abort is = absurd is
+
+    heard_both : (s : Side) (ask : Ask) → IsHeardAsk path s ask → Asks (with_flag s false refused) freed (after_ask ask six)
+    heard_both A (asks.Send A call) is = heard_call A call is
+    heard_both B (asks.Send B call) is = heard_call B call is
+    heard_both A (asks.Send B call) is = other_side call is
+      where
+        other_side : (call : SendCall) → IsHeardAsk path A (asks.Send B call) → Asks (with_flag A false refused) freed (after_send_call B call six)
+        other_side (send_calls.AckIn next window) is = (let never : B ≡ A = is in cc)
+        other_side (send_calls.Write bytes) is = absurd is
+        other_side send_calls.Close is = absurd is
+        other_side (send_calls.Grant asker max standby) is = absurd is
+        other_side (send_calls.Return asker) is = absurd is
+        other_side send_calls.GoIdentity is = absurd is
+        other_side (send_calls.GoInfinite asker) is = (let never : B ≡ A = is.0 in cc)
+        other_side send_calls.Abort is = absurd is
+    heard_both B (asks.Send A call) is = other_side call is
+      where
+        other_side : (call : SendCall) → IsHeardAsk path B (asks.Send A call) → Asks (with_flag B false refused) freed (after_send_call A call six)
+        other_side (send_calls.AckIn next window) is = (let never : A ≡ B = is in cc)
+        other_side (send_calls.Write bytes) is = absurd is
+        other_side send_calls.Close is = absurd is
+        other_side (send_calls.Grant asker max standby) is = absurd is
+        other_side (send_calls.Return asker) is = absurd is
+        other_side send_calls.GoIdentity is = absurd is
+        other_side (send_calls.GoInfinite asker) is = (let never : A ≡ B = is.0 in cc)
+        other_side send_calls.Abort is = absurd is
+    heard_both s (asks.Reassembly t call) is = lowered_with s
+      where
+        lowered_with : (s : Side) → Asks (with_flag s false refused) freed (after_ask (asks.Reassembly t call) six)
+        lowered_with A = record { a = (lowered A).a; b = (lowered A).b }
+        lowered_with B = record { a = (lowered B).a; b = (lowered B).b }
+    heard_both s (asks.Control t call) is = lowered_with s
+      where
+        lowered_with : (s : Side) → Asks (with_flag s false refused) freed (after_ask (asks.Control t call) six)
+        lowered_with A = record { a = (lowered A).a; b = (lowered A).b }
+        lowered_with B = record { a = (lowered B).a; b = (lowered B).b }
+    heard_both s (asks.Local step) is = lowered s
+
+  -- A grant: what other paths freed before is of no account any more.
+  granted_both : (s : Side) (max : ℕ) (standby : Bool) → n.ask ≡ asks.Send s (send_calls.Grant path max standby)
+      → Asks (with_flag s false refused) (with_flag s false freed) (after_ask (asks.Send s (send_calls.Grant path max standby)) six)
+  granted_both A max standby asks = record {
+    a = record { ones = ones_after path written_a six.send_a h.a.ones (send_calls.Grant path max standby) refl; all = λ on alone. never_on on };
+    b = noted_b (ap (asks_grant B) asks);
+  }
+  granted_both B max standby asks = record {
+    a = noted_a (ap (asks_grant A) asks);
+    b = record { ones = ones_after path written_b six.send_b h.b.ones (send_calls.Grant path max standby) refl; all = λ on alone. never_on on };
+  }
+
+  -- and a refusal
+  refused_both : (s : Side) (max : ℕ) (standby : Bool) → n.ask ≡ asks.Send s (send_calls.Grant path max standby) → grant_in (reply_of six (asks.Send s (send_calls.Grant path max standby))) ≡ None
+      → Asks (with_flag s true refused) (with_flag s false freed) (after_ask (asks.Send s (send_calls.Grant path max standby)) six)
+  refused_both A max standby asks none = record {
+    a = record {
+      ones = ones_after path written_a six.send_a h.a.ones (send_calls.Grant path max standby) refl;
+      all = λ on alone. grant_refused path written_a six.send_a h.a.ones A steps n max standby (λ before. ap (λ x. if asks_grant A x then is_standby x else before) asks) none;
+    };
+    b = noted_b (ap (asks_grant B) asks);
+  }
+  refused_both B max standby asks none = record {
+    a = noted_a (ap (asks_grant A) asks);
+    b = record {
+      ones = ones_after path written_b six.send_b h.b.ones (send_calls.Grant path max standby) refl;
+      all = λ on alone. grant_refused path written_b six.send_b h.b.ones B steps n max standby (λ before. ap (λ x. if asks_grant B x then is_standby x else before) asks) none;
+    };
+  }
+
+-- ---- a step of another path
+
+-- whether bytes were freed then
+abbrev pub freed_then : (Side → ℕ) → Ask → Reply → (Side → Bool) → Side → Bool
+freed_then edges ask reply freed s = freed s || frees_bytes s (edges s) ask reply
+
+freed_before : (b c : Bool) → b || c ≡ false → b ≡ false
+freed_before true c is = is
+freed_before false c is = refl
+
+freed_after : (b c : Bool) → b || c ≡ false → c ≡ false
+freed_after true c is = absurd (false≢true (sym is))
+freed_after false c is = is
+
+same_freeing : (s : Side) (edge : ℕ) (b : Sending) (call : SendCall) → frees_bytes s edge (asks.Send s call) (replies.Send (reply_to b call)) ≡ is_freeing edge b call
+same_freeing A edge b (send_calls.AckIn next window) = refl
+same_freeing A edge b (send_calls.Return who) = refl
+same_freeing A edge b (send_calls.Grant who max standby) = refl
+same_freeing A edge b (send_calls.Write bytes) = refl
+same_freeing A edge b send_calls.Close = refl
+same_freeing A edge b send_calls.GoIdentity = refl
+same_freeing A edge b (send_calls.GoInfinite who) = refl
+same_freeing A edge b send_calls.Abort = refl
+same_freeing B edge b (send_calls.AckIn next window) = refl
+same_freeing B edge b (send_calls.Return who) = refl
+same_freeing B edge b (send_calls.Grant who max standby) = refl
+same_freeing B edge b (send_calls.Write bytes) = refl
+same_freeing B edge b send_calls.Close = refl
+same_freeing B edge b send_calls.GoIdentity = refl
+same_freeing B edge b (send_calls.GoInfinite who) = refl
+same_freeing B edge b send_calls.Abort = refl
+
+module _ (path written edge : ℕ) (s : Side) (steps : List Note) (refused freed : Bool) (b : Sending) (h : SideAsks path written s steps refused freed b) where
+  -- the own book stays
+  stays_side : (more : Bool) → SideAsks path written s steps refused (freed || more) b
+  stays_side more = record { ones = h.ones; all = λ on alone. h.all on (freed_before freed more alone) }
+
+  freeing_call : (asker : ℕ) (t : Side) (call : SendCall) → (asker ≡ path → ⊥) → IsCallOf asker (asks.Send t call) → FallsSo b call → edge ≤ b.edge
+      → SideAsks path written s steps refused (freed || is_freeing edge b call) (after_call b call)
+  freeing_call asker t (send_calls.Grant who max standby) apart is falls low =
+      let other : who ≡ path → ⊥ = λ own. apart (sym is ∙ own) in
+      record { ones = ones_other path written b h.ones who max standby other; all = λ on alone. all_other path written b h.ones who max standby other s steps (h.all on (freed_before freed _ alone)) }
+  freeing_call asker t (send_calls.AckIn next window) apart is falls low = record {
+    ones = ones_after path written b h.ones (send_calls.AckIn next window) tt;
+    all = λ on alone. let least = ltb-false edge (next + window) (freed_after freed (nat_lt edge (next + window)) alone) in
+        all_acknowledged path written b h.ones s steps next window (omega (arith, least, low)) (h.all on (freed_before freed (nat_lt edge (next + window)) alone));
+  }
+  freeing_call asker t (send_calls.Return who) apart is falls low = record {
+    ones = ones_after path written b h.ones (send_calls.Return who) tt;
+    all = λ on alone. let held = count_by (is_held_by who) b.marks in let none = ltb-false 0 held (freed_after freed (nat_lt 0 held) alone) in
+        all_returned path written b h.ones s steps who (omega (arith, none)) (h.all on (freed_before freed (nat_lt 0 held) alone));
+  }
+  freeing_call asker t (send_calls.Write bytes) apart is falls low = absurd is
+  freeing_call asker t send_calls.Close apart is falls low = absurd is
+  freeing_call asker t send_calls.GoIdentity apart is falls low =
+      record { ones = ones_after path written b h.ones send_calls.GoIdentity tt; all = λ on alone. all_after path written b h.ones s steps send_calls.GoIdentity tt falls (h.all on (freed_before freed _ alone)) }
+  freeing_call asker t (send_calls.GoInfinite who) apart is falls low = record {
+    ones = ones_after path written b h.ones (send_calls.GoInfinite who) tt;
+    all = λ on alone. all_gone path written b h.ones s steps who (h.all on (freed_before freed _ alone));
+  }
+  freeing_call asker t send_calls.Abort apart is falls low =
+      record { ones = ones_after path written b h.ones send_calls.Abort tt; all = λ on alone. all_after path written b h.ones s steps send_calls.Abort tt falls (h.all on (freed_before freed _ alone)) }
+
+  other_call : (asker : ℕ) (call : SendCall) → (asker ≡ path → ⊥) → IsCallOf asker (asks.Send s call) → FallsSo b call → edge ≤ b.edge
+      → SideAsks path written s steps refused (freed || frees_bytes s edge (asks.Send s call) (replies.Send (reply_to b call))) (after_call b call)
+  other_call asker call apart is falls low =
+      subst (λ c. SideAsks path written s steps refused (freed || c) (after_call b call)) (sym (same_freeing s edge b call)) (freeing_call asker s call apart is falls low)
+
+module _ (path written_a written_b : ℕ) (edges : Side → ℕ) (steps : List Note) (refused freed : Side → Bool) (six : SixBooks) (h : BothAsk path written_a written_b steps refused freed six)
+    (low : (s : Side) → edges s ≤ (send_of s six).edge) where
+  pub other_both : (asker : ℕ) (ask : Ask) → (asker ≡ path → ⊥) → IsCallOf asker ask → FallsAsk six ask
+      → BothAsk path written_a written_b steps refused (freed_then edges ask (reply_of six ask) freed) (after_ask ask six)
+  other_both asker (asks.Send A call) apart is falls = record {
+    a = other_call path written_a (edges A) A steps (refused A) (freed A) six.send_a h.a asker call apart is falls (low A);
+    b = stays_side path written_b (edges B) B steps (refused B) (freed B) six.send_b h.b _;
+  }
+  other_both asker (asks.Send B call) apart is falls = record {
+    a = stays_side path written_a (edges A) A steps (refused A) (freed A) six.send_a h.a _;
+    b = other_call path written_b (edges B) B steps (refused B) (freed B) six.send_b h.b asker call apart is falls (low B);
+  }
+  other_both asker (asks.Reassembly t call) apart is falls = record {
+    a = stays_side path written_a (edges A) A steps (refused A) (freed A) six.send_a h.a _;
+    b = stays_side path written_b (edges B) B steps (refused B) (freed B) six.send_b h.b _;
+  }
+  other_both asker (asks.Control t call) apart is falls = record {
+    a = stays_side path written_a (edges A) A steps (refused A) (freed A) six.send_a h.a _;
+    b = stays_side path written_b (edges B) B steps (refused B) (freed B) six.send_b h.b _;
+  }
+  other_both asker (asks.Local step) apart is falls = record {
+    a = stays_side path written_a (edges A) A steps (refused A) (freed A) six.send_a h.a _;
+    b = stays_side path written_b (edges B) B steps (refused B) (freed B) six.send_b h.b _;
+  }
+
+-- ---- a step of the path
+
+module _ {C : Type 0} (k : Codec C) (p : PathState C) (written_a written_b : ℕ) (steps : List Note) (n : Note) (refused freed : Side → Bool) (six : SixBooks)
+    (h : BothAsk (path_of p) written_a written_b steps refused freed six) where
+  -- what is ahead on the path then, and both books
+  pub record AskThen (q : PathState C) : Type 0 where
+    pub flags : Side → Bool
+    -- what other paths freed since the last grant
+    pub others : Side → Bool
+    pub granting : Granting q flags
+    pub both : BothAsk (path_of p) written_a written_b (steps ++ n ∷ []) flags others (after_ask n.ask six)
+    pub before : (t : Side) → others t ≡ true → (freed t ≡ true) × (asks_grant t n.ask ≡ false)
+
+  abbrev Here : List Duty → PathState C
+  Here ds = with_agenda ds p
+
+  asked_is : (x : Ask) (flags others : Side → Bool) → n.ask ≡ x → BothAsk (path_of p) written_a written_b (steps ++ n ∷ []) flags others (after_ask x six)
+      → BothAsk (path_of p) written_a written_b (steps ++ n ∷ []) flags others (after_ask n.ask six)
+  asked_is x flags others is both = subst (λ y. BothAsk (path_of p) written_a written_b (steps ++ n ∷ []) flags others (after_ask y six)) (sym is) both
+
+  asks_nothing : (d : Duty) (ds : List Duty) → MayNotAsk d → n.ask ≡ ask_for k d (Here (d ∷ ds)) → (t : Side) → asks_grant t n.ask ≡ false
+  asks_nothing d ds may is t = ap (asks_grant t) is ∙ ask_isn't t (ask_for k d (Here (d ∷ ds))) (asks_none k (Here (d ∷ ds)) d may)
+
+  quiet_duty : (d : Duty) (ds : List Duty) → IsQuietDuty d → MayNotAsk d → n.ask ≡ ask_for k d (Here (d ∷ ds)) → is_followed (d ∷ ds) ≡ true
+      → ((t : Side) → Pays (Here (d ∷ ds)) (d ∷ ds) refused t) → AskThen (answered k d (reply_of six (ask_for k d (Here (d ∷ ds)))) (Here (d ∷ ds)))
+  quiet_duty d ds quiet may is f each = record {
+    flags = refused;
+    others = freed;
+    before = λ t on. (on, asks_nothing d ds may is t);
+    granting = answered_done k (reply_of six (ask_for k d (Here (d ∷ ds)))) p refused d ds may f each;
+    both = asked_is (ask_for k d (Here (d ∷ ds))) refused freed is
+        (quiet_both (path_of p) written_a written_b steps n refused freed six h (asks_nothing d ds may is) (ask_for k d (Here (d ∷ ds))) (quiet_asks k (Here (d ∷ ds)) d quiet));
+  }
+
+  -- the flag of a side that has what it needs ahead is of no account
+  lower_each : (s : Side) (xs : List Duty) (flag : Bool) → is_owed s xs ≡ true → ((t : Side) → Pays (Here xs) xs refused t) → (t : Side) → Pays (Here xs) xs (with_flag s flag refused) t
+  lower_each A xs flag owed each A = inl owed
+  lower_each A xs flag owed each B = each B
+  lower_each B xs flag owed each A = each A
+  lower_each B xs flag owed each B = inl owed
+
+  heard_duty : (d : Duty) (s : Side) (ds : List Duty) → IsHeardAsk (path_of p) s (ask_for k d (Here (d ∷ ds))) → MayNotAsk d → is_owed s (d ∷ ds) ≡ true → n.ask ≡ ask_for k d (Here (d ∷ ds))
+      → is_followed (d ∷ ds) ≡ true → ((t : Side) → Pays (Here (d ∷ ds)) (d ∷ ds) refused t) → AskThen (answered k d (reply_of six (ask_for k d (Here (d ∷ ds)))) (Here (d ∷ ds)))
+  heard_duty d s ds heard may owed is f each = record {
+    flags = with_flag s false refused;
+    others = freed;
+    before = λ t on. (on, asks_nothing d ds may is t);
+    granting = answered_done k (reply_of six (ask_for k d (Here (d ∷ ds)))) p (with_flag s false refused) d ds may f (lower_each s (d ∷ ds) false owed each);
+    both = asked_is (ask_for k d (Here (d ∷ ds))) (with_flag s false refused) freed is
+        (heard_both (path_of p) written_a written_b steps n refused freed six h (asks_nothing d ds may is) s (ask_for k d (Here (d ∷ ds))) heard);
+  }
+
+  first_needs : (d : Duty) (ds : List Duty) → is_followed (d ∷ ds) ≡ true → needs d ds ≡ true
+  first_needs d ds f = (and_parts (needs d ds) (is_followed ds) f).0
+
+  own_data : (s : Side) (ds : List Duty) → is_owed s (duties.Step (step_duties.Data s) ∷ ds) ≡ true
+  own_data A ds = refl
+  own_data B ds = refl
+
+  other_each : (s : Side) (xs : List Duty) (flag : Bool) → ((t : Side) → Pays (Here xs) xs refused t) → (t : Side) → (t ≡ s → ⊥) → Pays (Here xs) xs (with_flag s flag refused) t
+  other_each A xs flag each A apart = absurd (apart refl)
+  other_each A xs flag each B apart = each B
+  other_each B xs flag each A apart = each A
+  other_each B xs flag each B apart = absurd (apart refl)
+
+  since_grant : (s : Side) → n.ask ≡ grant_ask s p → (t : Side) → with_flag s false freed t ≡ true → (freed t ≡ true) × (asks_grant t n.ask ≡ false)
+  since_grant A is A on = never_on on
+  since_grant A is B on = (on, ap (asks_grant B) is)
+  since_grant B is A on = (on, ap (asks_grant A) is)
+  since_grant B is B on = never_on on
+
+  grant_duty : (s : Side) (ds : List Duty) → n.ask ≡ grant_ask s p → is_followed (duties.Step (step_duties.Data s) ∷ ds) ≡ true → ((t : Side) → Pays (Here (duties.Step (step_duties.Data s) ∷ ds)) (duties.Step (step_duties.Data s) ∷ ds) refused t)
+      → (o : Option Grant) → grant_in (reply_of six (grant_ask s p)) ≡ o → AskThen (answered_grant s o (reply_of six (grant_ask s p)) (Here (duties.Step (step_duties.Data s) ∷ ds)))
+  grant_duty s ds is f each (Some grant) found = record {
+    flags = with_flag s false refused;
+    others = with_flag s false freed;
+    before = since_grant s is;
+    granting = granted_done k (reply_of six (grant_ask s p)) p (with_flag s false refused) s ds grant f (lower_each s (duties.Step (step_duties.Data s) ∷ ds) false (own_data s ds) each);
+    both = asked_is (grant_ask s p) (with_flag s false refused) (with_flag s false freed) is (granted_both (path_of p) written_a written_b steps n refused freed six h s _ _ is);
+  }
+  grant_duty s ds is f each None found = record {
+    flags = with_flag s true refused;
+    others = with_flag s false freed;
+    before = since_grant s is;
+    granting = refused_done k (reply_of six (grant_ask s p)) p (with_flag s true refused) s ds (own_flag s true refused) f (other_each s (duties.Step (step_duties.Data s) ∷ ds) true each);
+    both = asked_is (grant_ask s p) (with_flag s true refused) (with_flag s false freed) is (refused_both (path_of p) written_a written_b steps n refused freed six h s _ _ is found);
+  }
+
+  data_duty : (s : Side) (ds : List Duty) → is_followed (duties.Step (step_duties.Data s) ∷ ds) ≡ true → ((t : Side) → Pays (Here (duties.Step (step_duties.Data s) ∷ ds)) (duties.Step (step_duties.Data s) ∷ ds) refused t)
+      → (o : Option Record) → n.ask ≡ data_ask k s o (Here (duties.Step (step_duties.Data s) ∷ ds)) → AskThen (answered_data k s o (reply_of six (data_ask k s o (Here (duties.Step (step_duties.Data s) ∷ ds)))) (Here (duties.Step (step_duties.Data s) ∷ ds)))
+  data_duty s ds f each (Some u) is = record {
+    flags = refused;
+    others = freed;
+    before = λ t on. (on, ap (asks_grant t) is ∙ ask_isn't t (data_ask k s (Some u) (Here (duties.Step (step_duties.Data s) ∷ ds))) tt);
+    granting = data_sent k (reply_of six (data_ask k s (Some u) (Here (duties.Step (step_duties.Data s) ∷ ds)))) p refused s ds u f each;
+    both = asked_is (data_ask k s (Some u) (Here (duties.Step (step_duties.Data s) ∷ ds))) refused freed is
+        (quiet_both (path_of p) written_a written_b steps n refused freed six h
+        (λ t. ap (asks_grant t) is ∙ ask_isn't t (data_ask k s (Some u) (Here (duties.Step (step_duties.Data s) ∷ ds))) tt) (data_ask k s (Some u) (Here (duties.Step (step_duties.Data s) ∷ ds))) tt);
+  }
+  data_duty s ds f each None is = grant_duty s ds is f each (grant_in (reply_of six (grant_ask s p))) refl
+
+  duty_asks : (d : Duty) (ds : List Duty) → FallsAsk six (ask_for k d (Here (d ∷ ds))) → n.ask ≡ ask_for k d (Here (d ∷ ds)) → is_followed (d ∷ ds) ≡ true → ((t : Side) → Pays (Here (d ∷ ds)) (d ∷ ds) refused t)
+      → AskThen (answered k d (reply_of six (ask_for k d (Here (d ∷ ds)))) (Here (d ∷ ds)))
+  duty_asks (duties.Step (step_duties.Data s)) ds falls is f each = data_duty s ds f each (first_unsent (end_at s p)) is
+  duty_asks (duties.Step (step_duties.Heard s index)) ds falls is f each =
+      heard_duty (duties.Step (step_duties.Heard s index)) s ds (heard_asks k (Here (duties.Step (step_duties.Heard s index) ∷ ds)) s (item_of index (end_at s p))) tt
+      (and_parts (is_owed s ds) (not (is_owed (peer s) ds)) (first_needs (duties.Step (step_duties.Heard s index)) ds f)).0 is f each
+  duty_asks (duties.Ask ask_duties.JoinAgain) ds falls is f each = quiet_duty (duties.Ask ask_duties.JoinAgain) ds tt tt is f each
+  duty_asks (duties.Step (step_duties.Look s)) ds falls is f each = quiet_duty (duties.Step (step_duties.Look s)) ds tt tt is f each
+  duty_asks (duties.Ask (ask_duties.Window s)) ds falls is f each = quiet_duty (duties.Ask (ask_duties.Window s)) ds tt tt is f each
+  duty_asks (duties.Send (send_duties.Update s)) ds falls is f each = quiet_duty (duties.Send (send_duties.Update s)) ds tt tt is f each
+  duty_asks (duties.Send (send_duties.FastClose s)) ds falls is f each = quiet_duty (duties.Send (send_duties.FastClose s)) ds tt tt is f each
+  duty_asks (duties.Send (send_duties.Notice s)) ds falls is f each = quiet_duty (duties.Send (send_duties.Notice s)) ds tt tt is f each
+  duty_asks (duties.Send (send_duties.Syn s)) ds falls is f each = quiet_duty (duties.Send (send_duties.Syn s)) ds tt tt is f each
+  duty_asks (duties.Send (send_duties.DataFin s)) ds falls is f each = quiet_duty (duties.Send (send_duties.DataFin s)) ds tt tt is f each
+  duty_asks (duties.Send (send_duties.Fin s)) ds falls is f each = quiet_duty (duties.Send (send_duties.Fin s)) ds tt tt is f each
+  duty_asks (duties.Silent (silent_duties.Timer s)) ds falls is f each = quiet_duty (duties.Silent (silent_duties.Timer s)) ds tt tt is f each
+  duty_asks (duties.Step step_duties.Events) ds falls is f each = quiet_duty (duties.Step step_duties.Events) ds tt tt is f each
+  duty_asks (duties.Ask (ask_duties.SynHeard s)) ds falls is f each = heard_duty (duties.Ask (ask_duties.SynHeard s)) s ds refl tt (first_needs (duties.Ask (ask_duties.SynHeard s)) ds f) is f each
+  duty_asks (duties.Ask (ask_duties.SynAnswered s)) ds falls is f each = heard_duty (duties.Ask (ask_duties.SynAnswered s)) s ds refl tt (first_needs (duties.Ask (ask_duties.SynAnswered s)) ds f) is f each
+  duty_asks (duties.Ask (ask_duties.PlainHandshake s)) ds falls is f each = quiet_duty (duties.Ask (ask_duties.PlainHandshake s)) ds tt tt is f each
+  duty_asks (duties.Ask (ask_duties.PeerKey s)) ds falls is f each = quiet_duty (duties.Ask (ask_duties.PeerKey s)) ds tt tt is f each
+  duty_asks (duties.Send (send_duties.SynAck s)) ds falls is f each = quiet_duty (duties.Send (send_duties.SynAck s)) ds tt tt is f each
+  duty_asks (duties.Ask (ask_duties.JoinHeard s)) ds falls is f each = quiet_duty (duties.Ask (ask_duties.JoinHeard s)) ds tt tt is f each
+  duty_asks (duties.Send (send_duties.Refuse s)) ds falls is f each = quiet_duty (duties.Send (send_duties.Refuse s)) ds tt tt is f each
+  duty_asks (duties.Ask (ask_duties.Opened s)) ds falls is f each = quiet_duty (duties.Ask (ask_duties.Opened s)) ds tt tt is f each
+  duty_asks (duties.Ask (ask_duties.Live s)) ds falls is f each = quiet_duty (duties.Ask (ask_duties.Live s)) ds tt tt is f each
+  duty_asks (duties.Ask (ask_duties.AckHeard s)) ds falls is f each = quiet_duty (duties.Ask (ask_duties.AckHeard s)) ds tt tt is f each
+  duty_asks (duties.Ask (ask_duties.FailHeard s)) ds falls is f each = quiet_duty (duties.Ask (ask_duties.FailHeard s)) ds tt tt is f each
+  duty_asks (duties.Step (step_duties.PlainAck s)) ds falls is f each = quiet_duty (duties.Step (step_duties.PlainAck s)) ds tt tt is f each
+  duty_asks (duties.Ask (ask_duties.SubflowAck s)) ds falls is f each = heard_duty (duties.Ask (ask_duties.SubflowAck s)) s ds (subflow_asks k (Here (duties.Ask (ask_duties.SubflowAck s) ∷ ds)) s) tt (first_needs (duties.Ask (ask_duties.SubflowAck s)) ds f) is f each
+  duty_asks (duties.Ask (ask_duties.PlainData s)) ds falls is f each = quiet_duty (duties.Ask (ask_duties.PlainData s)) ds tt tt is f each
+  duty_asks (duties.Ask (ask_duties.GoIdentity s)) ds falls is f each = record {
+    flags = refused;
+    others = freed;
+    before = λ t on. (on, asks_nothing (duties.Ask (ask_duties.GoIdentity s)) ds tt is t);
+    granting = answered_done k (reply_of six (identity_ask s)) p refused (duties.Ask (ask_duties.GoIdentity s)) ds tt f each;
+    both = asked_is (identity_ask s) refused freed is
+        (identity_both (path_of p) written_a written_b steps n refused freed six h (asks_nothing (duties.Ask (ask_duties.GoIdentity s)) ds tt is) s falls);
+  }
+  duty_asks (duties.Step (step_duties.Unmapped s)) ds falls is f each = quiet_duty (duties.Step (step_duties.Unmapped s)) ds tt tt is f each
+  duty_asks (duties.Ask (ask_duties.SubflowFin s)) ds falls is f each = quiet_duty (duties.Ask (ask_duties.SubflowFin s)) ds tt tt is f each
+  duty_asks (duties.Silent (silent_duties.Keep s)) ds falls is f each = quiet_duty (duties.Silent (silent_duties.Keep s)) ds tt tt is f each
+  duty_asks (duties.Ask (ask_duties.Edge s)) ds falls is f each = quiet_duty (duties.Ask (ask_duties.Edge s)) ds tt tt is f each
+  duty_asks (duties.Ask (ask_duties.CheckFailed s)) ds falls is f each = quiet_duty (duties.Ask (ask_duties.CheckFailed s)) ds tt tt is f each
+  duty_asks (duties.Ask (ask_duties.HeardFin s index)) ds falls is f each = quiet_duty (duties.Ask (ask_duties.HeardFin s index)) ds tt tt is f each
+  duty_asks (duties.Silent (silent_duties.PassFin s)) ds falls is f each = quiet_duty (duties.Silent (silent_duties.PassFin s)) ds tt tt is f each
+  duty_asks (duties.Ask (ask_duties.AckOut s)) ds falls is f each = quiet_duty (duties.Ask (ask_duties.AckOut s)) ds tt tt is f each
+  duty_asks (duties.Ask (ask_duties.Rate s)) ds falls is f each = quiet_duty (duties.Ask (ask_duties.Rate s)) ds tt tt is f each
+  duty_asks (duties.Send (send_duties.Acknowledge s)) ds falls is f each = quiet_duty (duties.Send (send_duties.Acknowledge s)) ds tt tt is f each
+  duty_asks (duties.Send (send_duties.Again s)) ds falls is f each = quiet_duty (duties.Send (send_duties.Again s)) ds tt tt is f each
+  duty_asks (duties.Send (send_duties.Answer s)) ds falls is f each = quiet_duty (duties.Send (send_duties.Answer s)) ds tt tt is f each
+  duty_asks (duties.Send (send_duties.ResetAnswer s)) ds falls is f each = quiet_duty (duties.Send (send_duties.ResetAnswer s)) ds tt tt is f each
+  duty_asks (duties.Ask (ask_duties.Return s)) ds falls is f each = quiet_duty (duties.Ask (ask_duties.Return s)) ds tt tt is f each
+  duty_asks (duties.Ask (ask_duties.AbortSend s)) ds falls is f each = quiet_duty (duties.Ask (ask_duties.AbortSend s)) ds tt tt is f each
+  duty_asks (duties.Ask (ask_duties.AbortReceive s)) ds falls is f each = quiet_duty (duties.Ask (ask_duties.AbortReceive s)) ds tt tt is f each
+  duty_asks (duties.Ask (ask_duties.Announce s id)) ds falls is f each = quiet_duty (duties.Ask (ask_duties.Announce s id)) ds tt tt is f each
+  duty_asks (duties.Ask (ask_duties.Withdraw s id)) ds falls is f each = quiet_duty (duties.Ask (ask_duties.Withdraw s id)) ds tt tt is f each
+  duty_asks (duties.Send (send_duties.Resend s)) ds falls is f each = quiet_duty (duties.Send (send_duties.Resend s)) ds tt tt is f each
+  duty_asks (duties.Ask (ask_duties.BreakAck s reason)) ds falls is f each = quiet_duty (duties.Ask (ask_duties.BreakAck s reason)) ds tt tt is f each
+  duty_asks (duties.Send (send_duties.BreakReset s reason)) ds falls is f each = quiet_duty (duties.Send (send_duties.BreakReset s reason)) ds tt tt is f each
+  duty_asks (duties.Send (send_duties.Reset s)) ds falls is f each = quiet_duty (duties.Send (send_duties.Reset s)) ds tt tt is f each
+  duty_asks (duties.Send (send_duties.ResetNoted s)) ds falls is f each = quiet_duty (duties.Send (send_duties.ResetNoted s)) ds tt tt is f each
+  duty_asks (duties.Ask (ask_duties.Leave s)) ds falls is f each = quiet_duty (duties.Ask (ask_duties.Leave s)) ds tt tt is f each
+  duty_asks (duties.Ask (ask_duties.LeaveNoted s)) ds falls is f each = quiet_duty (duties.Ask (ask_duties.LeaveNoted s)) ds tt tt is f each
+  duty_asks (duties.Ask (ask_duties.Dead s)) ds falls is f each = quiet_duty (duties.Ask (ask_duties.Dead s)) ds tt tt is f each
+  duty_asks duties.End ds falls is f each = quiet_duty duties.End ds tt tt is f each
+
+  here_asks : (d : Duty) (ds : List Duty) → FallsAsk six (ask_for k d (Here (d ∷ ds))) → n.ask ≡ ask_for k d (Here (d ∷ ds)) → Granting (Here (d ∷ ds)) refused → AskThen (takes k (reply_of six (ask_for k d (Here (d ∷ ds)))) (Here (d ∷ ds)))
+  here_asks d ds falls is g =
+      let q : PathState C = answered k d (reply_of six (ask_for k d (Here (d ∷ ds)))) (Here (d ∷ ds)) in
+      let t : AskThen q = duty_asks d ds falls is g.followed g.each in
+      record { flags = t.flags; others = t.others; granting = settled_done q.agenda q t.flags t.granting.followed t.granting.each; both = t.both; before = t.before }
+
+  pub path_step : (d : Duty) (ds : List Duty) → p.agenda ≡ d ∷ ds → FallsAsk six (ask_for k d p) → n.ask ≡ ask_for k d p → Granting p refused → AskThen (takes k (reply_of six (ask_for k d p)) p)
+  path_step d ds agenda =
+      let same : p ≡ Here (d ∷ ds) = ap (λ xs. with_agenda xs p) agenda in
+      subst (λ q. FallsAsk six (ask_for k d q) → n.ask ≡ ask_for k d q → Granting q refused → AskThen (takes k (reply_of six (ask_for k d q)) q)) (sym same) (here_asks d ds)

@@ -1,0 +1,3 @@
+pub mod OneDutyLooks
+pub mod LooksAlone
+pub mod GrantedNothing

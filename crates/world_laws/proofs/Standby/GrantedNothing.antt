@@ -1,0 +1,252 @@
+-- A path that stands by is granted nothing, whatever the order of the steps.
+use Rattle.std.proofs.Common.{◌≡◌, refl, sym, ◌∙◌, ap, subst, ⊎_elim, ℕ, ◌&&◌, ◌||◌, ◌==◌, Bool, true, false, if◌then◌else◌, Option, Some, None, Err, List, [], ◌∷◌, ◌++◌, length, map}
+use Rattle.std.proofs.lemmas.Bool.{and_parts, both_ways, false≢true}
+use Rattle.std.proofs.lemmas.Option.{same_Some}
+use Rattle.std.specs.List.{slice_get}
+use Rattle.outside_kit.specs.declared.side.Side.{Side}
+use Rattle.outside_kit.specs.declared.side.Side.TheVariants.{A, B}
+use Rattle.subflow_send.specs.Records.{Record}
+use Rattle.send_book.specs.declared.call.Why.TheVariants.{Ended, Backup}
+use Rattle.send_book.specs.State.{Sending, acked_len}
+use Rattle.send_book.specs.Steps.{decision, reply_by}
+use Rattle.stream_lanes.proofs.Lists.{in_set, in_map}
+use Rattle.actor_desk.specs.declared.ask.Ask.{Ask}
+use Rattle.actor_desk.specs.declared.ask.Note.{Note}
+use Rattle.actor_desk.specs.declared.ask.Reply.TheVariants as replies
+use Rattle.actor_desk.specs.Desk.{SixBooks, reply_of}
+use Rattle.actor_desk.specs.Books.{books_in}
+use Rattle.stream_apps.specs.declared.duty.AppDuty.{AppDuty}
+use Rattle.stream_apps.specs.declared.duty.AppDuty.TheVariants as app_duties
+use Rattle.stream_apps.specs.Apps.{AppState}
+use Rattle.stream_apps.specs.AppSteps.{app_ask, app_asks_first}
+use Rattle.path_agenda.specs.declared.duty.Duty.{Duty}
+use Rattle.path_agenda.specs.declared.duty.Duty.TheVariants as duties
+use Rattle.path_agenda.specs.declared.duty.StepDuty.{StepDuty}
+use Rattle.path_agenda.specs.declared.duty.StepDuty.TheVariants as step_duties
+use Rattle.path_core.specs.Codec.{Codec}
+use Rattle.path_core.specs.Duties.{ask_for}
+use Rattle.path_core.specs.Emission.{first_unsent, data_ask, payload_size}
+use Rattle.path_core.specs.Starts.{first_turn, waiting_path}
+use Rattle.path_core.specs.State.{PathState, end_at, path_of}
+use Rattle.path_core.specs.Steps.{asks_of, asks_first}
+use Rattle.world_laws.specs.declared.member.Member.TheVariants.{App, Path}
+use Rattle.world_laws.specs.Actors.{Actor, ActorCrew, member_asks, member_takes, member_next}
+use Rattle.world_laws.specs.Laws.{Always}
+use Rattle.world_laws.specs.Openings.{PathPlan, Start, path_begins, opened_world}
+use Rattle.world_laws.specs.Outcomes.{notes_or}
+use Rattle.world_laws.specs.RoundEnd.{asks_grant}
+use Rattle.world_laws.specs.Standbys.{looks, standby_told, standby_after, standby_last, is_grant, grants_bytes, GrantsAreFree, BackupsGetNothing}
+use Rattle.world_laws.specs.Worlds.{WorldState, Turn, note_of, crew_after, asked, stepped, all_over, greatest, begins, after_turn, world_run}
+use Rattle.world_laws.proofs.Worlds.Opened.{opened_actors}
+use Rattle.world_laws.proofs.Rounds.GrantAtOneDuty.{MayNotAsk, ask_isn't, asks_none}
+use Rattle.world_laws.proofs.Standby.LooksAlone.{takes_stands, begins_kept, next_kept}
+
+-- ---- lists of steps
+
+last_push : (s : Side) (before : Bool) (notes : List Note) (n : Note) → standby_last s before (notes ++ n ∷ []) ≡ standby_after s n (standby_last s before notes)
+last_push s before [] n = refl
+last_push s before (note ∷ notes) n = last_push s (standby_after s note before) notes n
+
+free_push : (s : Side) (before : Bool) (notes : List Note) (n : Note) → GrantsAreFree s before notes → (grants_bytes s n ≡ true → standby_last s before notes ≡ false)
+    → GrantsAreFree s before (notes ++ n ∷ [])
+free_push s before [] n h free = (free, tt)
+free_push s before (note ∷ notes) n h free = (h.0, free_push s (standby_after s note before) notes n h.1 free)
+
+-- ---- a grant
+
+-- a path that stands by gets none
+no_backup : (path max : ℕ) (standby : Bool) (b : Sending) → is_grant (replies.Send (reply_by (decision path max standby b) b)) ≡ true → standby ≡ false
+no_backup path max false b grants = refl
+no_backup path max true b grants = by (b.aborted || (b.closed && (acked_len b.marks == length b.written))) grants
+  where
+    by : (x : Bool) → is_grant (replies.Send (reply_by (if x then Err Ended else Err Backup) b)) ≡ true → true ≡ false
+    by true grants = absurd (false≢true grants)
+    by false grants = absurd (false≢true grants)
+
+module _ {C : Type 0} (k : Codec C) (six : SixBooks) (p : PathState C) where
+  -- where this duty's ask is granted bytes, its end was told that the path doesn't stand by
+  abbrev IsFree : Side → Ask → Type 0
+  IsFree s x = asks_grant s x && is_grant (reply_of six x) ≡ true → (end_at s p).modes.standby ≡ false
+
+  no_ask : (s : Side) (x : Ask) → asks_grant s x ≡ false → IsFree s x
+  no_ask s x none both = absurd (both_ways _ none (and_parts (asks_grant s x) (is_grant (reply_of six x)) both).0)
+
+  data_free : (s t : Side) (o : Option Record) → IsFree s (data_ask k t o p)
+  data_free A A None both = no_backup (path_of p) (payload_size p.profile) p.a.modes.standby six.send_a both
+  data_free B B None both = no_backup (path_of p) (payload_size p.profile) p.b.modes.standby six.send_b both
+  data_free A B None both = absurd (false≢true both)
+  data_free B A None both = absurd (false≢true both)
+  data_free A t (Some r) both = absurd (false≢true both)
+  data_free B t (Some r) both = absurd (false≢true both)
+
+  other_free : (d : Duty) → MayNotAsk d → (s : Side) → IsFree s (ask_for k d p)
+  other_free d other s = no_ask s (ask_for k d p) (ask_isn't s (ask_for k d p) (asks_none k p d other))
+
+  duty_free : (d : Duty) (s : Side) → IsFree s (ask_for k d p)
+  duty_free (duties.Step step) s = by step
+    where
+      by : (step : StepDuty) → IsFree s (ask_for k (duties.Step step) p)
+      by (step_duties.Data t) = data_free s t (first_unsent (end_at t p))
+      by (step_duties.Look t) = other_free (duties.Step (step_duties.Look t)) tt s
+      by step_duties.Events = other_free (duties.Step step_duties.Events) tt s
+      by (step_duties.Heard t index) = other_free (duties.Step (step_duties.Heard t index)) tt s
+      by (step_duties.PlainAck t) = other_free (duties.Step (step_duties.PlainAck t)) tt s
+      by (step_duties.Unmapped t) = other_free (duties.Step (step_duties.Unmapped t)) tt s
+  duty_free (duties.Ask ask) s = other_free (duties.Ask ask) tt s
+  duty_free (duties.Send send) s = other_free (duties.Send send) tt s
+  duty_free (duties.Silent silent) s = other_free (duties.Silent silent) tt s
+  duty_free duties.End s = other_free duties.End tt s
+
+  ask_free : (x : Ask) → asks_of k p ≡ Some x → (s : Side) → IsFree s x
+  ask_free x is s = by p.agenda refl
+    where
+      by : (ds : List Duty) → p.agenda ≡ ds → IsFree s x
+      by [] same = let never : None ≡ Some x = sym (ap (λ xs. asks_first k xs p) same) ∙ is in cc
+      by (d ∷ ds) same = subst (IsFree s) (same_Some (ask_for k d p) x (sym (ap (λ xs. asks_first k xs p) same) ∙ is)) (duty_free d s)
+
+-- ---- an application neither looks nor asks for a grant
+
+app_quiet : (d : AppDuty) (a : AppState) (s : Side) → (looks s (app_ask d a) ≡ false) × (asks_grant s (app_ask d a) ≡ false)
+app_quiet app_duties.Write a s = by a.side s
+  where
+    by : (q s : Side) → (looks s (app_ask app_duties.Write (record a { side = q })) ≡ false) × (asks_grant s (app_ask app_duties.Write (record a { side = q })) ≡ false)
+    by A A = (refl, refl)
+    by A B = (refl, refl)
+    by B A = (refl, refl)
+    by B B = (refl, refl)
+app_quiet app_duties.Close a s = by a.side s
+  where
+    by : (q s : Side) → (looks s (app_ask app_duties.Close (record a { side = q })) ≡ false) × (asks_grant s (app_ask app_duties.Close (record a { side = q })) ≡ false)
+    by A A = (refl, refl)
+    by A B = (refl, refl)
+    by B A = (refl, refl)
+    by B B = (refl, refl)
+app_quiet app_duties.Read a s = by a.side s
+  where
+    by : (q s : Side) → (looks s (app_ask app_duties.Read (record a { side = q })) ≡ false) × (asks_grant s (app_ask app_duties.Read (record a { side = q })) ≡ false)
+    by A A = (refl, refl)
+    by A B = (refl, refl)
+    by B A = (refl, refl)
+    by B B = (refl, refl)
+app_quiet app_duties.FastClose a s = by a.side s
+  where
+    by : (q s : Side) → (looks s (app_ask app_duties.FastClose (record a { side = q })) ≡ false) × (asks_grant s (app_ask app_duties.FastClose (record a { side = q })) ≡ false)
+    by A A = (refl, refl)
+    by A B = (refl, refl)
+    by B A = (refl, refl)
+    by B B = (refl, refl)
+app_quiet app_duties.AbortSend a s = by a.side s
+  where
+    by : (q s : Side) → (looks s (app_ask app_duties.AbortSend (record a { side = q })) ≡ false) × (asks_grant s (app_ask app_duties.AbortSend (record a { side = q })) ≡ false)
+    by A A = (refl, refl)
+    by A B = (refl, refl)
+    by B A = (refl, refl)
+    by B B = (refl, refl)
+app_quiet app_duties.AbortReceive a s = by a.side s
+  where
+    by : (q s : Side) → (looks s (app_ask app_duties.AbortReceive (record a { side = q })) ≡ false) × (asks_grant s (app_ask app_duties.AbortReceive (record a { side = q })) ≡ false)
+    by A A = (refl, refl)
+    by A B = (refl, refl)
+    by B A = (refl, refl)
+    by B B = (refl, refl)
+app_quiet app_duties.End a A = (refl, refl)
+app_quiet app_duties.End a B = (refl, refl)
+
+-- ---- an actor and its list
+
+module _ {C : Type 0} (k : Codec C) where
+  abbrev standby_at : Side → Actor C → Bool
+  standby_at s (App a) = false
+  standby_at s (Path p) = (end_at s p).modes.standby
+
+  -- an end knows what it was told last, and each grant was one of a path that didn't stand by
+  record CrewIs (c : ActorCrew C) : Type 0 where
+    knows : (s : Side) → standby_at s c.member ≡ standby_last s false c.list
+    free : (s : Side) → GrantsAreFree s false c.list
+
+  -- what it asks, and what it takes
+  abbrev Asks : SixBooks → Actor C → Ask → Type 0
+  Asks six m x =
+      (s : Side) → (standby_at s (member_takes k (reply_of six x) m) ≡ (if looks s x then standby_told (standby_at s m) (reply_of six x) else standby_at s m))
+      × (asks_grant s x && is_grant (reply_of six x) ≡ true → standby_at s m ≡ false)
+
+  app_asks : (six : SixBooks) (a : AppState) (ds : List AppDuty) (x : Ask) → app_asks_first ds a ≡ Some x → Asks six (App a) x
+  app_asks six a [] x is s = let never : None ≡ Some x = is in cc
+  app_asks six a (d ∷ ds) x is s = subst (λ y. (looks s y ≡ false) × (asks_grant s y ≡ false) → (false ≡ (if looks s y then standby_told false (reply_of six y) else false))
+      × (asks_grant s y && is_grant (reply_of six y) ≡ true → false ≡ false)) (same_Some (app_ask d a) x is) (by (app_ask d a)) (subst (λ y. (looks s y ≡ false) × (asks_grant s y ≡ false)) (same_Some (app_ask d a) x is) (app_quiet d a s))
+    where
+      by : (y : Ask) → (looks s y ≡ false) × (asks_grant s y ≡ false) → (false ≡ (if looks s y then standby_told false (reply_of six y) else false)) × (asks_grant s y && is_grant (reply_of six y) ≡ true → false ≡ false)
+      by y none = (at (looks s y) none.0, λ both. refl)
+        where
+          at : (b : Bool) → b ≡ false → false ≡ (if b then standby_told false (reply_of six y) else false)
+          at false is = refl
+          at true is = absurd (false≢true (sym is))
+
+  member_asks_so : (six : SixBooks) (m : Actor C) (x : Ask) → member_asks k m ≡ Some x → Asks six m x
+  member_asks_so six (App a) x is = app_asks six a a.agenda x is
+  member_asks_so six (Path p) x is = λ s. (takes_stands k x (reply_of six x) p is s, ask_free k six p x is s)
+
+  crew_goes : (w : WorldState C) (c : ActorCrew C) (x : Ask) → member_asks k c.member ≡ Some x → CrewIs c → CrewIs (crew_after k x w.books c)
+  crew_goes w c x is h =
+      let n : Note = note_of w.books c.pass x in
+      let so = member_asks_so (books_in w.books) c.member x is in
+      record {
+        knows = λ s. (so s).0 ∙ ap (λ b. standby_after s n b) (h.knows s) ∙ sym (last_push s false c.list n);
+        free = λ s. free_push s false c.list n (h.free s) (λ grants. sym (h.knows s) ∙ (so s).1 grants);
+      }
+
+  next_stands : (s : Side) (m : Actor C) → standby_at s (member_next m) ≡ standby_at s m
+  next_stands s (App a) = refl
+  next_stands A (Path p) = (next_kept p).a
+  next_stands B (Path p) = (next_kept p).b
+
+  -- ---- worlds
+
+  abbrev AllFree : WorldState C → Type 0
+  AllFree w = (i : ℕ) (c : ActorCrew C) → slice_get w.crew i ≡ Some c → CrewIs c
+
+  turn_free : (turn : Turn) (w : WorldState C) → AllFree w → AllFree (after_turn k turn w)
+  turn_free (Turn.Step actor) w h = by (slice_get w.crew actor) refl
+    where
+      asking : (c : ActorCrew C) → slice_get w.crew actor ≡ Some c → (o : Option Ask) → member_asks k c.member ≡ o → AllFree (asked k actor o c w)
+      asking c there None is = h
+      asking c there (Some x) is = λ i d at. ⊎_elim
+          (λ here. subst CrewIs here.1 (crew_goes w c x is (h actor c there)))
+          (λ other. h i d other.1)
+          (in_set w.crew actor (crew_after k x w.books c) i d at)
+
+      by : (o : Option (ActorCrew C)) → slice_get w.crew actor ≡ o → AllFree (stepped k actor o w)
+      by None there = h
+      by (Some c) there = asking c there (member_asks k c.member) refl
+  turn_free Turn.Round w h = by (all_over w.crew)
+    where
+      next : (stamp : ℕ) (c : ActorCrew C) → CrewIs c → CrewIs (begins stamp c)
+      next stamp c is = record { knows = λ s. next_stands s c.member ∙ is.knows s; free = is.free }
+
+      by : (b : Bool) → AllFree (if b then record w { crew = map (begins (greatest 0 w.crew)) w.crew } else w)
+      by true = λ i d at. let found = in_map (begins (greatest 0 w.crew)) w.crew i d at in subst CrewIs found.2 (next (greatest 0 w.crew) found.0 (h i found.0 found.1))
+      by false = h
+
+  run_free : (turns : List Turn) (w : WorldState C) → AllFree w → AllFree (world_run k turns w)
+  run_free [] w h = h
+  run_free (turn ∷ turns) w h = run_free turns (after_turn k turn w) (turn_free turn w h)
+
+  opened_free : (start : Start) → AllFree (opened_world start)
+  opened_free start = opened_actors (λ actor c. CrewIs c) start
+      (record { knows = λ s. refl; free = λ s. tt })
+      (record { knows = λ s. refl; free = λ s. tt })
+      (λ number plan there. record { knows = knows number plan; free = λ s. tt })
+    where
+      knows : (number : ℕ) (plan : PathPlan) (s : Side) → (end_at s (first_turn {C = C} (path_begins start number plan) start.lines)).modes.standby ≡ false
+      knows number plan A = (begins_kept (waiting_path {C = C} (path_begins start number plan) start.lines)).a
+      knows number plan B = (begins_kept (waiting_path {C = C} (path_begins start number plan) start.lines)).b
+
+  notes_free : (w : WorldState C) → AllFree w → BackupsGetNothing w
+  notes_free w h s actor = by (slice_get w.crew actor) refl
+    where
+      by : (o : Option (ActorCrew C)) → slice_get w.crew actor ≡ o → GrantsAreFree s false (notes_or o)
+      by None is = tt
+      by (Some c) is = (h actor c is).free s
+
+pub backups_get_nothing : {C : Type 0} (k : Codec C) → Always k (λ start w. BackupsGetNothing w)
+backups_get_nothing k start turns = notes_free k (world_run k turns (opened_world start)) (run_free k turns (opened_world start) (opened_free k start))

@@ -1,0 +1,257 @@
+-- Every step and every end of a round keeps lists and journals paired and chained.
+use Rattle.std.proofs.Common.{◌≡◌, refl, sym, ◌∙◌, ap, subst, ℕ, zero, suc, ◌+◌, ◌<◌, ◌≤◌, max, Bool, true, false, if◌then◌else◌, inl, inr, Option, Some, None, List, [], ◌∷◌, ◌++◌, map, set, arith}
+use Rattle.std.proofs.lemmas.List.{map-append}
+use Rattle.std.proofs.lemmas.Option.{same_Some}
+use Rattle.std.specs.List.{slice_get}
+use Rattle.outside_kit.specs.declared.side.Side.TheVariants.{A, B}
+use Rattle.stamped_book.specs.declared.stamped.Entry.{Entry}
+use Rattle.stamped_book.specs.declared.stamped.Pass.{Pass}
+use Rattle.stream_lanes.specs.Words.{From}
+use Rattle.stream_lanes.proofs.Lists.{Every-nil, Every-map, Every-push, From-put, in_map}
+use Rattle.actor_desk.specs.declared.ask.Ask.{Ask}
+use Rattle.actor_desk.specs.declared.ask.Ask.TheVariants as asks
+use Rattle.actor_desk.specs.declared.ask.Note.{Note}
+use Rattle.actor_desk.specs.Journals.{is_local, send_note, reassembly_note, control_note, ArePaired}
+use Rattle.path_core.specs.Codec.{Codec}
+use Rattle.world_laws.specs.Actors.{Actor, ActorCrew, member_asks}
+use Rattle.world_laws.specs.Laws.{StaysFine}
+use Rattle.world_laws.specs.Openings.{PathPlan, Start, new_crew, new_path, paths_from, opened_world}
+use Rattle.world_laws.specs.Fine.{BooksAreStamped, IsChainedAbove, IsFineCrew, lists_of, IsFine, IsFineSince}
+use Rattle.actor_desk.specs.Books.{StampedBooks, after_entry}
+use Rattle.world_laws.specs.StampedBooks.{journals_of}
+use Rattle.world_laws.specs.Worlds.{WorldState, Turn, note_of, crew_after, asked, stepped, world_step, all_over, greatest, begins, end_round, after_turn, world_run}
+use Rattle.world_laws.proofs.Worlds.Opened.{opened_actors}
+use Rattle.world_laws.proofs.Weaving.Occurring.{Occurs, Pairs, Grown, paired_from, pairs_from, pairs_grow, pairs_local, grown_here, grown_later}
+use Rattle.world_laws.proofs.Weaving.StampsChain.{stamp_rises, local_stamp, last_noted-more, NotesRise-more, stamps_below, stamps_above, chained_more, chained_anew, entries_above, stamped_more}
+
+-- ---- the journals after a step
+
+-- a journal with one entry more, as notes
+grown_journal : {C R : Type 0} (f : Entry C R → Note) (journal : List (Entry C R)) (entry : Entry C R) (n : Note) → f entry ≡ n
+    → map f (journal ++ entry ∷ []) ≡ map f journal ++ n ∷ []
+grown_journal f journal entry n is = map-append f journal (entry ∷ []) ∙ ap (λ m. map f journal ++ m ∷ []) is
+
+-- it is at a book, or at none
+pub grown_journals : (pass : Pass) (ask : Ask) (books : StampedBooks) → is_local ask ≡ false
+    → Grown (note_of books pass ask) (journals_of books) (journals_of (after_entry ask pass books))
+grown_journals pass (asks.Send A call) books at = grown_here _ _ _ _ (grown_journal (send_note A) books.send_a.journal _ _ refl)
+grown_journals pass (asks.Send B call) books at = grown_later _ _ _ _ (grown_here _ _ _ _ (grown_journal (send_note B) books.send_b.journal _ _ refl))
+grown_journals pass (asks.Reassembly A call) books at =
+    grown_later _ _ _ _ (grown_later _ _ _ _ (grown_here _ _ _ _ (grown_journal (reassembly_note A) books.reassembly_a.journal _ _ refl)))
+grown_journals pass (asks.Reassembly B call) books at =
+    grown_later _ _ _ _ (grown_later _ _ _ _ (grown_later _ _ _ _ (grown_here _ _ _ _ (grown_journal (reassembly_note B) books.reassembly_b.journal _ _ refl))))
+grown_journals pass (asks.Control A call) books at =
+    grown_later _ _ _ _ (grown_later _ _ _ _ (grown_later _ _ _ _ (grown_later _ _ _ _
+    (grown_here _ _ _ _ (grown_journal (control_note A) books.control_a.journal _ _ refl)))))
+grown_journals pass (asks.Control B call) books at =
+    grown_later _ _ _ _ (grown_later _ _ _ _ (grown_later _ _ _ _ (grown_later _ _ _ _ (grown_later _ _ _ _
+    (grown_here _ _ _ _ (grown_journal (control_note B) books.control_b.journal _ _ refl))))))
+grown_journals pass (asks.Local step) books at = cc
+
+same_journals : (pass : Pass) (ask : Ask) (books : StampedBooks) → is_local ask ≡ true → after_entry ask pass books ≡ books
+same_journals pass (asks.Send s call) books at = cc
+same_journals pass (asks.Reassembly s call) books at = cc
+same_journals pass (asks.Control s call) books at = cc
+same_journals pass (asks.Local step) books at = refl
+
+-- each entry has a stamp above 0
+journals_above : (books : StampedBooks) → BooksAreStamped books → (n : Note) → Occurs n (journals_of books) → 0 < n.stamp
+journals_above books h n (inl there) = entries_above (send_note A) (λ e. refl) 0 books.send_a.journal n h.send_a there
+journals_above books h n (inr (inl there)) = entries_above (send_note B) (λ e. refl) 0 books.send_b.journal n h.send_b there
+journals_above books h n (inr (inr (inl there))) = entries_above (reassembly_note A) (λ e. refl) 0 books.reassembly_a.journal n h.reassembly_a there
+journals_above books h n (inr (inr (inr (inl there)))) = entries_above (reassembly_note B) (λ e. refl) 0 books.reassembly_b.journal n h.reassembly_b there
+journals_above books h n (inr (inr (inr (inr (inl there))))) = entries_above (control_note A) (λ e. refl) 0 books.control_a.journal n h.control_a there
+journals_above books h n (inr (inr (inr (inr (inr (inl there)))))) = entries_above (control_note B) (λ e. refl) 0 books.control_b.journal n h.control_b there
+journals_above books h n (inr (inr (inr (inr (inr (inr none)))))) = absurd none
+
+module _ {C : Type 0} where
+  -- ---- the lists after a step
+
+  grown_lists : (crew : List (ActorCrew C)) (actor : ℕ) (c d : ActorCrew C) (n : Note) → slice_get crew actor ≡ Some c → d.list ≡ c.list ++ n ∷ []
+      → Grown n (lists_of crew) (lists_of (set crew actor d))
+  grown_lists [] actor c d n there is = cc
+  grown_lists (first ∷ crew) zero c d n there is =
+      let same : first ≡ c = same_Some first c there in
+      grown_here n first.list d.list (lists_of crew) (is ∙ ap (λ x. x.list ++ n ∷ []) (sym same))
+  grown_lists (first ∷ crew) (suc actor) c d n there is = grown_later n first.list _ _ (grown_lists crew actor c d n there is)
+
+  lists_above : (top first : ℕ) (crew : List (ActorCrew C)) → From (IsFineCrew top) first crew → (n : Note) → Occurs n (lists_of crew) → 0 < n.stamp
+  lists_above top first [] h n none = absurd none
+  lists_above top first (c ∷ crew) h n (inl there) = stamps_above 0 c.list n (h.each 0 first c (omega arith) refl).rises there
+  lists_above top first (c ∷ crew) h n (inr there) =
+      lists_above top (suc first) crew (record { each = λ i m x m_is is. h.each (suc i) m x (omega (arith, m_is)) is }) n there
+
+  fine_pairs : (w : WorldState C) (h : IsFine w) → Pairs (lists_of w.crew) (journals_of w.books)
+  fine_pairs w h =
+      pairs_from (lists_of w.crew) (journals_of w.books) (lists_above h.top 0 w.crew h.crew) (journals_above w.books h.journals) (h.paired 0)
+
+  -- ---- a step
+
+  fine_crew : (k : Codec C) (top number : ℕ) (books : StampedBooks) (ask : Ask) (c : ActorCrew C) → IsFineCrew top number c
+      → IsFineCrew top number (crew_after k ask books c)
+  fine_crew k top number books ask c h = record {
+    numbered = h.numbered;
+    ours = Every-push (note_of books c.pass ask) h.ours h.numbered;
+    rises = NotesRise-more 0 c.list (note_of books c.pass ask) h.rises (omega (arith, h.known, stamp_rises books c.pass ask));
+    known = let last = last_noted-more 0 c.list (note_of books c.pass ask) in omega (arith, last);
+    chained = chained_more top c.pass.stamp c.list (note_of books c.pass ask) h.chained refl (stamp_rises books c.pass ask) (local_stamp books c.pass ask);
+    unrefused = h.unrefused;
+  }
+
+  step_pairs : (k : Codec C) (actor : ℕ) (ask : Ask) (c : ActorCrew C) (w : WorldState C) → slice_get w.crew actor ≡ Some c → Pairs (lists_of w.crew) (journals_of w.books)
+      → (b : Bool) → is_local ask ≡ b → Pairs (lists_of (asked k actor (Some ask) c w).crew) (journals_of (asked k actor (Some ask) c w).books)
+  step_pairs k actor ask c w there h true local =
+      subst (λ books. Pairs (lists_of (set w.crew actor (crew_after k ask w.books c))) (journals_of books)) (sym (same_journals c.pass ask w.books local))
+      (pairs_local (note_of w.books c.pass ask) (lists_of w.crew) _ (journals_of w.books) local
+      (grown_lists w.crew actor c (crew_after k ask w.books c) (note_of w.books c.pass ask) there refl) h)
+  step_pairs k actor ask c w there h false asks =
+      pairs_grow (note_of w.books c.pass ask) (lists_of w.crew) _ (journals_of w.books) _
+      (grown_lists w.crew actor c (crew_after k ask w.books c) (note_of w.books c.pass ask) there refl) (grown_journals c.pass ask w.books asks) h
+
+  asked_fine : (k : Codec C) (actor : ℕ) (o : Option Ask) (c : ActorCrew C) (w : WorldState C) → slice_get w.crew actor ≡ Some c → IsFine w → IsFine (asked k actor o c w)
+  asked_fine k actor None c w there h = h
+  asked_fine k actor (Some ask) c w there h = record {
+    top = h.top;
+    crew = From-put actor (crew_after k ask w.books c) (λ n x apart fine. fine) (fine_crew k h.top actor w.books ask c (h.crew.each actor actor c (omega arith) there)) h.crew;
+    journals = stamped_more c.pass ask w.books h.journals;
+    paired = λ after. paired_from after _ _ (step_pairs k actor ask c w there (fine_pairs w h) (is_local ask) refl);
+  }
+
+  asked_since : (k : Codec C) (actor : ℕ) (o : Option Ask) (c : ActorCrew C) (w : WorldState C) → slice_get w.crew actor ≡ Some c → (top : ℕ) → IsFineSince top w
+      → IsFineSince top (asked k actor o c w)
+  unfolding asked_fine
+  asked_since k actor None c w there top h = h
+  asked_since k actor (Some ask) c w there top h = record { fine = asked_fine k actor (Some ask) c w there h.fine; top_is = h.top_is }
+
+  pub step_since : (k : Codec C) (actor top : ℕ) (w : WorldState C) → IsFineSince top w → IsFineSince top (world_step k actor w)
+  step_since k actor top w h = by (slice_get w.crew actor) refl
+    where
+      by : (o : Option (ActorCrew C)) → slice_get w.crew actor ≡ o → IsFineSince top (stepped k actor o w)
+      by None there = h
+      by (Some c) there = asked_since k actor (member_asks k c.member) c w there top h
+
+  since_its_top : (w : WorldState C) (h : IsFine w) → IsFineSince h.top w
+  since_its_top w h = record { fine = h; top_is = refl }
+
+  pub step_fine : (k : Codec C) (actor : ℕ) (w : WorldState C) → IsFine w → IsFine (world_step k actor w)
+  step_fine k actor w h = (step_since k actor h.top w (since_its_top w h)).fine
+
+  -- ---- the end of a round
+
+  greatest_reached : (known : ℕ) (crew : List (ActorCrew C)) → known ≤ greatest known crew
+  greatest_reached known [] = omega arith
+  greatest_reached known (c ∷ crew) = let rest = greatest_reached (max known c.pass.stamp) crew in omega (arith, rest)
+
+  pub greatest_above : (known : ℕ) (crew : List (ActorCrew C)) (i : ℕ) (c : ActorCrew C) → slice_get crew i ≡ Some c → c.pass.stamp ≤ greatest known crew
+  greatest_above known [] i c there = cc
+  greatest_above known (first ∷ crew) zero c there =
+      let same : first ≡ c = same_Some first c there in let rest = greatest_reached (max known first.pass.stamp) crew in
+      subst (λ x. x.pass.stamp ≤ greatest (max known first.pass.stamp) crew) same (omega (arith, rest))
+  greatest_above known (first ∷ crew) (suc i) c there = greatest_above (max known first.pass.stamp) crew i c there
+
+  same_lists : (stamp : ℕ) (crew : List (ActorCrew C)) → lists_of (map (begins stamp) crew) ≡ lists_of crew
+  same_lists stamp [] = refl
+  same_lists stamp (c ∷ crew) = ap (λ lists. c.list ∷ lists) (same_lists stamp crew)
+
+  begun_crew : (top stamp number : ℕ) (c : ActorCrew C) → c.pass.stamp ≤ stamp → IsFineCrew top number c → IsFineCrew stamp number (begins stamp c)
+  begun_crew top stamp number c most h =
+      let same : stamp ≡ max c.pass.stamp stamp = omega (arith, most) in
+      record {
+        numbered = h.numbered;
+        ours = h.ours;
+        rises = h.rises;
+        known = omega (arith, h.known);
+        chained = subst (λ known. IsChainedAbove stamp known c.list) same
+            (chained_anew stamp c.list (Every-map (λ n below. omega (arith, below, h.known, most)) (stamps_below 0 c.list h.rises)));
+        unrefused = h.unrefused;
+      }
+
+  begun_fine : (w : WorldState C) → IsFine w → IsFine (record w { crew = map (begins (greatest 0 w.crew)) w.crew })
+  begun_fine w h = record {
+    top = greatest 0 w.crew;
+    crew = record {
+      each = λ i n c n_is there.
+          let found = in_map (begins (greatest 0 w.crew)) w.crew i c there in
+          subst (IsFineCrew (greatest 0 w.crew) n) found.2
+          (begun_crew h.top (greatest 0 w.crew) n found.0 (greatest_above 0 w.crew i found.0 found.1) (h.crew.each i n found.0 n_is found.1));
+    };
+    journals = h.journals;
+    paired = λ after. subst (λ lists. ArePaired after lists (journals_of w.books)) (sym (same_lists (greatest 0 w.crew) w.crew)) (h.paired after);
+  }
+
+  begun_since : (w : WorldState C) → IsFine w → IsFineSince (greatest 0 w.crew) (record w { crew = map (begins (greatest 0 w.crew)) w.crew })
+  unfolding begun_fine
+  begun_since w h = record { fine = begun_fine w h; top_is = refl }
+
+  pub round_since : (top : ℕ) (w : WorldState C) → IsFineSince top w → IsFineSince (if all_over w.crew then greatest 0 w.crew else top) (end_round w)
+  round_since top w h = by (all_over w.crew)
+    where
+      by : (b : Bool) → IsFineSince (if b then greatest 0 w.crew else top) (if b then record w { crew = map (begins (greatest 0 w.crew)) w.crew } else w)
+      by true = begun_since w h.fine
+      by false = h
+
+  pub round_fine : (w : WorldState C) → IsFine w → IsFine (end_round w)
+  round_fine w h = (round_since h.top w (since_its_top w h)).fine
+
+  -- ---- all turns
+
+  pub turn_fine : (k : Codec C) (turn : Turn) (w : WorldState C) → IsFine w → IsFine (after_turn k turn w)
+  turn_fine k (Turn.Step actor) w h = step_fine k actor w h
+  turn_fine k Turn.Round w h = round_fine w h
+
+  pub run_fine : (k : Codec C) (turns : List Turn) (w : WorldState C) → IsFine w → IsFine (world_run k turns w)
+  run_fine k [] w h = h
+  run_fine k (turn ∷ turns) w h = run_fine k turns (after_turn k turn w) (turn_fine k turn w h)
+
+  new_fine : (number : ℕ) (member : Actor C) → IsFineCrew 0 number (new_crew number member)
+  new_fine number member = record {
+    numbered = refl;
+    ours = Every-nil (λ note. note.actor ≡ number);
+    rises = tt;
+    known = omega arith;
+    chained = chained_anew 0 [] (Every-nil (λ note. note.stamp ≤ 0));
+    unrefused = refl;
+  }
+
+  opened_fine : (start : Start) → IsFine {C = C} (opened_world start)
+  opened_fine start = record {
+    top = 0;
+    crew = record { each = at };
+    journals = record { send_a = tt; send_b = tt; reassembly_a = tt; reassembly_b = tt; control_a = tt; control_b = tt };
+    paired = λ after. paired_from after _ _ (record { notes = no_note; entries = no_entry });
+  }
+    where
+      path_fine : (number : ℕ) (plan : PathPlan) → IsFineCrew {C = C} 0 (suc (suc number)) (new_path {C = C} start number plan)
+      path_fine number plan =
+          let same : 2 + number ≡ suc (suc number) = omega arith in subst (λ n. IsFineCrew {C = C} 0 n (new_path {C = C} start number plan)) same (new_fine (2 + number) _)
+
+      at : (i n : ℕ) (c : ActorCrew C) → n ≡ 0 + i → slice_get (opened_world {C = C} start).crew i ≡ Some c → IsFineCrew 0 n c
+      at i n c n_is there =
+          let number : i ≡ n = omega (arith, n_is) in
+          subst (λ m. IsFineCrew 0 m c) number (opened_actors (IsFineCrew 0) start (new_fine 0 _) (new_fine 1 _) (λ number plan found. path_fine number plan) i c there)
+
+      no_path : (n : Note) (first : ℕ) (plans : List PathPlan) → Occurs n (lists_of (paths_from {C = C} start first plans)) → ⊥
+      no_path n first [] none = none
+      no_path n first (plan ∷ plans) (inl none) = none
+      no_path n first (plan ∷ plans) (inr more) = no_path n (suc first) plans more
+
+      no_note : (n : Note) → Occurs n (lists_of (opened_world {C = C} start).crew) → is_local n.ask ≡ false → Occurs n (journals_of (opened_world {C = C} start).books)
+      no_note n (inl none) asks = absurd none
+      no_note n (inr (inl none)) asks = absurd none
+      no_note n (inr (inr none)) asks = absurd (no_path n 0 start.paths none)
+
+      no_entry : (n : Note) → Occurs n (journals_of (opened_world {C = C} start).books) → Occurs n (lists_of (opened_world {C = C} start).crew)
+      no_entry n (inl none) = absurd none
+      no_entry n (inr (inl none)) = absurd none
+      no_entry n (inr (inr (inl none))) = absurd none
+      no_entry n (inr (inr (inr (inl none)))) = absurd none
+      no_entry n (inr (inr (inr (inr (inl none))))) = absurd none
+      no_entry n (inr (inr (inr (inr (inr (inl none)))))) = absurd none
+      no_entry n (inr (inr (inr (inr (inr (inr none)))))) = absurd none
+
+  pub opened_since : (start : Start) → IsFineSince {C = C} 0 (opened_world start)
+  unfolding opened_fine
+  opened_since start = record { fine = opened_fine start; top_is = refl }
+
+  pub stays_fine : (k : Codec C) → StaysFine k
+  stays_fine k = record { always = λ start turns. run_fine k turns (opened_world start) (opened_fine start); turns = turn_fine k }

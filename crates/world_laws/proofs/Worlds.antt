@@ -1,0 +1,7 @@
+pub mod Carrying
+pub mod Settled
+pub mod Casts
+pub mod Steady
+pub mod Finding
+pub mod Opened
+pub mod CastLifting
