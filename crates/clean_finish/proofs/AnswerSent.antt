@@ -356,10 +356,10 @@ module _ {keys : Keys} {k j : Setting} {c : Profile} {begun begun_back : Lane} {
               modes = record {
                 mode = h.own.modes.mode;
                 standby = h.own.modes.standby;
-                identity = h.own.modes.identity;
+                mapping = h.own.modes.mapping;
                 owes_third = h.own.modes.owes_third;
                 owes_mapping = h.own.modes.owes_mapping;
-                mapped_to = rw h.own.modes.identity h.own.modes.mapped_to;
+                mapped_to = rw (h.own.modes.mapping.0, h.own.modes.mapping.1) h.own.modes.mapped_to;
                 plain_acks = h.own.modes.plain_acks;
                 own_key = h.own.modes.own_key;
                 peer_key = h.own.modes.peer_key;

@@ -1,5 +1,5 @@
 -- Each duty that comes to something is answered, or never comes to it.
-use Rattle.std.proofs.Common.{◌≡◌, refl, sym, ap, ◌∙◌, ℕ, zero, suc, Bool, true, false, not, ◌&&◌, ◌||◌, if◌then◌else◌, is_some, is_none, Option, None, List, ◌∷◌, find}
+use Rattle.std.proofs.Common.{◌≡◌, refl, sym, ap, ◌∙◌, ℕ, zero, suc, Bool, true, false, not, ◌&&◌, ◌||◌, ◌-◌, nat_lt, if◌then◌else◌, is_some, is_none, Option, Some, None, List, ◌∷◌, find}
 use Rattle.std.proofs.lemmas.Bool.{both_ways}
 use Rattle.outside_kit.specs.declared.side.Side.{Side}
 use Rattle.outside_kit.specs.declared.side.Side.TheVariants.{A, B}
@@ -27,7 +27,9 @@ use Rattle.path_segments.specs.Laws.{window_told}
 use Rattle.path_core.specs.Addressing.{is_note_due}
 use Rattle.path_core.specs.Duties.{stands, ask_for, answered}
 use Rattle.path_core.specs.Emission.{is_syn_due}
+use Rattle.path_core.specs.declared.infinite_mapping.InfiniteMapping.{InfiniteMapping}
 use Rattle.path_core.specs.Ends.{PathEnd}
+use Rattle.path_core.specs.Infinite.{fin_place, fin_under}
 use Rattle.path_core.specs.FastClosing.{is_fast_close_due, is_silent, leaves_silently, resets_noted}
 use Rattle.path_core.specs.Passing.{place_passed, plain_fin}
 use Rattle.path_core.specs.Standing.{is_connected, may_note}
@@ -38,13 +40,13 @@ use Rattle.world_laws.specs.Openings.{PathPlan, Start}
 use Rattle.pace.specs.Lane.{Setting, Lane, all_left}
 use Rattle.pace.specs.Going.{Going}
 use Rattle.clean_finish.specs.Segments.{Keys}
-use Rattle.clean_finish.specs.Shows.{IsPhase, NoticesAre}
+use Rattle.clean_finish.specs.Shows.{IsMapping, IsPhase, NoticesAre}
 use Rattle.clean_finish.specs.Shows.IsPhase.{Opening, Listening, HalfOpen, Open}
 use Rattle.clean_finish.specs.Running.{heard_by, IsSetting, Runs, keys_in}
 use Rattle.clean_finish.proofs.AnswerTreated.{answers_peer_key, answers_syn_answered}
 use Rattle.clean_finish.proofs.CopyKinds.{third_shows}
 use Rattle.clean_finish.proofs.DataAnswered.{data_a, data_b}
-use Rattle.clean_finish.proofs.EdgePlacing.{answers_edge_a, answers_edge_b}
+use Rattle.clean_finish.proofs.EdgePlacing.{answers_edge_a, answers_edge_b, stays_right_a, stays_right_b}
 use Rattle.clean_finish.proofs.EndAnswered.{end_a, end_b}
 use Rattle.clean_finish.proofs.EndPassing.{answers_heard_fin_a, answers_heard_fin_b, stays_mapped_a, stays_mapped_b}
 use Rattle.clean_finish.proofs.EventsAnswered.{answers_events}
@@ -126,8 +128,18 @@ no_fast_close e is =
 no_note : (e : PathEnd) → NoticesAre e.notices → is_note_due e ≡ false
 no_note e is = ap (λ (ns : List OwnNotice). may_note e && not (is_nil ns)) is.queue ∙ and_false (may_note e)
 
-no_plain_fin : (e : PathEnd) → e.modes.identity ≡ false → is_some (plain_fin e) ≡ false
-no_plain_fin e mptcp = ap (λ (b : Bool). is_some (if b && not e.receiving.fin_told then place_passed e.tcp.fin_at e.tcp.recv.edge else None)) mptcp
+no_plain_fin : (e : PathEnd) → IsMapping e.modes → is_some (plain_fin e) ≡ false
+no_plain_fin e mptcp = by e.receiving.fin_told e.tcp.fin_at
+  where
+    passed : (position : ℕ) (b : Bool) → is_some (if b then fin_place e.modes position else None) ≡ false
+    passed position true = ap (λ (b : Bool). is_some (if b then Some (position - 1) else fin_under e.modes.peer_infinite position)) mptcp.0
+        ∙ ap (λ (o : Option InfiniteMapping). is_some (fin_under o position)) mptcp.2
+    passed position false = refl
+
+    by : (told : Bool) (o : Option ℕ) → is_some (if told then None else place_passed e.modes o e.tcp.recv.edge) ≡ false
+    by true o = refl
+    by false None = refl
+    by false (Some position) = passed position (nat_lt position e.tcp.recv.edge)
 
 module _ (start : Start) (plan : PathPlan) (k j : Setting) (s v : Lane) (t0 u0 : ℕ)
     (going : Going k s t0 all_left s) (going_back : Going j v u0 all_left v)
@@ -152,7 +164,7 @@ module _ (start : Start) (plan : PathPlan) (k j : Setting) (s v : Lane) (t0 u0 :
             let t = h.treats in
             let f = t.1 in
             ap (λ (o : Option Heard). item_stands o p.a)
-            (item_is 0 p.a (heard_by keys f.sent.telling.next (window_told false f.sent.window) t.0) h.faces.own.modes.identity f.items
+            (item_is 0 p.a (heard_by keys f.sent.telling.next (window_told false f.sent.window) t.0) h.faces.own.modes.mapping.0 f.items
             ∙ dss_first keys f.sent.telling.next (window_told false f.sent.window) t.0 f.kind (no_keys t.0 f.keyed))
 
         -- ---- duties that ask
@@ -178,6 +190,7 @@ module _ (start : Start) (plan : PathPlan) (k j : Setting) (s v : Lane) (t0 u0 :
         ask_answered (ask_duties.Live B) ds on h = answers_live_b start plan k j s v t0 u0 going going_back a b books p k_is j_is ds h
         ask_answered (ask_duties.AckHeard A) ds on h = answers_ack_heard_a start plan k j s v t0 u0 going going_back a b books p k_is j_is ds h
         ask_answered (ask_duties.AckHeard B) ds on h = answers_ack_heard_b start plan k j s v t0 u0 going going_back a b books p k_is j_is ds h
+        ask_answered (ask_duties.FailHeard q) ds on h = absurd (both_ways _ refl h.treats.3)
         ask_answered (ask_duties.SubflowAck A) ds on h = absurd (both_ways _ (stays_subflow_ack_a start plan k j s v t0 u0 going going_back a b books p k_is j_is ds h) on)
         ask_answered (ask_duties.SubflowAck B) ds on h = absurd (both_ways _ (stays_subflow_ack_b start plan k j s v t0 u0 going going_back a b books p k_is j_is ds h) on)
         ask_answered (ask_duties.PlainData A) ds on h = absurd (both_ways _ (stays_plain_data_a start plan k j s v t0 u0 going going_back a b books p k_is j_is ds h) on)
@@ -185,14 +198,16 @@ module _ (start : Start) (plan : PathPlan) (k j : Setting) (s v : Lane) (t0 u0 :
         ask_answered (ask_duties.GoIdentity q) ds on h = absurd (both_ways _ refl h.treats.3)
         ask_answered (ask_duties.Edge A) ds on h = answers_edge_a start plan k j s v t0 u0 going going_back a b books p k_is j_is ds on h
         ask_answered (ask_duties.Edge B) ds on h = answers_edge_b start plan k j s v t0 u0 going going_back a b books p k_is j_is ds on h
+        ask_answered (ask_duties.CheckFailed A) ds on h = absurd (both_ways _ (stays_right_a start plan k j s v t0 u0 going going_back a b books p k_is j_is ds h) on)
+        ask_answered (ask_duties.CheckFailed B) ds on h = absurd (both_ways _ (stays_right_b start plan k j s v t0 u0 going going_back a b books p k_is j_is ds h) on)
         ask_answered (ask_duties.HeardFin A zero) ds on h = answers_heard_fin_a start plan k j s v t0 u0 going going_back a b books p k_is j_is ds on h
         ask_answered (ask_duties.HeardFin B zero) ds on h = answers_heard_fin_b start plan k j s v t0 u0 going going_back a b books p k_is j_is ds on h
         ask_answered (ask_duties.HeardFin A (suc zero)) ds on h = absurd (both_ways _ (ap (λ (o : Option ℕ). is_some o) (h.treats.0.1 0)) on)
         ask_answered (ask_duties.HeardFin B (suc zero)) ds on h = absurd (both_ways _ (ap (λ (o : Option ℕ). is_some o) (h.treats.0.1 0)) on)
         ask_answered (ask_duties.HeardFin A (suc (suc i))) ds on h = absurd (both_ways _ (ap (λ (o : Option ℕ). is_some o) (h.treats.0.1 (suc i))) on)
         ask_answered (ask_duties.HeardFin B (suc (suc i))) ds on h = absurd (both_ways _ (ap (λ (o : Option ℕ). is_some o) (h.treats.0.1 (suc i))) on)
-        ask_answered (ask_duties.SubflowFin A) ds on h = absurd (both_ways _ (no_plain_fin p.a h.faces.own.modes.identity) on)
-        ask_answered (ask_duties.SubflowFin B) ds on h = absurd (both_ways _ (no_plain_fin p.b h.faces.other.modes.identity) on)
+        ask_answered (ask_duties.SubflowFin A) ds on h = absurd (both_ways _ (no_plain_fin p.a h.faces.own.modes.mapping) on)
+        ask_answered (ask_duties.SubflowFin B) ds on h = absurd (both_ways _ (no_plain_fin p.b h.faces.other.modes.mapping) on)
         ask_answered (ask_duties.AckOut A) ds on h = answers_ack_out_a start plan k j s v t0 u0 going going_back a b books p k_is j_is ds h
         ask_answered (ask_duties.AckOut B) ds on h = answers_ack_out_b start plan k j s v t0 u0 going going_back a b books p k_is j_is ds h
         ask_answered (ask_duties.Rate A) ds on h = answers_rate_a start plan k j s v t0 u0 going going_back a b books p k_is j_is ds on h

@@ -25,8 +25,8 @@ use Rattle.stream_apps.specs.Turns.{FirstAppStands}
 use Rattle.path_core.specs.Values.{Carried}
 use Rattle.world_laws.specs.Openings.{PathPlan, Start}
 use Rattle.world_laws.specs.StampedBooks.{answer_to}
-use Rattle.world_laws.proofs.Casts.{Cast, Fare, after_a, after_b}
-use Rattle.world_laws.proofs.Journaling.{books_after}
+use Rattle.world_laws.proofs.Worlds.Casts.{Cast, Fare, after_a, after_b}
+use Rattle.world_laws.proofs.Weaving.Journals.{books_after}
 use Rattle.pace.specs.Lane.{Setting, Lane, Sender, all_left}
 use Rattle.pace.specs.Going.{Going}
 use Rattle.pace.proofs.Moving.{all_moves_going}

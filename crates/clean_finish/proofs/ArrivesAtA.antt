@@ -126,7 +126,7 @@ module _ (start : Start) (plan : PathPlan) (k j : Setting) (s v : Lane) (t0 u0 :
               ∙ told_is A (meant (said p.profile keys B first.x)) meaning moment opens is
             where
               mptcp : p.a.modes.identity ≡ false
-              mptcp = h.own.modes.identity
+              mptcp = h.own.modes.mapping.0
 
               opens : is_joined p.profile ≡ false
               opens = rw k_is.path refl

@@ -127,7 +127,7 @@ module _ (start : Start) (plan : PathPlan) (k j : Setting) (s v : Lane) (t0 u0 :
               ∙ told_is B (meant (said p.profile keys A first.x)) meaning moment opens is
             where
               mptcp : p.b.modes.identity ≡ false
-              mptcp = h.other.modes.identity
+              mptcp = h.other.modes.mapping.0
 
               opens : is_joined p.profile ≡ false
               opens = rw k_is.path refl

@@ -21,7 +21,7 @@ use Rattle.path_core.specs.OptionsOut.{mapping_of, place_numbered, checksum_told
 use Rattle.path_core.specs.State.{Profile}
 use Rattle.path_core.specs.Values.{Carried}
 use Rattle.actor_desk.specs.Words.{pick, is_nil}
-use Rattle.world_laws.proofs.Doing.{place_is}
+use Rattle.world_laws.proofs.Lanes.Doing.{place_is}
 use Rattle.pace.specs.Lane.{Setting, Telling, Lane, all_left}
 use Rattle.pace.specs.Rules.{is_same}
 use Rattle.pace.specs.Going.{Going, pending}
@@ -29,7 +29,7 @@ use Rattle.pace.specs.Moves.{MaySay, MaySend}
 use Rattle.pace.specs.Moves.Move.{sends_bytes}
 use Rattle.clean_finish.specs.Segments.{Sent, Keys, copy_in, said, FliesAs}
 use Rattle.clean_finish.specs.Segments.Brings.{Piece}
-use Rattle.clean_finish.specs.Shows.{Hand, brings_still, HeardIs, last_told, row_seen}
+use Rattle.clean_finish.specs.Shows.{Hand, brings_still, HeardIs, IsMapping, last_told, row_seen}
 use Rattle.clean_finish.specs.Shows.IsToldEdge.{Same}
 use Rattle.clean_finish.specs.Running.{Has, Half, Facing, IsSetting}
 use Rattle.clean_finish.proofs.Bringing.{end_after, own_brought}
@@ -54,12 +54,12 @@ piece_at at low control shown telling window edge octets = record {
 }
 
 -- it is the record's segment
-pub piece_is : (c : Profile) (keys : Keys) (s : Side) (at low control shown : ℕ) (t : Telling) (r : Record) (e : PathEnd) → e.modes.identity ≡ false
+pub piece_is : (c : Profile) (keys : Keys) (s : Side) (at low control shown : ℕ) (t : Telling) (r : Record) (e : PathEnd) → IsMapping e.modes
     → is_first_piece s r e ≡ false → is_opening e.tcp.state ≡ false → r.kind ≡ Data → r.pos ≡ low + control → t.next ≡ e.receiving.next
     → r.mapping ≡ mapping_of c s low (low + control) r.piece → low < 2 ^ 64
     → record_said c s r e ≡ said c keys s (piece_at at low control shown t e.receiving.window e.tcp.recv.edge r.piece)
 piece_is c keys s at low control shown t r e mptcp later established kind pos next mapping few =
-    rw (kind, mptcp, later, established, acknowledges_some s (Piece r.piece) e.tcp.recv.edge refl, pos, next)
+    rw (kind, mptcp.0, mptcp.1, later, established, acknowledges_some s (Piece r.piece) e.tcp.recv.edge refl, pos, next)
     (ap (λ (o : PathMapping ℕ). record {
       position = low + control;
       acknowledged = Some e.tcp.recv.edge;

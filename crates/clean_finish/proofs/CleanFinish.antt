@@ -11,8 +11,8 @@ use Rattle.world_laws.specs.Openings.{PathPlan, Start, path_begins, opened_world
 use Rattle.world_laws.specs.Outcomes.{outcome_of}
 use Rattle.world_laws.specs.Fresh.{shown_world}
 use Rattle.world_laws.specs.Worlds.{WorldState, Turn, world_run, AreLawful}
-use Rattle.world_laws.proofs.Casts.{Cast, world_of, first_cast}
-use Rattle.world_laws.proofs.PromisesOfScripts.{plain_scripts_are_shown_of_values}
+use Rattle.world_laws.proofs.Worlds.Casts.{Cast, world_of, first_cast}
+use Rattle.world_laws.proofs.Promises.OfScripts.{scripts_are_shown_of_values}
 use Rattle.pace.specs.Lane.{Setting}
 use Rattle.pace.specs.Rules.{first_lane}
 use Rattle.pace.proofs.Beginning.{first_going}
@@ -27,7 +27,7 @@ use Rattle.clean_finish.proofs.LawfulShown.{lawful_values, outcome_shown}
 use Rattle.clean_finish.proofs.Onward.{DutiesGoOn}
 use Rattle.clean_finish.proofs.Outcomes.{outcome}
 use Rattle.clean_finish.proofs.Ranges.{bound_is}
-use Rattle.clean_finish.proofs.ScriptStarts.{clean_is, clean_same, clean_script, clean_start, clean_plan, first_room, room, window_most, wide, two, setting_is, is_plain}
+use Rattle.clean_finish.proofs.ScriptStarts.{clean_is, clean_same, clean_script, clean_start, clean_plan, first_room, room, window_most, wide, two, setting_is, is_short}
 
 going_or : (told : Bool) → ((if told then Delivered else Going) ≡ Going) ⊎ ((if told then Delivered else Going) ≡ Delivered)
 going_or true = inr refl
@@ -75,8 +75,8 @@ module _ (duties_go_on : AllDutiesGoOn) where
           (first_going k here.ranges a is_wide) (first_going j there.ranges a is_wide)
 
       shown : (some : List Turn) → world_run octets some (opened_world begun) ≡ shown_world (world_run values some (opened_world begun))
-      shown some = (plain_scripts_are_shown_of_values (clean_script script path) file_a file_b some
-          (is_plain script path ranges file_a file_b small_a small_b)).shown
+      shown some = (scripts_are_shown_of_values (clean_script script path) file_a file_b some
+          (is_short script path ranges file_a file_b small_a small_b)).shown
 
       abbrev Stood : ℕ → Cast Carried → Type 0
       Stood n t = Stands begun opening k j a a is_wide is_wide here.ranges there.ranges small_a small_b (duties_go_on begun opening k j here there) n t

@@ -45,10 +45,10 @@ in_copy s d count there = inr (inr (behind_heard s d 0 count (payload_came s) th
 
 pub copy_emits : (s : Side) (count : ℕ) → Emits s (copy_came s count)
 copy_emits s count = record {
-  bytes = in_copy s (duties.Step (step_duties.Data s)) count (inr (inr (inr (inr (inr (inr (inr (inr (inr (inr (inr (inr (inr (inr (inr (inr (inr (inr (inl refl)))))))))))))))))));
-  end = in_copy s (duties.Send (send_duties.DataFin s)) count (inr (inr (inr (inr (inr (inr (inr (inr (inr (inr (inr (inr (inr (inr (inr (inr (inr (inr (inr (inl refl))))))))))))))))))));
-  timer = in_copy s (duties.Silent (silent_duties.Timer s)) count (inr (inr (inr (inr (inr (inr (inr (inr (inr (inr (inr (inr (inr (inr (inr (inr (inr (inr (inr (inr (inr (inl refl))))))))))))))))))))));
-  events = in_copy s (duties.Step step_duties.Events) count (inr (inr (inr (inr (inr (inr (inr (inr (inr (inr (inr (inr (inr (inr (inr (inr (inr (inr (inr (inr (inr (inr (inl refl)))))))))))))))))))))));
+  bytes = in_copy s (duties.Step (step_duties.Data s)) count (inr (inr (inr (inr (inr (inr (inr (inr (inr (inr (inr (inr (inr (inr (inr (inr (inr (inr (inr (inl refl))))))))))))))))))));
+  end = in_copy s (duties.Send (send_duties.DataFin s)) count (inr (inr (inr (inr (inr (inr (inr (inr (inr (inr (inr (inr (inr (inr (inr (inr (inr (inr (inr (inr (inl refl)))))))))))))))))))));
+  timer = in_copy s (duties.Silent (silent_duties.Timer s)) count (inr (inr (inr (inr (inr (inr (inr (inr (inr (inr (inr (inr (inr (inr (inr (inr (inr (inr (inr (inr (inr (inr (inl refl)))))))))))))))))))))));
+  events = in_copy s (duties.Step step_duties.Events) count (inr (inr (inr (inr (inr (inr (inr (inr (inr (inr (inr (inr (inr (inr (inr (inr (inr (inr (inr (inr (inr (inr (inr (inl refl))))))))))))))))))))))));
 }
 
 module _ {s : Side} {keys : Keys} {k j : Setting} {c : Profile} {begun begun_back : Lane} {m n : Half} {clock until : ℕ}

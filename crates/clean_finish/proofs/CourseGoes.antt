@@ -24,10 +24,10 @@ use Rattle.path_core.specs.Values.{Carried, values}
 use Rattle.world_laws.specs.Openings.{PathPlan, Start, path_begins, opened_world}
 use Rattle.world_laws.specs.StampedBooks.{answer_to}
 use Rattle.world_laws.specs.Worlds.{WorldState, Turn, note_of, all_over, greatest, world_step, end_round, world_run, AreLawful}
-use Rattle.world_laws.proofs.Applying.{settled_app}
-use Rattle.world_laws.proofs.Casts.{Walker, Cast, Fare, Every-put, world_of, walking, after_a, after_b, after_path, walked, walks_on, next_cast, first_cast, first_fare, opened_is, walker_there}
-use Rattle.world_laws.proofs.CastLifting.{Has, Stepwise, steps_have, ended_has}
-use Rattle.world_laws.proofs.Settled.{settled_settled}
+use Rattle.world_laws.proofs.Lanes.Applying.{settled_app}
+use Rattle.world_laws.proofs.Worlds.Casts.{Walker, Cast, Fare, Every-put, world_of, walking, after_a, after_b, after_path, walked, walks_on, next_cast, first_cast, first_fare, opened_is, walker_there}
+use Rattle.world_laws.proofs.Worlds.CastLifting.{Has, Stepwise, steps_have, ended_has}
+use Rattle.world_laws.proofs.Worlds.Settled.{settled_settled}
 use Rattle.pace.specs.Lane.{Setting, Lane, all_left}
 use Rattle.pace.specs.Rules.{first_lane, opens_round}
 use Rattle.pace.specs.Going.{Going}

@@ -156,7 +156,7 @@ module _ (start : Start) (plan : PathPlan) (k j : Setting) (s v : Lane) (t0 u0 :
             (others_of_a strip alter carried p.clock p.link h.path.unspoken h.link) in
             subst (λ (sg : PlainSegment). Relation books (sends_a sg))
             (sym (ap (λ (o : Option Record). record_or_ack p.profile A o p.a) found
-            ∙ piece_is p.profile keys A (p.clock + plan.delay) view.out.granted view.out.control_sent view.out.keys_sent x.telling r p.a view.own.modes.identity
+            ∙ piece_is p.profile keys A (p.clock + plan.delay) view.out.granted view.out.control_sent view.out.keys_sent x.telling r p.a view.own.modes.mapping
             which (open_of A view.back.control_came p.a.tcp.send.una p.a.tcp.send.finished p.a.tcp.state view.own.subflow.phase una) w.kind
             (w.pos ∙ ap (λ (y : ℕ). view.out.granted + y) (sym w.one)) refl
             (mapping ∙ ap (λ (y : ℕ). mapping_of p.profile A view.out.granted y r.piece) (w.pos ∙ ap (λ (y : ℕ). view.out.granted + y) (sym w.one)))
@@ -222,7 +222,7 @@ module _ (start : Start) (plan : PathPlan) (k j : Setting) (s v : Lane) (t0 u0 :
             (others_of_a strip alter carried p.clock p.link h.path.unspoken h.link) in
             subst (λ (sg : PlainSegment). Relation books (sends_a sg))
             (sym (ap (λ (o : Option Record). record_or_ack p.profile A o p.a) found
-            ∙ first_is p.profile keys (p.clock + plan.delay) view.out.granted j.least r p.a view.own.modes.identity
+            ∙ first_is p.profile keys (p.clock + plan.delay) view.out.granted j.least r p.a view.own.modes.mapping
             which (view.own.modes.peer_key ∙ key_of (ready refl)) view.own.modes.own_key
             (open_of A view.back.control_came p.a.tcp.send.una p.a.tcp.send.finished p.a.tcp.state view.own.subflow.phase una) w.kind w.pos
             (mapping ∙ ap (λ (y : ℕ). mapping_of p.profile A view.out.granted y r.piece) w.pos)))
@@ -461,7 +461,7 @@ module _ (start : Start) (plan : PathPlan) (k j : Setting) (s v : Lane) (t0 u0 :
             (others_of_b strip alter carried p.clock p.link h.path.unspoken h.link)) in
             subst (λ (sg : PlainSegment). Relation books (sends_b sg))
             (sym (ap (λ (o : Option Record). record_or_ack p.profile B o p.b) found
-            ∙ piece_is p.profile keys B (p.clock + plan.delay) view.out.granted view.out.control_sent view.out.keys_sent x.telling r p.b view.own.modes.identity
+            ∙ piece_is p.profile keys B (p.clock + plan.delay) view.out.granted view.out.control_sent view.out.keys_sent x.telling r p.b view.own.modes.mapping
             which (open_of B view.back.control_came p.b.tcp.send.una p.b.tcp.send.finished p.b.tcp.state view.own.subflow.phase una) w.kind
             (w.pos ∙ ap (λ (y : ℕ). view.out.granted + y) (sym w.one)) refl
             (mapping ∙ ap (λ (y : ℕ). mapping_of p.profile B view.out.granted y r.piece) (w.pos ∙ ap (λ (y : ℕ). view.out.granted + y) (sym w.one)))

@@ -1,5 +1,5 @@
 -- The steps in which the bytes of a copy are placed, or none is left to be placed.
-use Rattle.std.proofs.Common.{◌≡◌, refl, sym, subst, ap, ◌∙◌, ℕ, ◌+◌, ◌-◌, ◌≤◌, min, max, nat_lt, Bool, true, false, if◌then◌else◌, is_some, inl, inr, ⊎_elim, Option, Some, None, List, [], ◌∷◌, length, drop, map, arith}
+use Rattle.std.proofs.Common.{◌≡◌, refl, sym, subst, ap, ◌∙◌, ℕ, ◌+◌, ◌-◌, ◌≤◌, min, max, nat_lt, Bool, true, false, ◌&&◌, if◌then◌else◌, is_some, inl, inr, ⊎_elim, Option, Some, None, List, [], ◌∷◌, length, drop, map, arith}
 use Rattle.std.proofs.lemmas.Bool.{both_ways, le-ltb, ne_eqb}
 use Rattle.outside_kit.specs.declared.side.Side.TheVariants.{A, B}
 use Rattle.dss_mapping.specs.declared.kept.KeptMapping.{KeptMapping}
@@ -18,8 +18,12 @@ use Rattle.path_agenda.specs.declared.duty.Duty.{Duty}
 use Rattle.path_agenda.specs.declared.duty.Duty.TheVariants as duties
 use Rattle.path_agenda.specs.declared.duty.AskDuty.TheVariants as ask_duties
 use Rattle.path_agenda.specs.declared.duty.StepDuty.TheVariants as step_duties
-use Rattle.path_core.specs.Deliver.{Piece, after_check, forgotten_by, next_piece, piece_by, plain_piece, some_piece}
+use Rattle.fallback_state.specs.Modes.{reads_mappings}
+use Rattle.path_core.specs.declared.infinite_mapping.InfiniteMapping.{InfiniteMapping}
+use Rattle.path_core.specs.Deliver.{Piece, after_check, failing_by, forgotten_by, infinite_piece, mapped_piece, mapping_here, next_piece, piece_by, plain_piece, some_piece}
 use Rattle.path_core.specs.Ends.{PathEnd}
+use Rattle.path_core.specs.FailedChecks.{check_failed_stands}
+use Rattle.path_core.specs.Infinite.{covers}
 use Rattle.path_core.specs.Passing.{answered_piece, is_placed, piece_ask}
 use Rattle.path_core.specs.State.{PathState, Profile, with_agenda, with_end}
 use Rattle.path_core.specs.Values.{Carried}
@@ -28,11 +32,13 @@ use Rattle.pace.specs.Lane.{Setting, Lane, all_left}
 use Rattle.pace.specs.Going.{Going}
 use Rattle.clean_finish.specs.Segments.{Sent, Keys, Brings, is_news, is_opening, is_owed, is_subflow_end, data_fin_of, octets_of, CountsAs}
 use Rattle.clean_finish.specs.Segments.Brings.{OpensSubflow, ShowsKeys, FirstPiece, Piece as Bytes, Acknowledges, EndsStream, EndsSubflow}
-use Rattle.clean_finish.specs.Running.{TreatsCopy, fin_in, kept_in, kept_piece, end_duties, own_bench, other_bench, IsSetting, Runs, keys_in}
+use Rattle.clean_finish.specs.Running.{TreatsCopy, fin_in, kept_in, kept_piece, end_duties, place_duties, own_bench, other_bench, IsSetting, Runs, keys_in}
 use Rattle.clean_finish.specs.Running.Treatment.{AfterKeeping}
+use Rattle.clean_finish.specs.Shows.{IsMapping}
 use Rattle.clean_finish.proofs.BytesPlaced.{none_clashes, none_past}
 use Rattle.clean_finish.proofs.EndPassing.{end_mapped, sent_some, some_of}
 use Rattle.clean_finish.proofs.Hands.{in_hand}
+use Rattle.clean_finish.proofs.Mapped.{receives_mappings}
 use Rattle.clean_finish.proofs.Passing.{free_drops}
 use Rattle.clean_finish.proofs.PieceIs.{some_nil, none_left, here_is, next_by, gone, none_here}
 use Rattle.clean_finish.proofs.Placed.{chain, counts, high, lane, one_came, place_is, placed, room, under}
@@ -91,16 +97,27 @@ placed_by bytes at b past none =
     ap (λ (y : Bool). is_placed (replies.Reassembly (if y then Beyond (edge b) else placed_reply (clash b.known_end at bytes) at bytes b))) past
     ∙ ap (λ (o : Option ℕ). is_placed (replies.Reassembly (placed_reply o at bytes b))) none
 
--- without a mapping nothing is placed, and nothing is forgotten
-pub next_none : (c : Profile) (e : PathEnd) → e.modes.identity ≡ false → e.receiving.mappings.live ≡ [] → next_piece c e ≡ None
-next_none c e mptcp live =
-    ap (λ (b : Bool). if b then some_piece (plain_piece e.tcp) else piece_by c.spelling.checksums (if b then None else mapping_at e.receiving.mappings e.tcp.recv.edge) e.tcp) mptcp
-    ∙ ap (λ (o : Option KeptMapping). piece_by c.spelling.checksums o e.tcp) (none_here e.receiving.mappings e.tcp.recv.edge live)
+-- without a mapping nothing is placed, no check fails, and nothing is forgotten
+here_none : (e : PathEnd) → IsMapping e.modes → e.receiving.mappings.live ≡ [] → mapping_here e ≡ None
+here_none e mptcp live =
+    ap (λ (b : Bool). if b then None else mapping_at e.receiving.mappings e.tcp.recv.edge) (receives_mappings e.modes e.tcp.recv.edge mptcp)
+    ∙ none_here e.receiving.mappings e.tcp.recv.edge live
 
-pub check_same : (c : Profile) (e : PathEnd) → e.modes.identity ≡ false → e.receiving.mappings.live ≡ [] → after_check c e ≡ e
-check_same c e mptcp live =
-    ap (λ (b : Bool). forgotten_by c.spelling.checksums (if b then None else mapping_at e.receiving.mappings e.tcp.recv.edge) e) mptcp
-    ∙ ap (λ (o : Option KeptMapping). forgotten_by c.spelling.checksums o e) (none_here e.receiving.mappings e.tcp.recv.edge live)
+-- the next bytes are those of the mapping at the edge
+next_here : (c : Profile) (e : PathEnd) → IsMapping e.modes → next_piece c e ≡ piece_by c.spelling.checksums (mapping_here e) e.tcp
+next_here c e mptcp =
+    ap (λ (b : Bool). if b then some_piece (plain_piece e.tcp) else mapped_piece c e) mptcp.0
+    ∙ ap (λ (o : Option InfiniteMapping). if covers o e.tcp.recv.edge then infinite_piece o e.tcp else piece_by c.spelling.checksums (mapping_here e) e.tcp) mptcp.2
+
+pub next_none : (c : Profile) (e : PathEnd) → IsMapping e.modes → e.receiving.mappings.live ≡ [] → next_piece c e ≡ None
+next_none c e mptcp live = next_here c e mptcp ∙ ap (λ (o : Option KeptMapping). piece_by c.spelling.checksums o e.tcp) (here_none e mptcp live)
+
+pub check_same : (c : Profile) (e : PathEnd) → IsMapping e.modes → e.receiving.mappings.live ≡ [] → after_check c e ≡ e
+check_same c e mptcp live = ap (λ (o : Option KeptMapping). forgotten_by c.spelling.checksums o e) (here_none e mptcp live)
+
+none_fails : (c : Profile) (e : PathEnd) → IsMapping e.modes → e.receiving.mappings.live ≡ [] → check_failed_stands c e ≡ false
+none_fails c e mptcp live =
+    ap (λ (o : Option KeptMapping). is_some (failing_by c.spelling.checksums o e.tcp) && reads_mappings e.modes.mode) (here_none e mptcp live)
 
 pub at_position : {e w d x l : ℕ} → e ≡ 1 + w + (d - 1) → l ≡ w → x ≡ d → 1 ≤ d → d ≤ 1 → l + x ≡ e
 at_position a b c one few = omega (arith, a, b, c, one, few)
@@ -129,7 +146,7 @@ module _ (start : Start) (plan : PathPlan) (k j : Setting) (s v : Lane) (t0 u0 :
         piece_by_a x = record { place = x.low; octets = octets_of x.brings }
 
         -- the copy, and its bytes
-        module _ (h : Relation books (with_agenda (duties.Ask (ask_duties.Edge A) ∷ duties.Step (step_duties.Unmapped A) ∷ end_duties A) p)) (what : Brings) (told : Bool) (f : TreatsCopy A keys AfterKeeping told what (own_bench h.faces))
+        module _ (h : Relation books (with_agenda (place_duties A) p)) (what : Brings) (told : Bool) (f : TreatsCopy A keys AfterKeeping told what (own_bench h.faces))
             (some : 1 ≤ length (octets_of what))
           where
             abbrev x_a : Sent
@@ -174,13 +191,14 @@ module _ (start : Start) (plan : PathPlan) (k j : Setting) (s v : Lane) (t0 u0 :
 
             next_a : next_piece p.profile p.a ≡ Some (piece_by_a x_a)
             next_a =
-                ap (λ (y : Bool). if y then some_piece (plain_piece p.a.tcp) else piece_by p.profile.spelling.checksums (if y then None else mapping_at p.a.receiving.mappings p.a.tcp.recv.edge) p.a.tcp)
-                (h.faces).own.modes.identity
+                let mptcp = (h.faces).own.modes.mapping in
+                next_here p.profile p.a mptcp
                 ∙ next_by p.profile A x_a (octets_of x_a.brings) p.a.tcp some_a position_a places_a short_a near_a
-                (mapping_at p.a.receiving.mappings p.a.tcp.recv.edge)
-                (here_is p.profile A x_a (octets_of x_a.brings) p.a.tcp some_a position_a places_a short_a near_a p.a.receiving.mappings f.maps.forgotten live_a)
+                (mapping_here p.a)
+                (ap (λ (y : Bool). if y then None else mapping_at p.a.receiving.mappings p.a.tcp.recv.edge) (receives_mappings p.a.modes p.a.tcp.recv.edge mptcp)
+                ∙ here_is p.profile A x_a (octets_of x_a.brings) p.a.tcp some_a position_a places_a short_a near_a p.a.receiving.mappings f.maps.forgotten live_a)
 
-            puts_a : let x = f.sent in Relation (after_ask (asks.Reassembly A (reassembly_calls.Place x.low (octets_of x.brings))) books) (answered_piece A (Some (piece_by_a x)) true (with_agenda (duties.Ask (ask_duties.Edge A) ∷ duties.Step (step_duties.Unmapped A) ∷ end_duties A) p))
+            puts_a : let x = f.sent in Relation (after_ask (asks.Reassembly A (reassembly_calls.Place x.low (octets_of x.brings))) books) (answered_piece A (Some (piece_by_a x)) true (with_agenda (place_duties A) p))
             puts_a =
                 let x = f.sent in
                 let t = h.treats in
@@ -190,8 +208,8 @@ module _ (start : Start) (plan : PathPlan) (k j : Setting) (s v : Lane) (t0 u0 :
                 let faces = placed plan.delay t0 u0 k_is j_is going going_back view x hand_a kind_a some_a bytes_a.fin up.0 up.1 clear
                 (sent_some count_a.0 f.answered) (f.owes ∙ (ap is_owed (sym f.brings) ∙ bytes_a.owed)) count_a.0 count_a.1
                 (λ is. keys_low count_a.2 (view.own.modes.both is).1) (same_keys count_a.2)
-                (inr (inr (inr (inr (inr (inr (inr (inr (inl refl)))))))))
-                (inr (inr (inr (inr (inr (inr (inr (inr (inr (inr (emission_emits A).events)))))))))) (inr (inr (inr (inr (inr (inr (inl refl))))))) in
+                (inr (inr (inr (inr (inr (inr (inr (inr (inr (inl refl))))))))))
+                (inr (inr (inr (inr (inr (inr (inr (inr (inr (inr (inr (emission_emits A).events))))))))))) (inr (inr (inr (inr (inr (inr (inr (inl refl)))))))) in
                 record {
                   path = record {
                     profile = h.path.profile;
@@ -259,14 +277,14 @@ module _ (start : Start) (plan : PathPlan) (k j : Setting) (s v : Lane) (t0 u0 :
                 apart_by : {l : ℕ} (e : ℕ) → 1 ≤ l → e ≡ e + l → ⊥
                 apart_by e one is = absurd (omega (arith, one, is))
 
-            places_bytes_a : let q = with_agenda (duties.Ask (ask_duties.Edge A) ∷ duties.Step (step_duties.Unmapped A) ∷ end_duties A) p in let o = next_piece p.profile p.a in
+            places_bytes_a : let q = with_agenda (place_duties A) p in let o = next_piece p.profile p.a in
                 Relation (after_ask (piece_ask A o) books) (answered_piece A o (is_placed (reply_of books (piece_ask A o))) q)
             places_bytes_a =
                 let x = f.sent in
                 let view = h.faces in
                 let at = place_is plan.delay t0 u0 k_is j_is going going_back view x hand_a kind_a some_a in
-                subst (λ (o : Option Piece). Relation (after_ask (piece_ask A o) books) (answered_piece A o (is_placed (reply_of books (piece_ask A o))) (with_agenda (duties.Ask (ask_duties.Edge A) ∷ duties.Step (step_duties.Unmapped A) ∷ end_duties A) p))) (sym next_a)
-                (subst (λ (y : Bool). Relation (after_ask (asks.Reassembly A (reassembly_calls.Place x.low (octets_of x.brings))) books) (answered_piece A (Some (piece_by_a x)) y (with_agenda (duties.Ask (ask_duties.Edge A) ∷ duties.Step (step_duties.Unmapped A) ∷ end_duties A) p)))
+                subst (λ (o : Option Piece). Relation (after_ask (piece_ask A o) books) (answered_piece A o (is_placed (reply_of books (piece_ask A o))) (with_agenda (place_duties A) p))) (sym next_a)
+                (subst (λ (y : Bool). Relation (after_ask (asks.Reassembly A (reassembly_calls.Place x.low (octets_of x.brings))) books) (answered_piece A (Some (piece_by_a x)) y (with_agenda (place_duties A) p)))
                 (sym (placed_by (octets_of x.brings) x.low books.reassembly_a
                 (ap (λ (n : ℕ). reaches_past (edge books.reassembly_a) n (octets_of x.brings)) at
                 ∙ none_past books.reassembly_a (octets_of x.brings) view.apps_back.whole some_a view.back.data_fin_came j.total view.apps_back.receives.known
@@ -275,13 +293,13 @@ module _ (start : Start) (plan : PathPlan) (k j : Setting) (s v : Lane) (t0 u0 :
                 ∙ none_clashes books.reassembly_a (octets_of x.brings) view.apps_back.whole some_a view.back.data_fin_came j.total view.apps_back.receives.known
                 (room plan.delay t0 u0 k_is j_is going going_back view x hand_a kind_a some_a) (under plan.delay t0 u0 k_is j_is going going_back view x hand_a kind_a some_a)))) puts_a)
 
-        edge_placed_a : is_some (next_piece p.profile p.a) ≡ true → (h : Relation books (with_agenda (duties.Ask (ask_duties.Edge A) ∷ duties.Step (step_duties.Unmapped A) ∷ end_duties A) p))
-            → let q = with_agenda (duties.Ask (ask_duties.Edge A) ∷ duties.Step (step_duties.Unmapped A) ∷ end_duties A) p in let o = next_piece p.profile p.a in
+        edge_placed_a : is_some (next_piece p.profile p.a) ≡ true → (h : Relation books (with_agenda (place_duties A) p))
+            → let q = with_agenda (place_duties A) p in let o = next_piece p.profile p.a in
             Relation (after_ask (piece_ask A o) books) (answered_piece A o (is_placed (reply_of books (piece_ask A o))) q)
         edge_placed_a on h =
             ⊎_elim
             (λ f. places_bytes_a h f.0 f.1 f.2 f.3)
-            (λ x. absurd (both_ways _ (ap (λ (o : Option Piece). is_some o) (next_none p.profile p.a (h.faces).own.modes.identity (end_mapped A (own_bench h.faces) x.0).live)) on))
+            (λ x. absurd (both_ways _ (ap (λ (o : Option Piece). is_some o) (next_none p.profile p.a (h.faces).own.modes.mapping (end_mapped A (own_bench h.faces) x.0).live)) on))
             h.treats.0
 
         pub answers_edge_a : (ds : List Duty) → is_some (next_piece p.profile p.a) ≡ true → Relation books (with_agenda (duties.Ask (ask_duties.Edge A) ∷ ds) p)
@@ -292,27 +310,48 @@ module _ (start : Start) (plan : PathPlan) (k j : Setting) (s v : Lane) (t0 u0 :
             Relation (after_ask (piece_ask A o) books) (answered_piece A o (is_placed (reply_of books (piece_ask A o))) q)) (sym h.treats.1.2)
             (edge_placed_a on (subst (λ (es : List Duty). Relation books (with_agenda (duties.Ask (ask_duties.Edge A) ∷ es) p)) h.treats.1.2 h))
 
-        edge_passed_a : is_some (next_piece p.profile p.a) ≡ false → (h : Relation books (with_agenda (duties.Ask (ask_duties.Edge A) ∷ duties.Step (step_duties.Unmapped A) ∷ end_duties A) p))
-            → Relation books (with_agenda (duties.Step (step_duties.Unmapped A) ∷ end_duties A) (with_end A (after_check p.profile p.a) p))
+        edge_passed_a : is_some (next_piece p.profile p.a) ≡ false → (h : Relation books (with_agenda (place_duties A) p))
+            → Relation books (with_agenda (duties.Ask (ask_duties.CheckFailed A) ∷ duties.Step (step_duties.Unmapped A) ∷ end_duties A) p)
         edge_passed_a off h =
             let t = h.treats in
             ⊎_elim
             (λ f. absurd (both_ways _ off (ap (λ (o : Option Piece). is_some o) (next_a h f.0 f.1 f.2 f.3))))
-            (λ x. subst (λ (e : PathEnd). Relation books (with_agenda (duties.Step (step_duties.Unmapped A) ∷ end_duties A) (with_end A e p)))
-            (sym (check_same p.profile p.a (h.faces).own.modes.identity (end_mapped A (own_bench h.faces) x.0).live))
-            (record {
+            (λ x. record {
               path = h.path;
               link = h.link;
-              faces = free_drops (duties.Ask (ask_duties.Edge A)) (duties.Step (step_duties.Unmapped A) ∷ end_duties A) refl h.faces;
+              faces = free_drops (duties.Ask (ask_duties.Edge A)) (duties.Ask (ask_duties.CheckFailed A) ∷ duties.Step (step_duties.Unmapped A) ∷ end_duties A) refl h.faces;
               treats = (x, (t.1.0, t.1.1, refl));
-            }))
+            })
             t.0
 
         pub passes_edge_a : (ds : List Duty) → is_some (next_piece p.profile p.a) ≡ false → Relation books (with_agenda (duties.Ask (ask_duties.Edge A) ∷ ds) p)
-            → Relation books (with_agenda ds (with_end A (after_check p.profile p.a) p))
+            → Relation books (with_agenda ds p)
         passes_edge_a ds off h =
-            subst (λ (es : List Duty). Relation books (with_agenda es (with_end A (after_check p.profile p.a) p))) (sym h.treats.1.2)
+            subst (λ (es : List Duty). Relation books (with_agenda es p)) (sym h.treats.1.2)
             (edge_passed_a off (subst (λ (es : List Duty). Relation books (with_agenda (duties.Ask (ask_duties.Edge A) ∷ es) p)) h.treats.1.2 h))
+
+        checked_a : (h : Relation books (with_agenda (duties.Ask (ask_duties.CheckFailed A) ∷ duties.Step (step_duties.Unmapped A) ∷ end_duties A) p))
+            → Relation books (with_agenda (duties.Step (step_duties.Unmapped A) ∷ end_duties A) (with_end A (after_check p.profile p.a) p))
+        checked_a h =
+            let t = h.treats in
+            subst (λ (e : PathEnd). Relation books (with_agenda (duties.Step (step_duties.Unmapped A) ∷ end_duties A) (with_end A e p)))
+            (sym (check_same p.profile p.a h.faces.own.modes.mapping (end_mapped A (own_bench h.faces) t.0.0).live))
+            (record {
+              path = h.path;
+              link = h.link;
+              faces = free_drops (duties.Ask (ask_duties.CheckFailed A)) (duties.Step (step_duties.Unmapped A) ∷ end_duties A) refl h.faces;
+              treats = (t.0, (t.1.0, t.1.1, refl));
+            })
+
+        pub passes_checked_a : (ds : List Duty) → Relation books (with_agenda (duties.Ask (ask_duties.CheckFailed A) ∷ ds) p)
+            → Relation books (with_agenda ds (with_end A (after_check p.profile p.a) p))
+        passes_checked_a ds h =
+            subst (λ (es : List Duty). Relation books (with_agenda es (with_end A (after_check p.profile p.a) p))) (sym h.treats.1.2)
+            (checked_a (subst (λ (es : List Duty). Relation books (with_agenda (duties.Ask (ask_duties.CheckFailed A) ∷ es) p)) h.treats.1.2 h))
+
+        -- no check fails
+        pub stays_right_a : (ds : List Duty) → Relation books (with_agenda (duties.Ask (ask_duties.CheckFailed A) ∷ ds) p) → check_failed_stands p.profile p.a ≡ false
+        stays_right_a ds h = none_fails p.profile p.a h.faces.own.modes.mapping (end_mapped A (own_bench h.faces) h.treats.0.0).live
 
         -- ---- at B
 
@@ -320,7 +359,7 @@ module _ (start : Start) (plan : PathPlan) (k j : Setting) (s v : Lane) (t0 u0 :
         piece_by_b x = record { place = x.low; octets = octets_of x.brings }
 
         -- the copy, and its bytes
-        module _ (h : Relation books (with_agenda (duties.Ask (ask_duties.Edge B) ∷ duties.Step (step_duties.Unmapped B) ∷ end_duties B) p)) (what : Brings) (told : Bool) (f : TreatsCopy B keys AfterKeeping told what (other_bench h.faces))
+        module _ (h : Relation books (with_agenda (place_duties B) p)) (what : Brings) (told : Bool) (f : TreatsCopy B keys AfterKeeping told what (other_bench h.faces))
             (some : 1 ≤ length (octets_of what))
           where
             abbrev x_b : Sent
@@ -335,26 +374,26 @@ module _ (start : Start) (plan : PathPlan) (k j : Setting) (s v : Lane) (t0 u0 :
             bytes_b : IsOfBytes x_b.brings
             bytes_b = of_bytes x_b.brings some_b
 
-            hand_b : (from_a keys k j s v a b books (with_agenda (duties.Ask (ask_duties.Edge B) ∷ duties.Step (step_duties.Unmapped B) ∷ end_duties B) p) h.faces).hand ≡ in_hand x_b true false
+            hand_b : (from_a keys k j s v a b books (with_agenda (place_duties B) p) h.faces).hand ≡ in_hand x_b true false
             hand_b = f.hand ∙ ap (λ (y : Bool). in_hand x_b y false) (ap is_news (sym f.brings) ∙ bytes_b.news)
 
-            count_b : (1 ≤ (from_a keys k j s v a b books (with_agenda (duties.Ask (ask_duties.Edge B) ∷ duties.Step (step_duties.Unmapped B) ∷ end_duties B) p) h.faces).back.control_came) × (x_b.control ≡ (from_a keys k j s v a b books (with_agenda (duties.Ask (ask_duties.Edge B) ∷ duties.Step (step_duties.Unmapped B) ∷ end_duties B) p) h.faces).back.control_came) × (x_b.keys ≡ (from_a keys k j s v a b books (with_agenda (duties.Ask (ask_duties.Edge B) ∷ duties.Step (step_duties.Unmapped B) ∷ end_duties B) p) h.faces).back.keys_came)
-            count_b = same_counts (from_a keys k j s v a b books (with_agenda (duties.Ask (ask_duties.Edge B) ∷ duties.Step (step_duties.Unmapped B) ∷ end_duties B) p) h.faces).back.control_came (from_a keys k j s v a b books (with_agenda (duties.Ask (ask_duties.Edge B) ∷ duties.Step (step_duties.Unmapped B) ∷ end_duties B) p) h.faces).back.keys_came x_b.control x_b.keys x_b.brings some_b
-                (counts plan.delay u0 t0 j_is k_is going_back going (from_a keys k j s v a b books (with_agenda (duties.Ask (ask_duties.Edge B) ∷ duties.Step (step_duties.Unmapped B) ∷ end_duties B) p) h.faces) x_b hand_b kind_b some_b)
+            count_b : (1 ≤ (from_a keys k j s v a b books (with_agenda (place_duties B) p) h.faces).back.control_came) × (x_b.control ≡ (from_a keys k j s v a b books (with_agenda (place_duties B) p) h.faces).back.control_came) × (x_b.keys ≡ (from_a keys k j s v a b books (with_agenda (place_duties B) p) h.faces).back.keys_came)
+            count_b = same_counts (from_a keys k j s v a b books (with_agenda (place_duties B) p) h.faces).back.control_came (from_a keys k j s v a b books (with_agenda (place_duties B) p) h.faces).back.keys_came x_b.control x_b.keys x_b.brings some_b
+                (counts plan.delay u0 t0 j_is k_is going_back going (from_a keys k j s v a b books (with_agenda (place_duties B) p) h.faces) x_b hand_b kind_b some_b)
 
-            few_b : (from_a keys k j s v a b books (with_agenda (duties.Ask (ask_duties.Edge B) ∷ duties.Step (step_duties.Unmapped B) ∷ end_duties B) p) h.faces).back.control_came ≤ 1
-            few_b = one_came plan.delay u0 t0 j_is k_is going_back going (from_a keys k j s v a b books (with_agenda (duties.Ask (ask_duties.Edge B) ∷ duties.Step (step_duties.Unmapped B) ∷ end_duties B) p) h.faces) x_b hand_b kind_b some_b
+            few_b : (from_a keys k j s v a b books (with_agenda (place_duties B) p) h.faces).back.control_came ≤ 1
+            few_b = one_came plan.delay u0 t0 j_is k_is going_back going (from_a keys k j s v a b books (with_agenda (place_duties B) p) h.faces) x_b hand_b kind_b some_b
 
             position_b : x_b.low + x_b.control ≡ p.b.tcp.recv.edge
-            position_b = at_position (from_a keys k j s v a b books (with_agenda (duties.Ask (ask_duties.Edge B) ∷ duties.Step (step_duties.Unmapped B) ∷ end_duties B) p) h.faces).own.subflow.come.edge (chain plan.delay u0 t0 j_is k_is going_back going (from_a keys k j s v a b books (with_agenda (duties.Ask (ask_duties.Edge B) ∷ duties.Step (step_duties.Unmapped B) ∷ end_duties B) p) h.faces) x_b hand_b kind_b some_b).0 count_b.1 count_b.0 few_b
+            position_b = at_position (from_a keys k j s v a b books (with_agenda (place_duties B) p) h.faces).own.subflow.come.edge (chain plan.delay u0 t0 j_is k_is going_back going (from_a keys k j s v a b books (with_agenda (place_duties B) p) h.faces) x_b hand_b kind_b some_b).0 count_b.1 count_b.0 few_b
 
             places_b : p.b.tcp.recv.places ≡ map Some (octets_of x_b.brings)
             places_b = f.places ∙ ap (λ (y : Brings). map Some (octets_of y)) (sym f.brings)
 
             short_b : x_b.low + length (octets_of x_b.brings) ≤ 16777216
             short_b =
-                let now = lane plan.delay u0 t0 j_is k_is going_back going (from_a keys k j s v a b books (with_agenda (duties.Ask (ask_duties.Edge B) ∷ duties.Step (step_duties.Unmapped B) ∷ end_duties B) p) h.faces) x_b hand_b kind_b some_b in
-                all_few (high plan.delay u0 t0 j_is k_is going_back going (from_a keys k j s v a b books (with_agenda (duties.Ask (ask_duties.Edge B) ∷ duties.Step (step_duties.Unmapped B) ∷ end_duties B) p) h.faces) x_b hand_b kind_b some_b) now.numbers.granted now.numbers.written k_is.small
+                let now = lane plan.delay u0 t0 j_is k_is going_back going (from_a keys k j s v a b books (with_agenda (place_duties B) p) h.faces) x_b hand_b kind_b some_b in
+                all_few (high plan.delay u0 t0 j_is k_is going_back going (from_a keys k j s v a b books (with_agenda (place_duties B) p) h.faces) x_b hand_b kind_b some_b) now.numbers.granted now.numbers.written k_is.small
 
             near_b : x_b.low + x_b.control ≤ 16777218
             near_b = near_position x_b.low (length (octets_of x_b.brings)) short_b count_b.1 few_b
@@ -365,24 +404,25 @@ module _ (start : Start) (plan : PathPlan) (k j : Setting) (s v : Lane) (t0 u0 :
 
             next_b : next_piece p.profile p.b ≡ Some (piece_by_b x_b)
             next_b =
-                ap (λ (y : Bool). if y then some_piece (plain_piece p.b.tcp) else piece_by p.profile.spelling.checksums (if y then None else mapping_at p.b.receiving.mappings p.b.tcp.recv.edge) p.b.tcp)
-                (from_a keys k j s v a b books (with_agenda (duties.Ask (ask_duties.Edge B) ∷ duties.Step (step_duties.Unmapped B) ∷ end_duties B) p) h.faces).own.modes.identity
+                let mptcp = (from_a keys k j s v a b books (with_agenda (place_duties B) p) h.faces).own.modes.mapping in
+                next_here p.profile p.b mptcp
                 ∙ next_by p.profile B x_b (octets_of x_b.brings) p.b.tcp some_b position_b places_b short_b near_b
-                (mapping_at p.b.receiving.mappings p.b.tcp.recv.edge)
-                (here_is p.profile B x_b (octets_of x_b.brings) p.b.tcp some_b position_b places_b short_b near_b p.b.receiving.mappings f.maps.forgotten live_b)
+                (mapping_here p.b)
+                (ap (λ (y : Bool). if y then None else mapping_at p.b.receiving.mappings p.b.tcp.recv.edge) (receives_mappings p.b.modes p.b.tcp.recv.edge mptcp)
+                ∙ here_is p.profile B x_b (octets_of x_b.brings) p.b.tcp some_b position_b places_b short_b near_b p.b.receiving.mappings f.maps.forgotten live_b)
 
-            puts_b : let x = f.sent in Relation (after_ask (asks.Reassembly B (reassembly_calls.Place x.low (octets_of x.brings))) books) (answered_piece B (Some (piece_by_b x)) true (with_agenda (duties.Ask (ask_duties.Edge B) ∷ duties.Step (step_duties.Unmapped B) ∷ end_duties B) p))
+            puts_b : let x = f.sent in Relation (after_ask (asks.Reassembly B (reassembly_calls.Place x.low (octets_of x.brings))) books) (answered_piece B (Some (piece_by_b x)) true (with_agenda (place_duties B) p))
             puts_b =
                 let x = f.sent in
                 let t = h.treats in
-                let view = from_a keys k j s v a b books (with_agenda (duties.Ask (ask_duties.Edge B) ∷ duties.Step (step_duties.Unmapped B) ∷ end_duties B) p) h.faces in
+                let view = from_a keys k j s v a b books (with_agenda (place_duties B) p) h.faces in
                 let clear = f.clear.2 refl in
                 let up = open_when_ready plan.delay u0 t0 j_is k_is going_back going view (some_of clear view.own.modes.cleared) in
-                let faces = from_b keys k j s v a b (after_ask (asks.Reassembly B (reassembly_calls.Place x.low (octets_of x.brings))) books) (answered_piece B (Some (piece_by_b x)) true (with_agenda (duties.Ask (ask_duties.Edge B) ∷ duties.Step (step_duties.Unmapped B) ∷ end_duties B) p)) (placed plan.delay u0 t0 j_is k_is going_back going view x hand_b kind_b some_b bytes_b.fin up.0 up.1 clear
+                let faces = from_b keys k j s v a b (after_ask (asks.Reassembly B (reassembly_calls.Place x.low (octets_of x.brings))) books) (answered_piece B (Some (piece_by_b x)) true (with_agenda (place_duties B) p)) (placed plan.delay u0 t0 j_is k_is going_back going view x hand_b kind_b some_b bytes_b.fin up.0 up.1 clear
                 (sent_some count_b.0 f.answered) (f.owes ∙ (ap is_owed (sym f.brings) ∙ bytes_b.owed)) count_b.0 count_b.1
                 (λ is. keys_low count_b.2 (view.own.modes.both is).1) (same_keys count_b.2)
-                (inr (inr (inr (inr (inr (inr (inr (inr (inl refl)))))))))
-                (inr (inr (inr (inr (inr (inr (inr (inr (inr (inr (emission_emits B).events)))))))))) (inr (inr (inr (inr (inr (inr (inl refl)))))))) in
+                (inr (inr (inr (inr (inr (inr (inr (inr (inr (inl refl))))))))))
+                (inr (inr (inr (inr (inr (inr (inr (inr (inr (inr (inr (emission_emits B).events))))))))))) (inr (inr (inr (inr (inr (inr (inr (inl refl))))))))) in
                 record {
                   path = record {
                     profile = h.path.profile;
@@ -450,14 +490,14 @@ module _ (start : Start) (plan : PathPlan) (k j : Setting) (s v : Lane) (t0 u0 :
                 apart_by : {l : ℕ} (e : ℕ) → 1 ≤ l → e ≡ e + l → ⊥
                 apart_by e one is = absurd (omega (arith, one, is))
 
-            places_bytes_b : let q = with_agenda (duties.Ask (ask_duties.Edge B) ∷ duties.Step (step_duties.Unmapped B) ∷ end_duties B) p in let o = next_piece p.profile p.b in
+            places_bytes_b : let q = with_agenda (place_duties B) p in let o = next_piece p.profile p.b in
                 Relation (after_ask (piece_ask B o) books) (answered_piece B o (is_placed (reply_of books (piece_ask B o))) q)
             places_bytes_b =
                 let x = f.sent in
-                let view = from_a keys k j s v a b books (with_agenda (duties.Ask (ask_duties.Edge B) ∷ duties.Step (step_duties.Unmapped B) ∷ end_duties B) p) h.faces in
+                let view = from_a keys k j s v a b books (with_agenda (place_duties B) p) h.faces in
                 let at = place_is plan.delay u0 t0 j_is k_is going_back going view x hand_b kind_b some_b in
-                subst (λ (o : Option Piece). Relation (after_ask (piece_ask B o) books) (answered_piece B o (is_placed (reply_of books (piece_ask B o))) (with_agenda (duties.Ask (ask_duties.Edge B) ∷ duties.Step (step_duties.Unmapped B) ∷ end_duties B) p))) (sym next_b)
-                (subst (λ (y : Bool). Relation (after_ask (asks.Reassembly B (reassembly_calls.Place x.low (octets_of x.brings))) books) (answered_piece B (Some (piece_by_b x)) y (with_agenda (duties.Ask (ask_duties.Edge B) ∷ duties.Step (step_duties.Unmapped B) ∷ end_duties B) p)))
+                subst (λ (o : Option Piece). Relation (after_ask (piece_ask B o) books) (answered_piece B o (is_placed (reply_of books (piece_ask B o))) (with_agenda (place_duties B) p))) (sym next_b)
+                (subst (λ (y : Bool). Relation (after_ask (asks.Reassembly B (reassembly_calls.Place x.low (octets_of x.brings))) books) (answered_piece B (Some (piece_by_b x)) y (with_agenda (place_duties B) p)))
                 (sym (placed_by (octets_of x.brings) x.low books.reassembly_b
                 (ap (λ (n : ℕ). reaches_past (edge books.reassembly_b) n (octets_of x.brings)) at
                 ∙ none_past books.reassembly_b (octets_of x.brings) view.apps_back.whole some_b view.back.data_fin_came k.total view.apps_back.receives.known
@@ -466,13 +506,13 @@ module _ (start : Start) (plan : PathPlan) (k j : Setting) (s v : Lane) (t0 u0 :
                 ∙ none_clashes books.reassembly_b (octets_of x.brings) view.apps_back.whole some_b view.back.data_fin_came k.total view.apps_back.receives.known
                 (room plan.delay u0 t0 j_is k_is going_back going view x hand_b kind_b some_b) (under plan.delay u0 t0 j_is k_is going_back going view x hand_b kind_b some_b)))) puts_b)
 
-        edge_placed_b : is_some (next_piece p.profile p.b) ≡ true → (h : Relation books (with_agenda (duties.Ask (ask_duties.Edge B) ∷ duties.Step (step_duties.Unmapped B) ∷ end_duties B) p))
-            → let q = with_agenda (duties.Ask (ask_duties.Edge B) ∷ duties.Step (step_duties.Unmapped B) ∷ end_duties B) p in let o = next_piece p.profile p.b in
+        edge_placed_b : is_some (next_piece p.profile p.b) ≡ true → (h : Relation books (with_agenda (place_duties B) p))
+            → let q = with_agenda (place_duties B) p in let o = next_piece p.profile p.b in
             Relation (after_ask (piece_ask B o) books) (answered_piece B o (is_placed (reply_of books (piece_ask B o))) q)
         edge_placed_b on h =
             ⊎_elim
             (λ f. places_bytes_b h f.0 f.1 f.2 f.3)
-            (λ x. absurd (both_ways _ (ap (λ (o : Option Piece). is_some o) (next_none p.profile p.b (from_a keys k j s v a b books (with_agenda (duties.Ask (ask_duties.Edge B) ∷ duties.Step (step_duties.Unmapped B) ∷ end_duties B) p) h.faces).own.modes.identity (end_mapped B (other_bench h.faces) x.0).live)) on))
+            (λ x. absurd (both_ways _ (ap (λ (o : Option Piece). is_some o) (next_none p.profile p.b (from_a keys k j s v a b books (with_agenda (place_duties B) p) h.faces).own.modes.mapping (end_mapped B (other_bench h.faces) x.0).live)) on))
             h.treats.0
 
         pub answers_edge_b : (ds : List Duty) → is_some (next_piece p.profile p.b) ≡ true → Relation books (with_agenda (duties.Ask (ask_duties.Edge B) ∷ ds) p)
@@ -483,24 +523,45 @@ module _ (start : Start) (plan : PathPlan) (k j : Setting) (s v : Lane) (t0 u0 :
             Relation (after_ask (piece_ask B o) books) (answered_piece B o (is_placed (reply_of books (piece_ask B o))) q)) (sym h.treats.1.2)
             (edge_placed_b on (subst (λ (es : List Duty). Relation books (with_agenda (duties.Ask (ask_duties.Edge B) ∷ es) p)) h.treats.1.2 h))
 
-        edge_passed_b : is_some (next_piece p.profile p.b) ≡ false → (h : Relation books (with_agenda (duties.Ask (ask_duties.Edge B) ∷ duties.Step (step_duties.Unmapped B) ∷ end_duties B) p))
-            → Relation books (with_agenda (duties.Step (step_duties.Unmapped B) ∷ end_duties B) (with_end B (after_check p.profile p.b) p))
+        edge_passed_b : is_some (next_piece p.profile p.b) ≡ false → (h : Relation books (with_agenda (place_duties B) p))
+            → Relation books (with_agenda (duties.Ask (ask_duties.CheckFailed B) ∷ duties.Step (step_duties.Unmapped B) ∷ end_duties B) p)
         edge_passed_b off h =
             let t = h.treats in
             ⊎_elim
             (λ f. absurd (both_ways _ off (ap (λ (o : Option Piece). is_some o) (next_b h f.0 f.1 f.2 f.3))))
-            (λ x. subst (λ (e : PathEnd). Relation books (with_agenda (duties.Step (step_duties.Unmapped B) ∷ end_duties B) (with_end B e p)))
-            (sym (check_same p.profile p.b (from_a keys k j s v a b books (with_agenda (duties.Ask (ask_duties.Edge B) ∷ duties.Step (step_duties.Unmapped B) ∷ end_duties B) p) h.faces).own.modes.identity (end_mapped B (other_bench h.faces) x.0).live))
-            (record {
+            (λ x. record {
               path = h.path;
               link = h.link;
-              faces = free_drops (duties.Ask (ask_duties.Edge B)) (duties.Step (step_duties.Unmapped B) ∷ end_duties B) refl h.faces;
+              faces = free_drops (duties.Ask (ask_duties.Edge B)) (duties.Ask (ask_duties.CheckFailed B) ∷ duties.Step (step_duties.Unmapped B) ∷ end_duties B) refl h.faces;
               treats = (x, (t.1.0, t.1.1, refl));
-            }))
+            })
             t.0
 
         pub passes_edge_b : (ds : List Duty) → is_some (next_piece p.profile p.b) ≡ false → Relation books (with_agenda (duties.Ask (ask_duties.Edge B) ∷ ds) p)
-            → Relation books (with_agenda ds (with_end B (after_check p.profile p.b) p))
+            → Relation books (with_agenda ds p)
         passes_edge_b ds off h =
-            subst (λ (es : List Duty). Relation books (with_agenda es (with_end B (after_check p.profile p.b) p))) (sym h.treats.1.2)
+            subst (λ (es : List Duty). Relation books (with_agenda es p)) (sym h.treats.1.2)
             (edge_passed_b off (subst (λ (es : List Duty). Relation books (with_agenda (duties.Ask (ask_duties.Edge B) ∷ es) p)) h.treats.1.2 h))
+
+        checked_b : (h : Relation books (with_agenda (duties.Ask (ask_duties.CheckFailed B) ∷ duties.Step (step_duties.Unmapped B) ∷ end_duties B) p))
+            → Relation books (with_agenda (duties.Step (step_duties.Unmapped B) ∷ end_duties B) (with_end B (after_check p.profile p.b) p))
+        checked_b h =
+            let t = h.treats in
+            subst (λ (e : PathEnd). Relation books (with_agenda (duties.Step (step_duties.Unmapped B) ∷ end_duties B) (with_end B e p)))
+            (sym (check_same p.profile p.b h.faces.other.modes.mapping (end_mapped B (other_bench h.faces) t.0.0).live))
+            (record {
+              path = h.path;
+              link = h.link;
+              faces = free_drops (duties.Ask (ask_duties.CheckFailed B)) (duties.Step (step_duties.Unmapped B) ∷ end_duties B) refl h.faces;
+              treats = (t.0, (t.1.0, t.1.1, refl));
+            })
+
+        pub passes_checked_b : (ds : List Duty) → Relation books (with_agenda (duties.Ask (ask_duties.CheckFailed B) ∷ ds) p)
+            → Relation books (with_agenda ds (with_end B (after_check p.profile p.b) p))
+        passes_checked_b ds h =
+            subst (λ (es : List Duty). Relation books (with_agenda es (with_end B (after_check p.profile p.b) p))) (sym h.treats.1.2)
+            (checked_b (subst (λ (es : List Duty). Relation books (with_agenda (duties.Ask (ask_duties.CheckFailed B) ∷ es) p)) h.treats.1.2 h))
+
+        -- no check fails
+        pub stays_right_b : (ds : List Duty) → Relation books (with_agenda (duties.Ask (ask_duties.CheckFailed B) ∷ ds) p) → check_failed_stands p.profile p.b ≡ false
+        stays_right_b ds h = none_fails p.profile p.b h.faces.other.modes.mapping (end_mapped B (other_bench h.faces) h.treats.0.0).live

@@ -18,6 +18,7 @@ use Rattle.path_agenda.specs.declared.duty.StepDuty.TheVariants as step_duties
 use Rattle.path_core.specs.declared.mapped_data_fin.MappedDataFin.{MappedDataFin}
 use Rattle.path_core.specs.Deliver.{after_pieces, breaks_by_unmapped, data_fin_reached, fins_and, mapping_here, times_unmapped, with_data_fin_reached}
 use Rattle.path_core.specs.Ends.{PathEnd}
+use Rattle.path_core.specs.Infinite.{receives_plainly}
 use Rattle.path_core.specs.Passing.{answered_fin_heard, data_fin_of, fin_ask, is_fin_set}
 use Rattle.path_core.specs.State.{PathState, with_agenda, with_end}
 use Rattle.path_core.specs.Values.{Carried}
@@ -67,12 +68,12 @@ by_fin e o = record e {
 -- no more bytes are placed, and no DATA_FIN waits behind some
 pub pieces_same : (e : PathEnd) → is_at e.tcp.recv.edge e.treated.held_edge ≡ false → e.receiving.mapped_data_fin ≡ None → after_pieces e ≡ e
 pieces_same e off none =
-    ap (λ (b : Bool). by_flag e b) (ap (λ (b : Bool). b && (not e.modes.identity && is_none (mapping_here e))) off)
+    ap (λ (b : Bool). by_flag e b) (ap (λ (b : Bool). b && (not (receives_plainly e.modes e.tcp.recv.edge) && is_none (mapping_here e))) off)
     ∙ (ap (λ (o : Option MappedDataFin). by_fin e o) none
     ∙ ap (λ (o : Option MappedDataFin). record e { receiving = record e.receiving { mapped_data_fin = o } }) (sym none))
 
 pub landed_stays : (e : PathEnd) → is_at e.tcp.recv.edge e.treated.held_edge ≡ false → breaks_by_unmapped e ≡ false
-landed_stays e off = ap (λ (b : Bool). (b && (not e.modes.identity && is_none (mapping_here e))) && (is_sure e.modes.mode && nat_le 3 (times_unmapped e))) off
+landed_stays e off = ap (λ (b : Bool). (b && (not (receives_plainly e.modes e.tcp.recv.edge) && is_none (mapping_here e))) && (is_sure e.modes.mode && nat_le 3 (times_unmapped e))) off
 
 pub end_mapped : (q : Side) (x : Bench) → TreatsEnd q x → NoneMapped x.end.tcp.recv.edge x.end.receiving.mappings x.end.receiving.mapped_data_fin
 end_mapped q x (inl (inl last, none)) = last.mapped

@@ -14,6 +14,7 @@ use Rattle.path_agenda.specs.declared.duty.Duty.TheVariants as duties
 use Rattle.path_agenda.specs.declared.duty.SendDuty.TheVariants as send_duties
 use Rattle.path_agenda.specs.declared.duty.StepDuty.TheVariants as step_duties
 use Rattle.path_core.specs.Ends.{PathEnd}
+use Rattle.path_core.specs.Infinite.{sends_plainly}
 use Rattle.path_core.specs.OptionsOut.{ack_said}
 use Rattle.path_core.specs.StreamEnds.{is_data_fin_due}
 use Rattle.path_core.specs.Standing.{is_connected}
@@ -137,7 +138,7 @@ module _ {s : Side} {keys : Keys} {k j : Setting} {c : Profile} {begun begun_bac
         (shown : s ≡ A → h.out.ready ≤ h.out.keys_sent) (asked : h.stage_back.window ≡ false) (asks : h.stage_back.ask ≡ false)
       where
         parts : Due (may_finish m.end.tcp.state) m.end.modes.clear (is_some m.end.sending.known_end) m.end.sending.fin_sent m.end.sending.close.own_acked
-        parts = due_parts (may_finish m.end.tcp.state) m.end.modes.identity m.end.modes.clear (is_some m.end.sending.known_end) m.end.sending.fin_sent
+        parts = due_parts (may_finish m.end.tcp.state) (sends_plainly m.end.modes) m.end.modes.clear (is_some m.end.sending.known_end) m.end.sending.fin_sent
             m.end.sending.close.own_acked due
 
         pub clear : m.end.modes.clear ≡ true

@@ -75,7 +75,7 @@ module _ (start : Start) (plan : PathPlan) (k j : Setting) (s v : Lane) (t0 u0 :
             (others_of_a strip alter carried p.clock p.link h.path.unspoken h.link) in
             let faces = updated in
             subst (λ (sg : PlainSegment). Relation (sends_a sg))
-            (sym (fin_is p.profile keys A x p.a refl view.own.modes.identity
+            (sym (fin_is p.profile keys A x p.a refl view.own.modes.mapping
             (unfinished plan.delay t0 u0 k_is j_is going going_back view due t.0.0.none t.0.0.owes t.1 t.0.0.answered t.0.0.ready t.0.0.shown window ask)
             (next_is plan.delay t0 u0 k_is j_is going going_back view due t.0.0.none t.0.0.owes t.1 t.0.0.answered t.0.0.ready t.0.0.shown window ask) refl refl refl))
             (record {
@@ -130,7 +130,7 @@ module _ (start : Start) (plan : PathPlan) (k j : Setting) (s v : Lane) (t0 u0 :
             (others_of_b strip alter carried p.clock p.link h.path.unspoken h.link) in
             let faces = from_b keys k j s v a b books (sends_b segment) updated in
             subst (λ (sg : PlainSegment). Relation (sends_b sg))
-            (sym (fin_is p.profile keys B x p.b refl view.own.modes.identity
+            (sym (fin_is p.profile keys B x p.b refl view.own.modes.mapping
             (unfinished plan.delay u0 t0 j_is k_is going_back going view due t.0.1.none t.0.1.owes t.2 t.0.1.answered t.0.1.ready t.0.1.shown window ask)
             (next_is plan.delay u0 t0 j_is k_is going_back going view due t.0.1.none t.0.1.owes t.2 t.0.1.answered t.0.1.ready t.0.1.shown window ask) refl refl refl))
             (record {

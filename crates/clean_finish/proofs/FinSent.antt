@@ -11,6 +11,7 @@ use Rattle.path_agenda.specs.declared.duty.Duty.TheVariants as duties
 use Rattle.path_agenda.specs.declared.duty.SendDuty.TheVariants as send_duties
 use Rattle.path_agenda.specs.declared.duty.StepDuty.TheVariants as step_duties
 use Rattle.path_core.specs.Ends.{PathEnd}
+use Rattle.path_core.specs.Infinite.{sends_plainly}
 use Rattle.path_core.specs.OptionsOut.{fin_said}
 use Rattle.path_core.specs.StreamEnds.{is_all_granted, is_fin_due}
 use Rattle.path_core.specs.State.{Profile}
@@ -22,7 +23,7 @@ use Rattle.pace.specs.Moves.{MaySay, MaySend}
 use Rattle.pace.specs.Moves.Move.{sends_none}
 use Rattle.clean_finish.specs.Segments.{Sent, Keys, copy_in, said, FliesAs}
 use Rattle.clean_finish.specs.Segments.Brings.{EndsSubflow}
-use Rattle.clean_finish.specs.Shows.{Hand, brings_still, HeardIs, IsOpen, last_told, row_seen}
+use Rattle.clean_finish.specs.Shows.{Hand, brings_still, HeardIs, IsMapping, IsOpen, last_told, row_seen}
 use Rattle.clean_finish.specs.Shows.IsToldEdge.{Same}
 use Rattle.clean_finish.specs.Running.{Has, Half, Facing, IsSetting}
 use Rattle.clean_finish.proofs.Dropping.{is_apart, stage_drops, settles_drop, begun_drops, apart}
@@ -30,6 +31,7 @@ use Rattle.clean_finish.proofs.EndSent.{finishes_open, ended_stays}
 use Rattle.clean_finish.proofs.FinPushed.{open_finished}
 use Rattle.clean_finish.proofs.Finishing.{end_after, own_finished}
 use Rattle.clean_finish.proofs.Hands.{way_none}
+use Rattle.clean_finish.proofs.Mapped.{sends_mappings}
 use Rattle.clean_finish.proofs.Opened.{waiting_on}
 use Rattle.clean_finish.proofs.Quiet.{phase_is}
 use Rattle.clean_finish.proofs.Sendings.{same_bytes, sent_off}
@@ -37,11 +39,11 @@ use Rattle.clean_finish.proofs.TakenMeant.{acknowledges_some}
 use Rattle.clean_finish.proofs.TellsAll.{lane, all_told, came, sent_some, so, acks, all, near, least_told}
 
 -- the FIN at the next position
-pub fin_is : (c : Profile) (keys : Keys) (s : Side) (x : Sent) (e : PathEnd) → x.brings ≡ EndsSubflow → e.modes.identity ≡ false
+pub fin_is : (c : Profile) (keys : Keys) (s : Side) (x : Sent) (e : PathEnd) → x.brings ≡ EndsSubflow → IsMapping e.modes
     → e.tcp.send.finished ≡ false → e.tcp.send.nxt ≡ x.low + x.control - 1 → x.edge ≡ e.tcp.recv.edge → x.window ≡ e.receiving.window
     → x.telling.next ≡ e.receiving.next → fin_said c e ≡ said c keys s x
 fin_is c keys s x e brings mptcp unended next edge window told =
-    rw (brings, mptcp, unended, next, acknowledges_some s EndsSubflow x.edge refl, edge, window, told) refl
+    rw (brings, mptcp.0, mptcp.1, unended, next, acknowledges_some s EndsSubflow x.edge refl, edge, window, told) refl
 
 is_not : (b : Bool) → not b ≡ true → b ≡ false
 is_not false e = refl
@@ -70,12 +72,12 @@ module _ {s : Side} {keys : Keys} {k j : Setting} {c : Profile} {begun begun_bac
       where
         pub parts : (may_finish m.end.tcp.state ≡ true) × ((m.end.sending.close.own_acked ≡ true) × (m.end.sending.close.peer_came ≡ true))
         parts =
-            let both = and_parts (may_finish m.end.tcp.state) (if m.end.modes.identity then is_all_granted m.end.sending.known_end m.end.sending
+            let both = and_parts (may_finish m.end.tcp.state) (if sends_plainly m.end.modes then is_all_granted m.end.sending.known_end m.end.sending
             else m.end.sending.close.own_acked && m.end.sending.close.peer_came) due in (
               both.0,
               and_parts m.end.sending.close.own_acked m.end.sending.close.peer_came
                   (sym (ap (λ (b : Bool). if b then is_all_granted m.end.sending.known_end m.end.sending else m.end.sending.close.own_acked && m.end.sending.close.peer_came)
-                  h.own.modes.identity) ∙ both.1),
+                  (sends_mappings m.end.modes h.own.modes.mapping)) ∙ both.1),
             )
 
         pub is_open : (1 ≤ m.end.tcp.send.una) × IsOpen m.end.tcp.send.finished m.end.tcp.state

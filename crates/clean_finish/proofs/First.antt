@@ -26,7 +26,7 @@ use Rattle.stream_apps.specs.AppSteps.{start_of_app}
 use Rattle.stream_apps.specs.Starts.{first_app_turn}
 use Rattle.path_core.specs.Ends.{opening_end}
 use Rattle.world_laws.specs.Openings.{PathPlan, Start}
-use Rattle.world_laws.proofs.Casts.{first_cast, new_walker}
+use Rattle.world_laws.proofs.Worlds.Casts.{first_cast, new_walker}
 use Rattle.pace.specs.Lane.{Setting, Lane, Writer, Reader, all_left}
 use Rattle.pace.specs.Rules.{first_lane}
 use Rattle.pace.specs.Going.{Going}
@@ -180,7 +180,7 @@ module _ (k j : Setting) (window window_back : ℕ) (writer writer_back : Writer
     modes = record {
       mode = Starts refl;
       standby = refl;
-      identity = refl;
+      mapping = (refl, refl, refl, refl);
       owes_third = refl;
       owes_mapping = refl;
       mapped_to = refl;

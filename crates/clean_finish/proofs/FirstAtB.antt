@@ -70,10 +70,10 @@ module _ (start : Start) (plan : PathPlan) (k j : Setting) (s v : Lane) (t0 u0 :
             items_are = h.treats.1.items ∙ ap items_of is
 
           third_item : h.treats.0 ≡ ShowsKeys → item_of 0 p.b ≡ Some (says.Keys keys.b keys.a)
-          third_item is = item_is 0 p.b (items_of ShowsKeys) h.faces.other.modes.identity (items_are ShowsKeys is)
+          third_item is = item_is 0 p.b (items_of ShowsKeys) h.faces.other.modes.mapping.0 (items_are ShowsKeys is)
 
           first_item : (octets : List ℕ) → h.treats.0 ≡ FirstPiece octets → item_of 0 p.b ≡ Some (says.Keys keys.b keys.a)
-          first_item octets is = item_is 0 p.b (items_of (FirstPiece octets)) h.faces.other.modes.identity (items_are (FirstPiece octets) is)
+          first_item octets is = item_is 0 p.b (items_of (FirstPiece octets)) h.faces.other.modes.mapping.0 (items_are (FirstPiece octets) is)
 
           -- whether they were told
           third_stays : h.treats.0 ≡ ShowsKeys → item_stands (item_of 0 p.b) p.b ≡ false
@@ -84,7 +84,7 @@ module _ (start : Start) (plan : PathPlan) (k j : Setting) (s v : Lane) (t0 u0 :
 
           dss_stays : shows_keys h.treats.0 ≡ false → item_stands (item_of 0 p.b) p.b ≡ false
           dss_stays none = ap (λ (o : Option Heard). item_stands o p.b)
-              (item_is 0 p.b (items_of h.treats.0) h.faces.other.modes.identity h.treats.1.items
+              (item_is 0 p.b (items_of h.treats.0) h.faces.other.modes.mapping.0 h.treats.1.items
               ∙ dss_first keys h.treats.1.sent.telling.next (window_told false h.treats.1.sent.window) h.treats.0 h.treats.1.kind none)
 
           third_passes : h.treats.0 ≡ ShowsKeys → Relation books (with_agenda ds (with_end B (item_passed B (item_of 0 p.b) p.b) p))

@@ -24,7 +24,7 @@ use Rattle.pace.specs.Moves.{MaySay, MaySend}
 use Rattle.pace.specs.Moves.Move.{sends_bytes}
 use Rattle.clean_finish.specs.Segments.{Sent, Keys, copy_in, said, FliesAs}
 use Rattle.clean_finish.specs.Segments.Brings.{FirstPiece}
-use Rattle.clean_finish.specs.Shows.{Hand, brings_still, HeardIs, last_told, row_seen}
+use Rattle.clean_finish.specs.Shows.{Hand, brings_still, HeardIs, IsMapping, last_told, row_seen}
 use Rattle.clean_finish.specs.Shows.IsToldEdge.{Before}
 use Rattle.clean_finish.specs.Running.{Has, Half, Facing, IsSetting}
 use Rattle.clean_finish.proofs.Bringing.{end_after, own_brought}
@@ -49,12 +49,12 @@ first_at at low least window edge octets = record {
 }
 
 -- it is the record's segment
-pub first_is : (c : Profile) (keys : Keys) (at low least : ℕ) (r : Record) (e : PathEnd) → e.modes.identity ≡ false
+pub first_is : (c : Profile) (keys : Keys) (at low least : ℕ) (r : Record) (e : PathEnd) → IsMapping e.modes
     → is_first_piece A r e ≡ true → e.modes.peer_key ≡ Some keys.b → e.modes.own_key ≡ keys.a → is_opening e.tcp.state ≡ false → r.kind ≡ Data
     → r.pos ≡ low + 1 → r.mapping ≡ mapping_of c A low (low + 1) r.piece
     → record_said c A r e ≡ said c keys A (first_at at low least e.receiving.window e.tcp.recv.edge r.piece)
 first_is c keys at low least r e mptcp first key own established kind pos mapping =
-    rw (kind, mptcp, first, key, own, established, pos)
+    rw (kind, mptcp.0, mptcp.1, first, key, own, established, pos)
     (ap (λ (mapped : _). record {
       position = low + 1;
       acknowledged = Some e.tcp.recv.edge;

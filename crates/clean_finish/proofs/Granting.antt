@@ -77,7 +77,7 @@ module _ {s : Side} {keys : Keys} {k j : Setting} {c : Profile} {begun begun_bac
 
         by : (q : Side) → s ≡ q → 1 ≤ h.out.ready
         by A is = up (came ticks t u k_is j_is going going_back h still is_open.0 answered) (ready_a is)
-        by B is = one_clear (h.own.modes.both is).0 (h.own.modes.clear ∙ ap count_of (clear_b m.end.modes.clear m.end.modes.identity h.own.modes.identity
+        by B is = one_clear (h.own.modes.both is).0 (h.own.modes.clear ∙ ap count_of (clear_b m.end.modes.clear m.end.modes.identity h.own.modes.mapping.0
             (subst (λ (q : Side). may_send_data c q m.end ≡ true) is may_data)))
 
     pub unacked : h.out.control_acked ≤ 1

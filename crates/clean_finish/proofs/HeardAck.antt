@@ -59,7 +59,7 @@ module _ (start : Start) (plan : PathPlan) (k j : Setting) (s v : Lane) (t0 u0 :
             there_a = subst (λ (es : List Duty). Emits A es) (sym beside.2) (heard_emits A 2 (count_in what - 2))
 
             pub second_a : item_of 1 p.a ≡ Some (says.DataAck f.sent.telling.next (window_told false f.sent.window))
-            second_a = item_is 1 p.a (heard_by keys f.sent.telling.next (window_told false f.sent.window) what) h.faces.own.modes.identity f.items
+            second_a = item_is 1 p.a (heard_by keys f.sent.telling.next (window_told false f.sent.window) what) h.faces.own.modes.mapping.0 f.items
                 ∙ ack_second keys f.sent.telling.next (window_told false f.sent.window) what f.kind none
 
             abbrev told_a : SixBooks
@@ -122,7 +122,7 @@ module _ (start : Start) (plan : PathPlan) (k j : Setting) (s v : Lane) (t0 u0 :
             there_b = subst (λ (es : List Duty). Emits B es) (sym beside.2) (heard_emits B 2 (count_in what - 2))
 
             pub second_b : item_of 1 p.b ≡ Some (says.DataAck f.sent.telling.next (window_told false f.sent.window))
-            second_b = item_is 1 p.b (heard_by keys f.sent.telling.next (window_told false f.sent.window) what) (from_a keys k j s v a b books q_b h.faces).own.modes.identity f.items
+            second_b = item_is 1 p.b (heard_by keys f.sent.telling.next (window_told false f.sent.window) what) (from_a keys k j s v a b books q_b h.faces).own.modes.mapping.0 f.items
                 ∙ ack_second keys f.sent.telling.next (window_told false f.sent.window) what f.kind none
 
             abbrev told_b : SixBooks

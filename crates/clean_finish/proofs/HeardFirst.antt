@@ -333,7 +333,7 @@ module _ (start : Start) (plan : PathPlan) (k j : Setting) (s v : Lane) (t0 u0 :
             let there : Emits A ds = subst (λ (es : List Duty). Emits A es) (sym t.2.2) (heard_emits A 1 (count_in t.0 - 1)) in
             let faces = cleared plan.delay t0 u0 k_is j_is going going_back view refl there (sent_some f.came f.answered) ready in
             subst (λ (o : Option Heard). Relation books (with_agenda ds (with_end A (item_passed A o p.a) p)))
-            (sym (item_is 0 p.a (heard_by keys f.sent.telling.next (window_told false f.sent.window) t.0) view.own.modes.identity f.items
+            (sym (item_is 0 p.a (heard_by keys f.sent.telling.next (window_told false f.sent.window) t.0) view.own.modes.mapping.0 f.items
             ∙ dss_first keys f.sent.telling.next (window_told false f.sent.window) t.0 f.kind none))
             (subst (λ (e : PathEnd). Relation books (with_agenda ds (with_end A e p))) (sym (dss_at_a p.a view.own.modes.owes_third)) (record {
               path = record {
@@ -433,7 +433,7 @@ module _ (start : Start) (plan : PathPlan) (k j : Setting) (s v : Lane) (t0 u0 :
             let f = t.1 in
             let faces = free_drops (duties.Step (step_duties.Heard B 0)) ds refl h.faces in
             subst (λ (o : Option Heard). Relation books (with_agenda ds (with_end B (item_passed B o p.b) p)))
-            (sym (item_is 0 p.b (heard_by keys f.sent.telling.next (window_told false f.sent.window) t.0) h.faces.other.modes.identity f.items
+            (sym (item_is 0 p.b (heard_by keys f.sent.telling.next (window_told false f.sent.window) t.0) h.faces.other.modes.mapping.0 f.items
             ∙ dss_first keys f.sent.telling.next (window_told false f.sent.window) t.0 f.kind none))
             (subst (λ (e : PathEnd). Relation books (with_agenda ds (with_end B e p))) (sym (dss_at_b p.b h.faces.other.modes.owes_third)) (record {
               path = record {

@@ -66,7 +66,7 @@ module _ (start : Start) (plan : PathPlan) (k j : Setting) (s v : Lane) (t0 u0 :
                 (Piece octets, piece_learned A keys (own_bench h.faces) octets f learned_a mo maps, (beside.0, beside.1, refl))
 
             item_a : item_of 2 p.a ≡ Some (says.Mapping false)
-            item_a = item_is 2 p.a (heard_by keys f.sent.telling.next (window_told false f.sent.window) (Piece octets)) h.faces.own.modes.identity f.items
+            item_a = item_is 2 p.a (heard_by keys f.sent.telling.next (window_told false f.sent.window) (Piece octets)) h.faces.own.modes.mapping.0 f.items
 
             told_a : let o = item_of 2 p.a in Relation (after_ask (item_ask values A o q_a) books) (answered_item values A o (reply_of books (item_ask values A o q_a)) q_a)
             told_a =
@@ -84,7 +84,7 @@ module _ (start : Start) (plan : PathPlan) (k j : Setting) (s v : Lane) (t0 u0 :
                 (EndsStream place, end_noted A keys (own_bench h.faces) place f mo, (beside.0, beside.1, refl))
 
             end_item_a : item_of 2 p.a ≡ Some (says.DataFin place)
-            end_item_a = item_is 2 p.a (heard_by keys f.sent.telling.next (window_told false f.sent.window) (EndsStream place)) h.faces.own.modes.identity f.items
+            end_item_a = item_is 2 p.a (heard_by keys f.sent.telling.next (window_told false f.sent.window) (EndsStream place)) h.faces.own.modes.mapping.0 f.items
 
             ends_a : let o = item_of 2 p.a in Relation (after_ask (item_ask values A o q_a) books) (answered_item values A o (reply_of books (item_ask values A o q_a)) q_a)
             ends_a =
@@ -153,7 +153,7 @@ module _ (start : Start) (plan : PathPlan) (k j : Setting) (s v : Lane) (t0 u0 :
                 (Piece octets, piece_learned B keys (other_bench h.faces) octets f learned_b mo maps, (beside.0, beside.1, refl))
 
             item_b : item_of 2 p.b ≡ Some (says.Mapping false)
-            item_b = item_is 2 p.b (heard_by keys f.sent.telling.next (window_told false f.sent.window) (Piece octets)) view_b.own.modes.identity f.items
+            item_b = item_is 2 p.b (heard_by keys f.sent.telling.next (window_told false f.sent.window) (Piece octets)) view_b.own.modes.mapping.0 f.items
 
             told_b : let o = item_of 2 p.b in Relation (after_ask (item_ask values B o q_b) books) (answered_item values B o (reply_of books (item_ask values B o q_b)) q_b)
             told_b =
@@ -171,7 +171,7 @@ module _ (start : Start) (plan : PathPlan) (k j : Setting) (s v : Lane) (t0 u0 :
                 (EndsStream place, end_noted B keys (other_bench h.faces) place f mo, (beside.0, beside.1, refl))
 
             end_item_b : item_of 2 p.b ≡ Some (says.DataFin place)
-            end_item_b = item_is 2 p.b (heard_by keys f.sent.telling.next (window_told false f.sent.window) (EndsStream place)) view_b.own.modes.identity f.items
+            end_item_b = item_is 2 p.b (heard_by keys f.sent.telling.next (window_told false f.sent.window) (EndsStream place)) view_b.own.modes.mapping.0 f.items
 
             ends_b : let o = item_of 2 p.b in Relation (after_ask (item_ask values B o q_b) books) (answered_item values B o (reply_of books (item_ask values B o q_b)) q_b)
             ends_b =

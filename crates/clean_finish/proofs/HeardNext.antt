@@ -23,7 +23,7 @@ use Rattle.clean_finish.proofs.Templates.{emission_emits}
 -- ---- what is ahead
 
 behind_payload : (q : Side) (d : Duty) → Has d (emission q) → Has d (payload_came q)
-behind_payload q d there = inr (inr (inr (inr (inr (inr (inr (inr (inr (inr (inr (inr (inr (inr (inr there))))))))))))))
+behind_payload q d there = inr (inr (inr (inr (inr (inr (inr (inr (inr (inr (inr (inr (inr (inr (inr (inr there)))))))))))))))
 
 behind_more : (q : Side) (d : Duty) (from count : ℕ) (ds : List Duty) → Has d ds → Has d (heard_and q from count ds)
 behind_more q d from zero ds there = there

@@ -1,5 +1,5 @@
 -- The steps in which the second thing of a copy is heard: its Data ACK, or the mapping of the first bytes.
-use Rattle.std.proofs.Common.{◌≡◌, refl, sym, subst, ap, ℕ, ◌-◌, ◌≤◌, true, false, Option, Some, List, ◌∷◌, length, arith}
+use Rattle.std.proofs.Common.{◌≡◌, refl, sym, subst, ap, ◌∙◌, is_none, ℕ, ◌-◌, ◌≤◌, true, false, Option, Some, List, ◌∷◌, length, arith}
 use Rattle.std.proofs.lemmas.Bool.{both_ways}
 use Rattle.outside_kit.specs.declared.side.Side.TheVariants.{A, B}
 use Rattle.dss_mapping.specs.Mappings.{Mappings}
@@ -12,6 +12,7 @@ use Rattle.path_agenda.specs.declared.duty.Duty.TheVariants as duties
 use Rattle.path_agenda.specs.declared.duty.StepDuty.TheVariants as step_duties
 use Rattle.path_agenda.specs.declared.heard.Heard.{Heard}
 use Rattle.path_agenda.specs.declared.heard.Heard.TheVariants as says
+use Rattle.path_core.specs.declared.infinite_mapping.InfiniteMapping.{InfiniteMapping}
 use Rattle.path_core.specs.declared.modes.Modes.{Modes}
 use Rattle.path_core.specs.State.{PathState, with_agenda, with_end}
 use Rattle.path_core.specs.Treating.{answered_item, item_ask, item_of, item_passed, item_stands}
@@ -55,7 +56,8 @@ module _ (start : Start) (plan : PathPlan) (k j : Setting) (s v : Lane) (t0 u0 :
           second_passed : item_stands (item_of 1 p.a) p.a ≡ false → Relation books (with_agenda ds (with_end A (item_passed A (item_of 1 p.a) p.a) p))
           second_passed off =
               let t = h.treats in
-              absurd (both_ways _ off (ap (λ (o : Option Heard). item_stands o p.a) (second_a start plan k j s v t0 u0 going going_back a b books p k_is j_is ds h t.0 t.1 (no_keys t.0 t.1.keyed) t.3)))
+              absurd (both_ways _ off (ap (λ (o : Option Heard). item_stands o p.a) (second_a start plan k j s v t0 u0 going going_back a b books p k_is j_is ds h t.0 t.1 (no_keys t.0 t.1.keyed) t.3)
+              ∙ ap (λ (o : Option InfiniteMapping). is_none o) h.faces.own.modes.mapping.1))
 
         -- ---- at B
 
@@ -86,7 +88,7 @@ module _ (start : Start) (plan : PathPlan) (k j : Setting) (s v : Lane) (t0 u0 :
                 (first_learned B keys (other_bench h.faces) octets f learned_b mo maps))
 
             item_b : item_of 1 p.b ≡ Some (says.Mapping false)
-            item_b = item_is 1 p.b (heard_by keys f.sent.telling.next (window_told false f.sent.window) (FirstPiece octets)) view_b.own.modes.identity f.items
+            item_b = item_is 1 p.b (heard_by keys f.sent.telling.next (window_told false f.sent.window) (FirstPiece octets)) view_b.own.modes.mapping.0 f.items
 
             told_b : let o = item_of 1 p.b in Relation (after_ask (item_ask values B o q_b) books) (answered_item values B o (reply_of books (item_ask values B o q_b)) q_b)
             told_b =
@@ -112,6 +114,7 @@ module _ (start : Start) (plan : PathPlan) (k j : Setting) (s v : Lane) (t0 u0 :
           acks_by : (what : Brings) (f : TreatsCopy B keys AfterOne (shows_keys what) what (other_bench h.faces)) (none : shows_keys what ≡ false)
               → Beside B (own_bench h.faces) (other_bench h.faces) ds (heard_and B 2 (count_in what - 2) (payload_came B)) → item_stands (item_of 1 p.b) p.b ≡ true
           acks_by what f none beside = ap (λ (o : Option Heard). item_stands o p.b) (second_b start plan k j s v t0 u0 going going_back a b books p k_is j_is ds h what f none beside)
+              ∙ ap (λ (o : Option InfiniteMapping). is_none o) h.faces.other.modes.mapping.1
 
           passes_by : item_stands (item_of 1 p.b) p.b ≡ false → (what : Brings) → TreatsCopy B keys AfterOne (shows_keys what) what (other_bench h.faces) → 2 ≤ count_in what
               → Beside B (own_bench h.faces) (other_bench h.faces) ds (heard_and B 2 (count_in what - 2) (payload_came B)) → Relation books (with_agenda ds (with_end B (item_passed B (item_of 1 p.b) p.b) p))

@@ -1,5 +1,5 @@
 -- What is passed of a copy behind all that it says: it has a Data ACK or none is new, and its payload is kept.
-use Rattle.std.proofs.Common.{◌≡◌, refl, sym, subst, ap, ◌∙◌, ℕ, ◌+◌, ◌≤◌, nat_lt, nat_le, unwrap_or, Bool, true, false, not, ◌&&◌, ◌||◌, if◌then◌else◌, is_some, ◌⊎◌, inl, inr, Option, Some, None, List, [], ◌∷◌, length, map, arith}
+use Rattle.std.proofs.Common.{◌≡◌, refl, sym, subst, ap, ◌∙◌, ℕ, ◌+◌, ◌-◌, ◌≤◌, nat_lt, nat_le, unwrap_or, Bool, true, false, not, ◌&&◌, ◌||◌, if◌then◌else◌, is_some, ◌⊎◌, inl, inr, Option, Some, None, List, [], ◌∷◌, length, map, arith}
 use Rattle.std.proofs.lemmas.Bool.{both_ways, le-ltb}
 use Rattle.outside_kit.specs.declared.side.Side.{Side}
 use Rattle.outside_kit.specs.declared.side.Side.TheVariants.{A, B}
@@ -17,7 +17,9 @@ use Rattle.path_agenda.specs.declared.duty.Duty.TheVariants as duties
 use Rattle.path_agenda.specs.declared.duty.AskDuty.TheVariants as ask_duties
 use Rattle.path_agenda.specs.declared.duty.SilentDuty.TheVariants as silent_duties
 use Rattle.path_agenda.specs.declared.duty.StepDuty.TheVariants as step_duties
+use Rattle.path_core.specs.declared.infinite_mapping.InfiniteMapping.{InfiniteMapping}
 use Rattle.path_core.specs.Ends.{PathEnd}
+use Rattle.path_core.specs.Infinite.{acknowledged_under, sends_plainly}
 use Rattle.path_core.specs.Joins.{is_joined}
 use Rattle.path_core.specs.State.{PathState, Profile, with_agenda, with_end}
 use Rattle.path_core.specs.Treating.{after_keep, is_dropped, plain_ack_stands, plain_data_stands, subflow_ack_stands, with_plain_ack}
@@ -28,7 +30,7 @@ use Rattle.pace.specs.Lane.{Setting, Lane, all_left}
 use Rattle.pace.specs.Going.{Going}
 use Rattle.clean_finish.specs.Segments.{Keys, Brings, is_news, is_subflow_end, octets_of, shows_keys}
 use Rattle.clean_finish.specs.Segments.Brings.{OpensSubflow, ShowsKeys, FirstPiece, Piece, Acknowledges, EndsStream, EndsSubflow}
-use Rattle.clean_finish.specs.Shows.{NoneMapped}
+use Rattle.clean_finish.specs.Shows.{IsMapping, NoneMapped}
 use Rattle.clean_finish.specs.Writing.{count_of}
 use Rattle.clean_finish.specs.Running.{Bench, TreatsCopy, TreatsBytes, TreatsLast, TreatsEnd, IsLanded, place_duties, kept_in, own_bench, other_bench, IsSetting, Runs, keys_in}
 use Rattle.clean_finish.specs.Running.Treatment.{AfterAll, AfterKeeping}
@@ -42,14 +44,16 @@ use Rattle.clean_finish.proofs.Turned.{from_a, from_b}
 -- ---- what doesn't stand
 
 pub no_plain_ack : (c : Profile) (e : PathEnd) → e.treated.plain_ack ≡ false → plain_ack_stands c e ≡ false
-no_plain_ack c e none = ap (λ (b : Bool). ((b && not e.modes.identity) && ((is_joined c && not e.modes.covered) || (is_sure e.modes.mode && nat_le 2 e.modes.plain_acks)))
-    || ((b && not e.modes.identity) && is_starting e.modes.mode)) none
+no_plain_ack c e none = ap (λ (b : Bool). ((b && not (sends_plainly e.modes)) && ((is_joined c && not e.modes.covered) || (is_sure e.modes.mode && nat_le 2 e.modes.plain_acks)))
+    || ((b && not (sends_plainly e.modes)) && is_starting e.modes.mode)) none
 
 pub plain_ack_same : (e : PathEnd) → e.treated.plain_ack ≡ false → with_plain_ack e ≡ e
-plain_ack_same e none = ap (λ (b : Bool). record e { modes = record e.modes { plain_acks = (if b && not e.modes.identity then one_more e.modes.plain_acks else e.modes.plain_acks) } }) none
+plain_ack_same e none = ap (λ (b : Bool). record e { modes = record e.modes { plain_acks = (if b && not (sends_plainly e.modes) then one_more e.modes.plain_acks else e.modes.plain_acks) } }) none
 
-pub no_subflow_ack : (e : PathEnd) → e.modes.identity ≡ false → subflow_ack_stands e ≡ false
-no_subflow_ack e mptcp = ap (λ (b : Bool). b && not e.treated.data_ack_taken) mptcp
+pub no_subflow_ack : (e : PathEnd) → IsMapping e.modes → subflow_ack_stands e ≡ false
+no_subflow_ack e mptcp =
+    ap (λ (b : Bool). is_some (if b then Some (e.treated.acknowledged - 1) else acknowledged_under e.modes.own_infinite e.treated.acknowledged) && not e.treated.data_ack_taken) mptcp.0
+    ∙ ap (λ (o : Option InfiniteMapping). is_some (acknowledged_under o e.treated.acknowledged) && not e.treated.data_ack_taken) mptcp.1
 
 pub no_plain_data : (e : PathEnd) → e.treated.has_option ≡ true → plain_data_stands e ≡ false
 no_plain_data e some = ap (λ (b : Bool). is_some e.treated.held_edge && (not b && is_starting e.modes.mode)) some ∙ by (is_some e.treated.held_edge)
@@ -346,7 +350,7 @@ module _ (start : Start) (plan : PathPlan) (k j : Setting) (s v : Lane) (t0 u0 :
         stays_plain_ack_a ds h = no_plain_ack p.profile p.a h.treats.1.plain_ack
 
         pub stays_subflow_ack_a : (ds : List Duty) → Relation books (with_agenda (duties.Ask (ask_duties.SubflowAck A) ∷ ds) p) → subflow_ack_stands p.a ≡ false
-        stays_subflow_ack_a ds h = no_subflow_ack p.a h.own.modes.identity
+        stays_subflow_ack_a ds h = no_subflow_ack p.a h.own.modes.mapping
 
         pub stays_plain_data_a : (ds : List Duty) → Relation books (with_agenda (duties.Ask (ask_duties.PlainData A) ∷ ds) p) → plain_data_stands p.a ≡ false
         stays_plain_data_a ds h = no_plain_data p.a h.treats.1.has_option
@@ -435,7 +439,7 @@ module _ (start : Start) (plan : PathPlan) (k j : Setting) (s v : Lane) (t0 u0 :
         stays_plain_ack_b ds h = no_plain_ack p.profile p.b h.treats.1.plain_ack
 
         pub stays_subflow_ack_b : (ds : List Duty) → Relation books (with_agenda (duties.Ask (ask_duties.SubflowAck B) ∷ ds) p) → subflow_ack_stands p.b ≡ false
-        stays_subflow_ack_b ds h = no_subflow_ack p.b h.other.modes.identity
+        stays_subflow_ack_b ds h = no_subflow_ack p.b h.other.modes.mapping
 
         pub stays_plain_data_b : (ds : List Duty) → Relation books (with_agenda (duties.Ask (ask_duties.PlainData B) ∷ ds) p) → plain_data_stands p.b ≡ false
         stays_plain_data_b ds h = no_plain_data p.b h.treats.1.has_option

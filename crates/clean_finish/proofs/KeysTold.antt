@@ -77,7 +77,7 @@ modes_known : (keys : Keys) (out : Sender) (back : Receiver) (m : Modes) → Mod
 modes_known keys out back m is ready clear = record {
   mode = is.mode;
   standby = is.standby;
-  identity = is.identity;
+  mapping = is.mapping;
   owes_third = is.owes_third;
   owes_mapping = is.owes_mapping;
   mapped_to = is.mapped_to;

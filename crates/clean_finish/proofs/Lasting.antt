@@ -286,7 +286,7 @@ module _ (start : Start) (plan : PathPlan) (k j : Setting) (s v : Lane) (t0 u0 :
             (last_from_a strip alter carried p.clock p.link h.path.unspoken h.link)
             (others_of_a strip alter carried p.clock p.link h.path.unspoken h.link) in
             subst (λ (sg : PlainSegment). Relation books (acks_a sg))
-            (sym (ack_is p.profile keys A x p.a refl view.own.modes.identity (is_clear p.a.modes.clear (one_of t.0.clear view.own.modes.clear))
+            (sym (ack_is p.profile keys A x p.a refl view.own.modes.mapping (is_clear p.a.modes.clear (one_of t.0.clear view.own.modes.clear))
             (next_is plan.delay t0 u0 k_is j_is going going_back view t.0.sent t.0.hand owes t.0.waiting una t.0.answered t.0.ready t.0.shown window asks t.0.clear) refl refl refl))
             (record {
               path = record {
@@ -542,7 +542,7 @@ module _ (start : Start) (plan : PathPlan) (k j : Setting) (s v : Lane) (t0 u0 :
             (last_from_b strip alter carried p.clock p.link h.path.unspoken h.link)
             (others_of_b strip alter carried p.clock p.link h.path.unspoken h.link)) in
             subst (λ (sg : PlainSegment). Relation books (acks_b sg))
-            (sym (ack_is p.profile keys B x p.b refl view.own.modes.identity (is_clear p.b.modes.clear (one_of t.0.clear view.own.modes.clear))
+            (sym (ack_is p.profile keys B x p.b refl view.own.modes.mapping (is_clear p.b.modes.clear (one_of t.0.clear view.own.modes.clear))
             (next_is plan.delay u0 t0 j_is k_is going_back going view t.0.sent t.0.hand owes t.0.waiting una t.0.answered t.0.ready t.0.shown window asks t.0.clear) refl refl refl))
             (record {
               path = record {

@@ -11,8 +11,8 @@ use Rattle.world_laws.specs.Fresh.{shown_member, shown_crew, shown_world}
 use Rattle.world_laws.specs.Openings.{Start, opened_world}
 use Rattle.world_laws.specs.Outcomes.{are_all_dead, is_no_live_path, notes_of, outcome_by, outcome_of, tells_abort, tells_end, was_told}
 use Rattle.world_laws.specs.Worlds.{WorldState, Turn, all_over, goes, world_run, IsLawfulTurn, AreLawful}
-use Rattle.world_laws.proofs.PromisesShown.{same_notes_of}
-use Rattle.world_laws.proofs.WeavingRounds.{run_append}
+use Rattle.world_laws.proofs.Promises.OverOctets.{same_notes_of}
+use Rattle.world_laws.proofs.Weaving.WholeRounds.{run_append}
 
 over_shown : (m : Actor Carried) → is_over (shown_member m) ≡ is_over m
 over_shown (App a) = refl

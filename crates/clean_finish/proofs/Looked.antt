@@ -115,7 +115,7 @@ module _ {s : Side} {keys : Keys} {k j : Setting} {c : Profile} {begun begun_bac
       modes = record {
         mode = h.control.mode;
         standby = never_standby h.control.first m.control.paths m.control.addresses.backups h.control.alone;
-        identity = h.own.modes.identity;
+        mapping = h.own.modes.mapping;
         owes_third = h.own.modes.owes_third;
         owes_mapping = h.own.modes.owes_mapping;
         mapped_to = h.own.modes.mapped_to;

@@ -20,7 +20,7 @@ use Rattle.path_core.specs.Steps.{next_round}
 use Rattle.path_core.specs.Values.{Carried}
 use Rattle.world_laws.specs.Openings.{PathPlan, Start}
 use Rattle.world_laws.specs.Worlds.{greatest}
-use Rattle.world_laws.proofs.Casts.{Walker, Cast, world_of, walks_on, next_cast}
+use Rattle.world_laws.proofs.Worlds.Casts.{Walker, Cast, world_of, walks_on, next_cast}
 use Rattle.pace.specs.Lane.{Setting, Lane, all_left}
 use Rattle.pace.specs.Rules.{opens_round}
 use Rattle.pace.specs.Going.{Going}

@@ -11,7 +11,7 @@ use Rattle.path_core.specs.Values.{Carried}
 use Rattle.world_laws.specs.declared.outcome.Outcome.TheVariants.{Going, Delivered}
 use Rattle.world_laws.specs.Openings.{PathPlan, Start}
 use Rattle.world_laws.specs.Outcomes.{are_all_dead, outcome_by, outcome_of, tells_abort, tells_end, was_told}
-use Rattle.world_laws.proofs.Casts.{Walker, Cast, walking, world_of}
+use Rattle.world_laws.proofs.Worlds.Casts.{Walker, Cast, walking, world_of}
 use Rattle.pace.specs.Lane.{Setting, Lane}
 use Rattle.clean_finish.specs.Shows.{IsPhase}
 use Rattle.clean_finish.specs.Shows.IsPhase.{Opening, Listening, HalfOpen, Open}

@@ -23,7 +23,7 @@ use Rattle.pace.specs.Lane.{Setting, Lane, all_left}
 use Rattle.pace.specs.Going.{Going}
 use Rattle.clean_finish.specs.Segments.{Keys}
 use Rattle.clean_finish.specs.Running.{fin_duties, IsSetting, Runs, keys_in}
-use Rattle.clean_finish.proofs.EdgePlacing.{passes_edge_a, passes_edge_b}
+use Rattle.clean_finish.proofs.EdgePlacing.{passes_checked_a, passes_checked_b, passes_edge_a, passes_edge_b}
 use Rattle.clean_finish.proofs.EndPassing.{passes_fin_one_a, passes_fin_one_b, passes_heard_fin_a, passes_heard_fin_b, passes_unmapped_a, passes_unmapped_b}
 use Rattle.clean_finish.proofs.FinPassing.{passes_pass_fin_a, passes_pass_fin_b, passes_subflow_fin_a, passes_subflow_fin_b}
 use Rattle.clean_finish.proofs.FirstAtB.{passes_first_b}
@@ -114,6 +114,7 @@ module _ (start : Start) (plan : PathPlan) (k j : Setting) (s v : Lane) (t0 u0 :
         ask_passes (ask_duties.Live B) ds off h = passes_live_b start plan k j s v t0 u0 going going_back a b books p k_is j_is ds off h
         ask_passes (ask_duties.AckHeard A) ds off h = passes_ack_heard_a start plan k j s v t0 u0 going going_back a b books p k_is j_is ds h
         ask_passes (ask_duties.AckHeard B) ds off h = passes_ack_heard_b start plan k j s v t0 u0 going going_back a b books p k_is j_is ds h
+        ask_passes (ask_duties.FailHeard q) ds off h = always off
         ask_passes (ask_duties.SubflowAck A) ds off h = passes_subflow_ack_a start plan k j s v t0 u0 going going_back a b books p k_is j_is ds h
         ask_passes (ask_duties.SubflowAck B) ds off h = passes_subflow_ack_b start plan k j s v t0 u0 going going_back a b books p k_is j_is ds h
         ask_passes (ask_duties.PlainData A) ds off h = passes_plain_data_a start plan k j s v t0 u0 going going_back a b books p k_is j_is ds h
@@ -121,6 +122,8 @@ module _ (start : Start) (plan : PathPlan) (k j : Setting) (s v : Lane) (t0 u0 :
         ask_passes (ask_duties.GoIdentity q) ds off h = always off
         ask_passes (ask_duties.Edge A) ds off h = passes_edge_a start plan k j s v t0 u0 going going_back a b books p k_is j_is ds off h
         ask_passes (ask_duties.Edge B) ds off h = passes_edge_b start plan k j s v t0 u0 going going_back a b books p k_is j_is ds off h
+        ask_passes (ask_duties.CheckFailed A) ds off h = passes_checked_a start plan k j s v t0 u0 going going_back a b books p k_is j_is ds h
+        ask_passes (ask_duties.CheckFailed B) ds off h = passes_checked_b start plan k j s v t0 u0 going going_back a b books p k_is j_is ds h
         ask_passes (ask_duties.HeardFin A zero) ds off h = passes_heard_fin_a start plan k j s v t0 u0 going going_back a b books p k_is j_is ds off h
         ask_passes (ask_duties.HeardFin B zero) ds off h = passes_heard_fin_b start plan k j s v t0 u0 going going_back a b books p k_is j_is ds off h
         ask_passes (ask_duties.HeardFin A (suc zero)) ds off h = passes_fin_one_a start plan k j s v t0 u0 going going_back a b books p k_is j_is ds h

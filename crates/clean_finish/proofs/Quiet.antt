@@ -11,6 +11,7 @@ use Rattle.path_agenda.specs.declared.duty.Duty.{Duty}
 use Rattle.path_agenda.specs.declared.duty.Duty.TheVariants as duties
 use Rattle.path_agenda.specs.declared.duty.AskDuty.TheVariants as ask_duties
 use Rattle.path_core.specs.StreamEnds.{is_data_fin_due}
+use Rattle.path_core.specs.Infinite.{sends_plainly}
 use Rattle.path_core.specs.Standing.{is_connected, has_grown, is_update_due}
 use Rattle.path_core.specs.State.{Profile}
 use Rattle.pace.specs.Lane.{Setting, Lane, all_left}
@@ -21,6 +22,7 @@ use Rattle.clean_finish.specs.Shows.IsPhase.{Opening, Listening, HalfOpen, Open}
 use Rattle.clean_finish.specs.Shows.IsToldEdge.{Same, Before}
 use Rattle.clean_finish.specs.Writing.{count_of}
 use Rattle.clean_finish.specs.Running.{Has, Half, Facing, IsSetting, is_window, any_duty}
+use Rattle.clean_finish.proofs.Mapped.{sends_mappings}
 use Rattle.clean_finish.proofs.Passing.{still_going}
 
 -- ---- words
@@ -134,8 +136,8 @@ module _ {s : Side} {keys : Keys} {k j : Setting} {c : Profile} {begun begun_bac
 
       pub is_finished : is_data_fin_due m.end ≡ false → 1 ≤ h.out.clear → h.out.known ≤ h.out.data_fin_sent
       is_finished none clear =
-          by (end_not_due (may_finish m.end.tcp.state) m.end.modes.identity m.end.modes.clear (is_some m.end.sending.known_end)
-          m.end.sending.fin_sent m.end.sending.close.own_acked h.own.modes.identity none)
+          by (end_not_due (may_finish m.end.tcp.state) (sends_plainly m.end.modes) m.end.modes.clear (is_some m.end.sending.known_end)
+          m.end.sending.fin_sent m.end.sending.close.own_acked (sends_mappings m.end.modes h.own.modes.mapping) none)
         where
           told : k.total < h.out.acked → h.out.known ≤ h.out.data_fin_sent
           told more = let one = h.own.sending.acked_end more in omega (arith, one, now_out.numbers.known, now_out.numbers.closed)

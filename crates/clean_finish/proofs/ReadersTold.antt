@@ -14,7 +14,7 @@ use Rattle.stream_apps.specs.declared.duty.AppDuty.TheVariants.{FastClose, Abort
 use Rattle.stream_apps.specs.Apps.{AppState}
 use Rattle.stream_apps.specs.AppSteps.{app_ask, app_answered, app_answers, app_settles_down, app_takes, app_next_round, fresh_turn, start_of_app, ends_in}
 use Rattle.world_laws.specs.Outcomes.{note_tells, tells_end, tells_abort, was_told}
-use Rattle.world_laws.proofs.Applying.{any_more, settled_app}
+use Rattle.world_laws.proofs.Lanes.Applying.{any_more, settled_app}
 
 pub record TellsAs (a : AppState) (notes : List Note) : Type 0 where
   pub told : a.told ≡ was_told tells_end notes

@@ -176,7 +176,7 @@ module _ {s : Side} {keys : Keys} {k j : Setting} {c : Profile} {begun begun_bac
             modes = record {
               mode = h.own.modes.mode;
               standby = h.own.modes.standby;
-              identity = h.own.modes.identity;
+              mapping = h.own.modes.mapping;
               owes_third = h.own.modes.owes_third;
               owes_mapping = h.own.modes.owes_mapping;
               mapped_to = h.own.modes.mapped_to;

@@ -6,7 +6,7 @@ use Rattle.stream_apps.specs.declared.duty.AppDuty.{AppDuty}
 use Rattle.path_agenda.specs.declared.duty.Duty.{Duty}
 use Rattle.path_core.specs.Values.{Carried}
 use Rattle.world_laws.specs.Openings.{PathPlan, Start}
-use Rattle.world_laws.proofs.Casts.{Cast}
+use Rattle.world_laws.proofs.Worlds.Casts.{Cast}
 use Rattle.pace.specs.Lane.{Setting, Lane, Stage, all_left, none_left}
 use Rattle.pace.specs.Rounds.{Moves, Round}
 use Rattle.clean_finish.specs.Reading.{is_reading}

@@ -8,7 +8,7 @@ use Rattle.link_script.specs.declared.script.ScriptLine.{ScriptLine}
 use Rattle.link_script.specs.Scripts.{HasRanges, IsPath}
 use Rattle.reno_window.specs.Rules.{initial_window}
 use Rattle.world_laws.specs.Openings.{PathPlan, Start, path_begins, plan_of, start_of}
-use Rattle.world_laws.specs.PlainScripts.{IsPlainScript}
+use Rattle.world_laws.specs.PlainScripts.{IsShortScript}
 use Rattle.clean_finish.specs.Bound.{enough_on}
 use Rattle.clean_finish.specs.Laws.{setting_of}
 use Rattle.clean_finish.specs.Running.{IsSetting}
@@ -90,7 +90,7 @@ module _ (script : Script) (path : PathLine) (ranges : HasRanges (clean_script s
       half : (n : ℕ) → n ≤ 2 * ((n + 1) / 2)
       half n = omega arith
 
-  pub is_plain : (file_a file_b : List ℕ) → length file_a ≤ 16777216 → length file_b ≤ 16777216
-      → IsPlainScript (clean_script script path) file_a file_b
-  is_plain file_a file_b small_a small_b =
-      record { ranges = ranges; unaltered = refl; short_a = omega (arith, small_a); short_b = omega (arith, small_b) }
+  pub is_short : (file_a file_b : List ℕ) → length file_a ≤ 16777216 → length file_b ≤ 16777216
+      → IsShortScript (clean_script script path) file_a file_b
+  is_short file_a file_b small_a small_b =
+      record { ranges = ranges; short_a = omega (arith, small_a); short_b = omega (arith, small_b) }

@@ -21,6 +21,7 @@ use Rattle.path_core.specs.declared.granted_piece.GrantedPiece.{GrantedPiece}
 use Rattle.path_core.specs.StreamEnds.{is_waiting, is_data_fin_owed}
 use Rattle.path_core.specs.Emission.{after_timer}
 use Rattle.path_core.specs.Ends.{PathEnd}
+use Rattle.path_core.specs.Infinite.{sends_plainly}
 use Rattle.path_core.specs.State.{Profile}
 use Rattle.pace.specs.Lane.{Setting, Lane, Sender, all_left}
 use Rattle.pace.specs.Rules.{tick_or, settled_by}
@@ -141,7 +142,7 @@ module _ {s : Side} {keys : Keys} {k j : Setting} {c : Profile} {begun begun_bac
             → (is_data_fin_owed m.end ≡ true) ⊎ ((not (is_nil m.end.sending.granted) ≡ true) ⊎ ((m.end.sending.shut ≡ true)
             ⊎ (has_records m.end.tcp ≡ true))) → Reason k h.out
         not_acked all up (inl owed) =
-            let parts = and_parts (not m.end.modes.identity) (m.end.sending.fin_sent && not m.end.sending.close.own_acked) owed in
+            let parts = and_parts (not (sends_plainly m.end.modes)) (m.end.sending.fin_sent && not m.end.sending.close.own_acked) owed in
             let both = and_parts m.end.sending.fin_sent (not m.end.sending.close.own_acked) parts.1 in
             let few = ltb-false k.total h.out.acked (sym h.own.sending.acked ∙ not_true m.end.sending.close.own_acked both.1) in
             let sent = h.own.sending.data_fin ∙ ap count_of both.0 in
@@ -346,7 +347,7 @@ module _ {s : Side} {keys : Keys} {k j : Setting} {c : Profile} {begun begun_bac
           modes = record {
             mode = h.own.modes.mode;
             standby = h.own.modes.standby;
-            identity = h.own.modes.identity;
+            mapping = h.own.modes.mapping;
             owes_third = h.own.modes.owes_third;
             owes_mapping = h.own.modes.owes_mapping;
             mapped_to = h.own.modes.mapped_to;

@@ -13,8 +13,8 @@ use Rattle.path_core.specs.Turns.{FirstStands}
 use Rattle.path_core.specs.Values.{Carried, values}
 use Rattle.world_laws.specs.Openings.{PathPlan, Start}
 use Rattle.world_laws.specs.StampedBooks.{answer_to}
-use Rattle.world_laws.proofs.Casts.{Walker, Cast, after_path}
-use Rattle.world_laws.proofs.Journaling.{books_after}
+use Rattle.world_laws.proofs.Worlds.Casts.{Walker, Cast, after_path}
+use Rattle.world_laws.proofs.Weaving.Journals.{books_after}
 use Rattle.pace.specs.Lane.{Setting, Lane}
 use Rattle.clean_finish.specs.Running.{Runs, Running}
 

@@ -199,7 +199,7 @@ module _ (start : Start) (plan : PathPlan) (k j : Setting) (s v : Lane) (t0 u0 :
             (syn_ack_sent plan.delay u0 t0 j_is k_is going_back going back t.0.unsent t.0.came none t.0.sent t.0.hand rest t.0.waiting t.0.owes window events
             fs gs flight flies last others) in
             subst (λ (sg : PlainSegment). Relation books (sends_off sg (having_sent to_send.SynAck p.clock sg p.b)))
-            (sym (syn_ack_is p.profile keys j (p.clock + plan.delay) p.b k_is.path (back.own.modes.capable refl (one t.0.came)) back.own.modes.identity back.own.modes.own_key))
+            (sym (syn_ack_is p.profile keys j (p.clock + plan.delay) p.b k_is.path (back.own.modes.capable refl (one t.0.came)) back.own.modes.mapping.0 back.own.modes.own_key))
             (subst (λ (first : Bool). Relation books (sends_off segment (e first)))
             (sym (first_test plan.delay u0 t0 j_is k_is going_back going back t.0.unsent t.0.came none t.0.sent t.0.hand rest t.0.waiting t.0.owes window events
             fs gs flight flies last others))

@@ -303,7 +303,7 @@ module _ (start : Start) (plan : PathPlan) (k j : Setting) (s v : Lane) (t0 u0 :
             (last_from_a strip alter carried p.clock p.link h.path.unspoken h.link)
             (others_of_a strip alter carried p.clock p.link h.path.unspoken h.link) in
             subst (λ (sg : PlainSegment). Relation (sends_off sg))
-            (sym (third_is p.profile keys (p.clock + plan.delay) h.out.granted j.least p.a h.own.modes.identity (unclear p.a.modes.clear (h.own.modes.clear) t.0.unclear)
+            (sym (third_is p.profile keys (p.clock + plan.delay) h.out.granted j.least p.a h.own.modes.mapping.0 (unclear p.a.modes.clear (h.own.modes.clear) t.0.unclear)
             h.own.modes.owes_third (h.own.modes.peer_key ∙ key_by t.0.ready) h.own.modes.own_key (next_is h.out.granted h.own.subflow.records.next t.0.waiting t.0.sent_one)))
             (record {
               path = record {

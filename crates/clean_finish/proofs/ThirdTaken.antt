@@ -210,7 +210,7 @@ module _ (start : Start) (plan : PathPlan) (k j : Setting) (s v : Lane) (t0 u0 :
 
             acknowledges : Has (duties.Send (send_duties.Acknowledge B)) ds
             acknowledges = subst (λ (es : List Duty). Has (duties.Send (send_duties.Acknowledge B)) es) (sym beside.2)
-                (inr (inr (inr (inr (inr (inr (inr (inr (inr (inr (inr (inr (inr (inl refl))))))))))))))
+                (inr (inr (inr (inr (inr (inr (inr (inr (inr (inr (inr (inr (inr (inr (inl refl)))))))))))))))
 
             control_same : x.control ≡ more.back.control_came
             control_same = same_count counts.0 counts.1

@@ -23,13 +23,14 @@ use Rattle.pace.specs.Moves.{MaySay, MaySend}
 use Rattle.pace.specs.Moves.Move.{sends_none}
 use Rattle.clean_finish.specs.Segments.{Sent, Keys, copy_in, dss_from, said, FliesAs, AcknowledgesAs}
 use Rattle.clean_finish.specs.Segments.Brings.{Acknowledges}
-use Rattle.clean_finish.specs.Shows.{Hand, brings_still, HeardIs, IsPhase, IsToldEdge, last_told, row_seen}
+use Rattle.clean_finish.specs.Shows.{Hand, brings_still, HeardIs, IsMapping, IsPhase, IsToldEdge, last_told, row_seen}
 use Rattle.clean_finish.specs.Shows.IsPhase.{Opening, Listening, HalfOpen, Open}
 use Rattle.clean_finish.specs.Shows.IsToldEdge.{Same, Before}
 use Rattle.clean_finish.specs.Writing.{count_of}
 use Rattle.clean_finish.specs.Running.{Has, Half, Facing, IsSetting, StageIs}
 use Rattle.clean_finish.proofs.Dropping.{differ, behind, behind_or, IsApart, stage_drops, settles_drop, begun_drops}
 use Rattle.clean_finish.proofs.Hands.{way_none}
+use Rattle.clean_finish.proofs.Mapped.{said_alone}
 use Rattle.clean_finish.proofs.Opened.{no_repeat, waiting_on}
 use Rattle.clean_finish.proofs.Passing.{peer_is_other, same_update}
 use Rattle.clean_finish.proofs.Quiet.{now_out, now_back, phase_is}
@@ -38,11 +39,11 @@ use Rattle.clean_finish.proofs.Sendings.{same_bytes, sent_off}
 use Rattle.clean_finish.proofs.TakenMeant.{acknowledges_some}
 
 -- an acknowledgement of an end that may use the DSS
-pub ack_is : (c : Profile) (keys : Keys) (s : Side) (x : Sent) (e : PathEnd) → x.brings ≡ Acknowledges → e.modes.identity ≡ false → e.modes.clear ≡ true
+pub ack_is : (c : Profile) (keys : Keys) (s : Side) (x : Sent) (e : PathEnd) → x.brings ≡ Acknowledges → IsMapping e.modes → e.modes.clear ≡ true
     → e.tcp.send.nxt ≡ x.low + x.control → x.edge ≡ e.tcp.recv.edge → x.window ≡ e.receiving.window → x.telling.next ≡ e.receiving.next
     → ack_said c s e.tcp.send.nxt None e ≡ said c keys s x
 ack_is c keys s x e brings mptcp clear next edge window told =
-    rw (brings, mptcp, clear, next, acknowledges_some s Acknowledges x.edge refl, edge, window, told) refl
+    said_alone c s e.tcp.send.nxt e mptcp ∙ rw (brings, mptcp.0, clear, next, acknowledges_some s Acknowledges x.edge refl, edge, window, told) refl
 
 pub updated_drops : {ds : List Duty} {asked owes later : Bool} (s r : Side) {p : Stage} → StageIs s r (duties.Send (send_duties.Update r) ∷ ds) asked owes p
     → Has (duties.Step step_duties.Events) ds → StageIs s r ds asked later (record (waiting_on p) { tell = false; update = false })

@@ -45,7 +45,7 @@ use Rattle.path_core.specs.State.{PathState, Profile, end_at}
 use Rattle.path_core.specs.Values.{Carried, values}
 use Rattle.world_laws.specs.Openings.{PathPlan, Start, path_begins, opened_world}
 use Rattle.world_laws.specs.Worlds.{Turn, world_run}
-use Rattle.world_laws.proofs.Casts.{Walker, Cast, world_of}
+use Rattle.world_laws.proofs.Worlds.Casts.{Walker, Cast, world_of}
 use Rattle.pace.specs.Lane.{Setting, Lane, Sender, Receiver, Stage, all_left}
 use Rattle.pace.specs.Laws.{HasRanges}
 use Rattle.pace.specs.Rounds.{Moves}
@@ -552,7 +552,7 @@ Beside q a b ds es = IsBetween (peer q) (pick q b a) × ((pick q b a).waiting �
 
 -- from the placing of bytes on
 abbrev pub place_duties : Side → List Duty
-place_duties q = duties.Ask (ask_duties.Edge q) ∷ duties.Step (step_duties.Unmapped q) ∷ end_duties q
+place_duties q = duties.Ask (ask_duties.Edge q) ∷ duties.Ask (ask_duties.CheckFailed q) ∷ duties.Step (step_duties.Unmapped q) ∷ end_duties q
 
 -- no second end of the stream is to be told
 abbrev pub AreFew : Bench → Type 0
@@ -614,7 +614,10 @@ Treats keys a b (duties.Ask (ask_duties.PlainData q) ∷ ds) =
 Treats keys a b (duties.Silent (silent_duties.Keep q) ∷ ds) =
     (k : Brings) × TreatsCopy q keys AfterAll (shows_keys k) k (pick q a b) × Beside q a b ds (place_duties q)
 Treats keys a b (duties.Ask (ask_duties.Edge q) ∷ ds) =
-    (TreatsBytes q keys (pick q a b) ⊎ (TreatsEnd q (pick q a b) × IsLanded (pick q a b))) × Beside q a b ds (duties.Step (step_duties.Unmapped q) ∷ end_duties q)
+    (TreatsBytes q keys (pick q a b) ⊎ (TreatsEnd q (pick q a b) × IsLanded (pick q a b)))
+    × Beside q a b ds (duties.Ask (ask_duties.CheckFailed q) ∷ duties.Step (step_duties.Unmapped q) ∷ end_duties q)
+Treats keys a b (duties.Ask (ask_duties.CheckFailed q) ∷ ds) =
+    (TreatsEnd q (pick q a b) × IsLanded (pick q a b)) × Beside q a b ds (duties.Step (step_duties.Unmapped q) ∷ end_duties q)
 Treats keys a b (duties.Step (step_duties.Unmapped q) ∷ ds) = (TreatsEnd q (pick q a b) × IsLanded (pick q a b)) × Beside q a b ds (end_duties q)
 Treats keys a b (duties.Ask (ask_duties.HeardFin q zero) ∷ ds) =
     TreatsEnd q (pick q a b) × Beside q a b ds (duties.Ask (ask_duties.HeardFin q 1) ∷ duties.Ask (ask_duties.HeardFin q 2) ∷ fin_duties q)

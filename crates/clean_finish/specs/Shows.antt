@@ -233,12 +233,16 @@ pub data IsPlainMode (mode : Mode) : Type 0 where
   Starts : mode ≡ Starting → IsPlainMode mode
   IsSure : mode ≡ Sure → IsPlainMode mode
 
+-- No fallback: mappings count both ways, and no check failed.
+abbrev pub IsMapping : Modes → Type 0
+IsMapping m = (m.identity ≡ false) × (m.own_infinite ≡ None) × (m.peer_infinite ≡ None) × (m.failed_mapping ≡ None)
+
 -- It has the peer's key, and both may be used, from one moment on: A has B's by the SYN/ACK, and B has A's as A shows it.
 -- B may use the DSS from then on, and A once it heard one.
 pub record ModesAre (s : Side) (keys : Keys) (out : Sender) (back : Receiver) (m : Modes) : Type 0 where
   pub mode : IsPlainMode m.mode
   pub standby : m.standby ≡ false
-  pub identity : m.identity ≡ false
+  pub mapping : IsMapping m
   pub owes_third : m.owes_third ≡ false
   pub owes_mapping : m.owes_mapping ≡ false
   pub mapped_to : m.mapped_to ≡ None

@@ -67,7 +67,7 @@ member_asks key (App app) shows numbered = tt
 member_asks key (Path p) shows numbered = λ a token is to asks. agenda_shows key p shows numbered p.agenda a token is to asks
 
 pub joins_ask : JoinsAskByTheToken
-joins_ask start turns plain fit =
-    let shows = octets_show_the_token start turns plain fit in
+joins_ask start turns size fit =
+    let shows = octets_show_the_token start turns size fit in
     let numbers = paths_have_their_numbers octets start turns in
     record { each = λ actor c there. member_asks (token_of start.key_b) c.member (shows.each actor c there) (numbers.each actor c there) }

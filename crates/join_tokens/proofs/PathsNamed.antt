@@ -15,8 +15,8 @@ use Rattle.world_laws.specs.Actors.{Actor, ActorCrew, member_takes, member_next}
 use Rattle.world_laws.specs.StampedBooks.{answer_to}
 use Rattle.world_laws.specs.Openings.{PathPlan, Start, path_begins, new_path, opened_world}
 use Rattle.world_laws.specs.Worlds.{Turn, world_run}
-use Rattle.world_laws.proofs.RoundFrame.{takes_keeps, first_keeps}
-use Rattle.world_laws.proofs.RoundLifting.{run_lifted, opened_lifted}
+use Rattle.world_laws.proofs.Rounds.Frame.{takes_keeps, first_keeps}
+use Rattle.world_laws.proofs.Rounds.Lifting.{run_lifted, opened_lifted}
 
 module _ {C : Type 0} (k : Codec C) where
   abbrev pub HasNumber : Actor C → Type 0

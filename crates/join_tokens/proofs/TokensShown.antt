@@ -42,13 +42,13 @@ use Rattle.world_laws.specs.Actors.{Actor, ActorCrew}
 use Rattle.world_laws.specs.Fresh.{IsFreshCrew, IsFreshMember, IsFreshTurn, AreFresh, shown_crew, shown_member, shown_world}
 use Rattle.world_laws.specs.Openings.{opened_world}
 use Rattle.world_laws.specs.Worlds.{WorldState, Turn, after_turn, world_run}
-use Rattle.world_laws.proofs.Finding.{find_every, one_side}
-use Rattle.world_laws.proofs.JoinsAgree.{WorldMet, run_met, opened_met}
-use Rattle.world_laws.proofs.KeysAgree.{Joined, NoMore, Past, MemberIs, with_nonces}
-use Rattle.world_laws.proofs.KeysHeld.{PathIs, FlightIs, arrived_is}
-use Rattle.world_laws.proofs.KeysRight.{Deed, Secrets, OptionIs, SegmentIs}
-use Rattle.world_laws.proofs.PromisesMade.{run_fresh}
-use Rattle.world_laws.proofs.TellingWorlds.{every_list_is_fresh}
+use Rattle.world_laws.proofs.Worlds.Finding.{find_every, one_side}
+use Rattle.world_laws.proofs.Joins.TokensAgree.{WorldMet, run_met, opened_met}
+use Rattle.world_laws.proofs.Keys.ToldAreOwn.{Joined, NoMore, Past, MemberIs, with_nonces}
+use Rattle.world_laws.proofs.Keys.Held.{PathIs, FlightIs, arrived_is}
+use Rattle.world_laws.proofs.Keys.AreDrawn.{Deed, Secrets, OptionIs, SegmentIs}
+use Rattle.world_laws.proofs.Promises.Made.{run_fresh}
+use Rattle.world_laws.proofs.Numbers.EveryTurn.{every_list_is_fresh}
 use Rattle.join_route.specs.Tokens.{ShowsToken}
 use Rattle.join_tokens.specs.JoinTokens.{HeardShowsToken, NextShowsToken, ShowsTokenNext, JoinsShowToken, ValuesShowTheToken, OctetsShowTheToken}
 
@@ -175,14 +175,14 @@ fresh_last [] turn w fresh = fresh.0
 fresh_last (first ∷ turns) turn w fresh = fresh_last turns turn (after_turn values first w) fresh.1
 
 pub octets_show_the_token : OctetsShowTheToken
-octets_show_the_token start turns plain fit = subst (JoinsShowToken octets (token_of start.key_b)) (sym (run_fresh start turns plain fit)) (record { each = at })
+octets_show_the_token start turns size fit = subst (JoinsShowToken octets (token_of start.key_b)) (sym (run_fresh start turns size fit)) (record { each = at })
   where
     w : WorldState Carried
     w = world_run values turns (opened_world start)
 
     member_fresh : (actor : ℕ) (c : ActorCrew Carried) → slice_get w.crew actor ≡ Some c → IsFreshMember c.member
     member_fresh actor c there =
-        subst IsFreshCrew there (fresh_last turns (Turn.Step actor) (opened_world start) (every_list_is_fresh start (turns ++ Turn.Step actor ∷ []) plain fit))
+        subst IsFreshCrew there (fresh_last turns (Turn.Step actor) (opened_world start) (every_list_is_fresh start (turns ++ Turn.Step actor ∷ []) size fit))
 
     at : (actor : ℕ) (c : ActorCrew (List ℕ)) → slice_get (shown_world w).crew actor ≡ Some c → ShowsTokenNext octets (token_of start.key_b) c.member
     at actor c there =

@@ -17,7 +17,7 @@ use Rattle.world_laws.specs.declared.member.Member.TheVariants.{App, Path}
 use Rattle.world_laws.specs.Actors.{Actor, ActorCrew}
 use Rattle.world_laws.specs.Laws.{Always}
 use Rattle.world_laws.specs.Openings.{Start, opened_world}
-use Rattle.world_laws.specs.Promises.{IsPlain, NumbersFit}
+use Rattle.world_laws.specs.Promises.{HasRoom, NumbersFit}
 use Rattle.world_laws.specs.Worlds.{WorldState, Turn, world_run}
 
 -- what is heard of a segment shows it, where it asks to join
@@ -41,10 +41,10 @@ module _ {C : Type 0} (k : Codec C) (token : ℕ) where
 abbrev pub ValuesShowTheToken : Type 0
 ValuesShowTheToken = Always values (λ start w. JoinsShowToken values (token_of start.key_b) w)
 
--- over octets, where the start is plain and its numbers fit
+-- over octets, where the numbers of the start fit
 abbrev pub OctetsShowTheToken : Type 0
 OctetsShowTheToken =
-    (start : Start) (turns : List Turn) → IsPlain start → NumbersFit start
+    (start : Start) (turns : List Turn) → HasRoom start → NumbersFit start
     → JoinsShowToken octets (token_of start.key_b) (world_run octets turns (opened_world start))
 
 -- ---- by which token octets ask to join
@@ -62,8 +62,8 @@ AsksByTokenNext token (Path p) = AsksByToken token p
 pub record JoinsAskByToken (token : ℕ) (w : WorldState (List ℕ)) : Type 0 where
   pub each : (actor : ℕ) (c : ActorCrew (List ℕ)) → slice_get w.crew actor ≡ Some c → AsksByTokenNext token c.member
 
--- at every moment, where the start is plain and its numbers fit
+-- at every moment, where the numbers of the start fit
 abbrev pub JoinsAskByTheToken : Type 0
 JoinsAskByTheToken =
-    (start : Start) (turns : List Turn) → IsPlain start → NumbersFit start
+    (start : Start) (turns : List Turn) → HasRoom start → NumbersFit start
     → JoinsAskByToken (token_of start.key_b) (world_run octets turns (opened_world start))

@@ -3,15 +3,14 @@
 ghost use Rattle.join_tokens.specs.JoinTokens.{JoinsAskByTheToken, OctetsShowTheToken, ValuesShowTheToken};
 
 /// A law: at every moment each copy that comes to B next, and asks to join, shows the token of B's key (RFC 8684, section 3.2). Over
-/// segments as values this holds whatever the script does; over octets where the script alters no payload and the numbers of the
-/// start fit.
+/// segments as values this holds whatever the script does; over octets where the numbers of the start fit.
 pub fn joins_show_the_token()
     ensures values { ValuesShowTheToken }
     ensures octets { OctetsShowTheToken }
 {}
 
-/// A law: where the script alters no payload and the numbers of the start fit, at every moment the octets that come to B next, and
-/// ask to join, do so by the token of B's key: that is the one by which a listener routes them.
+/// A law: where the numbers of the start fit, at every moment the octets that come to B next, and ask to join, do so by the token of
+/// B's key: that is the one by which a listener routes them.
 pub fn joins_ask_by_the_token()
     ensures { JoinsAskByTheToken }
 {}

@@ -22,7 +22,7 @@ use Rattle.ruled_desk.specs.WholeRounds.{IsWholeRound}
 use Rattle.world_laws.specs.Actors.{Actor, ActorCrew, member_asks, member_takes}
 use Rattle.world_laws.specs.Fine.{lists_of}
 use Rattle.world_laws.specs.Weaving.{BooksGrew}
-use Rattle.world_laws.proofs.Occurring.{In, contains_in, in_contains}
+use Rattle.world_laws.proofs.Weaving.Occurring.{In, contains_in, in_contains}
 use Rattle.journal_weave.specs.Journals.{AreJournals}
 use Rattle.journal_weave.proofs.JournalsGrown.{journal_grew}
 

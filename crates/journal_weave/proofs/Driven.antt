@@ -3,7 +3,7 @@ use Rattle.std.proofs.Common.{◌≡◌, sym, subst}
 use Rattle.path_core.specs.Codec.{Codec}
 use Rattle.world_laws.specs.Weaving.{steps_by}
 use Rattle.world_laws.specs.Worlds.{AreLawful, world_run}
-use Rattle.world_laws.proofs.WeavingRounds.{woven_does}
+use Rattle.world_laws.proofs.Weaving.WholeRounds.{woven_does}
 use Rattle.journal_weave.specs.Laws.{WovenOrderDoes}
 
 pub order_does : {C : Type 0} (k : Codec C) → WovenOrderDoes k

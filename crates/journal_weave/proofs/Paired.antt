@@ -12,8 +12,8 @@ use Rattle.actor_desk.specs.declared.ask.Note.{Note}
 use Rattle.actor_desk.specs.Journals.{is_local, ArePaired, above, in_order, send_note, reassembly_note, control_note}
 use Rattle.world_laws.specs.Fine.{NotesRise}
 use Rattle.world_laws.specs.StampedBooks.{journals_of}
-use Rattle.world_laws.proofs.Occurring.{In}
-use Rattle.world_laws.proofs.WeavingOrder.{AreNumbered, rises_climb, asked_in_order}
+use Rattle.world_laws.proofs.Weaving.Occurring.{In}
+use Rattle.world_laws.proofs.Weaving.TheOrder.{AreNumbered, rises_climb, asked_in_order}
 use Rattle.journal_weave.specs.Journals.{JournalsRise}
 use Rattle.journal_weave.specs.Weaving.{AreOwn, book_of, asked_at, AreAllAsked}
 

@@ -12,7 +12,7 @@ use Rattle.world_laws.specs.Fine.{lists_of}
 use Rattle.world_laws.specs.StampedBooks.{journals_of}
 use Rattle.world_laws.specs.Weaving.{Begins, Worked}
 use Rattle.world_laws.specs.Worlds.{WorldState, all_over, greatest}
-use Rattle.world_laws.proofs.WeavingRounds.{woven_does}
+use Rattle.world_laws.proofs.Weaving.WholeRounds.{woven_does}
 use Rattle.journal_weave.specs.Journals.{AreJournals}
 use Rattle.journal_weave.specs.Rounds.{HaveTurned, WeavesTo, known_by}
 use Rattle.journal_weave.specs.Weaving.{AreOwn, lists_in}
