@@ -18,8 +18,8 @@ use Rattle.world_laws.specs.declared.member.Member.TheVariants.{App, Path}
 use Rattle.world_laws.specs.Actors.{Actor, ActorCrew, is_over, member_asks, member_next, member_takes}
 use Rattle.world_laws.specs.Openings.{PathPlan, Start, paths_from, plans_from, start_of}
 use Rattle.world_laws.specs.Worlds.{AreLawful, after_turn, all_over, begins, crew_after, end_round, greatest, is_going, stepped, asked, world_run, world_step}
-use Rattle.world_laws.proofs.RoundFrame.{first_stands}
-use Rattle.world_laws.proofs.WeavingRounds.{run_append, lawful_append}
+use Rattle.world_laws.proofs.Rounds.Frame.{first_stands}
+use Rattle.world_laws.proofs.Weaving.WholeRounds.{run_append, lawful_append}
 use Rattle.connection_table.specs.Tables.{Connection, Entry, IsHeld, Stands, StandsAlone, first_of, has_path, is_path, is_path_crew, key_token, opened_entry}
 use Rattle.connection_table.specs.Turns.{turn_of, turns_of}
 

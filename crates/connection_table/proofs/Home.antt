@@ -9,12 +9,12 @@ use Rattle.world_core.specs.Looking.{crew_path, member_path}
 use Rattle.world_laws.specs.declared.member.Member.TheVariants.{App, Path}
 use Rattle.world_laws.specs.Actors.{Actor, ActorCrew}
 use Rattle.world_laws.specs.Openings.{start_of}
-use Rattle.world_laws.proofs.PromisesOfScripts.{plain_scripts_start_plainly}
+use Rattle.world_laws.proofs.Promises.OfScripts.{scripts_fit}
 use Rattle.join_route.specs.Routing.{join_token}
 use Rattle.join_tokens.specs.JoinTokens.{AsksByTokenNext, JoinsAskByToken}
 use Rattle.join_tokens.proofs.JoinsAsked.{joins_ask}
 use Rattle.connection_table.specs.Routes.{EachIsRoutedHome, arriving_at_b, arriving_in, home_by, home_of, if_at_b, only_at_b, route_by, routed, to_holder}
-use Rattle.connection_table.specs.Tables.{Entry, IsPlainEntry, IsTable, StandsAlone, entry_at, holder_of, key_token}
+use Rattle.connection_table.specs.Tables.{Entry, IsShortEntry, IsTable, StandsAlone, entry_at, holder_of, key_token}
 use Rattle.connection_table.specs.Turns.{turns_of}
 
 -- what comes to B arrives there
@@ -41,7 +41,7 @@ crew_asks key actor crew a token asks is by_token = by (slice_get crew actor) re
     by (Some c) there is = member c.member (asks c there) is.0 is.1
 
 pub each_is_routed_home : EachIsRoutedHome
-each_is_routed_home table connection actor e sound there alone plain =
+each_is_routed_home table connection actor e sound there alone short =
     ap (λ (o : Option Entry). home_by connection (routed (option_and_then (arriving_in actor) o) table)) there ∙ by e.world.failed refl
   where
     key : ℕ
@@ -49,7 +49,7 @@ each_is_routed_home table connection actor e sound there alone plain =
 
     asks : e.world.failed ≡ false → JoinsAskByToken key e.world.state
     asks stands =
-        let starts = plain_scripts_start_plainly e.input.script e.input.file_a e.input.file_b plain in
+        let starts = scripts_fit e.input.script e.input.file_a e.input.file_b short in
         let same = alone.is stands in
         subst (JoinsAskByToken key) (sym same) (joins_ask (start_of e.input.script e.input.file_a e.input.file_b) (turns_of e.turns) starts.0 starts.1)
 
@@ -70,10 +70,10 @@ each_is_routed_home table connection actor e sound there alone plain =
     by false stands = arriving_is (arriving_at_b actor e.world.state.crew) refl stands
 
 -- of a connection that is there
-pub plain_stays_home : (table : List Entry) (connection actor : ℕ) → IsTable table → IsSomeAnd (entry_at connection table) StandsAlone
-    → IsSomeAnd (entry_at connection table) (λ entry. IsPlainEntry entry → home_of connection actor table ≡ connection)
-plain_stays_home table connection actor is alone = by (entry_at connection table) refl alone
+pub short_stays_home : (table : List Entry) (connection actor : ℕ) → IsTable table → IsSomeAnd (entry_at connection table) StandsAlone
+    → IsSomeAnd (entry_at connection table) (λ entry. IsShortEntry entry → home_of connection actor table ≡ connection)
+short_stays_home table connection actor is alone = by (entry_at connection table) refl alone
   where
-    by : (o : Option Entry) → entry_at connection table ≡ o → IsSomeAnd o StandsAlone → IsSomeAnd o (λ entry. IsPlainEntry entry → home_of connection actor table ≡ connection)
+    by : (o : Option Entry) → entry_at connection table ≡ o → IsSomeAnd o StandsAlone → IsSomeAnd o (λ entry. IsShortEntry entry → home_of connection actor table ≡ connection)
     by None there alone = alone
-    by (Some e) there alone = λ plain. each_is_routed_home table connection actor e is there alone plain
+    by (Some e) there alone = λ short. each_is_routed_home table connection actor e is there alone short

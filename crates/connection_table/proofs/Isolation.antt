@@ -9,9 +9,9 @@ use Rattle.run_outside.specs.declared.input.Input.{Input}
 use Rattle.stream_lanes.proofs.Lists.{in_append, in_more, in_one, in_set, set_other}
 use Rattle.world_core.specs.Kept.{standing}
 use Rattle.world_laws.specs.Worlds.{end_round, is_going, world_run, world_step}
-use Rattle.connection_table.specs.Calls.{Call, CanAllBe, CanBe, CanCall, EachIsIsolated, Event, IsIsolated, IsPlainTable, NoneFailed, after_call, after_calls, after_event, after_events, call_made, called_at, own_calls, put_call}
+use Rattle.connection_table.specs.Calls.{Call, CanAllBe, CanBe, CanCall, EachIsIsolated, Event, IsIsolated, IsShortTable, NoneFailed, after_call, after_calls, after_event, after_events, call_made, called_at, own_calls, put_call}
 use Rattle.connection_table.specs.Steps.{after_end, after_step}
-use Rattle.connection_table.specs.Tables.{Entry, IsPlainEntry, Stands, StandsAlone, entry_at, first_of, opened_entry, with_entry}
+use Rattle.connection_table.specs.Tables.{Entry, IsShortEntry, Stands, StandsAlone, entry_at, first_of, opened_entry, with_entry}
 use Rattle.connection_table.specs.Turns.{turns_of}
 use Rattle.connection_table.proofs.Held.{alone_more, stopped_alone}
 use Rattle.connection_table.proofs.Holders.{table_admits, table_stays}
@@ -74,50 +74,50 @@ none_later Call.Ends calls none = none
 -- ---- a call on a table
 
 -- it is made at the connection that it is for
-called_home : (table : List Entry) (connection : ℕ) (call : Call) (e : Entry) → IsPlainTable table → entry_at connection table ≡ Some e → called_at connection call table ≡ connection
-called_home table connection (Call.Steps actor) e plain there =
-    each_is_routed_home table connection actor e plain.is there (plain.alone connection e there) (plain.plain connection e there)
-called_home table connection (Call.Fails actor after) e plain there =
-    each_is_routed_home table connection actor e plain.is there (plain.alone connection e there) (plain.plain connection e there)
-called_home table connection Call.Ends e plain there = refl
+called_home : (table : List Entry) (connection : ℕ) (call : Call) (e : Entry) → IsShortTable table → entry_at connection table ≡ Some e → called_at connection call table ≡ connection
+called_home table connection (Call.Steps actor) e short there =
+    each_is_routed_home table connection actor e short.is there (short.alone connection e there) (short.short connection e there)
+called_home table connection (Call.Fails actor after) e short there =
+    each_is_routed_home table connection actor e short.is there (short.alone connection e there) (short.short connection e there)
+called_home table connection Call.Ends e short there = refl
 
-call_is : (table : List Entry) (connection : ℕ) (call : Call) (e : Entry) → IsPlainTable table → entry_at connection table ≡ Some e
+call_is : (table : List Entry) (connection : ℕ) (call : Call) (e : Entry) → IsShortTable table → entry_at connection table ≡ Some e
     → after_event (Event.Calls connection call) table ≡ with_entry connection (after_call call e) table
-call_is table connection call e plain there =
-    ap (λ (home : ℕ). call_made home call table) (called_home table connection call e plain there)
+call_is table connection call e short there =
+    ap (λ (home : ℕ). call_made home call table) (called_home table connection call e short there)
     ∙ ap (λ (o : Option Entry). put_call connection call o table) there
 
-same_plain : (e x : Entry) → x.input ≡ e.input → IsPlainEntry e → IsPlainEntry x
-same_plain e x same plain = subst (λ (input : Input). IsPlainEntry (record x { input = input })) (sym same) plain
+same_short : (e x : Entry) → x.input ≡ e.input → IsShortEntry e → IsShortEntry x
+same_short e x same short = subst (λ (input : Input). IsShortEntry (record x { input = input })) (sym same) short
 
--- the table is one of plain connections still
-module _ (table : List Entry) (connection : ℕ) (e x : Entry) (plain : IsPlainTable table) (there : entry_at connection table ≡ Some e) (goes : Goes e x) where
-  put_alone : (number : ℕ) (y : Entry) → entry_at number (with_entry connection x table) ≡ Some y → StandsAlone y × IsPlainEntry y
+-- the table is one of such connections still
+module _ (table : List Entry) (connection : ℕ) (e x : Entry) (short : IsShortTable table) (there : entry_at connection table ≡ Some e) (goes : Goes e x) where
+  put_alone : (number : ℕ) (y : Entry) → entry_at number (with_entry connection x table) ≡ Some y → StandsAlone y × IsShortEntry y
   put_alone number y at = ⊎_elim
-      (λ here. subst (λ (z : Entry). StandsAlone z × IsPlainEntry z) here.1 (goes.0, same_plain e x goes.1 (plain.plain connection e there)))
-      (λ other. (plain.alone number y other.1, plain.plain number y other.1))
+      (λ here. subst (λ (z : Entry). StandsAlone z × IsShortEntry z) here.1 (goes.0, same_short e x goes.1 (short.short connection e there)))
+      (λ other. (short.alone number y other.1, short.short number y other.1))
       (in_set table connection x number y at)
 
-  put_plain : IsPlainTable (with_entry connection x table)
-  put_plain = record {
-    is = table_stays table (with_entry connection x table) (same_inputs table connection e x there goes.1) plain.is;
+  put_short : IsShortTable (with_entry connection x table)
+  put_short = record {
+    is = table_stays table (with_entry connection x table) (same_inputs table connection e x there goes.1) short.is;
     alone = λ number y at. (put_alone number y at).0;
-    plain = λ number y at. (put_alone number y at).1;
+    short = λ number y at. (put_alone number y at).1;
   }
 
-module _ (table : List Entry) (input : Input) (plain : IsPlainTable table) (can : CanBe (Event.Admits input) table) where
-  new_alone : (number : ℕ) (y : Entry) → entry_at number (table ++ opened_entry input ∷ []) ≡ Some y → StandsAlone y × IsPlainEntry y
+module _ (table : List Entry) (input : Input) (short : IsShortTable table) (can : CanBe (Event.Admits input) table) where
+  new_alone : (number : ℕ) (y : Entry) → entry_at number (table ++ opened_entry input ∷ []) ≡ Some y → StandsAlone y × IsShortEntry y
   new_alone number y at = ⊎_elim
-      (λ old. (plain.alone number y old, plain.plain number y old))
-      (λ new. subst (λ (z : Entry). StandsAlone z × IsPlainEntry z) (in_one (opened_entry input) y _ new.1).1
-      (record { is = λ _. refl; lawful = λ _. tt }, can.plain))
+      (λ old. (short.alone number y old, short.short number y old))
+      (λ new. subst (λ (z : Entry). StandsAlone z × IsShortEntry z) (in_one (opened_entry input) y _ new.1).1
+      (record { is = λ _. refl; lawful = λ _. tt }, can.short))
       (in_append table (opened_entry input ∷ []) number y at)
 
-  admit_plain : IsPlainTable (table ++ opened_entry input ∷ [])
-  admit_plain = record {
-    is = table_admits table (opened_entry input) plain.is can.few can.new;
+  admit_short : IsShortTable (table ++ opened_entry input ∷ [])
+  admit_short = record {
+    is = table_admits table (opened_entry input) short.is can.few can.new;
     alone = λ number y at. (new_alone number y at).0;
-    plain = λ number y at. (new_alone number y at).1;
+    short = λ number y at. (new_alone number y at).1;
   }
 
 -- ---- all calls
@@ -138,16 +138,16 @@ some_there (Some c) P h = (c, refl, h)
 module _ (events : List Event) (number : ℕ) where
   -- the calls behind the first one
   abbrev Later : Type 0
-  Later = (table : List Entry) (e : Entry) → IsPlainTable table → CanAllBe events table → entry_at number table ≡ Some e
+  Later = (table : List Entry) (e : Entry) → IsShortTable table → CanAllBe events table → entry_at number table ≡ Some e
       → IsIsolated (own_calls number events) e (entry_at number (after_events events table))
 
-  module _ (later : Later) (table : List Entry) (connection : ℕ) (call : Call) (e c : Entry) (plain : IsPlainTable table) (can : CanCall call c)
+  module _ (later : Later) (table : List Entry) (connection : ℕ) (call : Call) (e c : Entry) (short : IsShortTable table) (can : CanCall call c)
       (at : entry_at connection table ≡ Some c) (there : entry_at number table ≡ Some e) where
     goes : Goes c (after_call call c)
-    goes = call_goes call c can (plain.alone connection c at)
+    goes = call_goes call c can (short.alone connection c at)
 
-    next_plain : IsPlainTable (with_entry connection (after_call call c) table)
-    next_plain = put_plain table connection c (after_call call c) plain at goes
+    next_short : IsShortTable (with_entry connection (after_call call c) table)
+    next_short = put_short table connection c (after_call call c) short at goes
 
     abbrev Calls : Bool → List Call
     Calls b = if b then call ∷ own_calls number events else own_calls number events
@@ -160,23 +160,23 @@ module _ (events : List Event) (number : ℕ) where
         let put : entry_at number (with_entry connection (after_call call c) table) ≡ Some (after_call call c)
         = ap (λ k. entry_at k (with_entry connection (after_call call c) table)) (sym same) ∙ set_there table connection c (after_call call c) at in
         subst (λ (x : Entry). IsIsolated (call ∷ own_calls number events) x (entry_at number (after_events events (with_entry connection (after_call call c) table)))) one
-        (call_before call (own_calls number events) c _ goes (later (with_entry connection (after_call call c) table) (after_call call c) next_plain possible put))
+        (call_before call (own_calls number events) c _ goes (later (with_entry connection (after_call call c) table) (after_call call c) next_short possible put))
     by false test possible =
         let other : number ≢ connection = λ same. false≢true (sym test ∙ eq-eqb connection number (sym same)) in
-        later (with_entry connection (after_call call c) table) e next_plain possible (set_other table connection (after_call call c) number other ∙ there)
+        later (with_entry connection (after_call call c) table) e next_short possible (set_other table connection (after_call call c) number other ∙ there)
 
     call_isolated : CanAllBe events (after_event (Event.Calls connection call) table)
         → IsIsolated (own_calls number (Event.Calls connection call ∷ events)) e (entry_at number (after_events events (after_event (Event.Calls connection call) table)))
     call_isolated possible =
-        let is = call_is table connection call c plain at in
+        let is = call_is table connection call c short at in
         subst (λ (xs : List Entry). IsIsolated (Calls (connection == number)) e (entry_at number (after_events events xs))) (sym is)
         (by (connection == number) refl (subst (CanAllBe events) is possible))
 
 pub each_is_isolated : EachIsIsolated
-each_is_isolated [] table number e plain can there = record { own = there; alone = λ none stands. (plain.alone number e there).is stands }
-each_is_isolated (Event.Admits input ∷ events) table number e plain can there =
-    each_is_isolated events (table ++ opened_entry input ∷ []) number e (admit_plain table input plain can.0) can.1
+each_is_isolated [] table number e short can there = record { own = there; alone = λ none stands. (short.alone number e there).is stands }
+each_is_isolated (Event.Admits input ∷ events) table number e short can there =
+    each_is_isolated events (table ++ opened_entry input ∷ []) number e (admit_short table input short can.0) can.1
     (in_more table (opened_entry input ∷ []) number e there)
-each_is_isolated (Event.Calls connection call ∷ events) table number e plain can there =
+each_is_isolated (Event.Calls connection call ∷ events) table number e short can there =
     let found = some_there (entry_at connection table) (CanCall call) can.0 in
-    call_isolated events number (λ xs x. each_is_isolated events xs number x) table connection call e found.0 plain found.2 found.1 there can.1
+    call_isolated events number (λ xs x. each_is_isolated events xs number x) table connection call e found.0 short found.2 found.1 there can.1

@@ -2,11 +2,11 @@
 use Rattle.std.specs.Prelude.{ℕ, ◌≡◌, ◌<◌, ◌==◌, if◌then◌else◌, List, [], ◌∷◌, ◌++◌, length, Option, Some, None, IsSomeAnd}
 use Rattle.path_core.specs.Octets.{octets}
 use Rattle.run_outside.specs.declared.input.Input.{Input}
-use Rattle.world_laws.specs.PlainScripts.{IsPlainScript}
+use Rattle.world_laws.specs.PlainScripts.{IsShortScript}
 use Rattle.world_laws.specs.Worlds.{world_run}
 use Rattle.connection_table.specs.Routes.{home_of}
 use Rattle.connection_table.specs.Steps.{IsStopped, after_end, after_step}
-use Rattle.connection_table.specs.Tables.{Entry, IsPlainEntry, IsTable, Stands, StandsAlone, entry_at, first_of, holder_of, key_token, opened_entry, with_entry}
+use Rattle.connection_table.specs.Tables.{Entry, IsShortEntry, IsTable, Stands, StandsAlone, entry_at, first_of, holder_of, key_token, opened_entry, with_entry}
 use Rattle.connection_table.specs.Turns.{turns_of}
 
 -- a call for a connection
@@ -73,11 +73,11 @@ abbrev pub after_events : List Event → List Entry → List Entry
 after_events [] table = table
 after_events (event ∷ events) table = after_events events (after_event event table)
 
--- there is room for a connection by a plain script, whose token is new
+-- there is room for a connection with short files, whose token is new
 pub record CanAdmit (input : Input) (table : List Entry) : Type 0 where
   pub few : length table < 64
   pub new : holder_of (key_token input.script) table ≡ None
-  pub plain : IsPlainScript input.script input.file_a input.file_b
+  pub short : IsShortScript input.script input.file_a input.file_b
 
 abbrev pub CanBe : Event → List Entry → Type 0
 CanBe (Admits input) table = CanAdmit input table
@@ -96,11 +96,11 @@ own_calls number (Calls connection call ∷ events) =
 
 -- ---- the law: no connection changes another
 
--- connections by plain scripts, of which each that hasn't failed is what its own input and turns come to
-pub record IsPlainTable (table : List Entry) : Type 0 where
+-- connections with short files, of which each that hasn't failed is what its own input and turns come to
+pub record IsShortTable (table : List Entry) : Type 0 where
   pub is : IsTable table
   pub alone : (number : ℕ) (e : Entry) → entry_at number table ≡ Some e → StandsAlone e
-  pub plain : (number : ℕ) (e : Entry) → entry_at number table ≡ Some e → IsPlainEntry e
+  pub short : (number : ℕ) (e : Entry) → entry_at number table ≡ Some e → IsShortEntry e
 
 -- this is a connection after its own calls alone; where none of them wanted memory it is what its own input and turns come to
 pub record IsIsolated (calls : List Call) (before : Entry) (now : Option Entry) : Type 0 where
@@ -111,5 +111,5 @@ pub record IsIsolated (calls : List Call) (before : Entry) (now : Option Entry) 
 -- for every list of calls
 abbrev pub EachIsIsolated : Type 0
 EachIsIsolated =
-    (events : List Event) (table : List Entry) (number : ℕ) (e : Entry) → IsPlainTable table → CanAllBe events table → entry_at number table ≡ Some e
+    (events : List Event) (table : List Entry) (number : ℕ) (e : Entry) → IsShortTable table → CanAllBe events table → entry_at number table ≡ Some e
     → IsIsolated (own_calls number events) e (entry_at number (after_events events table))

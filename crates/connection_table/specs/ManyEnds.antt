@@ -3,7 +3,7 @@ use Rattle.std.specs.Prelude.{ℕ, ◌≡◌, ◌≢◌, ◌⊎◌, ◌+◌, ◌
 use Rattle.std.specs.List.{AllZip}
 use Rattle.outside_kit.specs.Outside.{HasRisen, HoldsAfter, HoldsPrefix}
 use Rattle.run_outside.specs.declared.input.Input.{Input}
-use Rattle.run_outside.specs.Script.{script_meaning}
+use Rattle.link_script.specs.Reading.{reading}
 use Rattle.stream_lanes.specs.Words.{Every}
 use Rattle.connection_list.specs.Words.{NamedList}
 use Rattle.connection_list.specs.Lists.{Names, list_reading}
@@ -122,7 +122,7 @@ IsEnd content words loads puts log many = IsLoadingFault content words loads.0 l
 pub record IsValidInput (content : Contents) (names : Names) (input : Input) : Type 0 where
   pub text : List ℕ
   pub script_told : content names.script ≡ Some text
-  pub script : script_meaning text ≡ Ok input.script
+  pub script : reading text ≡ Ok input.script
   pub script_short : length text ≤ 65536
   pub file_a : content names.file_a ≡ Some input.file_a
   pub file_b : content names.file_b ≡ Some input.file_b

@@ -8,7 +8,7 @@ use Rattle.world_laws.specs.Actors.{ActorCrew}
 use Rattle.join_route.specs.Routing.{join_token}
 use Rattle.connection_table.specs.declared.route.Route.{Route}
 use Rattle.connection_table.specs.declared.route.Route.TheVariants.{To, Unknown, NotJoin}
-use Rattle.connection_table.specs.Tables.{Entry, IsPlainEntry, IsTable, StandsAlone, entry_at, holder_of}
+use Rattle.connection_table.specs.Tables.{Entry, IsShortEntry, IsTable, StandsAlone, entry_at, holder_of}
 
 -- where a segment goes that asks to join by this token, if it does
 abbrev pub to_holder : ℕ → Option ℕ → Route
@@ -52,9 +52,9 @@ home_of connection actor table = home_by connection (routed (option_and_then (ar
 
 -- ---- the law: a join finds its connection
 
--- Of a connection that stands alone, where no line of its script alters a payload and both files are shorter than 2^31 - 2 octets,
+-- Of a connection that stands alone, where both files are shorter than 2^31 - 2 octets,
 -- each step is made at that connection: a join that comes to B is routed there by its token.
 abbrev pub EachIsRoutedHome : Type 0
 EachIsRoutedHome =
     (table : List Entry) (connection actor : ℕ) (e : Entry) → IsTable table → entry_at connection table ≡ Some e → StandsAlone e
-    → IsPlainEntry e → home_of connection actor table ≡ connection
+    → IsShortEntry e → home_of connection actor table ≡ connection

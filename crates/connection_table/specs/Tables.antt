@@ -11,7 +11,7 @@ use Rattle.world_core.specs.Kept.{Kept, standing}
 use Rattle.world_laws.specs.declared.member.Member.TheVariants.{App, Path}
 use Rattle.world_laws.specs.Actors.{Actor, ActorCrew}
 use Rattle.world_laws.specs.Openings.{opened_world, start_of}
-use Rattle.world_laws.specs.PlainScripts.{IsPlainScript}
+use Rattle.world_laws.specs.PlainScripts.{IsShortScript}
 use Rattle.world_laws.specs.Worlds.{WorldState, AreLawful, all_over, world_run}
 use Rattle.connection_table.specs.Turns.{turns_of}
 
@@ -52,9 +52,9 @@ pub record StandsAlone (e : Entry) : Type 0 where
 abbrev pub key_token : Script → ℕ
 key_token script = token_of (key_of script.seed 2)
 
--- no line of its script alters a payload, and both files are shorter than 2^31 - 2 octets
-abbrev pub IsPlainEntry : Entry → Type 0
-IsPlainEntry e = IsPlainScript e.input.script e.input.file_a e.input.file_b
+-- both of its files are shorter than 2^31 - 2 octets
+abbrev pub IsShortEntry : Entry → Type 0
+IsShortEntry e = IsShortScript e.input.script e.input.file_a e.input.file_b
 
 -- ---- as it is kept
 

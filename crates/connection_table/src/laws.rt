@@ -4,8 +4,7 @@ ghost use Rattle.connection_table.specs.Calls.{EachIsIsolated};
 ghost use Rattle.connection_table.specs.Routes.{EachIsRoutedHome};
 
 /// A law: a join that comes to B of a connection is routed to that connection, so that each step is made where it was asked for. This
-/// holds of each that is what its own input and turns come to, where no line of its script alters a payload and both files are shorter
-/// than 2^31 - 2 octets.
+/// holds of each that is what its own input and turns come to, where both files are shorter than 2^31 - 2 octets.
 pub fn joins_find_their_connection()
     ensures { EachIsRoutedHome }
 {}

@@ -4,7 +4,7 @@ ghost use Rattle.std.specs.Prelude.{◌≡◌, ◌≢◌, ◌⊎◌, ◌<◌, �
 ghost use Rattle.world_core.specs.Steps.{next_note, stepped_by};
 ghost use Rattle.connection_table.specs.Routes.{home_of};
 ghost use Rattle.connection_table.specs.Steps.{IsStopped, after_end, after_step, ends};
-ghost use Rattle.connection_table.specs.Tables.{Entry, IsPlainEntry, Stands, StandsAlone, entry_at, with_entry};
+ghost use Rattle.connection_table.specs.Tables.{Entry, IsShortEntry, Stands, StandsAlone, entry_at, with_entry};
 
 use crate::route::Route;
 use crate::slot::Slot;
@@ -30,8 +30,7 @@ impl ConnectionTable {
     }
 
     /// Makes one step of an actor of a connection, and answers its note, or that its turn has ended. A segment that comes to B and
-    /// asks to join is routed by its token. Where no line of the script alters a payload, and both files are shorter than 2^31 - 2
-    /// octets, that names this connection.
+    /// asks to join is routed by its token. Where both files are shorter than 2^31 - 2 octets, that names this connection.
     ///
     /// # Errors
     ///
@@ -47,7 +46,7 @@ impl ConnectionTable {
         ensures stood { OnOk result
             (IsSomeAnd (entry_at (home_of connection actor self.old) self.old) Stands) }
         ensures home { IsSomeAnd (entry_at connection self.old) (λ entry.
-            IsPlainEntry entry → home_of connection actor self.old ≡ connection) }
+            IsShortEntry entry → home_of connection actor self.old ≡ connection) }
         ensures others { (other : ℕ) → other ≢ home_of connection actor self.old
             → entry_at other self.new ≡ entry_at other self.old }
         ensures err { OnErr result ((self.new ≡ self.old)

@@ -1,7 +1,7 @@
 -- What a connection of a list begins with.
 use Rattle.std.specs.Prelude.{ℕ, ◌≡◌, ◌⊎◌, ◌<◌, ◌≤◌, List, length, Option, Ok, IfSome}
 use Rattle.run_outside.specs.declared.input.Input.{Input}
-use Rattle.run_outside.specs.Script.{script_meaning}
+use Rattle.link_script.specs.Reading.{reading}
 use Rattle.connection_list.specs.Lists.{Names}
 
 -- the content of a name, where it is told
@@ -10,7 +10,7 @@ Contents = List ℕ → Option (List ℕ)
 
 -- this is what a connection of these names begins with, as far as the contents are told
 pub record IsInput (content : Contents) (names : Names) (input : Input) : Type 0 where
-  pub script : IfSome (content names.script) (λ told. script_meaning told ≡ Ok input.script)
+  pub script : IfSome (content names.script) (λ told. reading told ≡ Ok input.script)
   pub file_a : IfSome (content names.file_a) (λ told. input.file_a ≡ told)
   pub file_b : IfSome (content names.file_b) (λ told. input.file_b ≡ told)
 

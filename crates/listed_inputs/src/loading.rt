@@ -2,7 +2,7 @@
 
 ghost use Rattle.std.specs.Prelude.{◌≡◌, ◌<◌, ◌≤◌, ℕ, List, Ok, IfErr, IfOk, IfSome, length, map, vec_len};
 ghost use Rattle.outside_kit.specs.declared.port.Port.{Port};
-ghost use Rattle.run_outside.specs.Script.{script_meaning};
+ghost use Rattle.link_script.specs.Reading.{reading};
 ghost use Rattle.link_script.specs.Scripts.{HasRanges};
 ghost use Rattle.connection_list.specs.Lists.{as_names, list_reading};
 ghost use Rattle.listed_inputs.specs.Causes.{IsInputFault, IsListFault, IsLoadFault, IsScriptFault, OnlyLoads};
@@ -11,10 +11,10 @@ ghost use Rattle.listed_inputs.specs.declared.many.Many.TheVariants.{Memory};
 
 use crate::many::Many;
 use connection_list::{ListFault, Listed, read_list};
-use link_script::{Script, ScriptFault};
+use link_script::{Script, ScriptFault, parse};
 use outside_kit::{LoadFault, Outside};
 use pipe_model::Text;
-use run_outside::{Input, read_script};
+use run_outside::Input;
 use std::alloc::Global;
 
 // How many octets the list, a script or a file has at most.
@@ -71,11 +71,11 @@ pub fn connections_of(alloc: Global, list: &[u8]) -> Result<Vec<Listed<'_>>, Man
 /// What the script of a connection says.
 fn script_of(alloc: Global, entry: u8, text: &[u8]) -> Result<Script, Many>
     requires { length text.now ≤ 65536 }
-    ensures script { IfOk result (λ script. script_meaning text.now ≡ Ok script) }
+    ensures script { IfOk result (λ script. reading text.now ≡ Ok script) }
     ensures ranges { IfOk result HasRanges }
     ensures fault { IfErr result (IsScriptFault entry text.now) }
 {
-    match read_script(alloc, text) {
+    match parse(alloc, text) {
         Ok(script) => Ok(script),
         Err(ScriptFault::Line { line, kind }) => Err(Many::Script { entry, line, kind }),
         Err(ScriptFault::Memory) => Err(Many::Memory),
@@ -102,7 +102,7 @@ fn input_of(
     file_b: Vec<u8>,
 ) -> Result<Input, Many>
     requires { length script.now ≤ 65536 }
-    ensures script { IfOk result (λ input. script_meaning script.now ≡ Ok input.script) }
+    ensures script { IfOk result (λ input. reading script.now ≡ Ok input.script) }
     ensures file_a { IfOk result (λ input. input.file_a ≡ file_a.items) }
     ensures file_b { IfOk result (λ input. input.file_b ≡ file_b.items) }
     ensures ranges { IfOk result (λ input. HasRanges input.script) }

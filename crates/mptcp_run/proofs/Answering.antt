@@ -1,6 +1,6 @@
 -- What each status of a run says, from what its parts say.
 use Rattle.std.proofs.Common.{◌≡◌, refl, sym, ap, subst, ℕ, ◌≤◌, inl, inr, List, [], ◌++◌, Option, Some, None, Result, Ok, IfSome, IsSome, length}
-use Rattle.std.specs.Prelude.{option_and_then, option_map, map, IsOk}
+use Rattle.std.specs.Prelude.{option_and_then, option_map, map, IsOk, IsSomeAnd}
 use Rattle.std.specs.Result.{result_ok}
 use Rattle.outside_kit.specs.declared.port.Port.{Port}
 use Rattle.outside_kit.specs.declared.port.Port.TheVariants as port
@@ -10,7 +10,9 @@ use Rattle.link_script.specs.declared.script.Script.{Script}
 use Rattle.run_words.specs.Lines.{Line, run, serial, replay, ◌>>=◌}
 use Rattle.run_log.specs.declared.turn.Turn as log_turn
 use Rattle.run_outside.specs.declared.input.Input.{Input}
+use Rattle.world_laws.specs.PlainScripts.{AltersNone}
 use Rattle.world_laws.specs.Worlds.{Turn}
+use Rattle.world_laws.proofs.Promises.OfScripts.{short_of}
 use Rattle.mptcp_run.specs.declared.report.Report.TheVariants as report
 use Rattle.run_outside.specs.declared.status.Named.TheVariants as input
 use Rattle.run_outside.specs.declared.status.Status.{Status}
@@ -25,16 +27,16 @@ use Rattle.mptcp_run.specs.Made.{Bench}
 use Rattle.run_outside.specs.Plan.{AddsAll, AddsCut, plan_of, loads_of}
 use Rattle.mptcp_run.specs.Plan.{puts_so_far, all_puts}
 use Rattle.run_outside.specs.Ports.{IsUntouched, IsPortsFault, HoldsMore, HoldsWithin}
-use Rattle.mptcp_run.specs.Promised.{IsPlainTask, EndsWithRound, IsAlwaysKept, HoldsPrefixOf, HoldsPrefixIfBound, ReadersHaveFiles, ReadersHavePrefixes, ReadersHavePrefixesIfBound}
+use Rattle.mptcp_run.specs.Promised.{IsPlainTask, IsShortTask, EndsWithRound, IsAlwaysKept, HoldsPrefixOf, HoldsPrefixIfBound, NoneIsAltered, ReadersHaveAsMany, ReadersHaveFiles, ReadersHavePrefixes, ReadersHavePrefixesIfBound}
 use Rattle.mptcp_run.specs.Putting.{IsWhole, IsStopped}
 use Rattle.mptcp_run.specs.Replaying.{IsReplayFault}
-use Rattle.run_outside.specs.Script.{script_meaning, script_in}
-use Rattle.run_outside.specs.Reading.{script_of, log_reading}
+use Rattle.link_script.specs.Reading.{reading}
+use Rattle.run_outside.specs.Reading.{script_in, script_of, log_reading}
 use Rattle.mptcp_run.specs.Task.{Task, Course, rounds, threads, told, task_from, turn_of, turns_in, course_of, task_of}
 use Rattle.mptcp_run.specs.Rounds.{all_turns}
 use Rattle.run_outside.proofs.Calls.{Told, all_then, cut_then, short_then, short_cut}
 use Rattle.mptcp_run.proofs.Logged.{whole_runs_are_told}
-use Rattle.mptcp_run.proofs.Promised.{plain_tasks_are_kept, whole_runs_give_prefixes, whole_runs_have_cause, delivered_runs_give_files, stopped_runs_give_prefixes, cut_runs_give_prefixes, lines_cut_give_prefixes}
+use Rattle.mptcp_run.proofs.Promised.{plain_of, short_tasks_are_kept, checked_runs_are_right, delivered_runs_give_as_many, whole_runs_give_prefixes, whole_runs_have_cause, delivered_runs_give_files, stopped_runs_give_prefixes, cut_runs_give_prefixes, lines_cut_give_prefixes}
 
 abbrev Ports : Type 0
 Ports = Port → Option (List ℕ)
@@ -55,7 +57,7 @@ module _ {X : Type 0} where
   some_weaker (Some x) P Q f h = f x h
 
 task_known : (s a b : Option (List ℕ)) (c : Script → Option Course) (input : Input) (course : Course)
-    → IfSome s (λ text. script_meaning text ≡ Ok input.script) → IfSome a (λ text. input.file_a ≡ text) → IfSome b (λ text. input.file_b ≡ text) → IfSome (c input.script) (λ x. x ≡ course)
+    → IfSome s (λ text. reading text ≡ Ok input.script) → IfSome a (λ text. input.file_a ≡ text) → IfSome b (λ text. input.file_b ≡ text) → IfSome (c input.script) (λ x. x ≡ course)
     → IfSome (option_and_then script_in s >>= λ script. a >>= λ file_a. b >>= λ file_b. c script >>= λ x. Some (record { script = script; file_a = file_a; file_b = file_b; course = x; report = report.Log }))
     (λ (t : Task). t ≡ task_from input course)
 task_known None a b c input course script file_a file_b way = tt
@@ -72,7 +74,7 @@ task_known (Some s) a b c input course script file_a file_b way =
 
 -- what a task of rounds by threads is
 pub threads_task : (content : List ℕ → Option (List ℕ)) (line : Line) (most : ℕ) (input : Input) → line.work ≡ run most
-    → IfSome (content line.names.script) (λ text. script_meaning text ≡ Ok input.script)
+    → IfSome (content line.names.script) (λ text. reading text ≡ Ok input.script)
     → IfSome (content line.names.file_a) (λ text. input.file_a ≡ text) → IfSome (content line.names.file_b) (λ text. input.file_b ≡ text)
     → IfSome (task_of content line) (λ t. t ≡ task_from input (threads most))
 threads_task content line most input is script file_a file_b =
@@ -81,7 +83,7 @@ threads_task content line most input is script file_a file_b =
 
 -- what a task of whole turns is
 pub serial_task : (content : List ℕ → Option (List ℕ)) (line : Line) (most : ℕ) (input : Input) → line.work ≡ serial most
-    → IfSome (content line.names.script) (λ text. script_meaning text ≡ Ok input.script)
+    → IfSome (content line.names.script) (λ text. reading text ≡ Ok input.script)
     → IfSome (content line.names.file_a) (λ text. input.file_a ≡ text) → IfSome (content line.names.file_b) (λ text. input.file_b ≡ text)
     → IfSome (task_of content line) (λ t. t ≡ task_from input (rounds most))
 serial_task content line most input is script file_a file_b =
@@ -99,7 +101,7 @@ told_way (Some ts) turns h = ap told h
 
 -- what a task of the turns of a log is
 pub replay_task : (content : List ℕ → Option (List ℕ)) (line : Line) (log : List ℕ) (turns : List log_turn.Turn) (input : Input) → line.work ≡ replay log
-    → IfSome (content line.names.script) (λ text. script_meaning text ≡ Ok input.script)
+    → IfSome (content line.names.script) (λ text. reading text ≡ Ok input.script)
     → IfSome (content line.names.file_a) (λ text. input.file_a ≡ text) → IfSome (content line.names.file_b) (λ text. input.file_b ≡ text)
     → IfSome (content log) (λ text. log_reading input.script text ≡ Ok turns)
     → IfSome (task_of content line) (λ t. t ≡ task_from input (told (all_turns turns)))
@@ -235,10 +237,14 @@ cut_calls loads line task held holds ta tb status (inr h) = (all_puts task h.tur
 -- ---- what was read
 
 -- the script that was read is the one that the line names
-pub known_script : (o : Option (List ℕ)) (script : Script) (P : Script → Type 0) → IfSome o (λ text. script_meaning text ≡ Ok script) → P script
+pub known_script : (o : Option (List ℕ)) (script : Script) (P : Script → Type 0) → IfSome o (λ text. reading text ≡ Ok script) → P script
     → IfSome (option_and_then script_in o) P
 known_script None script P is p = tt
 known_script (Some text) script P is p = subst (λ r. IfSome (result_ok r) P) (sym is) p
+
+some_said : (o : Option Script) (script : Script) (P : Script → Type 0) → IsSomeAnd o P → IfSome o (λ s. s ≡ script) → P script
+some_said None script P all is = absurd all
+some_said (Some s) script P all is = subst P is all
 
 ok_known : {X E : Type 0} (r : Result X E) (x : X) → r ≡ Ok x → IsOk r
 ok_known r x is = subst (λ q. IsOk q) (sym is) refl
@@ -251,15 +257,15 @@ module _ (content : List ℕ → Option (List ℕ)) (line : Line) where
   unordered_within none h input.FileB = h.1.1
   unordered_within none h input.Order = subst (λ (o : Option (List ℕ)). IfSome (option_and_then content o) (λ told. length told ≤ limit_of input.Order)) (sym none) tt
 
-  pub script_valid : (script : Script) → IfSome (content line.names.script) (λ text. script_meaning text ≡ Ok script) → HasValidScript content line
-  script_valid script h = some_weaker (content line.names.script) _ _ (λ text is. ok_known (script_meaning text) script is) h
+  pub script_valid : (script : Script) → IfSome (content line.names.script) (λ text. reading text ≡ Ok script) → HasValidScript content line
+  script_valid script h = some_weaker (content line.names.script) _ _ (λ text is. ok_known (reading text) script is) h
 
   pub unordered_valid : order_of line.work ≡ None → HasValidOrder content line
   unordered_valid none = some_always (script_of content line) _
       (λ script. subst (λ (o : Option (List ℕ)). IfSome (option_and_then content o) (λ told. IsOk (log_reading script told))) (sym none) tt)
 
   pub replay_order : (log : List ℕ) (turns : List log_turn.Turn) (script : Script) → line.work ≡ replay log
-      → IfSome (content line.names.script) (λ text. script_meaning text ≡ Ok script) → IfSome (content log) (λ text. log_reading script text ≡ Ok turns)
+      → IfSome (content line.names.script) (λ text. reading text ≡ Ok script) → IfSome (content log) (λ text. log_reading script text ≡ Ok turns)
       → HasValidOrder content line
   replay_order log turns script is read h =
       known_script (content line.names.script) script (λ s. IfSome (content_of content line input.Order) (λ told. IsOk (log_reading s told))) read
@@ -322,15 +328,19 @@ module _ (content : List ℕ → Option (List ℕ)) (line : Line) (loads_before 
 
   -- ---- behind the loads
 
-  module _ (task : Task) (known : IfSome (task_of content line) (λ t. t ≡ task)) (plain : IsPlainTask task)
+  module _ (task : Task) (known : IfSome (task_of content line) (λ t. t ≡ task)) (short : IsShortTask task)
       (file_a : IfSome (content line.names.file_a) (λ text. task.file_a ≡ text)) (file_b : IfSome (content line.names.file_b) (λ text. task.file_b ≡ text))
-      (within : AreWithinLimits content line) (script : HasValidScript content line) (order : HasValidOrder content line) where
+      (within : AreWithinLimits content line) (said : IfSome (content line.names.script) (λ text. reading text ≡ Ok task.script)) (order : HasValidOrder content line) where
+    -- where no line of the script alters a payload
+    plain : NoneIsAltered content line → IsPlainTask task
+    plain none = plain_of task short (some_said (script_of content line) task.script AltersNone none (known_script (content line.names.script) task.script (λ s. s ≡ task.script) said refl))
+
     was_read : WasRead content line
     was_read = record {
       within = within;
-      script = script;
+      script = script_valid content line task.script said;
       order = order;
-      kept = some_is (task_of content line) task IsAlwaysKept known (λ turns. plain_tasks_are_kept task turns plain);
+      kept = some_is (task_of content line) task IsAlwaysKept known (λ turns. short_tasks_are_kept task turns short);
     }
 
     prefixes : ReadersHavePrefixes (Some task.file_a) (Some task.file_b) held holds
@@ -354,6 +364,13 @@ module _ (content : List ℕ → Option (List ℕ)) (line : Line) (loads_before 
       read_by_a = some_of (content line.names.file_b) task.file_b _ file_b h.read_by_a;
     }
 
+    many : ReadersHaveAsMany (Some task.file_a) (Some task.file_b) held holds
+        → ReadersHaveAsMany (content line.names.file_a) (content line.names.file_b) held holds
+    many h = record {
+      read_by_b = some_of (content line.names.file_a) task.file_a _ file_a h.read_by_b;
+      read_by_a = some_of (content line.names.file_b) task.file_b _ file_b h.read_by_a;
+    }
+
     -- a run came to its own end
     module _ (kept : task.report ≡ report.Log) (some : HasRounds task.course) (ends : EndsWithRound task.course) where
       end_row : (status : Status) → CameToEnd (loads_of line) line task held holds ta tb status
@@ -364,16 +381,21 @@ module _ (content : List ℕ → Option (List ℕ)) (line : Line) (loads_before 
         run = some_is (task_of content line) task (λ t. HasRun t status (all_puts task h.whole.turns) held holds) known (record {
           whole = h.whole;
           puts_are = refl;
-          logged = whole_runs_are_told task status held holds kept plain.ranges.few_paths some h.whole;
-          caused = whole_runs_have_cause task status held holds plain h.whole;
+          logged = whole_runs_are_told task status held holds kept short.ranges.few_paths some h.whole;
+          caused = whole_runs_have_cause task status held holds short h.whole;
+          checked = λ uses. checked_runs_are_right task status held holds short ends uses h.whole;
         });
-        prefixes = prefixes (whole_runs_give_prefixes task status held holds plain h.whole);
+        prefixes = λ none. prefixes (whole_runs_give_prefixes task status held holds (plain none) h.whole);
         calls = h.calls;
       }
 
       pub end_answer : (status : Status) → CameToEnd (loads_of line) line task held holds ta tb status
           → IsAnswer content line loads_before loads faults_before faults held holds ta tb status
-      end_answer Delivered h = (end_row Delivered h, files (delivered_runs_give_files task held holds plain ends h.whole))
+      end_answer Delivered h = record {
+        row = end_row Delivered h;
+        many = many (delivered_runs_give_as_many task held holds short ends h.whole);
+        files = λ none. files (delivered_runs_give_files task held holds (plain none) ends h.whole);
+      }
       end_answer Rounds h = end_row Rounds h
       end_answer NoPath h = end_row NoPath h
       end_answer (Aborted reader) h = end_row (Aborted reader) h
@@ -391,7 +413,7 @@ module _ (content : List ℕ → Option (List ℕ)) (line : Line) (loads_before 
     cut_row status h = record {
       read = was_read;
       cut = some_is (task_of content line) task (λ t. IsCut (loads_of line) line t held holds ta tb status) known h;
-      prefixes = prefixes_if_bound (cut_prefixes (loads_of line) line task held holds ta tb status plain h);
+      prefixes = λ none. prefixes_if_bound (cut_prefixes (loads_of line) line task held holds ta tb status (plain none) h);
       calls = cut_calls (loads_of line) line task held holds ta tb status h;
     }
 
@@ -421,7 +443,7 @@ module _ (content : List ℕ → Option (List ℕ)) (line : Line) (loads_before 
             (some_weaker (content log) (λ text. opening ≡ opening_count text) (λ text. IfSome (task_of content line) (λ t. HasStopped t (opening_count text) at puts held holds))
             (λ text same. some_is (task_of content line) task (λ t. HasStopped t (opening_count text) at puts held holds) known
             (subst (λ n. HasStopped task n at puts held holds) same (record { stopped = h.stopped; puts_are = refl }))) count);
-        prefixes = prefixes (stopped_runs_give_prefixes task opening at held holds plain h.stopped);
+        prefixes = λ none. prefixes (stopped_runs_give_prefixes task opening at held holds (plain none) h.stopped);
         calls = h.calls;
       }
         where
@@ -447,7 +469,7 @@ module _ (content : List ℕ → Option (List ℕ)) (line : Line) (loads_before 
 module _ (made : Bench) (plain : IsPlainTask made.task) (loads_before loads : ℕ) (same : loads ≡ loads_before) (faults_before faults : Port → ℕ) (held holds : Ports) (ta tb : Told) where
   with_row : (status : Status) → MadeRow made loads_before loads faults_before faults held holds ta tb status
       → IsMadeAnswer made loads_before loads faults_before faults held holds ta tb status
-  with_row status row = record { row = row; kept = λ turns. plain_tasks_are_kept made.task turns plain; unloaded = same }
+  with_row status row = record { row = row; kept = λ turns. short_tasks_are_kept made.task turns (short_of made.task.script made.task.file_a made.task.file_b plain); unloaded = same }
 
   made_end_row : (status : Status) → CameToEnd [] made.line made.task held holds ta tb status
       → MadeEndRow made loads_before loads faults_before faults held holds ta tb status

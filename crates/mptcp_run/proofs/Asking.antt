@@ -10,7 +10,7 @@ use Rattle.mptcp_run.specs.Asked.{asked_in, if_run}
 use Rattle.mptcp_run.specs.Made.{Bench, made_task, bench_by, bench_of, bench_in}
 use Rattle.run_outside.specs.Causes.{IsWordsFault}
 use Rattle.run_outside.specs.Plan.{loads_of}
-use Rattle.mptcp_run.specs.Promised.{ReadersHaveFiles}
+use Rattle.mptcp_run.specs.Promised.{NoneIsAltered, ReadersHaveAsMany, ReadersHaveFiles}
 use Rattle.mptcp_run.specs.Task.{first_world}
 use Rattle.mptcp_run.proofs.Answering.{made_cut_answer}
 use Rattle.run_outside.proofs.Calls.{Told, adds_none, cut_none}
@@ -41,10 +41,17 @@ asks_nothing words is = ap (option_and_then if_run) is
 -- status 0
 pub delivered_files : (content : List ℕ → Option (List ℕ)) (loads_before loads : ℕ) (faults_before faults : Port → ℕ) (held holds : Ports) (ta tb : Told)
     (asked : Option Line) (status : Status) → IfSome asked (λ line. IsAnswer content line loads_before loads faults_before faults held holds ta tb status)
-    → status ≡ Delivered → IfSome asked (λ line. ReadersHaveFiles (content line.names.file_a) (content line.names.file_b) held holds)
+    → status ≡ Delivered → IfSome asked (λ line. NoneIsAltered content line → ReadersHaveFiles (content line.names.file_a) (content line.names.file_b) held holds)
 delivered_files content loads_before loads faults_before faults held holds ta tb None status a is = tt
 delivered_files content loads_before loads faults_before faults held holds ta tb (Some line) status a is =
-    (subst (λ st. IsAnswer content line loads_before loads faults_before faults held holds ta tb st) is a).1
+    (subst (λ st. IsAnswer content line loads_before loads faults_before faults held holds ta tb st) is a).files
+
+pub delivered_many : (content : List ℕ → Option (List ℕ)) (loads_before loads : ℕ) (faults_before faults : Port → ℕ) (held holds : Ports) (ta tb : Told)
+    (asked : Option Line) (status : Status) → IfSome asked (λ line. IsAnswer content line loads_before loads faults_before faults held holds ta tb status)
+    → status ≡ Delivered → IfSome asked (λ line. ReadersHaveAsMany (content line.names.file_a) (content line.names.file_b) held holds)
+delivered_many content loads_before loads faults_before faults held holds ta tb None status a is = tt
+delivered_many content loads_before loads faults_before faults held holds ta tb (Some line) status a is =
+    (subst (λ st. IsAnswer content line loads_before loads faults_before faults held holds ta tb st) is a).many
 
 -- ---- nothing was done
 

@@ -17,7 +17,6 @@ use Rattle.run_outside.specs.declared.status.Status.{Status}
 use Rattle.run_outside.specs.declared.status.Status.TheVariants.{Delivered, Rounds, NoPath, Aborted, Usage, Script as BadScript, Load, Put, TooLong, Memory, Log}
 use Rattle.run_outside.specs.Inputs.{AreWithinLimits, order_of}
 use Rattle.world_core.specs.RoundEnds.{round_ends, last_end}
-use Rattle.world_core.proofs.Unaltering.{run_script_is}
 use Rattle.world_laws.specs.declared.outcome.Outcome.TheVariants as outcome
 use Rattle.world_laws.specs.Outcomes.{outcome_of}
 use Rattle.world_laws.specs.Serial.{goes_on, OneOf, spelled, after_round, AreRounds}
@@ -114,7 +113,7 @@ loaded_task content line within =
     task_is (λ task. IsLoadedTask line.work task) (content line.names.script) (content line.names.file_a) (content line.names.file_b) (λ script. course_of content script line.work)
     (within input.FileA) (within input.FileB)
     (λ text script file_a file_b x e few_a few_b is. record {
-      ranges = read_has_ranges text script (run_script_is text script e).0;
+      ranges = read_has_ranges text script e;
       small_a = few_a;
       small_b = few_b;
       logged = logged_course content script line.work x is;

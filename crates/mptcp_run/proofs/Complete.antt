@@ -12,16 +12,16 @@ use Rattle.mptcp_run.specs.Answers.{IsAnswer, FormRow, TurnRow, ValidInputsAreRu
 use Rattle.run_outside.specs.Causes.{limit_of}
 use Rattle.mptcp_run.specs.Ends.{HasEnded}
 use Rattle.run_outside.specs.Inputs.{name_of, order_of, content_of, IsValid}
-use Rattle.run_outside.specs.Script.{script_meaning}
+use Rattle.link_script.specs.Reading.{reading}
 
 not_ok : {X E : Type 0} (r : Result X E) (e : E) → r ≡ Err e → IsOk r → ⊥
 not_ok (Ok x) e is ok = cc (is)
 not_ok (Err f) e is ok = cc (ok)
 
-no_such_script : (o : Option (List ℕ)) (at : ℕ) (kind : ScriptKind) → IsSomeAnd o (λ text. IsOk (script_meaning text))
-    → IfSome o (λ text. script_meaning text ≡ Err (script_fault.Line at kind)) → ⊥
+no_such_script : (o : Option (List ℕ)) (at : ℕ) (kind : ScriptKind) → IsSomeAnd o (λ text. IsOk (reading text))
+    → IfSome o (λ text. reading text ≡ Err (script_fault.Line at kind)) → ⊥
 no_such_script None at kind valid cause = valid
-no_such_script (Some text) at kind valid cause = not_ok (script_meaning text) _ cause valid
+no_such_script (Some text) at kind valid cause = not_ok (reading text) _ cause valid
 
 told_script : (o : Option (List ℕ)) (P : List ℕ → Type 0) → IsSomeAnd o P → IsSome o
 told_script None P h = absurd h

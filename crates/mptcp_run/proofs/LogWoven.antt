@@ -8,9 +8,9 @@ use Rattle.path_core.specs.Octets.{octets}
 use Rattle.world_laws.specs.Fine.{IsFine, lists_of}
 use Rattle.world_laws.specs.Weaving.{steps_by, woven}
 use Rattle.world_laws.specs.Worlds.{Turn, world_step, all_over, end_round, greatest, world_run, AreLawful}
-use Rattle.world_laws.proofs.Pairing.{step_fine}
-use Rattle.world_laws.proofs.RoundTurns.{rounds_lawful}
-use Rattle.world_laws.proofs.WeavingRounds.{run_append, lawful_append, steps_weave}
+use Rattle.world_laws.proofs.Weaving.Paired.{step_fine}
+use Rattle.world_laws.proofs.Rounds.SerialIsLawful.{rounds_lawful}
+use Rattle.world_laws.proofs.Weaving.WholeRounds.{run_append, lawful_append, steps_weave}
 use Rattle.world_core.specs.RoundEnds.{round_ends, last_end, round_steps, steps_by_round}
 use Rattle.mptcp_run.specs.Rounds.{Begins}
 use Rattle.mptcp_run.specs.Task.{Connection, Course, rounds, threads, told, turn_of, AreTurnsOf}

@@ -13,7 +13,7 @@ use Rattle.world_laws.specs.Openings.{Start, PathPlan, plans_from, paths_from, o
 use Rattle.world_laws.specs.Outcomes.{outcome_of, output_of}
 use Rattle.world_laws.specs.Serial.{spelled, after_round, AreRounds}
 use Rattle.world_laws.specs.Worlds.{Turn, world_step, end_round}
-use Rattle.world_laws.proofs.Serially.{serial_is_one}
+use Rattle.world_laws.proofs.Rounds.SerialIsOne.{serial_is_one}
 use Rattle.mptcp_run.specs.declared.report.Report.{Report}
 use Rattle.mptcp_run.specs.declared.report.Report.TheVariants as report
 use Rattle.run_outside.specs.declared.status.Status.{Status}

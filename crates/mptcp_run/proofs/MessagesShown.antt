@@ -1,8 +1,9 @@
 -- What the readers' ports show after a run over the frames of lines.
-use Rattle.std.proofs.Common.{◌≡◌, refl, sym, ◌∙◌, ap, subst, ℕ, ◌+◌, ◌≤◌, ◌<◌, ◌^◌, Bool, true, false, if◌then◌else◌, List, [], ◌∷◌, ◌++◌, length, Option, Some, None, IfSome, IsSome, IsNone, inl, inr, ◌⊎◌, length-append, append-nil, arith}
+use Rattle.std.proofs.Common.{◌≡◌, refl, sym, ◌∙◌, ap, subst, ℕ, ◌+◌, ◌≤◌, ◌<◌, ◌^◌, Bool, true, false, not, if◌then◌else◌, List, [], ◌∷◌, ◌++◌, length, Option, Some, None, IfSome, IsSome, IsNone, inl, inr, ◌⊎◌, length-append, append-nil, arith}
 use Rattle.std.specs.Prelude.{◌==◌, ◌||◌, ◌&&◌, IsSomeAnd, option_map, option_and_then}
 use Rattle.std.specs.List.{onto_first}
 use Rattle.std.specs.Str.{bytes_eq}
+use Rattle.std.proofs.lemmas.Bool.{and_parts, both_ways, not-true}
 use Rattle.std.proofs.lemmas.Slice.Eq.{bytes_eq-Decides}
 use Rattle.outside_kit.specs.declared.port.Port.{Port}
 use Rattle.outside_kit.specs.declared.port.Port.TheVariants.{ReadByA, ReadByB}
@@ -22,11 +23,13 @@ use Rattle.run_outside.specs.declared.status.Status.{Status}
 use Rattle.run_outside.specs.declared.status.Status.TheVariants.{Delivered, Rounds, NoPath, Aborted, Usage, Script, Load, Put, TooLong, Memory, Log}
 use Rattle.mptcp_run.specs.Answers.{IsAnswer}
 use Rattle.mptcp_run.specs.Asked.{asked_in, is_run}
-use Rattle.mptcp_run.specs.Messages.{ReadersShowLines, ReadersShowFirstLines, ReadersShowPrefixes, ReadersShowNothing, ReadersShow, refused_or, with_refusals, IsRunOverFrames, IsMessagesAnswer, takes_messages, if_messages, messages_in}
+use Rattle.mptcp_run.specs.Messages.{ReadersShowLines, ReadersShowFirstLines, ReadersShowPrefixes, ReadersShowNothing, ReadersShow, refused_or, with_refusals, IsRunOverFrames, IsMessagesAnswer, is_apart, takes_messages, if_messages, messages_in}
 use Rattle.run_outside.specs.Causes.{IsWordsFault}
 use Rattle.run_outside.specs.Ports.{IsUntouched}
-use Rattle.mptcp_run.specs.Promised.{HoldsPrefixOf, HoldsPrefixIfBound, ReadersHaveFiles, ReadersHavePrefixes, ReadersHavePrefixesIfBound}
+use Rattle.mptcp_run.specs.Promised.{HoldsPrefixOf, HoldsPrefixIfBound, NoneIsAltered, ReadersHaveFiles, ReadersHavePrefixes, ReadersHavePrefixesIfBound}
 use Rattle.run_outside.specs.Inputs.{AreWithinLimits}
+use Rattle.run_outside.specs.Reading.{script_in}
+use Rattle.world_laws.specs.PlainScripts.{AltersNone}
 use Rattle.mptcp_run.proofs.Asking.{asked_is}
 
 abbrev Ports : Type 0
@@ -133,6 +136,29 @@ file_b_is : (content : List ℕ → Option (List ℕ)) (file_a file_b : List ℕ
 file_b_is content file_a file_b =
     ap (λ (same : Bool). if bytes_eq file_b file_a || same then option_map framed (content file_b) else content file_b) (same_name file_b)
     ∙ ap (λ (same : Bool). if same then option_map framed (content file_b) else content file_b) (or_true (bytes_eq file_b file_a))
+
+-- the script's content stays, which is neither file
+other_name : (x y : List ℕ) → not (bytes_eq y x) ≡ true → bytes_eq x y ≡ false
+other_name x y apart = by (bytes_eq x y) refl
+  where
+    by : (b : Bool) → bytes_eq x y ≡ b → b ≡ false
+    by false is = refl
+    by true is = absurd (both_ways (bytes_eq y x) (not-true (bytes_eq y x) apart) ((bytes_eq-Decides y x).1 (sym ((bytes_eq-Decides x y).0 is))))
+
+script_apart : (line : Line) (name : List ℕ) → is_apart line name ≡ true → bytes_eq line.names.script name ≡ false
+script_apart line name apart = other_name line.names.script name (and_parts (not (bytes_eq name line.names.script)) _ apart).0
+
+script_stays : (content : List ℕ → Option (List ℕ)) (line : Line) → takes_messages line ≡ true
+    → lined_content line.names.file_a line.names.file_b content line.names.script ≡ content line.names.script
+script_stays content line takes =
+    let script = line.names.script in
+    let apart = and_parts (is_apart line line.names.file_a) (is_apart line line.names.file_b) (and_parts (is_run line.work) _ takes).1 in
+    ap (λ (same : Bool). if same || bytes_eq script line.names.file_b then option_map framed (content script) else content script) (script_apart line line.names.file_a apart.0)
+    ∙ ap (λ (same : Bool). if same then option_map framed (content script) else content script) (script_apart line line.names.file_b apart.1)
+
+frames_unaltered : (content : List ℕ → Option (List ℕ)) (line : Line) → takes_messages line ≡ true → NoneIsAltered content line
+    → NoneIsAltered (lined_content line.names.file_a line.names.file_b content) line
+frames_unaltered content line takes none = subst (λ (o : Option (List ℕ)). IsSomeAnd (option_and_then script_in o) AltersNone) (sym (script_stays content line takes)) none
 
 -- the frames of a file are within their limit, and so is the file
 small_file : (file told : Option (List ℕ)) → told ≡ option_map framed file → IfSome told (λ frames. length frames ≤ 16777216) → IfSome file (λ text. length text < 2 ^ 32)
@@ -294,20 +320,20 @@ module _ (content : List ℕ → Option (List ℕ)) (line : Line) (loads_before 
       → (b.refused ≡ None → a.refused ≡ None → Shown ended) → Shown (refused_or ended b.refused a.refused)
   end_shown ended within prefixes own = or_cut file_a file_b held holds ended b.refused a.refused (part_shown within prefixes) own
 
-  pub shown_by : (ended : Status) → Answer ended → Shown (with_refusals ended b.refused a.refused)
-  shown_by Delivered h = end_shown Delivered h.0.read.within h.0.prefixes (all_shown h.0.read.within h.1)
-  shown_by Rounds h = end_shown Rounds h.read.within h.prefixes (first_shown h.read.within h.prefixes)
-  shown_by NoPath h = end_shown NoPath h.read.within h.prefixes (first_shown h.read.within h.prefixes)
-  shown_by (Aborted reader) h = end_shown (Aborted reader) h.read.within h.prefixes (first_shown h.read.within h.prefixes)
-  shown_by (Put port) h = cut_shown h.1.read.within h.1.prefixes
-  shown_by Memory (inl h) = nothing_is_cut file_a file_b held holds (none_shown h.untouched)
-  shown_by Memory (inr h) = cut_shown h.read.within h.prefixes
-  shown_by (Log at) (inl h) = nothing_is_cut file_a file_b held holds (none_shown h.untouched)
-  shown_by (Log at) (inr h) = part_shown h.read.within h.prefixes
-  shown_by (Script at kind) h = none_shown h.untouched
-  shown_by (Load named) h = none_shown h.untouched
-  shown_by (TooLong named) h = none_shown h.untouched
-  shown_by Usage h = absurd h
+  pub shown_by : (ended : Status) → NoneIsAltered told line → Answer ended → Shown (with_refusals ended b.refused a.refused)
+  shown_by Delivered none h = end_shown Delivered h.row.read.within (h.row.prefixes none) (all_shown h.row.read.within (h.files none))
+  shown_by Rounds none h = end_shown Rounds h.read.within (h.prefixes none) (first_shown h.read.within (h.prefixes none))
+  shown_by NoPath none h = end_shown NoPath h.read.within (h.prefixes none) (first_shown h.read.within (h.prefixes none))
+  shown_by (Aborted reader) none h = end_shown (Aborted reader) h.read.within (h.prefixes none) (first_shown h.read.within (h.prefixes none))
+  shown_by (Put port) none h = cut_shown h.1.read.within (h.1.prefixes none)
+  shown_by Memory none (inl h) = nothing_is_cut file_a file_b held holds (none_shown h.untouched)
+  shown_by Memory none (inr h) = cut_shown h.read.within (h.prefixes none)
+  shown_by (Log at) none (inl h) = nothing_is_cut file_a file_b held holds (none_shown h.untouched)
+  shown_by (Log at) none (inr h) = part_shown h.read.within (h.prefixes none)
+  shown_by (Script at kind) none h = none_shown h.untouched
+  shown_by (Load named) none h = none_shown h.untouched
+  shown_by (TooLong named) none h = none_shown h.untouched
+  shown_by Usage none h = absurd h
 
 -- ---- a port that failed
 
@@ -342,11 +368,12 @@ module _ (a b : Counted) (held holds : Ports) (faults_before faults : Port → �
 
 -- what the ports show after a run over frames
 pub over_frames : (content : List ℕ → Option (List ℕ)) (line : Line) (loads_before loads : ℕ) (faults_before faults : Port → ℕ) (held holds : Ports) (status : Status)
-    → IsRunOverFrames content line loads_before loads faults_before faults held holds status
+    → takes_messages line ≡ true → NoneIsAltered content line → IsRunOverFrames content line loads_before loads faults_before faults held holds status
     → ReadersShow (content line.names.file_a) (content line.names.file_b) held holds status
-over_frames content line loads_before loads faults_before faults held holds status h =
+over_frames content line loads_before loads faults_before faults held holds status takes none h =
     let P : Status → Type 0 = ReadersShow (content line.names.file_a) (content line.names.file_b) held holds in
-    subst P (sym h.status_is) (shown_by content line loads_before loads faults_before faults held holds h.read_by_a h.read_by_b h.stand h.ended h.answer)
+    subst P (sym h.status_is) (shown_by content line loads_before loads faults_before faults held holds h.read_by_a h.read_by_b h.stand h.ended
+    (frames_unaltered content line takes none) h.answer)
 
 -- ---- from what a type parameter tells
 
@@ -387,15 +414,15 @@ ran_over_frames asked line name_a name_b content loads_before loads faults_befor
 
 -- what the ports show, by the answer
 pub messages_shown : (content : List ℕ → Option (List ℕ)) (line : Line) (loads_before loads : ℕ) (faults_before faults : Port → ℕ) (held holds : Ports) (status : Status)
-    → IfSome (held ReadByA) (λ text. text ≡ []) → IfSome (held ReadByB) (λ text. text ≡ [])
+    → IfSome (held ReadByA) (λ text. text ≡ []) → IfSome (held ReadByB) (λ text. text ≡ []) → takes_messages line ≡ true
     → IsMessagesAnswer content line loads_before loads faults_before faults held holds status
-    → ReadersShow (content line.names.file_a) (content line.names.file_b) held holds status
-messages_shown content line loads_before loads faults_before faults held holds status empty_a empty_b (inl none) =
+    → NoneIsAltered content line → ReadersShow (content line.names.file_a) (content line.names.file_b) held holds status
+messages_shown content line loads_before loads faults_before faults held holds status empty_a empty_b takes (inl none) unaltered =
     let P : Status → Type 0 = ReadersShow (content line.names.file_a) (content line.names.file_b) held holds in
     subst P (sym none.status_is) (nothing_is_cut (content line.names.file_a) (content line.names.file_b) held holds
     (empty_still (content line.names.file_a) (content line.names.file_b) held holds empty_a empty_b (λ port. (none.untouched port).0)))
-messages_shown content line loads_before loads faults_before faults held holds status empty_a empty_b (inr ran) =
-    over_frames content line loads_before loads faults_before faults held holds status ran
+messages_shown content line loads_before loads faults_before faults held holds status empty_a empty_b takes (inr ran) unaltered =
+    over_frames content line loads_before loads faults_before faults held holds status takes unaltered ran
 
 pub messages_are : (words : List (List ℕ)) (line : Line) → line_of words ≡ Some line → messages_in words ≡ if_messages line
 unfolding messages_in
@@ -454,10 +481,10 @@ unread_messages content loads faults holds words (Log at) is = absurd is
 
 pub unread_lines : (content : List ℕ → Option (List ℕ)) (holds : Ports) → IfSome (holds ReadByA) (λ text. text ≡ []) → IfSome (holds ReadByB) (λ text. text ≡ [])
     → (words : List (List ℕ)) (status : Status) → IsWordsFault words status
-    → IfSome (messages_in words) (λ line. ReadersShow (content line.names.file_a) (content line.names.file_b) holds holds status)
-unread_lines content holds empty_a empty_b words Usage is = of_nothing (messages_in words) (λ line. ReadersShow (content line.names.file_a) (content line.names.file_b) holds holds Usage) (no_messages words is)
-unread_lines content holds empty_a empty_b words Memory is = nothing_asked_for (messages_in words) (λ line. ReadersShow (content line.names.file_a) (content line.names.file_b) holds holds Memory)
-    (λ line. nothing_is_cut (content line.names.file_a) (content line.names.file_b) holds holds
+    → IfSome (messages_in words) (λ line. NoneIsAltered content line → ReadersShow (content line.names.file_a) (content line.names.file_b) holds holds status)
+unread_lines content holds empty_a empty_b words Usage is = of_nothing (messages_in words) (λ line. NoneIsAltered content line → ReadersShow (content line.names.file_a) (content line.names.file_b) holds holds Usage) (no_messages words is)
+unread_lines content holds empty_a empty_b words Memory is = nothing_asked_for (messages_in words) (λ line. NoneIsAltered content line → ReadersShow (content line.names.file_a) (content line.names.file_b) holds holds Memory)
+    (λ line unaltered. nothing_is_cut (content line.names.file_a) (content line.names.file_b) holds holds
     (empty_still (content line.names.file_a) (content line.names.file_b) holds holds empty_a empty_b (λ port. refl)))
 unread_lines content holds empty_a empty_b words Delivered is = absurd is
 unread_lines content holds empty_a empty_b words Rounds is = absurd is

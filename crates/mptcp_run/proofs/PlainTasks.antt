@@ -1,4 +1,4 @@
--- The task of a command line is plain, and its last turn is the end of a round.
+-- The task of a command line is short, plain where its script alters nothing, and its last turn is the end of a round.
 use Rattle.std.proofs.Common.{◌≡◌, refl, ◌∙◌, ap, subst, ℕ, ◌≤◌, List, [], ◌∷◌, ◌++◌, length, map, Option, Some, None, Result, Ok, Err, IfSome, arith}
 use Rattle.std.specs.Prelude.{option_and_then, option_map}
 use Rattle.std.specs.Result.{result_ok}
@@ -9,17 +9,18 @@ use Rattle.run_words.specs.Lines.{Work, run, serial, replay, bench, ◌>>=◌}
 use Rattle.run_log.specs.declared.fault.LogFault.{LogFault}
 use Rattle.run_log.specs.declared.turn.Turn as logged_turn
 use Rattle.run_log.specs.declared.turn.Turn.TheVariants as logged
+use Rattle.world_laws.specs.PlainScripts.{AltersNone}
 use Rattle.world_laws.specs.Worlds.{Turn}
 use Rattle.run_outside.specs.declared.input.Input.{Input}
 use Rattle.run_outside.specs.Loaded.{IsLoaded}
 use Rattle.mptcp_run.specs.declared.report.Report.TheVariants as report
 use Rattle.run_outside.specs.declared.status.Named.TheVariants as input
-use Rattle.mptcp_run.specs.Promised.{IsPlainInput, EndsWithRound, IsPromisedTask, LoadedTasksArePlain}
-use Rattle.run_outside.specs.Script.{script_meaning, script_in}
-use Rattle.run_outside.specs.Reading.{actors_of, width_of, log_reading, EndsInRound}
-use Rattle.mptcp_run.specs.Task.{Task, Course, told, turn_of, turns_in, course_of}
+use Rattle.mptcp_run.specs.Promised.{IsPlainTask, IsShortInput, EndsWithRound, IsPromisedTask, LoadedTasksArePromised, LoadedTasksArePlain}
+use Rattle.link_script.specs.Reading.{reading}
+use Rattle.run_outside.specs.Reading.{script_in, actors_of, width_of, log_reading, EndsInRound}
+use Rattle.mptcp_run.specs.Task.{Task, Course, told, turn_of, turns_in, course_of, task_of}
 use Rattle.run_outside.proofs.LogEnds.{log_ends}
-use Rattle.world_core.proofs.Unaltering.{run_script_is}
+use Rattle.mptcp_run.proofs.Promised.{plain_of}
 
 map_push : (before : List logged_turn.Turn) → map turn_of (before ++ logged.Round ∷ []) ≡ map turn_of before ++ Turn.Round ∷ []
 map_push [] = refl
@@ -46,13 +47,13 @@ course_ends content script (bench most number) = tt
 
 -- what holds of each task of a valid script and of files within their limits
 pub task_is : (P : Task → Type 0) (s a b : Option (List ℕ)) (c : Script → Option Course) → IfSome a (λ file. length file ≤ 16777216) → IfSome b (λ file. length file ≤ 16777216)
-    → ((text : List ℕ) (script : Script) (file_a file_b : List ℕ) (x : Course) → script_meaning text ≡ Ok script → length file_a ≤ 16777216 → length file_b ≤ 16777216
+    → ((text : List ℕ) (script : Script) (file_a file_b : List ℕ) (x : Course) → reading text ≡ Ok script → length file_a ≤ 16777216 → length file_b ≤ 16777216
     → c script ≡ Some x → P (record { script = script; file_a = file_a; file_b = file_b; course = x; report = report.Log }))
     → IfSome (option_and_then script_in s >>= λ script. a >>= λ file_a. b >>= λ file_b. c script >>= λ x. Some (record { script = script; file_a = file_a; file_b = file_b; course = x; report = report.Log })) P
 task_is P None a b c few_a few_b each = tt
-task_is P (Some text) a b c few_a few_b each = by (script_meaning text) refl
+task_is P (Some text) a b c few_a few_b each = by (reading text) refl
   where
-    with : (script : Script) → script_meaning text ≡ Ok script → (a b : Option (List ℕ)) (x : Option Course) → c script ≡ x
+    with : (script : Script) → reading text ≡ Ok script → (a b : Option (List ℕ)) (x : Option Course) → c script ≡ x
         → IfSome a (λ file. length file ≤ 16777216) → IfSome b (λ file. length file ≤ 16777216)
         → IfSome (a >>= λ file_a. b >>= λ file_b. x >>= λ y. Some (record { script = script; file_a = file_a; file_b = file_b; course = y; report = report.Log })) P
     with script e None b x is few_a few_b = tt
@@ -60,33 +61,38 @@ task_is P (Some text) a b c few_a few_b each = by (script_meaning text) refl
     with script e (Some a) (Some b) None is few_a few_b = tt
     with script e (Some a) (Some b) (Some x) is few_a few_b = each text script a b x e few_a few_b is
 
-    by : (r : Result Script ScriptFault) → script_meaning text ≡ r
+    by : (r : Result Script ScriptFault) → reading text ≡ r
         → IfSome (result_ok r >>= λ script. a >>= λ file_a. b >>= λ file_b. c script >>= λ x. Some (record { script = script; file_a = file_a; file_b = file_b; course = x; report = report.Log })) P
     by (Err f) e = tt
     by (Ok script) e = with script e a b (c script) refl few_a few_b
 
--- what was loaded: no line of a script that is run alters a payload
-pub plain_input : (input : Input) → IsLoaded input → IsPlainInput input
-plain_input input read = record {
+-- what was loaded
+pub short_input : (input : Input) → IsLoaded input → IsShortInput input
+short_input input read = record {
   ranges = read.ranges;
-  unaltered = (run_script_is read.text input.script read.script).1;
   short_a = let few = read.few_a in omega (arith, few);
   short_b = let few = read.few_b in omega (arith, few);
 }
 
-pub loaded_tasks_are_plain : LoadedTasksArePlain
-loaded_tasks_are_plain content line within =
+pub loaded_tasks_are_promised : LoadedTasksArePromised
+loaded_tasks_are_promised content line within =
     task_is IsPromisedTask (content line.names.script) (content line.names.file_a) (content line.names.file_b) (λ script. course_of content script line.work)
     (within input.FileA) (within input.FileB) promised
   where
-    promised : (text : List ℕ) (script : Script) (file_a file_b : List ℕ) (x : Course) → script_meaning text ≡ Ok script → length file_a ≤ 16777216 → length file_b ≤ 16777216
+    promised : (text : List ℕ) (script : Script) (file_a file_b : List ℕ) (x : Course) → reading text ≡ Ok script → length file_a ≤ 16777216 → length file_b ≤ 16777216
         → course_of content script line.work ≡ Some x → IsPromisedTask (record { script = script; file_a = file_a; file_b = file_b; course = x; report = report.Log })
-    promised text script file_a file_b x e few_a few_b is = let said = run_script_is text script e in record {
-      plain = record {
-        ranges = read_has_ranges text script said.0;
-        unaltered = said.1;
+    promised text script file_a file_b x e few_a few_b is = record {
+      short = record {
+        ranges = read_has_ranges text script e;
         short_a = omega (arith, few_a);
         short_b = omega (arith, few_b);
       };
       ends = subst (λ (o : Option Course). IfSome o EndsWithRound) is (course_ends content script line.work);
     }
+
+pub loaded_tasks_are_plain : LoadedTasksArePlain
+loaded_tasks_are_plain content line within = by (task_of content line) (loaded_tasks_are_promised content line within)
+  where
+    by : (o : Option Task) → IfSome o IsPromisedTask → IfSome o (λ task. AltersNone task.script → IsPlainTask task)
+    by None promised = tt
+    by (Some task) promised = λ none. plain_of task promised.short none

@@ -1,7 +1,7 @@
 -- The readers' ports hold prefixes of the files.
-use Rattle.std.proofs.Common.{◌≡◌, refl, sym, ◌∙◌, ap, subst, ℕ, zero, suc, inl, inr, ◌⊎◌, Bool, true, false, ◌&&◌, List, [], ◌∷◌, ◌++◌, Option, Some, None}
+use Rattle.std.proofs.Common.{◌≡◌, refl, sym, ◌∙◌, ap, subst, ℕ, zero, suc, ◌+◌, inl, inr, ◌⊎◌, Bool, true, false, ◌&&◌, List, [], ◌∷◌, ◌++◌, length, length-append, Option, Some, None, arith}
 use Rattle.std.specs.Prelude.{IsSomeAnd}
-use Rattle.std.proofs.lemmas.List.{append_assoc}
+use Rattle.std.proofs.lemmas.List.{append_assoc, append-nil}
 use Rattle.outside_kit.specs.Outside.{HoldsAfter}
 use Rattle.outside_kit.specs.declared.side.Side.TheVariants.{A, B}
 use Rattle.pipe_model.specs.Prefix.{IsPrefix}
@@ -11,14 +11,17 @@ use Rattle.world_laws.specs.Openings.{start_of}
 use Rattle.world_laws.specs.Outcomes.{outcome_by, outcome_of, output_of, tells_abort, tells_end, was_told, notes_of}
 use Rattle.world_laws.specs.Serial.{steps_and, round_and, spelled}
 use Rattle.world_laws.specs.Worlds.{Turn, world_step, end_round, world_run}
-use Rattle.world_laws.proofs.PromisesOfScripts.{plain_scripts_keep_all_promises, plain_scripts_are_shown_of_values}
-use Rattle.world_laws.proofs.RoundsDone.{rounds_end_on_time, rounds_are_done}
-use Rattle.world_laws.proofs.CastLifting.{writes_the_files}
+use Rattle.world_laws.specs.Altered.{still_maps}
+use Rattle.world_laws.specs.PlainScripts.{AltersNone}
+use Rattle.world_laws.proofs.Promises.OfScripts.{short_of, scripts_keep_anyway, checked_scripts_keep_octets, plain_scripts_keep_all_promises, scripts_are_shown_of_values}
+use Rattle.world_laws.proofs.Rounds.DoneByTheEnd.{rounds_end_on_time, rounds_are_done}
+use Rattle.world_laws.proofs.Worlds.CastLifting.{writes_the_files}
+use Rattle.run_outside.specs.declared.status.Status.{Status}
 use Rattle.run_outside.specs.declared.status.Status.TheVariants.{Delivered}
 use Rattle.run_outside.specs.Ports.{HoldsWithin}
 use Rattle.world_core.specs.RoundEnds.{round_ends, last_end}
 use Rattle.mptcp_run.specs.Putting.{status_of, read_so_far, world_after}
-use Rattle.mptcp_run.specs.Promised.{IsPlainTask, IsAbortCaused, EndsWithRound, HoldsPrefixOf, HoldsPrefixIfBound, PlainTasksAreKept, WholeRunsGivePrefixes, WholeRunsHaveCause, DeliveredRunsGiveFiles, StoppedRunsGivePrefixes, CutRunsGivePrefixes, LinesCutGivePrefixes}
+use Rattle.mptcp_run.specs.Promised.{IsPlainTask, IsShortTask, IsAbortCaused, EndsWithRound, HoldsAsMany, HoldsPrefixOf, HoldsPrefixIfBound, HoldsWhatIsRight, ShortTasksAreKept, WholeRunsGivePrefixes, WholeRunsHaveCause, DeliveredRunsGiveAsMany, CheckedRunsAreRight, DeliveredRunsGiveFiles, StoppedRunsGivePrefixes, CutRunsGivePrefixes, LinesCutGivePrefixes}
 use Rattle.mptcp_run.specs.Task.{Connection, Task, Course, rounds, threads, told, first_world, AreTurnsOf}
 use Rattle.mptcp_run.proofs.RoundsWoven.{woven_to_the_end}
 
@@ -31,6 +34,10 @@ prefix_of_prefix xs ys zs p q =
 prefix_held : (old new : Option (List ℕ)) (text file : List ℕ) → HoldsAfter old new (λ _. text) → IsPrefix text file → HoldsPrefixOf old new file
 prefix_held None new text file holds part = tt
 prefix_held (Some held) new text file holds part = subst (λ (o : Option (List ℕ)). IsSomeAnd o (λ text. IsPrefix text file)) (sym holds) part
+
+many_held : (old new : Option (List ℕ)) (text file : List ℕ) → HoldsAfter old new (λ _. text) → length text ≡ length file → HoldsAsMany old new file
+many_held None new text file holds many = tt
+many_held (Some held) new text file holds many = subst (λ (o : Option (List ℕ)). IsSomeAnd o (λ text. length text ≡ length file)) (sym holds) many
 
 file_held : (old new : Option (List ℕ)) (text file : List ℕ) → HoldsAfter old new (λ _. text) → text ≡ file → HoldsAfter old new (λ _. file)
 file_held None new text file holds is = tt
@@ -100,24 +107,33 @@ last_end_of_course (told order) turns w (prefix, order_is) are =
 
 -- ---- promises
 
-pub plain_tasks_are_kept : PlainTasksAreKept
-plain_tasks_are_kept task turns plain = record {
-  promises = plain_scripts_keep_all_promises task.script task.file_a task.file_b turns plain;
+-- where no line of its script alters a payload
+pub plain_of : (task : Task) → IsShortTask task → AltersNone task.script → IsPlainTask task
+plain_of task short none = record { ranges = short.ranges; unaltered = none; short_a = short.short_a; short_b = short.short_b }
+
+pub short_tasks_are_kept : ShortTasksAreKept
+short_tasks_are_kept task turns short = record {
+  anyway = scripts_keep_anyway task.script task.file_a task.file_b turns short;
+  checked = λ uses. checked_scripts_keep_octets task.script task.file_a task.file_b turns short uses;
+  promises = λ none. plain_scripts_keep_all_promises task.script task.file_a task.file_b turns (plain_of task short none);
   files = writes_the_files octets (start_of task.script task.file_a task.file_b) turns;
-  values = plain_scripts_are_shown_of_values task.script task.file_a task.file_b turns plain;
+  values = scripts_are_shown_of_values task.script task.file_a task.file_b turns short;
   on_time = rounds_end_on_time octets (start_of task.script task.file_a task.file_b) turns;
   done = rounds_are_done octets (start_of task.script task.file_a task.file_b) turns;
 }
 
 module _ (task : Task) (plain : IsPlainTask task) where
+  kept_short : IsShortTask task
+  kept_short = short_of task.script task.file_a task.file_b plain
+
   -- after turns
   b_reads_a_prefix : (turns : List Turn) → IsPrefix (output_of B (world_after task turns)) task.file_a
   b_reads_a_prefix turns =
-      let kept = plain_tasks_are_kept task turns plain in prefix_of_prefix _ _ task.file_a kept.promises.word.ab.prefix kept.files.a.prefix
+      let kept = short_tasks_are_kept task turns kept_short in prefix_of_prefix _ _ task.file_a (kept.promises plain.unaltered).word.ab.prefix kept.files.a.prefix
 
   a_reads_a_prefix : (turns : List Turn) → IsPrefix (output_of A (world_after task turns)) task.file_b
   a_reads_a_prefix turns =
-      let kept = plain_tasks_are_kept task turns plain in prefix_of_prefix _ _ task.file_b kept.promises.word.ba.prefix kept.files.b.prefix
+      let kept = short_tasks_are_kept task turns kept_short in prefix_of_prefix _ _ task.file_b (kept.promises plain.unaltered).word.ba.prefix kept.files.b.prefix
 
   -- at the last round's end
   module _ (P : Connection → Type 0) (always : (turns : List Turn) → P (world_after task turns)) where
@@ -173,9 +189,9 @@ cause_of w false false false true at_a at_b = tt
 cause_of w false false false false at_a at_b = tt
 
 pub whole_runs_have_cause : WholeRunsHaveCause
-whole_runs_have_cause task status old new plain whole =
+whole_runs_have_cause task status old new short whole =
     let w : Connection = world_after task whole.turns in
-    let cause = (plain_tasks_are_kept task whole.turns plain).promises.aborts in
+    let cause = (short_tasks_are_kept task whole.turns short).anyway.aborts in
     subst (λ s. IsAbortCaused s w) (sym whole.status_is)
     (cause_of w (was_told tells_abort (notes_of A w.crew)) (was_told tells_abort (notes_of B w.crew)) _ _ (cause A) (cause B))
 
@@ -193,28 +209,76 @@ both_parts true true is = (refl, refl)
 both_parts true false is = cc
 both_parts false b is = cc
 
-module _ (task : Task) (plain : IsPlainTask task) (turns : List Turn) (is : Delivered ≡ status_of (outcome_of (world_after task turns).crew)) where
+module _ (task : Task) (short : IsShortTask task) (turns : List Turn) (is : Delivered ≡ status_of (outcome_of (world_after task turns).crew)) where
   were_told : (was_told tells_end (notes_of A (world_after task turns).crew) ≡ true) × (was_told tells_end (notes_of B (world_after task turns).crew) ≡ true)
   were_told = both_parts _ _ (told_both _ _ _ _ is)
 
-  b_read_all : output_of B (world_after task turns) ≡ task.file_a
-  b_read_all =
-      let kept = plain_tasks_are_kept task turns plain in
-      let told = kept.promises.word.ab.told were_told.1 in
-      told.1 ∙ kept.files.a.whole told.0
+  -- as many octets as the file has
+  b_read_many : length (output_of B (world_after task turns)) ≡ length task.file_a
+  b_read_many =
+      let kept = short_tasks_are_kept task turns short in
+      let told = kept.anyway.count.ab.told were_told.1 in
+      told.1 ∙ ap (λ (xs : List ℕ). length xs) (kept.files.a.whole told.0)
 
-  a_read_all : output_of A (world_after task turns) ≡ task.file_b
-  a_read_all =
-      let kept = plain_tasks_are_kept task turns plain in
-      let told = kept.promises.word.ba.told were_told.0 in
-      told.1 ∙ kept.files.b.whole told.0
+  a_read_many : length (output_of A (world_after task turns)) ≡ length task.file_b
+  a_read_many =
+      let kept = short_tasks_are_kept task turns short in
+      let told = kept.anyway.count.ba.told were_told.0 in
+      told.1 ∙ ap (λ (xs : List ℕ). length xs) (kept.files.b.whole told.0)
+
+-- a prefix of the file with as many octets is the file
+whole_prefix : (text file : List ℕ) → IsPrefix text file → length text ≡ length file → text ≡ file
+whole_prefix text file prefix many = by prefix.rest (prefix.whole_is) (few prefix.rest (ap (λ (xs : List ℕ). length xs) prefix.whole_is ∙ length-append text prefix.rest))
+  where
+    few : (rest : List ℕ) → length file ≡ length text + length rest → length rest ≡ 0
+    few rest is = omega (arith, is, many)
+
+    by : (rest : List ℕ) → file ≡ text ++ rest → length rest ≡ 0 → text ≡ file
+    by [] is none = sym (append-nil text) ∙ sym is
+    by (x ∷ rest) is none = absurd (omega (arith, none))
+
+pub delivered_runs_give_as_many : DeliveredRunsGiveAsMany
+delivered_runs_give_as_many task old new short ends whole =
+    let last = last_end_of_course task.course whole.turns (first_world task) ends whole.are in
+    record {
+      read_by_b = many_held _ _ (read_so_far B task whole.turns) task.file_a whole.ports.read_by_b
+          (ap (λ w. length (output_of B w)) last ∙ b_read_many task short whole.turns whole.status_is);
+      read_by_a = many_held _ _ (read_so_far A task whole.turns) task.file_b whole.ports.read_by_a
+          (ap (λ w. length (output_of A w)) last ∙ a_read_many task short whole.turns whole.status_is);
+    }
 
 pub delivered_runs_give_files : DeliveredRunsGiveFiles
 delivered_runs_give_files task old new plain ends whole =
     let last = last_end_of_course task.course whole.turns (first_world task) ends whole.are in
+    let short = kept_short task plain in
     record {
       read_by_b = file_held _ _ (read_so_far B task whole.turns) task.file_a whole.ports.read_by_b
-          (ap (λ w. output_of B w) last ∙ b_read_all task plain whole.turns whole.status_is);
+          (ap (λ w. output_of B w) last ∙ whole_prefix _ task.file_a (b_reads_a_prefix task plain whole.turns) (b_read_many task short whole.turns whole.status_is));
       read_by_a = file_held _ _ (read_so_far A task whole.turns) task.file_b whole.ports.read_by_a
-          (ap (λ w. output_of A w) last ∙ a_read_all task plain whole.turns whole.status_is);
+          (ap (λ w. output_of A w) last ∙ whole_prefix _ task.file_b (a_reads_a_prefix task plain whole.turns) (a_read_many task short whole.turns whole.status_is));
+    }
+
+-- ---- where mappings are checked
+
+-- what a port holds, which is all that was read
+right_held : (status : Status) (old new : Option (List ℕ)) (text file : List ℕ) → HoldsAfter old new (λ _. text) → IsPrefix text file → (status ≡ Delivered → length text ≡ length file)
+    → HoldsWhatIsRight status old new file
+right_held status old new text file holds prefix many = record {
+  prefix = prefix_held old new text file holds prefix;
+  whole = λ is. file_held old new text file holds (whole_prefix text file prefix (many is));
+}
+
+pub checked_runs_are_right : CheckedRunsAreRight
+checked_runs_are_right task status old new short ends uses whole =
+    let last = last_end_of_course task.course whole.turns (first_world task) ends whole.are in
+    let kept = short_tasks_are_kept task whole.turns short in
+    record {
+      read_by_b = λ maps.
+          right_held status _ _ (read_so_far B task whole.turns) task.file_a whole.ports.read_by_b
+          (subst (λ w. IsPrefix (output_of B w) task.file_a) (sym last) (prefix_of_prefix _ _ task.file_a ((kept.checked uses).prefix.0 maps) kept.files.a.prefix))
+          (λ is. ap (λ w. length (output_of B w)) last ∙ b_read_many task short whole.turns (sym is ∙ whole.status_is));
+      read_by_a = λ maps.
+          right_held status _ _ (read_so_far A task whole.turns) task.file_b whole.ports.read_by_a
+          (subst (λ w. IsPrefix (output_of A w) task.file_b) (sym last) (prefix_of_prefix _ _ task.file_b ((kept.checked uses).prefix.1 maps) kept.files.b.prefix))
+          (λ is. ap (λ w. length (output_of A w)) last ∙ a_read_many task short whole.turns (sym is ∙ whole.status_is));
     }

@@ -7,7 +7,7 @@ use Rattle.path_core.specs.Octets.{octets}
 use Rattle.world_laws.specs.Outcomes.{outcome_of, output_of}
 use Rattle.world_laws.specs.Serial.{goes_on}
 use Rattle.world_laws.specs.Worlds.{Turn, world_run}
-use Rattle.world_laws.proofs.WeavingRounds.{run_append}
+use Rattle.world_laws.proofs.Weaving.WholeRounds.{run_append}
 use Rattle.world_core.specs.RoundEnds.{round_ends}
 use Rattle.run_outside.specs.declared.status.Status.{Status}
 use Rattle.mptcp_run.specs.Making.{RoundMade, RoundStops}

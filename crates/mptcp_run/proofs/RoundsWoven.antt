@@ -9,9 +9,9 @@ use Rattle.world_laws.specs.Fine.{lists_of}
 use Rattle.world_laws.specs.Serial.{after_turns}
 use Rattle.world_laws.specs.Weaving.{Worked, steps_by}
 use Rattle.world_laws.specs.Worlds.{Turn, is_going, world_step, all_over, end_round, greatest, world_run, RunTo, AreLawful}
-use Rattle.world_laws.proofs.RoundTurns.{all_turns_over}
-use Rattle.world_laws.proofs.WeavingRounds.{run_append, lawful_append}
-use Rattle.world_laws.proofs.WeavingSteps.{begins_working, turns_working, worked}
+use Rattle.world_laws.proofs.Rounds.SerialIsLawful.{all_turns_over}
+use Rattle.world_laws.proofs.Weaving.WholeRounds.{run_append, lawful_append}
+use Rattle.world_laws.proofs.Weaving.WorldSteps.{begins_working, turns_working, worked}
 use Rattle.journal_weave.specs.Rounds.{IsWovenRound}
 use Rattle.journal_weave.proofs.RoundsWoven.{worked_round}
 use Rattle.world_core.specs.RoundEnds.{round_ends, last_end, round_steps, steps_by_round}

@@ -68,11 +68,12 @@ use Rattle.world_laws.specs.Actors.{Actor, ActorCrew, member_asks, member_takes,
 use Rattle.world_laws.specs.Openings.{Start, path_begins, opened_world}
 use Rattle.world_laws.specs.StampedBooks.{answer_to}
 use Rattle.world_laws.specs.Worlds.{WorldState, Turn, note_of, crew_after, asked, stepped, world_step, all_over, greatest, begins, end_round, after_turn, world_run}
-use Rattle.world_laws.proofs.Journaling.{books_after}
-use Rattle.world_laws.proofs.Occurring.{In, in_grown}
-use Rattle.world_laws.proofs.RoundFrame.{takes_keeps, first_keeps}
-use Rattle.world_laws.proofs.RoundLifting.{opened_lifted}
-use Rattle.world_laws.proofs.RoundReplies.{control_kind}
+use Rattle.world_laws.proofs.Weaving.Journals.{books_after}
+use Rattle.world_laws.proofs.Weaving.Occurring.{In, in_grown}
+use Rattle.world_laws.proofs.Rounds.Frame.{takes_keeps, first_keeps}
+use Rattle.world_laws.proofs.Rounds.Lifting.{opened_lifted}
+use Rattle.world_laws.proofs.Rounds.ReplyKinds.{control_kind}
+use Rattle.world_laws.proofs.Falls.FailedChecks.{fail_asks_so, subflow_acks_so}
 
 -- ---- what is asked
 
@@ -152,7 +153,7 @@ module _ {C : Type 0} (k : Codec C) (p : PathState C) (low : path_of p < 16) whe
   item_fair s (Some (says.Keys own peer)) = tt
   item_fair s (Some (says.Join form)) = tt
   item_fair s (Some (says.Notice notice)) = note_fair s notice
-  item_fair s (Some says.Fail) = tt
+  item_fair s (Some says.Fail) = fail_asks_so IsFair s p tt low
   item_fair s (Some (says.FastClose key)) = tt
 
   piece_fair : (s : Side) (o : Option Piece) → IsFair (piece_ask s o)
@@ -192,11 +193,13 @@ module _ {C : Type 0} (k : Codec C) (p : PathState C) (low : path_of p < 16) whe
   path_asks_fair (duties.Ask (ask_duties.Live s)) = low
   path_asks_fair (duties.Step (step_duties.Heard s index)) = item_fair s (item_of index (end_at s p))
   path_asks_fair (duties.Ask (ask_duties.AckHeard s)) = low
-  path_asks_fair (duties.Ask (ask_duties.SubflowAck s)) = tt
+  path_asks_fair (duties.Ask (ask_duties.FailHeard s)) = low
+  path_asks_fair (duties.Ask (ask_duties.SubflowAck s)) = subflow_acks_so IsFair s (end_at s p) tt (λ next. tt)
   path_asks_fair (duties.Ask (ask_duties.PlainData s)) = low
   path_asks_fair (duties.Ask (ask_duties.GoIdentity s)) = tt
   path_asks_fair (duties.Silent (silent_duties.Keep s)) = tt
   path_asks_fair (duties.Ask (ask_duties.Edge s)) = piece_fair s (piece_of s p)
+  path_asks_fair (duties.Ask (ask_duties.CheckFailed s)) = low
   path_asks_fair (duties.Step (step_duties.Unmapped s)) = break_fair s 6
   path_asks_fair (duties.Ask (ask_duties.HeardFin s index)) = fin_fair s (data_fin_of index (end_at s p))
   path_asks_fair (duties.Silent (silent_duties.PassFin s)) = tt

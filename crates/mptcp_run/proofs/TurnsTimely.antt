@@ -10,7 +10,7 @@ use Rattle.subflow_worker.specs.Turns.{Turned, member_after}
 use Rattle.world_laws.specs.Actors.{Actor, ActorCrew, member_asks, member_takes}
 use Rattle.world_laws.specs.declared.member.Member.TheVariants.{App, Path}
 use Rattle.world_laws.specs.Timely.{IsTimelyMember}
-use Rattle.world_laws.proofs.RoundFrame.{takes_keeps}
+use Rattle.world_laws.proofs.Rounds.Frame.{takes_keeps}
 use Rattle.world_core.specs.Timely.{IsTimelyCrew}
 
 abbrev Member : Type 0

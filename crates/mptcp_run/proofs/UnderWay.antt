@@ -16,9 +16,9 @@ use Rattle.link_script.specs.declared.script.Script.{Script}
 use Rattle.world_laws.specs.Openings.{PathPlan, Start, paths_from, plans_from, start_of, opened_world}
 use Rattle.world_laws.specs.Serial.{after_steps, after_turns}
 use Rattle.world_laws.specs.Worlds.{note_of, crew_after, asked, stepped, world_step, all_over, greatest, begins, end_round}
-use Rattle.world_laws.proofs.Chaining.{stamp_rises, stamps_below}
-use Rattle.world_laws.proofs.Opened.{opened_actors}
-use Rattle.world_laws.proofs.Pairing.{step_fine, round_fine, greatest_above, stays_fine}
+use Rattle.world_laws.proofs.Weaving.StampsChain.{stamp_rises, stamps_below}
+use Rattle.world_laws.proofs.Worlds.Opened.{opened_actors}
+use Rattle.world_laws.proofs.Weaving.Paired.{step_fine, round_fine, greatest_above, stays_fine}
 use Rattle.mptcp_run.specs.Rounds.{Begins}
 use Rattle.mptcp_run.specs.Replaying.{GoesOn}
 use Rattle.mptcp_run.specs.Task.{Connection}

@@ -1,5 +1,5 @@
 -- What a run says by its status: a row for each.
-use Rattle.std.specs.Prelude.{◌≡◌, ℕ, ◌⊎◌, List, [], Err, Option, Some, IfSome, IsSome}
+use Rattle.std.specs.Prelude.{◌≡◌, ℕ, true, ◌⊎◌, List, [], Err, Option, Some, IfSome, IsSome}
 use Rattle.outside_kit.specs.declared.port.Port.{Port}
 use Rattle.outside_kit.specs.Calls.{Call, Made}
 use Rattle.outside_kit.specs.Outside.{HasRisen}
@@ -18,9 +18,9 @@ use Rattle.mptcp_run.specs.Made.{Bench}
 use Rattle.run_outside.specs.Plan.{AddsAll, AddsCut, AddsLoadsTo, loads_of, plan_of}
 use Rattle.mptcp_run.specs.Plan.{puts_so_far, all_puts}
 use Rattle.run_outside.specs.Ports.{IsUntouched}
-use Rattle.mptcp_run.specs.Promised.{IsAbortCaused, IsAlwaysKept, ReadersHaveFiles, ReadersHavePrefixes, ReadersHavePrefixesIfBound}
+use Rattle.mptcp_run.specs.Promised.{CheckedReadersAreRight, IsAbortCaused, IsAlwaysKept, NoneIsAltered, ReadersHaveAsMany, ReadersHaveFiles, ReadersHavePrefixes, ReadersHavePrefixesIfBound}
 use Rattle.mptcp_run.specs.Putting.{IsWhole, IsStopped, world_after}
-use Rattle.run_outside.specs.Script.{script_meaning}
+use Rattle.link_script.specs.Reading.{reading}
 use Rattle.run_outside.specs.Reading.{script_of, log_reading}
 use Rattle.mptcp_run.specs.Task.{Task, task_of}
 
@@ -30,7 +30,7 @@ Ports = Port → Option (List ℕ)
 -- ---- what was read
 
 -- The inputs are within their limits, the script is valid, and a log of `replay` has its form. Of
--- the task that they make: after each list of turns its connection keeps all promises.
+-- the task that they make: after each list of turns its connection keeps its promises.
 pub record WasRead (content : List ℕ → Option (List ℕ)) (line : Line) : Type 0 where
   pub within : AreWithinLimits content line
   pub script : HasValidScript content line
@@ -38,12 +38,15 @@ pub record WasRead (content : List ℕ → Option (List ℕ)) (line : Line) : Ty
   pub kept : IfSome (task_of content line) IsAlwaysKept
 
 -- A run of a task came to its own end: the ports hold the run of all its turns, these are the puts
--- of them, the log tells them, and an abort by a reader's peer has its cause.
+-- of them, the log tells them, and an abort by a reader's peer has its cause. Where mappings are
+-- checked, what a reader got whose side maps still is right.
 pub record HasRun (task : Task) (status : Status) (puts : List Call) (held holds : Ports) : Type 0 where
   pub whole : IsWhole task status held holds
   pub puts_are : puts ≡ all_puts task whole.turns
   pub logged : LogTellsTheRun task whole.turns status held holds
   pub caused : IsAbortCaused status (world_after task whole.turns)
+  pub checked : task.script.checksum ≡ true
+      → CheckedReadersAreRight task status (world_after task whole.turns) held holds
 
 -- It stopped at a turn that can't be made: the ports hold the rounds before, and these are their
 -- puts.
@@ -65,7 +68,7 @@ module _ (content : List ℕ → Option (List ℕ)) (line : Line) (loads_before 
   pub record ScriptRow (at : ℕ) (kind : ScriptKind) : Type 0 where
     pub within : AreWithinLimits content line
     pub cause : IfSome (content line.names.script)
-        (λ text. script_meaning text ≡ Err (script_fault.Line at kind))
+        (λ text. reading text ≡ Err (script_fault.Line at kind))
     pub untouched : IsUntouched held holds faults_before faults
     pub calls : AddsAll (loads_of line) told tells
 
@@ -87,8 +90,8 @@ module _ (content : List ℕ → Option (List ℕ)) (line : Line) (loads_before 
     pub puts : List Call
     pub stopped : IfSome (content_of content line input.Order) (λ log. IfSome
         (task_of content line) (λ task. HasStopped task (opening_count log) at puts held holds))
-    pub prefixes : ReadersHavePrefixes (content line.names.file_a) (content line.names.file_b)
-        held holds
+    pub prefixes : NoneIsAltered content line
+        → ReadersHavePrefixes (content line.names.file_a) (content line.names.file_b) held holds
     pub calls : AddsAll (plan_of (loads_of line) line puts) told tells
 
   -- the run was cut off behind its loads
@@ -96,8 +99,8 @@ module _ (content : List ℕ → Option (List ℕ)) (line : Line) (loads_before 
     pub read : WasRead content line
     pub cut : IfSome (task_of content line)
         (λ task. IsCut (loads_of line) line task held holds told tells status)
-    pub prefixes : ReadersHavePrefixesIfBound (content line.names.file_a)
-        (content line.names.file_b) held holds
+    pub prefixes : NoneIsAltered content line → ReadersHavePrefixesIfBound
+        (content line.names.file_a) (content line.names.file_b) held holds
     pub calls : (puts : List Call) × AddsCut (plan_of (loads_of line) line puts) status told tells
 
   -- before them, or in them
@@ -110,14 +113,20 @@ module _ (content : List ℕ → Option (List ℕ)) (line : Line) (loads_before 
     pub read : WasRead content line
     pub puts : List Call
     pub run : IfSome (task_of content line) (λ task. HasRun task status puts held holds)
-    pub prefixes : ReadersHavePrefixes (content line.names.file_a) (content line.names.file_b)
-        held holds
+    pub prefixes : NoneIsAltered content line
+        → ReadersHavePrefixes (content line.names.file_a) (content line.names.file_b) held holds
     pub calls : AddsAll (plan_of (loads_of line) line puts) told tells
 
+  -- and each reader was told the end: its port holds as many octets as the other side's file has,
+  -- and where no line of the script alters a payload, that file
+  pub record DeliveredRow : Type 0 where
+    pub row : EndRow Delivered
+    pub many : ReadersHaveAsMany (content line.names.file_a) (content line.names.file_b) held holds
+    pub files : NoneIsAltered content line
+        → ReadersHaveFiles (content line.names.file_a) (content line.names.file_b) held holds
+
   abbrev pub IsAnswer : Status → Type 0
-  IsAnswer Delivered =
-      EndRow Delivered
-      × ReadersHaveFiles (content line.names.file_a) (content line.names.file_b) held holds
+  IsAnswer Delivered = DeliveredRow
   IsAnswer Rounds = EndRow Rounds
   IsAnswer NoPath = EndRow NoPath
   IsAnswer (Aborted reader) = EndRow (Aborted reader)

@@ -1,15 +1,18 @@
--- What users of a run rely on, where its script alters no payload: what the readers have is what
--- the other side writes.
-use Rattle.std.specs.Prelude.{◌≡◌, ℕ, true, ◌⊎◌, List, [], ◌∷◌, ◌++◌, Option, Some, IfSome, IsSomeAnd}
+-- What users of a run rely on: where its script alters no payload, what the readers have is what
+-- the other side writes; where it does, and mappings are checked, it is so as long as a reader's side
+-- hasn't fallen back; and their number is right in any case.
+use Rattle.std.specs.Prelude.{◌≡◌, ℕ, true, ◌⊎◌, List, [], ◌∷◌, ◌++◌, length, Option, Some, IfSome, IsSomeAnd}
+use Rattle.outside_kit.specs.declared.side.Side.TheVariants.{A, B}
 use Rattle.run_words.specs.Lines.{Line}
 use Rattle.outside_kit.specs.declared.port.Port.{Port}
 use Rattle.outside_kit.specs.declared.port.Port.TheVariants.{ReadByA, ReadByB}
 use Rattle.outside_kit.specs.Outside.{HoldsAfter}
 use Rattle.pipe_model.specs.Prefix.{IsPrefix}
 use Rattle.world_laws.specs.AbortCause.{PeerStopped}
+use Rattle.world_laws.specs.Altered.{still_maps}
 use Rattle.world_laws.specs.Laws.{WritesTheFiles}
 use Rattle.world_laws.specs.Openings.{start_of}
-use Rattle.world_laws.specs.PlainScripts.{IsPlainScript, KeepsAllPromises, IsShownOfValues}
+use Rattle.world_laws.specs.PlainScripts.{AltersNone, IsPlainScript, IsShortScript, KeepsAllPromises, KeepsAnyway, KeepsChecked, IsShownOfValues}
 use Rattle.world_laws.specs.RoundDone.{EndsOnTime, RoundIsDone, round_of}
 use Rattle.world_laws.specs.Worlds.{Turn, all_over}
 use Rattle.path_core.specs.Octets.{octets}
@@ -19,15 +22,24 @@ use Rattle.mptcp_run.specs.Ends.{HoldsSomeRounds, HoldsToLine}
 use Rattle.mptcp_run.specs.Putting.{world_after, IsWhole, IsStopped}
 use Rattle.run_outside.specs.declared.input.Input.{Input}
 use Rattle.run_outside.specs.Inputs.{AreWithinLimits}
+use Rattle.run_outside.specs.Reading.{script_of}
 use Rattle.mptcp_run.specs.Task.{Connection, Task, Course, rounds, threads, told, task_of}
 
--- no line of the script alters a payload, and both files are shorter than 2^31 - 2 octets
+-- both files are shorter than 2^31 - 2 octets
+abbrev pub IsShortTask : Task → Type 0
+IsShortTask task = IsShortScript task.script task.file_a task.file_b
+
+-- and no line of the script alters a payload
 abbrev pub IsPlainTask : Task → Type 0
 IsPlainTask task = IsPlainScript task.script task.file_a task.file_b
 
--- what was read is a script of which no line alters a payload, and two such files
-abbrev pub IsPlainInput : Input → Type 0
-IsPlainInput input = IsPlainScript input.script input.file_a input.file_b
+-- what was read is a script and two such files
+abbrev pub IsShortInput : Input → Type 0
+IsShortInput input = IsShortScript input.script input.file_a input.file_b
+
+-- no line of the script that a command line names alters a payload
+abbrev pub NoneIsAltered : (List ℕ → Option (List ℕ)) → Line → Type 0
+NoneIsAltered content line = IsSomeAnd (script_of content line) AltersNone
 
 -- the last turn is the end of a round, as it is of each run of rounds and in each log
 abbrev pub EndsWithRound : Course → Type 0
@@ -36,7 +48,7 @@ EndsWithRound (threads most) = Unit {0}
 EndsWithRound (told order) = (prefix : List Turn) × (order ≡ prefix ++ Turn.Round ∷ [])
 
 pub record IsPromisedTask (task : Task) : Type 0 where
-  pub plain : IsPlainTask task
+  pub short : IsShortTask task
   pub ends : EndsWithRound task.course
 
 -- a port that told what it held holds a prefix of this file
@@ -48,12 +60,21 @@ abbrev pub HoldsPrefixIfBound : Option (List ℕ) → Option (List ℕ) → List
 HoldsPrefixIfBound old new file =
     IfSome old (λ held. (new ≡ Some held) ⊎ IsSomeAnd new (λ text. IsPrefix text file))
 
+-- a port that told what it held holds as many octets as this file has
+abbrev pub HoldsAsMany : Option (List ℕ) → Option (List ℕ) → List ℕ → Type 0
+HoldsAsMany old new file = IfSome old (λ _. IsSomeAnd new (λ text. length text ≡ length file))
+
 -- where these are the files that A and B write, as far as they are told
 module _ (file_a file_b : Option (List ℕ)) (old new : Port → Option (List ℕ)) where
   -- what each reader's port holds is all that the other side writes
   pub record ReadersHaveFiles : Type 0 where
     pub read_by_b : IfSome file_a (λ file. HoldsAfter (old ReadByB) (new ReadByB) (λ _. file))
     pub read_by_a : IfSome file_b (λ file. HoldsAfter (old ReadByA) (new ReadByA) (λ _. file))
+
+  -- it has as many octets
+  pub record ReadersHaveAsMany : Type 0 where
+    pub read_by_b : IfSome file_a (λ file. HoldsAsMany (old ReadByB) (new ReadByB) file)
+    pub read_by_a : IfSome file_b (λ file. HoldsAsMany (old ReadByA) (new ReadByA) file)
 
   -- it is a prefix of that
   pub record ReadersHavePrefixes : Type 0 where
@@ -70,12 +91,27 @@ abbrev pub IsAbortCaused : Status → Connection → Type 0
 IsAbortCaused (Aborted reader) w = PeerStopped reader w
 IsAbortCaused _ w = Unit {0}
 
+-- What a reader's port holds at a run's own end, where mappings are checked and the reader's side maps still: a prefix of the
+-- other side's file, and at Delivered all of it.
+pub record HoldsWhatIsRight (status : Status) (old new : Option (List ℕ)) (file : List ℕ) : Type 0 where
+  pub prefix : HoldsPrefixOf old new file
+  pub whole : status ≡ Delivered → HoldsAfter old new (λ _. file)
+
+-- so it is of the sides that map, after these turns
+pub record CheckedReadersAreRight (task : Task) (status : Status) (w : Connection) (old new : Port → Option (List ℕ)) : Type 0 where
+  pub read_by_b : still_maps B w ≡ true → HoldsWhatIsRight status (old ReadByB) (new ReadByB) task.file_a
+  pub read_by_a : still_maps A w ≡ true → HoldsWhatIsRight status (old ReadByA) (new ReadByA) task.file_b
+
 -- The connection after these turns.
 pub record IsKept (task : Task) (turns : List Turn) : Type 0 where
-  -- In each direction what was read is a prefix of what was written, what was acknowledged was
-  -- received, the end was told only at the whole, and nothing follows it; and all else that is
-  -- promised of a connection over octets.
-  pub promises : KeepsAllPromises (world_after task turns)
+  -- Whatever the script alters: what was acknowledged was received, the end was told only at the
+  -- whole length, and nothing follows it; and all else that needs no octet to be right.
+  pub anyway : KeepsAnyway (world_after task turns)
+  -- Where mappings are checked: what was read and placed until its side fell back is right.
+  pub checked : task.script.checksum ≡ true → KeepsChecked (world_after task turns)
+  -- Where no line alters a payload: in each direction what was read is a prefix of what was written,
+  -- and the end was told only at the whole; and all else that is promised of a connection over octets.
+  pub promises : AltersNone task.script → KeepsAllPromises (world_after task turns)
   -- What was written is a prefix of the side's file, and all of it where the stream was closed.
   pub files : WritesTheFiles (start_of task.script task.file_a task.file_b) (world_after task turns)
   -- It is the connection over segments as values, shown in octets.
@@ -92,15 +128,31 @@ IsAlwaysKept task = (turns : List Turn) → IsKept task turns
 
 -- ---- laws
 
--- the task of a command line, where its files are within their limits: each script that is run is
--- plain
+-- the task of a command line, where its files are within their limits
+abbrev pub LoadedTasksArePromised : Type 0
+LoadedTasksArePromised = (content : List ℕ → Option (List ℕ)) (line : Line) → AreWithinLimits content line → IfSome (task_of content line) IsPromisedTask
+
+-- which is plain where no line of its script alters a payload
 abbrev pub LoadedTasksArePlain : Type 0
-LoadedTasksArePlain = (content : List ℕ → Option (List ℕ)) (line : Line) → AreWithinLimits content line → IfSome (task_of content line) IsPromisedTask
+LoadedTasksArePlain = (content : List ℕ → Option (List ℕ)) (line : Line) → AreWithinLimits content line
+    → IfSome (task_of content line) (λ task. AltersNone task.script → IsPlainTask task)
 
-abbrev pub PlainTasksAreKept : Type 0
-PlainTasksAreKept = (task : Task) (turns : List Turn) → IsPlainTask task → IsKept task turns
+abbrev pub ShortTasksAreKept : Type 0
+ShortTasksAreKept = (task : Task) (turns : List Turn) → IsShortTask task → IsKept task turns
 
--- a run that came to its own end
+-- a run that came to its own end, whatever its script alters
+abbrev pub DeliveredRunsGiveAsMany : Type 0
+DeliveredRunsGiveAsMany =
+    (task : Task) (old new : Port → Option (List ℕ)) → IsShortTask task → EndsWithRound task.course
+    → IsWhole task Delivered old new → ReadersHaveAsMany (Some task.file_a) (Some task.file_b) old new
+
+-- where mappings are checked
+abbrev pub CheckedRunsAreRight : Type 0
+CheckedRunsAreRight =
+    (task : Task) (status : Status) (old new : Port → Option (List ℕ)) → IsShortTask task → EndsWithRound task.course → task.script.checksum ≡ true
+    → (whole : IsWhole task status old new) → CheckedReadersAreRight task status (world_after task whole.turns) old new
+
+-- where nothing is altered
 abbrev pub WholeRunsGivePrefixes : Type 0
 WholeRunsGivePrefixes =
     (task : Task) (status : Status) (old new : Port → Option (List ℕ)) → IsPlainTask task
@@ -111,10 +163,10 @@ DeliveredRunsGiveFiles =
     (task : Task) (old new : Port → Option (List ℕ)) → IsPlainTask task → EndsWithRound task.course
     → IsWhole task Delivered old new → ReadersHaveFiles (Some task.file_a) (Some task.file_b) old new
 
--- whose last state shows why it was aborted
+-- whose last state shows why it was aborted, whatever is altered
 abbrev pub WholeRunsHaveCause : Type 0
 WholeRunsHaveCause =
-    (task : Task) (status : Status) (old new : Port → Option (List ℕ)) → IsPlainTask task
+    (task : Task) (status : Status) (old new : Port → Option (List ℕ)) → IsShortTask task
     → (whole : IsWhole task status old new) → IsAbortCaused status (world_after task whole.turns)
 
 -- a run that stopped at a turn that can't be made

@@ -2,12 +2,21 @@
 ghost use Rattle.mptcp_run.specs.Logged.{WholeRunsAgree, WholeRunsAreTold};
 ghost use Rattle.mptcp_run.specs.Answers.{ValidInputsAreRun};
 ghost use Rattle.mptcp_run.specs.Clean.{CleanRunsDeliver};
-ghost use Rattle.mptcp_run.specs.Promised.{LoadedTasksArePlain, PlainTasksAreKept, WholeRunsGivePrefixes, DeliveredRunsGiveFiles, StoppedRunsGivePrefixes, CutRunsGivePrefixes, LinesCutGivePrefixes};
+ghost use Rattle.mptcp_run.specs.Promised.{CheckedRunsAreRight, CutRunsGivePrefixes, DeliveredRunsGiveAsMany, DeliveredRunsGiveFiles, LinesCutGivePrefixes, LoadedTasksArePlain, LoadedTasksArePromised, ShortTasksAreKept, StoppedRunsGivePrefixes, WholeRunsGivePrefixes, WholeRunsHaveCause};
+
+/// A law: whatever the script alters, the connection after the turns that were made keeps its promises; at `Delivered` each reader
+/// has as many octets as the other side writes; and an abort by a reader's peer has its cause. Where mappings are checked, what a
+/// reader has whose side maps still at a run's own end is a prefix of what the other side writes, and at `Delivered` all of it.
+pub fn runs_keep_their_promises()
+    ensures kept { ShortTasksAreKept }
+    ensures delivered { DeliveredRunsGiveAsMany }
+    ensures checked { CheckedRunsAreRight }
+    ensures caused { WholeRunsHaveCause }
+{}
 
 /// A law: where the script alters no payload, each reader has a prefix of what the other side writes, at whichever end of a run,
-/// and at `Delivered` all of it. The connection after the turns that were made keeps all promises.
+/// and at `Delivered` all of it.
 pub fn plain_runs_keep_their_word()
-    ensures kept { PlainTasksAreKept }
     ensures whole { WholeRunsGivePrefixes }
     ensures delivered { DeliveredRunsGiveFiles }
     ensures stopped { StoppedRunsGivePrefixes }
@@ -28,10 +37,11 @@ pub fn clean_runs_deliver()
     ensures { CleanRunsDeliver }
 {}
 
-/// A law: where the inputs of a command line are within their limits, the script of its task alters no payload, both files are
-/// shorter than 2^31 - 2 octets, and the last turn is the end of a round.
+/// A law: where the inputs of a command line are within their limits, both files of its task are shorter than 2^31 - 2 octets, and the
+/// last turn is the end of a round. So the task is plain where no line of its script alters a payload.
 pub fn loaded_tasks_are_plain()
-    ensures { LoadedTasksArePlain }
+    ensures promised { LoadedTasksArePromised }
+    ensures plain { LoadedTasksArePlain }
 {}
 
 /// A law: where a run of at least one round over at most sixteen paths, which keeps a log, came to

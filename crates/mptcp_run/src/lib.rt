@@ -14,7 +14,7 @@ mod turns;
 
 pub use laws::{
     clean_runs_deliver, loaded_tasks_are_plain, logs_tell_their_runs, plain_runs_keep_their_word,
-    valid_inputs_are_run,
+    runs_keep_their_promises, valid_inputs_are_run,
 };
 pub use messages::run_messages;
 pub use run_outside::{Named, ScriptKind, Status, fault_text};

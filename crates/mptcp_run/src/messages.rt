@@ -5,6 +5,7 @@ ghost use Rattle.outside_kit.specs.declared.port.Port.{Port};
 ghost use Rattle.run_words.specs.Lines.{as_line, shown_work};
 ghost use Rattle.mptcp_run.specs.Answers.{NothingWasRun};
 ghost use Rattle.mptcp_run.specs.Asked.{asked_in, is_run};
+ghost use Rattle.mptcp_run.specs.Promised.{NoneIsAltered};
 ghost use Rattle.run_outside.specs.Inputs.{order_of};
 ghost use Rattle.mptcp_run.specs.Messages.{IsMessagesAnswer, IsRunOverFrames, ReadersShow, is_apart, is_order, messages_in, refused_or, status_for, takes_messages, with_refusals};
 
@@ -169,9 +170,10 @@ pub fn run_messages<O: Outside, G: Gate + Sync, R: Threads + Wait + Sync>(
 ) -> (Status, O)
     requires empty_a { IfSome (O.holds outside Port.ReadByA) (λ text. text ≡ []) }
     requires empty_b { IfSome (O.holds outside Port.ReadByB) (λ text. text ≡ []) }
-    // What each reader's port shows of the lines of the other side's file: all of them at status 0,
-    // first ones at another end of the run, a prefix where it was cut off, and else nothing.
-    ensures lines { IfSome (messages_in (map string_bytes words.now)) (λ line. ReadersShow
+    // What each reader's port shows of the lines of the other side's file, where no line of the script alters a payload: all of
+    // them at status 0, first ones at another end of the run, a prefix where it was cut off, and else nothing.
+    ensures lines { IfSome (messages_in (map string_bytes words.now)) (λ line.
+        NoneIsAltered (O.content outside) line → ReadersShow
         (O.content outside line.names.file_a) (O.content outside line.names.file_b)
         (O.holds outside) (O.holds result.1) result.0) }
     // Why it ends so: what `run` answers where both files hold the frames of their lines.

@@ -16,7 +16,7 @@ ghost use Rattle.mptcp_run.specs.Ends.{CameToEnd, IsCut, ReplayEnds};
 ghost use Rattle.mptcp_run.specs.Made.{Bench, bench_of, bench_in};
 ghost use Rattle.run_outside.specs.Plan.{AddsShort};
 ghost use Rattle.run_outside.specs.Ports.{IsPortsFault};
-ghost use Rattle.mptcp_run.specs.Promised.{ReadersHaveFiles};
+ghost use Rattle.mptcp_run.specs.Promised.{NoneIsAltered, ReadersHaveAsMany, ReadersHaveFiles};
 ghost use Rattle.mptcp_run.specs.Putting.{last_line_of, status_of};
 ghost use Rattle.mptcp_run.specs.Replaying.{IsReplayFault};
 ghost use Rattle.mptcp_run.specs.Rounds.{IsOpened, all_turns};
@@ -413,9 +413,15 @@ pub fn run<O: Outside, G: Gate + Sync, R: Threads + Wait + Sync>(
     outside: &mut O,
     gate: &G,
 ) -> Status
-    // Status 0: what each reader's port holds is what the other side's file holds.
+    // Status 0, where no line of the script alters a payload: what each reader's port holds is what the other side's file holds.
     ensures delivered { result ≡ Status.Delivered →
-        IfSome (asked_in (map string_bytes words.now)) (λ line. ReadersHaveFiles
+        IfSome (asked_in (map string_bytes words.now)) (λ line.
+        NoneIsAltered (O.content outside.old) line → ReadersHaveFiles
+        (O.content outside.old line.names.file_a) (O.content outside.old line.names.file_b)
+        (O.holds outside.old) (O.holds outside.new)) }
+    // Status 0, whatever the script alters: each port holds as many octets as that file has.
+    ensures counted { result ≡ Status.Delivered →
+        IfSome (asked_in (map string_bytes words.now)) (λ line. ReadersHaveAsMany
         (O.content outside.old line.names.file_a) (O.content outside.old line.names.file_b)
         (O.holds outside.old) (O.holds outside.new)) }
     // Words that ask for `run`, `serial` or `replay`: the row of the answer.

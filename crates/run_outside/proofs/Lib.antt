@@ -2,7 +2,7 @@ pub mod PortsLemmas
 pub mod Calls
 pub mod Calling
 pub mod Loading
-mod ScriptLemmas
+mod PartingLemmas
 pub mod LogEnds
 pub mod Drawing
 mod GatheredLines

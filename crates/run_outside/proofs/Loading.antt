@@ -8,7 +8,7 @@ use Rattle.link_script.specs.declared.script.Script as link
 use Rattle.link_script.specs.Scripts.{HasRanges}
 use Rattle.run_outside.specs.declared.input.Input.{Input}
 use Rattle.run_outside.specs.Loaded.{IsLoaded}
-use Rattle.run_outside.specs.Script.{script_meaning}
+use Rattle.link_script.specs.Reading.{reading}
 use Rattle.run_words.specs.Lines.{Line, replay}
 use Rattle.run_outside.specs.declared.status.Named.{Named}
 use Rattle.run_outside.specs.declared.status.Status.{Status}
@@ -164,7 +164,7 @@ replay_loads line log is = ap (λ w. first_loads line ++ load_of (order_of w)) (
 -- ---- what was read
 
 -- a script that is run, and two files within their limit
-pub loaded_of : (input : Input) (text a b : List ℕ) → script_meaning text ≡ Ok input.script → HasRanges input.script
+pub loaded_of : (input : Input) (text a b : List ℕ) → reading text ≡ Ok input.script → HasRanges input.script
     → input.file_a ≡ a → input.file_b ≡ b → length a ≤ 16777216 → length b ≤ 16777216 → IsLoaded input
 loaded_of input text a b script ranges a_is b_is few_a few_b = record {
   text = text;
@@ -174,7 +174,7 @@ loaded_of input text a b script ranges a_is b_is few_a few_b = record {
   few_b = subst (λ xs. length xs ≤ 16777216) (sym b_is) few_b;
 }
 
-pub loaded : {E : Type 0} (r : Result Input E) (text a b : List ℕ) → IfOk r (λ input. script_meaning text ≡ Ok input.script) → IfOk r (λ input. HasRanges input.script)
+pub loaded : {E : Type 0} (r : Result Input E) (text a b : List ℕ) → IfOk r (λ input. reading text ≡ Ok input.script) → IfOk r (λ input. HasRanges input.script)
     → IfOk r (λ input. input.file_a ≡ a) → IfOk r (λ input. input.file_b ≡ b) → length a ≤ 16777216 → length b ≤ 16777216 → IfOk r IsLoaded
 loaded (Ok input) text a b script ranges a_is b_is few_a few_b = loaded_of input text a b script ranges a_is b_is few_a few_b
 loaded (Err e) text a b script ranges a_is b_is few_a few_b = tt

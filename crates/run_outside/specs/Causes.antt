@@ -9,7 +9,7 @@ use Rattle.run_words.specs.Lines.{line_of}
 use Rattle.run_outside.specs.declared.status.Named.{Named}
 use Rattle.run_outside.specs.declared.status.Named.TheVariants as input
 use Rattle.run_outside.specs.declared.status.Status.{Status}
-use Rattle.run_outside.specs.Script.{script_meaning}
+use Rattle.link_script.specs.Reading.{reading}
 use Rattle.run_outside.specs.Reading.{log_reading}
 use Rattle.run_outside.specs.declared.status.Status.TheVariants.{Usage, Script, Load, Put, TooLong, Memory, Log}
 
@@ -44,7 +44,7 @@ IsPutFault port old new _ = ⊥
 
 -- the script ends a run with this status: it is refused at this line, for this kind
 abbrev pub IsScriptFault : List ℕ → Status → Type 0
-IsScriptFault script (Script line kind) = script_meaning script ≡ Err (script_fault.Line line kind)
+IsScriptFault script (Script line kind) = reading script ≡ Err (script_fault.Line line kind)
 IsScriptFault script Memory = Unit {0}
 IsScriptFault script _ = ⊥
 

@@ -10,7 +10,8 @@ use Rattle.run_outside.specs.declared.status.Named.TheVariants as input
 use Rattle.run_outside.specs.declared.status.Status.{Status}
 use Rattle.run_outside.specs.declared.status.Status.TheVariants.{Script, Load, TooLong, Memory, Log}
 use Rattle.run_outside.specs.Causes.{limit_of}
-use Rattle.run_outside.specs.Script.{parted_at, script_meaning}
+use Rattle.link_script.specs.Reading.{reading}
+use Rattle.run_outside.specs.Parting.{parted_at}
 use Rattle.run_outside.specs.Reading.{script_of, log_reading}
 
 -- the name of the log whose steps are made again
@@ -59,16 +60,16 @@ IsLoadsFault content line old new _ = ⊥
 -- what a run reads ends it with this status: a load, or the script, all loads being done
 abbrev pub IsInputFault : (List ℕ → Option (List ℕ)) → Line → ℕ → ℕ → Status → Type 0
 IsInputFault content line old new (Script at kind) =
-    AreFirstWithinLimits content line × IfSome (content line.names.script) (λ told. script_meaning told ≡ Err (script_fault.Line at kind))
+    AreFirstWithinLimits content line × IfSome (content line.names.script) (λ told. reading told ≡ Err (script_fault.Line at kind))
 IsInputFault content line old new status = IsLoadsFault content line old new status
 
 -- or the form of the log, all loads being done and the script being valid
 abbrev pub IsReplayInputFault : (List ℕ → Option (List ℕ)) → Line → ℕ → ℕ → Status → Type 0
 IsReplayInputFault content line old new (Script at kind) =
-    ((named : Named) → IsWithinLimit content line named) × IfSome (content line.names.script) (λ told. script_meaning told ≡ Err (script_fault.Line at kind))
+    ((named : Named) → IsWithinLimit content line named) × IfSome (content line.names.script) (λ told. reading told ≡ Err (script_fault.Line at kind))
 IsReplayInputFault content line old new (Log at) =
     ((named : Named) → IsWithinLimit content line named)
-    × (IfSome (content line.names.script) (λ told. IsOk (script_meaning told))
+    × (IfSome (content line.names.script) (λ told. IsOk (reading told))
     × IfSome (script_of content line) (λ script. IfSome (content_of content line input.Order) (λ told. log_reading script told ≡ Err (log_fault.Line at))))
 IsReplayInputFault content line old new status = IsLoadsFault content line old new status
 
@@ -84,7 +85,7 @@ AreWithinLimits content line = (named : Named) → IsWithinLimit content line na
 
 -- the script is valid
 abbrev pub HasValidScript : (List ℕ → Option (List ℕ)) → Line → Type 0
-HasValidScript content line = IfSome (content line.names.script) (λ told. IsOk (script_meaning told))
+HasValidScript content line = IfSome (content line.names.script) (λ told. IsOk (reading told))
 
 -- a log of `replay` has its form
 abbrev pub HasValidOrder : (List ℕ → Option (List ℕ)) → Line → Type 0
@@ -92,7 +93,7 @@ HasValidOrder content line = IfSome (script_of content line) (λ script. IfSome 
 
 -- all contents are told, within their limits, and valid
 pub record IsValid (content : List ℕ → Option (List ℕ)) (line : Line) : Type 0 where
-  pub script : IsSomeAnd (content line.names.script) (λ told. IsOk (script_meaning told))
+  pub script : IsSomeAnd (content line.names.script) (λ told. IsOk (reading told))
   pub file_a : IsSome (content line.names.file_a)
   pub file_b : IsSome (content line.names.file_b)
   pub order : IfSome (order_of line.work) (λ log. IsSomeAnd (content log) (λ told. IfSome (script_of content line) (λ script. IsOk (log_reading script told))))

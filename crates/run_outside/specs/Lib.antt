@@ -5,8 +5,8 @@ pub mod Loaded
 pub mod Loading
 pub mod LogText
 pub mod MadeInput
+pub mod Parting
 pub mod Plan
 pub mod Ports
 pub mod Reading
-pub mod Script
 pub mod Status

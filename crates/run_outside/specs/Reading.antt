@@ -1,12 +1,17 @@
 -- The script that a command line names, and what the log of its run has of it.
 use Rattle.std.specs.Prelude.{ℕ, ◌+◌, ◌≡◌, List, [], ◌∷◌, ◌++◌, length, Result, Option, option_and_then, if◌then◌else◌}
+use Rattle.std.specs.Result.{result_ok}
+use Rattle.link_script.specs.Reading.{reading}
 use Rattle.link_script.specs.declared.script.Script.{Script}
 use Rattle.run_log.specs.declared.fault.LogFault.{LogFault}
 use Rattle.run_log.specs.declared.turn.Turn.{Turn}
 use Rattle.run_log.specs.declared.turn.Turn.TheVariants as turn
 use Rattle.run_log.specs.Form as form
 use Rattle.run_words.specs.Lines.{Line}
-use Rattle.run_outside.specs.Script.{script_in}
+
+-- the script that a text says, if it says one
+abbrev pub script_in : List ℕ → Option Script
+script_in text = result_ok (reading text)
 
 -- the script that a command line names, where it is told and valid
 abbrev pub script_of : (List ℕ → Option (List ℕ)) → Line → Option Script

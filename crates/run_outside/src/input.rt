@@ -12,14 +12,13 @@ ghost use Rattle.outside_kit.specs.Calls as call;
 ghost use Rattle.run_outside.specs.Plan.{failed, Adds, first_loads, loads_of};
 ghost use Rattle.run_outside.specs.Loading.{LoadsAdd, InputAdds};
 ghost use Rattle.run_outside.specs.Loaded.{IsLoaded};
-ghost use Rattle.run_outside.specs.Script.{script_meaning};
+ghost use Rattle.link_script.specs.Reading.{reading};
 ghost use Rattle.run_outside.specs.Reading.{log_reading, EndsInRound};
 
 use crate::device::load;
 use crate::order::{opening_count, read_order};
-use crate::script::read_script;
 use crate::status::{Named, Status};
-use link_script::{Script, ScriptFault};
+use link_script::{Script, ScriptFault, parse};
 use outside_kit::Outside;
 use pipe_model::Text;
 use run_log::Turn;
@@ -127,13 +126,13 @@ fn shared(file: Vec<u8>) -> Result<Text, Status>
 /// What the contents say: the script is read, and the files are shared.
 pub fn input_of(alloc: Global, contents: Contents) -> Result<Input, Status>
     requires { vec_len contents.script ≤ 65536 }
-    ensures script { IfOk result (λ input. script_meaning contents.script.items ≡ Ok input.script) }
+    ensures script { IfOk result (λ input. reading contents.script.items ≡ Ok input.script) }
     ensures file_a { IfOk result (λ input. input.file_a ≡ contents.file_a.items) }
     ensures file_b { IfOk result (λ input. input.file_b ≡ contents.file_b.items) }
     ensures ranges { IfOk result (λ input. HasRanges input.script) }
     ensures fault { IfErr result (IsScriptFault contents.script.items) }
 {
-    match read_script(alloc, &contents.script) {
+    match parse(alloc, &contents.script) {
         Ok(script) => Ok(Input {
             script,
             file_a: shared(contents.file_a)?,
@@ -151,7 +150,7 @@ pub fn load_input<O: Outside>(
     line: &CommandLine<'_>,
 ) -> Result<Input, Status>
     ensures script { IfOk result (λ input. IfSome (O.content outside.old line.now.script.now)
-        (λ told. script_meaning told ≡ Ok input.script)) }
+        (λ told. reading told ≡ Ok input.script)) }
     ensures file_a { IfOk result (λ input. IfSome (O.content outside.old line.now.file_a.now)
         (λ told. input.file_a ≡ told)) }
     ensures file_b { IfOk result (λ input. IfSome (O.content outside.old line.now.file_b.now)
@@ -191,7 +190,7 @@ pub fn load_replay<O: Outside>(
 ) -> Result<Replay, Status>
     requires named { (as_line line.now).work ≡ replay order.now }
     ensures script { IfOk result (λ replay. IfSome (O.content outside.old line.now.script.now)
-        (λ told. script_meaning told ≡ Ok replay.input.script)) }
+        (λ told. reading told ≡ Ok replay.input.script)) }
     ensures file_a { IfOk result (λ replay. IfSome (O.content outside.old line.now.file_a.now)
         (λ told. replay.input.file_a ≡ told)) }
     ensures file_b { IfOk result (λ replay. IfSome (O.content outside.old line.now.file_b.now)

@@ -9,9 +9,9 @@ mod input;
 mod lines;
 mod made;
 mod order;
+mod parting;
 mod pieces;
 mod readers;
-mod script;
 mod status;
 mod words;
 
@@ -23,6 +23,5 @@ pub use made::made_input;
 pub use order::width_of;
 pub use pieces::Piece;
 pub use readers::bind_readers;
-pub use script::read_script;
 pub use status::{Named, Status, fault_text};
 pub use words::read_words;

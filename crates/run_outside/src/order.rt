@@ -6,7 +6,7 @@ ghost use Rattle.run_outside.specs.Causes.{IsFormFault};
 ghost use Rattle.run_outside.specs.Reading.{actors_of, width_of, log_reading};
 ghost use Rattle.run_outside.specs.Inputs.{opening_count};
 
-use crate::script::split_at_first;
+use crate::parting::split_at_first;
 use crate::status::Status;
 use link_script::Script;
 use run_log::{LogFault, Turn, read_log};

@@ -2,7 +2,7 @@
 use Rattle.std.proofs.Common.{◌≡◌, ◌∙◌, ap, ℕ, [], ◌∷◌, List}
 use Rattle.path_core.specs.Octets.{octets}
 use Rattle.world_laws.specs.Worlds.{WorldState, Turn, world_step, end_round}
-use Rattle.world_laws.proofs.Carrying.{run_same}
+use Rattle.world_laws.proofs.Worlds.Carrying.{run_same}
 use Rattle.world_core.specs.AsValues.{StepsAsValues, EndsAsValues}
 
 pub steps_as_values : (actor : ℕ) (before after : WorldState (List ℕ)) → after ≡ world_step octets actor before → StepsAsValues actor before after

@@ -16,9 +16,9 @@ use Rattle.world_laws.specs.Openings.{Start, opened_world, path_begins}
 use Rattle.actor_desk.specs.Books.{StampedBooks}
 use Rattle.world_laws.specs.Worlds.{all_over, greatest, begins, end_round}
 use Rattle.world_laws.specs.Timely.{CanBegin, IsTimely, IsTimelyMember}
-use Rattle.world_laws.proofs.Pairing.{round_fine, stays_fine}
-use Rattle.world_laws.proofs.RoundFrame.{first_keeps, first_stands}
-use Rattle.world_laws.proofs.RoundLifting.{opened_lifted}
+use Rattle.world_laws.proofs.Weaving.Paired.{round_fine, stays_fine}
+use Rattle.world_laws.proofs.Rounds.Frame.{first_keeps, first_stands}
+use Rattle.world_laws.proofs.Rounds.Lifting.{opened_lifted}
 use Rattle.world_core.specs.Kept.{world, IsSound, IsKept}
 use Rattle.world_core.specs.declared.hearing.Hearing.{Hearing}
 use Rattle.world_core.specs.Hearing.{heard_by}

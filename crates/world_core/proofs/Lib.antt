@@ -8,4 +8,3 @@ mod Opening
 pub mod RoundsMade
 pub mod Gathering
 pub mod SinceRound
-pub mod Unaltering

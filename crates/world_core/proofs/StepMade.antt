@@ -21,14 +21,14 @@ use Rattle.world_laws.specs.Fine.{IsFine}
 use Rattle.world_laws.specs.StampedBooks.{answer_to}
 use Rattle.actor_desk.specs.Books.{StampedBooks}
 use Rattle.world_laws.specs.Worlds.{note_of, crew_after, asked, stepped, world_step, goes, is_going}
-use Rattle.world_laws.proofs.Pairing.{step_fine}
+use Rattle.world_laws.proofs.Weaving.Paired.{step_fine}
 use Rattle.world_core.specs.Hearing.{heard_by, heard_with, told_in, heard_report, ShowsTheSame}
 use Rattle.world_core.specs.declared.hearing.Told.{Told}
 use Rattle.world_core.specs.declared.hearing.Hearing.{Hearing}
 use Rattle.world_core.specs.Kept.{world, IsSound}
 use Rattle.world_core.specs.Steps.{note_if, crew_if, books_if, GoesUp, StampRises, stamp_or, note_by, next_note}
 use Rattle.world_laws.specs.Timely.{IsTimelyMember}
-use Rattle.world_laws.proofs.RoundFrame.{takes_keeps}
+use Rattle.world_laws.proofs.Rounds.Frame.{takes_keeps}
 use Rattle.world_core.specs.Timely.{IsTimelyCrew}
 use Rattle.world_core.proofs.Lists.{put_again, found, both_ok, each_ok, both_err}
 use Rattle.world_core.proofs.Showing.{heard_again, shows_other}

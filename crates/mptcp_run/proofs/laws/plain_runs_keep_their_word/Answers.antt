@@ -1,9 +1,6 @@
 use Rattle.mptcp_run.proofs.Promised as promised
 use Rattle.mptcp_run.proofs.laws.plain_runs_keep_their_word.Goals as goal
 
-pub returns-clause-kept : goal.returns-clause-kept
-returns-clause-kept c = promised.plain_tasks_are_kept
-
 pub returns-clause-whole : goal.returns-clause-whole
 returns-clause-whole c = promised.whole_runs_give_prefixes
 

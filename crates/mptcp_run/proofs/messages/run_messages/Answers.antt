@@ -20,7 +20,7 @@ returns-in-Ok-clause-lines g c =
     (taken (map string_bytes c.args.words.now) (as_line c.in-Ok.line) c.in-Ok.ensures.line (sym c.if-takes_messages.ensures))
     (messages_shown (g.O.Outside.content c.args.outside) (as_line c.in-Ok.line) (g.O.Outside.load_faults c.args.outside) (g.O.Outside.load_faults c.run_line.result.1)
     (g.O.Outside.port_faults c.args.outside) (g.O.Outside.port_faults c.run_line.result.1) (g.O.Outside.holds c.args.outside) (g.O.Outside.holds c.run_line.result.1) c.run_line.result.0
-    c.requires.empty_a c.requires.empty_b c.run_line.ensures)
+    c.requires.empty_a c.requires.empty_b (sym c.if-takes_messages.ensures) c.run_line.ensures)
 
 pub returns-in-Ok-clause-neither : goal.returns-in-Ok-clause-neither
 returns-in-Ok-clause-neither g c none =

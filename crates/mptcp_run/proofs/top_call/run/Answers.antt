@@ -5,7 +5,7 @@ use Rattle.mptcp_run.specs.Asked.{asked_in}
 use Rattle.mptcp_run.specs.Made.{Bench}
 use Rattle.mptcp_run.proofs.AskedRounds.{line_asked}
 use Rattle.mptcp_run.proofs.CleanRuns.{clean_if_asked}
-use Rattle.mptcp_run.proofs.Asking.{asked_is, bench_is, delivered_files, unread_answer, unread_bench, unread}
+use Rattle.mptcp_run.proofs.Asking.{asked_is, bench_is, delivered_files, delivered_many, unread_answer, unread_bench, unread}
 use Rattle.mptcp_run.proofs.top_call.run.Goals as goal
 
 pub run_line-requires-clause-in_range : goal.run_line-requires-clause-in_range
@@ -23,6 +23,13 @@ returns-in-Ok-clause-answer g c =
 pub returns-in-Ok-clause-delivered : goal.returns-in-Ok-clause-delivered
 returns-in-Ok-clause-delivered g c is =
     delivered_files (g.O.Outside.content c.args.outside.now) (g.O.Outside.load_faults c.args.outside.now) (g.O.Outside.load_faults c.run_line.new.outside)
+    (g.O.Outside.port_faults c.args.outside.now) (g.O.Outside.port_faults c.run_line.new.outside) (g.O.Outside.holds c.args.outside.now) (g.O.Outside.holds c.run_line.new.outside)
+    (g.O.Outside.calls c.args.outside.now) (g.O.Outside.calls c.run_line.new.outside) (asked_in (map string_bytes c.args.words.now)) c.run_line.result
+    (returns-in-Ok-clause-answer g c) is
+
+pub returns-in-Ok-clause-counted : goal.returns-in-Ok-clause-counted
+returns-in-Ok-clause-counted g c is =
+    delivered_many (g.O.Outside.content c.args.outside.now) (g.O.Outside.load_faults c.args.outside.now) (g.O.Outside.load_faults c.run_line.new.outside)
     (g.O.Outside.port_faults c.args.outside.now) (g.O.Outside.port_faults c.run_line.new.outside) (g.O.Outside.holds c.args.outside.now) (g.O.Outside.holds c.run_line.new.outside)
     (g.O.Outside.calls c.args.outside.now) (g.O.Outside.calls c.run_line.new.outside) (asked_in (map string_bytes c.args.words.now)) c.run_line.result
     (returns-in-Ok-clause-answer g c) is
@@ -56,6 +63,13 @@ returns-in-Err-clause-answer g c =
 pub returns-in-Err-clause-delivered : goal.returns-in-Err-clause-delivered
 returns-in-Err-clause-delivered g c is =
     delivered_files (g.O.Outside.content c.args.outside.now) (g.O.Outside.load_faults c.args.outside.now) (g.O.Outside.load_faults c.args.outside.now)
+    (g.O.Outside.port_faults c.args.outside.now) (g.O.Outside.port_faults c.args.outside.now) (g.O.Outside.holds c.args.outside.now) (g.O.Outside.holds c.args.outside.now)
+    (g.O.Outside.calls c.args.outside.now) (g.O.Outside.calls c.args.outside.now) (asked_in (map string_bytes c.args.words.now)) c.in-Err.status
+    (returns-in-Err-clause-answer g c) is
+
+pub returns-in-Err-clause-counted : goal.returns-in-Err-clause-counted
+returns-in-Err-clause-counted g c is =
+    delivered_many (g.O.Outside.content c.args.outside.now) (g.O.Outside.load_faults c.args.outside.now) (g.O.Outside.load_faults c.args.outside.now)
     (g.O.Outside.port_faults c.args.outside.now) (g.O.Outside.port_faults c.args.outside.now) (g.O.Outside.holds c.args.outside.now) (g.O.Outside.holds c.args.outside.now)
     (g.O.Outside.calls c.args.outside.now) (g.O.Outside.calls c.args.outside.now) (asked_in (map string_bytes c.args.words.now)) c.in-Err.status
     (returns-in-Err-clause-answer g c) is

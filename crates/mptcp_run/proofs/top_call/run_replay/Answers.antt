@@ -3,8 +3,8 @@ use Rattle.run_words.specs.Lines.{as_line}
 use Rattle.mptcp_run.specs.Rounds.{all_turns}
 use Rattle.mptcp_run.specs.Task.{Task, task_from}
 use Rattle.mptcp_run.specs.Task as course
-use Rattle.mptcp_run.proofs.Answering.{replay_task, script_valid, replay_order, end_from, replay_from, replay_input_answer, end_answer, replay_answer}
-use Rattle.mptcp_run.proofs.PlainTasks.{as_turns, plain_input}
+use Rattle.mptcp_run.proofs.Answering.{replay_task, replay_order, end_from, replay_from, replay_input_answer, end_answer, replay_answer}
+use Rattle.mptcp_run.proofs.PlainTasks.{as_turns, short_input}
 use Rattle.mptcp_run.proofs.Starting.{cause_after}
 use Rattle.mptcp_run.proofs.top_call.run_replay.Goals as goal
 
@@ -26,8 +26,8 @@ returns-in-Ok-perform g c =
     end_answer content line (g.O.Outside.load_faults c.args.outside.now) (g.O.Outside.load_faults c.perform.new.outside)
     (g.O.Outside.port_faults c.args.outside.now) (g.O.Outside.port_faults c.perform.new.outside) (g.O.Outside.holds c.args.outside.now) (g.O.Outside.holds c.perform.new.outside)
     (g.O.Outside.calls c.args.outside.now) (g.O.Outside.calls c.perform.new.outside) task
-    (replay_task content line c.args.order.now replay.turns.items replay.input c.requires read.script read.file_a read.file_b read.turns) (plain_input _ read.loaded) read.file_a read.file_b
-    read.within (script_valid content line replay.input.script read.script) (replay_order content line c.args.order.now replay.turns.items replay.input.script c.requires read.script read.turns)
+    (replay_task content line c.args.order.now replay.turns.items replay.input c.requires read.script read.file_a read.file_b read.turns) (short_input _ read.loaded) read.file_a read.file_b
+    read.within read.script (replay_order content line c.args.order.now replay.turns.items replay.input.script c.requires read.script read.turns)
     refl (as_turns _ read.ends) (as_turns _ read.ends) c.in-Ok-perform.status
     (end_from (g.O.Outside.holds c.args.outside.now) (g.O.Outside.holds c.load_replay.new.outside) (g.O.Outside.holds c.perform.new.outside) (λ p. (read.loads.untouched p).0) line task
     (g.O.Outside.calls c.args.outside.now) (g.O.Outside.calls c.load_replay.new.outside) (g.O.Outside.calls c.perform.new.outside) read.loads.made
@@ -40,8 +40,8 @@ returns g c =
     replay_answer content line (g.O.Outside.load_faults c.args.outside.now) (g.O.Outside.load_faults c.perform.new.outside)
     (g.O.Outside.port_faults c.args.outside.now) (g.O.Outside.port_faults c.perform.new.outside) (g.O.Outside.holds c.args.outside.now) (g.O.Outside.holds c.perform.new.outside)
     (g.O.Outside.calls c.args.outside.now) (g.O.Outside.calls c.perform.new.outside) task
-    (replay_task content line c.args.order.now replay.turns.items replay.input c.requires read.script read.file_a read.file_b read.turns) (plain_input _ read.loaded) read.file_a read.file_b
-    read.within (script_valid content line replay.input.script read.script) (replay_order content line c.args.order.now replay.turns.items replay.input.script c.requires read.script read.turns)
+    (replay_task content line c.args.order.now replay.turns.items replay.input c.requires read.script read.file_a read.file_b read.turns) (short_input _ read.loaded) read.file_a read.file_b
+    read.within read.script (replay_order content line c.args.order.now replay.turns.items replay.input.script c.requires read.script read.turns)
     c.args.order.now replay.lines c.requires read.lines c.in-Err-perform.status
     (cause_after (g.O.Outside.port_faults c.args.outside.now) (g.O.Outside.port_faults c.load_replay.new.outside) (g.O.Outside.port_faults c.perform.new.outside)
     c.in-Err-perform.status (λ p. let same = (read.loads.untouched p).1 in omega (arith, same)) c.in-Err-perform.ensures.fault)

@@ -5,8 +5,8 @@ use Rattle.run_outside.specs.Inputs.{order_of}
 use Rattle.run_outside.specs.Plan.{AddsAll, first_loads}
 use Rattle.mptcp_run.specs.Task.{Task, task_from}
 use Rattle.mptcp_run.specs.Task as course
-use Rattle.mptcp_run.proofs.PlainTasks.{plain_input}
-use Rattle.mptcp_run.proofs.Answering.{serial_task, unordered_within, script_valid, unordered_valid, end_from, cut_from, input_answer, end_answer, cut_answer}
+use Rattle.mptcp_run.proofs.PlainTasks.{short_input}
+use Rattle.mptcp_run.proofs.Answering.{serial_task, unordered_within, unordered_valid, end_from, cut_from, input_answer, end_answer, cut_answer}
 use Rattle.run_outside.proofs.Loading.{unordered_loads}
 use Rattle.run_outside.proofs.PortsLemmas.{fault_after}
 use Rattle.mptcp_run.proofs.top_call.run_serial.Goals as goal
@@ -29,8 +29,8 @@ returns-in-Ok-perform g c =
     end_answer content line (g.O.Outside.load_faults c.args.outside.now) (g.O.Outside.load_faults c.perform.new.outside)
     (g.O.Outside.port_faults c.args.outside.now) (g.O.Outside.port_faults c.perform.new.outside) (g.O.Outside.holds c.args.outside.now) (g.O.Outside.holds c.perform.new.outside)
     (g.O.Outside.calls c.args.outside.now) (g.O.Outside.calls c.perform.new.outside) task
-    (serial_task content line c.args.rounds c.in-Ok.input c.requires.asked read.script read.file_a read.file_b) (plain_input _ read.loaded) read.file_a read.file_b
-    (unordered_within content line (ap order_of c.requires.asked) read.within) (script_valid content line c.in-Ok.input.script read.script) (unordered_valid content line (ap order_of c.requires.asked))
+    (serial_task content line c.args.rounds c.in-Ok.input c.requires.asked read.script read.file_a read.file_b) (short_input _ read.loaded) read.file_a read.file_b
+    (unordered_within content line (ap order_of c.requires.asked) read.within) read.script (unordered_valid content line (ap order_of c.requires.asked))
     refl (subst (λ (w : Work). AsksInRange w) c.requires.asked c.requires.in_range) tt c.in-Ok-perform.status
     (end_from (g.O.Outside.holds c.args.outside.now) (g.O.Outside.holds c.load_input.new.outside) (g.O.Outside.holds c.perform.new.outside) (λ p. (read.loads.untouched p).0) line task
     (g.O.Outside.calls c.args.outside.now) (g.O.Outside.calls c.load_input.new.outside) (g.O.Outside.calls c.perform.new.outside)
@@ -44,8 +44,8 @@ returns g c =
     cut_answer content line (g.O.Outside.load_faults c.args.outside.now) (g.O.Outside.load_faults c.perform.new.outside)
     (g.O.Outside.port_faults c.args.outside.now) (g.O.Outside.port_faults c.perform.new.outside) (g.O.Outside.holds c.args.outside.now) (g.O.Outside.holds c.perform.new.outside)
     (g.O.Outside.calls c.args.outside.now) (g.O.Outside.calls c.perform.new.outside) task
-    (serial_task content line c.args.rounds c.in-Ok.input c.requires.asked read.script read.file_a read.file_b) (plain_input _ read.loaded) read.file_a read.file_b
-    (unordered_within content line (ap order_of c.requires.asked) read.within) (script_valid content line c.in-Ok.input.script read.script) (unordered_valid content line (ap order_of c.requires.asked))
+    (serial_task content line c.args.rounds c.in-Ok.input c.requires.asked read.script read.file_a read.file_b) (short_input _ read.loaded) read.file_a read.file_b
+    (unordered_within content line (ap order_of c.requires.asked) read.within) read.script (unordered_valid content line (ap order_of c.requires.asked))
     c.in-Err-perform.status
     (fault_after (g.O.Outside.port_faults c.args.outside.now) (g.O.Outside.port_faults c.load_input.new.outside) (g.O.Outside.port_faults c.perform.new.outside)
     c.in-Err-perform.status (λ p. let same = (read.loads.untouched p).1 in omega (arith, same)) c.in-Err-perform.ensures.fault)

@@ -7,7 +7,7 @@ use Rattle.connection_table.specs.Routes.{home_of}
 use Rattle.connection_table.specs.Steps.{IsStopped, after_step}
 use Rattle.connection_table.specs.Tables.{Entry, IsTable, Stands, entry_at, with_entry}
 use Rattle.connection_table.proofs.Changing.{changed_table, of_new, of_old, others, put_next, put_same}
-use Rattle.connection_table.proofs.Home.{plain_stays_home}
+use Rattle.connection_table.proofs.Home.{short_stays_home}
 use Rattle.connection_table.proofs.table.ConnectionTable.step.Goals as goal
 
 pub invariant_of-self : goal.invariant_of-self
@@ -51,7 +51,7 @@ returns-clause-stood c =
 
 pub returns-clause-home : goal.returns-clause-home
 returns-clause-home c =
-    plain_stays_home c.args.self.now c.args.connection c.args.actor (subst IsTable c.self.view_is c.self.invariant) c.home_of-home.ensures.alone
+    short_stays_home c.args.self.now c.args.connection c.args.actor (subst IsTable c.self.view_is c.self.invariant) c.home_of-home.ensures.alone
 
 pub returns-clause-others : goal.returns-clause-others
 returns-clause-others c =

@@ -1,7 +1,7 @@
 use Rattle.std.proofs.Common.{ℕ, List, sym, ◌∙◌, ap, arith}
 use Rattle.std.proofs.lemmas.Grind.{common_steps}
-use Rattle.run_outside.proofs.ScriptLemmas.{parted_at-found, parted_at-whole}
-use Rattle.run_outside.proofs.script.split_at_first.Goals as goal
+use Rattle.run_outside.proofs.PartingLemmas.{parted_at-found, parted_at-whole}
+use Rattle.run_outside.proofs.parting.split_at_first.Goals as goal
 
 abbrev Parts : Type 0
 Parts = List ℕ × List ℕ
