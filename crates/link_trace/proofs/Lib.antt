@@ -1,3 +1,5 @@
 mod Short
 mod Parts
 mod Sums
+pub mod CarriedRuns
+pub mod FirstOctets

@@ -1,6 +1,6 @@
 -- What a segment carries, counted from the beginnings of its subflow and of the streams (RFC 9293, section 3.4; RFC 8684,
 -- section 3.3).
-use Rattle.std.specs.Prelude.{ℕ, ◌+◌, ◌-◌, ◌%◌, ◌^◌, ◌==◌, min, Bool, true, false, if◌then◌else◌, Option, Some, None, unwrap_or, option_map, Result, Ok, Err, List, [], ◌∷◌, map, length}
+use Rattle.std.specs.Prelude.{ℕ, ◌+◌, ◌-◌, ◌%◌, ◌^◌, ◌==◌, min, Bool, true, false, if◌then◌else◌, Option, Some, None, unwrap_or, option_map, Result, Ok, Err, List, [], ◌∷◌, map, length, slice_get}
 use Rattle.std.specs.Option.{option_or}
 use Rattle.outside_kit.specs.declared.side.Side.{Side}
 use Rattle.outside_kit.specs.declared.side.Side.TheVariants.{A, B}
@@ -17,9 +17,10 @@ use Rattle.segment_wire.specs.Segment.{Segment}
 use Rattle.link_trace.specs.declared.carried.Base.{Base}
 use Rattle.link_trace.specs.declared.carried.Carried.{Carried}
 use Rattle.link_trace.specs.declared.carried.Dss.{Dss}
+use Rattle.link_trace.specs.declared.carried.PathInitials.{PathInitials}
 use Rattle.link_trace.specs.declared.sent.Sent.{Sent}
 use Rattle.link_trace.specs.Fates.{is_lost}
-use Rattle.link_trace.specs.Meanings.{meaning_in, initial_of}
+use Rattle.link_trace.specs.Meanings.{meaning_in}
 
 -- how far a number of 32 bits stands behind another one
 abbrev pub behind : ℕ → ℕ → ℕ
@@ -45,6 +46,16 @@ base_of key_a key_b checksums = record { first_a = first_number key_a; first_b =
 abbrev pub first_byte : Base → Side → ℕ
 first_byte base A = base.first_a
 first_byte base B = base.first_b
+
+-- the initial sequence number of a side on a path
+abbrev pub initial_at : Option PathInitials → Side → ℕ
+initial_at None side = 0
+initial_at (Some initials) A = initials.a
+initial_at (Some initials) B = initials.b
+
+-- path i has the i-th of them
+abbrev pub initial_in : List PathInitials → ℕ → Side → ℕ
+initial_in initials path side = initial_at (slice_get initials path) side
 
 -- ---- the DSS
 
@@ -92,7 +103,7 @@ acknowledged_by base from ack = option_map (λ number. behind (low_number number
 abbrev pub payload_len : Segment → ℕ
 payload_len segment = min (length segment.payload) 65535
 
--- of the segment of a side whose SYN has this number
+-- of the segment of a side with this initial number
 abbrev pub carries : Base → Sent → ℕ → Segment → Carried
 carries base s initial segment =
     let dss = dss_in base.checksums (option_octets segment.options) in let position = behind segment.head.seq initial in record {
@@ -123,9 +134,9 @@ abbrev pub carried_in : Base → Sent → ℕ → Result Segment SegmentFault �
 carried_in base s initial (Ok segment) = carries base s initial segment
 carried_in base s initial (Err fault) = carries_nothing s
 
-abbrev pub carried_of : Base → List Sent → Sent → Carried
-carried_of base trace s = carried_in base s (unwrap_or (initial_of s.path s.from trace) 0) (meaning_in s)
+abbrev pub carried_of : Base → List PathInitials → Sent → Carried
+carried_of base initials s = carried_in base s (initial_in initials s.path s.from) (meaning_in s)
 
--- what each segment of a trace carries
-abbrev pub all_carried : Base → List Sent → List Carried
-all_carried base trace = map (carried_of base trace) trace
+-- what each segment of a trace carries, on paths with these initial numbers
+abbrev pub all_carried : Base → List PathInitials → List Sent → List Carried
+all_carried base initials trace = map (carried_of base initials) trace

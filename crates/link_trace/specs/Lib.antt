@@ -7,3 +7,5 @@ pub mod Rows
 pub mod Tables
 pub mod Strokes
 pub mod Pictures
+pub mod Places
+pub mod FirstOctets

@@ -7,6 +7,9 @@ use Rattle.link_trace.specs.declared.carried.Carried.{Carried}
 use Rattle.link_trace.specs.declared.rows.Rate.{Rate}
 use Rattle.link_trace.specs.declared.rows.Rates.{Rates}
 use Rattle.link_trace.specs.declared.rows.Row.{Row}
+use Rattle.link_trace.specs.declared.rows.Shares.{Shares}
+use Rattle.link_trace.specs.Places.{repeated, with_carried}
+use Rattle.range_marks.specs.Marks.{Marks, no_marks}
 
 -- a sum as a number of 64 bits, which stands still at its end
 abbrev pub capped : ℕ → ℕ
@@ -31,33 +34,52 @@ below from len edge = min (edge - from) len
 abbrev pub end_of : Carried → ℕ
 end_of c = c.position + c.len
 
--- octets at positions that were sent before, where those below this edge were
-abbrev pub again_behind : ℕ → List Carried → ℕ
-again_behind edge [] = 0
-again_behind edge (c ∷ cs) = below c.position c.len edge + again_behind (max edge (end_of c)) cs
-
 -- the place behind a segment's payload
 abbrev pub reach : Option ℕ → ℕ → ℕ
 reach None len = 0
 reach (Some place) len = if len == 0 then 0 else place + len
 
--- octets at places below this one
-abbrev pub places_below : Option ℕ → ℕ → ℕ → ℕ
-places_below None len top = 0
-places_below (Some place) len top = below place len top
+-- ---- octets of a path by whether they were sent before
 
--- octets of a segment of this path at new positions, at places that the direction had reached before
+-- Of the octets of a segment at places that the direction carried before, so many, those at positions below the path's edge are
+-- sent again, and the others moved.
+abbrev pub again_by : ℕ → ℕ → ℕ → Carried → ℕ
+again_by path edge repeated c = if c.path == path then min (below c.position c.len edge) repeated else 0
+
 abbrev pub moved_by : ℕ → ℕ → ℕ → Carried → ℕ
-moved_by path edge top c =
-    if c.path == path then places_below c.place c.len top - below c.position c.len edge else 0
+moved_by path edge repeated c = if c.path == path then repeated - below c.position c.len edge else 0
+
+-- at places that no segment of the direction carried before
+abbrev pub fresh_by : ℕ → ℕ → Carried → ℕ
+fresh_by path repeated c = if c.path == path then c.len - repeated else 0
 
 abbrev pub edge_behind : ℕ → ℕ → Carried → ℕ
 edge_behind path edge c = if c.path == path then max edge (end_of c) else edge
 
-abbrev pub moved_behind : ℕ → ℕ → ℕ → List Carried → ℕ
-moved_behind path edge top [] = 0
-moved_behind path edge top (c ∷ cs) =
-    moved_by path edge top c + moved_behind path (edge_behind path edge c) (max top (reach c.place c.len)) cs
+-- of a direction, where these places were carried, and those below the edge were sent on the path
+abbrev pub again_behind : ℕ → ℕ → Marks Bool → List Carried → ℕ
+again_behind path edge places [] = 0
+again_behind path edge places (c ∷ cs) =
+    again_by path edge (repeated c.place c.len places) c
+    + again_behind path (edge_behind path edge c) (with_carried c.place c.len places) cs
+
+abbrev pub moved_behind : ℕ → ℕ → Marks Bool → List Carried → ℕ
+moved_behind path edge places [] = 0
+moved_behind path edge places (c ∷ cs) =
+    moved_by path edge (repeated c.place c.len places) c
+    + moved_behind path (edge_behind path edge c) (with_carried c.place c.len places) cs
+
+abbrev pub fresh_behind : ℕ → Marks Bool → List Carried → ℕ
+fresh_behind path places [] = 0
+fresh_behind path places (c ∷ cs) =
+    fresh_by path (repeated c.place c.len places) c + fresh_behind path (with_carried c.place c.len places) cs
+
+abbrev pub shares_of : ℕ → List Carried → Shares
+shares_of path direction = record {
+  again = capped (again_behind path 0 no_marks direction);
+  moved = capped (moved_behind path 0 no_marks direction);
+  fresh = capped (fresh_behind path no_marks direction);
+}
 
 -- how many segments a line of the script lets go lost
 abbrev pub lost_of : List Carried → ℕ
@@ -67,18 +89,20 @@ abbrev pub tick_at : ℕ → List Carried → Option ℕ
 tick_at place cs = option_map (λ (c : Carried). c.tick) (slice_get cs place)
 
 abbrev pub row_of : ℕ → Side → Option Rate → List Carried → Row
-row_of path side rate cs = let row = filter (is_on path side) cs in record {
-  path = path;
-  from = side;
-  first = tick_at 0 row;
-  last = tick_at (length row - 1) row;
-  segments = length row;
-  octets = capped (octets_of row);
-  again = capped (again_behind 0 row);
-  moved = capped (moved_behind path 0 0 (filter (is_from side) cs));
-  lost = lost_of row;
-  rate = rate;
-}
+row_of path side rate cs =
+    let row = filter (is_on path side) cs in let shares = shares_of path (filter (is_from side) cs) in record {
+      path = path;
+      from = side;
+      first = tick_at 0 row;
+      last = tick_at (length row - 1) row;
+      segments = length row;
+      octets = capped (octets_of row);
+      again = shares.again;
+      moved = shares.moved;
+      fresh = shares.fresh;
+      lost = lost_of row;
+      rate = rate;
+    }
 
 -- two rows for each path, the first of which has this number
 abbrev pub rows_behind : ℕ → List Rates → List Carried → List Row
@@ -90,10 +114,6 @@ rows_of rates cs = rows_behind 0 rates cs
 
 -- ---- totals
 
--- octets that were sent for the first time
-abbrev pub first_octets : Row → ℕ
-first_octets row = row.octets - row.again - row.moved
-
 -- of the rows of a direction
 abbrev pub if_from : Side → Row → ℕ → ℕ
 if_from side row octets = if same_side row.from side then octets else 0
@@ -102,9 +122,10 @@ abbrev pub octets_from : Side → List Row → ℕ
 octets_from side [] = 0
 octets_from side (row ∷ rows) = if_from side row row.octets + octets_from side rows
 
+-- those at places that were carried for the first time
 abbrev pub first_octets_from : Side → List Row → ℕ
 first_octets_from side [] = 0
-first_octets_from side (row ∷ rows) = if_from side row (first_octets row) + first_octets_from side rows
+first_octets_from side (row ∷ rows) = if_from side row row.fresh + first_octets_from side rows
 
 -- the greatest tick
 abbrev pub last_tick : List Carried → ℕ

@@ -1,14 +1,13 @@
 //! What a segment of a trace carries: its position, its payload, the place of that in the stream, and its Data ACK.
 
-ghost use Rattle.std.specs.Prelude.{◌≡◌, ◌^◌, ◌%◌, IfOk, unwrap_or};
+ghost use Rattle.std.specs.Prelude.{◌≡◌, ◌^◌, ◌%◌, IfOk};
 ghost use Rattle.segment_wire.specs.Options.{option_octets};
 ghost use Rattle.segment_wire.specs.Reading.{segment_of};
 ghost use Rattle.mptcp_options.specs.Meaning.{option_meaning};
-ghost use Rattle.link_trace.specs.Carrying.{acknowledged_by, all_carried, base_of, behind, carried_of, carries, carries_nothing, dss_in, dss_read, first_byte, first_number, low_half, low_number, mapped, payload_len, place_mapped, place_of, place_plain};
-ghost use Rattle.link_trace.specs.Meanings.{initial_of};
+ghost use Rattle.link_trace.specs.Carrying.{acknowledged_by, all_carried, base_of, behind, carried_of, carries, carries_nothing, dss_in, dss_read, first_byte, first_number, initial_in, low_half, low_number, mapped, payload_len, place_mapped, place_of, place_plain};
 
 use crate::fate::is_lost;
-use crate::meanings::{initial_of, peer};
+use crate::meanings::peer;
 use crate::sent::Sent;
 use key_material::idsn;
 use link_model::addresses_from;
@@ -17,8 +16,8 @@ use outside_kit::Side;
 use segment_wire::{SegmentRef, parse};
 use std::alloc::{AllocError, Global};
 
-/// What a segment carries. Positions and places are counted from the SYN, which has position 0, and from the first byte of the
-/// side's stream, modulo 2^32.
+/// What a segment carries. Positions are counted from the initial number of its side, which is that of the SYN, and places from the
+/// first byte of the side's stream, modulo 2^32.
 #[derive(Clone, Copy, Debug)]
 pub struct Carried {
     /// When it was sent, in ticks of a millisecond.
@@ -48,6 +47,13 @@ pub struct Base {
     pub first_b: u32,
     /// Whether checksums of data are used.
     pub checksums: bool,
+}
+
+/// The initial sequence numbers of both ends of a path.
+#[derive(Clone, Copy, Debug)]
+pub struct PathInitials {
+    pub a: u32,
+    pub b: u32,
 }
 
 /// The fields of a DSS that a trace is read for.
@@ -189,7 +195,7 @@ fn payload_len(segment: &SegmentRef<'_>) -> u32
     segment.payload().len().min(65_535) as u32
 }
 
-/// What a segment carries, of the side whose SYN has this number.
+/// What a segment carries, of a side with this initial number.
 fn carries(base: &Base, sent: &Sent, initial: u32, segment: &SegmentRef<'_>) -> Carried
     ensures { result ≡ carries base.now sent.now initial (segment_of segment.now) }
 {
@@ -223,21 +229,22 @@ fn carries_nothing(sent: &Sent) -> Carried
     }
 }
 
-/// The number of the SYN of the segment's side on its path, or 0 where it sent none.
-fn initial_or_zero(trace: &[Sent], sent: &Sent) -> u32
-    ensures { result ≡ unwrap_or (initial_of sent.now.path sent.now.from trace.now) 0 }
+/// The initial number of a side on a path, or 0 where there is no such path.
+fn initial_in(initials: &[PathInitials], path: u8, side: Side) -> u32
+    ensures { result ≡ initial_in initials.now path side }
 {
-    match initial_of(trace, sent.path, sent.from) {
-        None => 0,
-        Some(initial) => initial,
+    match (initials.get(usize::from(path)), side) {
+        (None, _) => 0,
+        (Some(initials), Side::A) => initials.a,
+        (Some(initials), Side::B) => initials.b,
     }
 }
 
-/// What a segment of the trace carries.
-fn carried_of(base: &Base, trace: &[Sent], sent: &Sent) -> Carried
-    ensures { result ≡ carried_of base.now trace.now sent.now }
+/// What a segment carries.
+fn carried_of(base: &Base, initials: &[PathInitials], sent: &Sent) -> Carried
+    ensures { result ≡ carried_of base.now initials.now sent.now }
 {
-    let initial = initial_or_zero(trace, sent);
+    let initial = initial_in(initials, sent.path, sent.from);
     let addresses = addresses_from(sent.path, sent.from);
     match parse(sent.octets.as_bytes(), &addresses) {
         Ok(segment) => carries(base, sent, initial, &segment),
@@ -245,12 +252,18 @@ fn carried_of(base: &Base, trace: &[Sent], sent: &Sent) -> Carried
     }
 }
 
-/// What each segment of a trace carries.
-pub fn all_carried(alloc: Global, base: &Base, trace: &[Sent]) -> Result<Vec<Carried>, AllocError>
-    ensures { IfOk result (λ carried. carried.items ≡ all_carried base.now trace.now) }
+/// What each segment of a trace carries, on paths with these initial numbers, path 0 first.
+pub fn all_carried(
+    alloc: Global,
+    base: &Base,
+    initials: &[PathInitials],
+    trace: &[Sent],
+) -> Result<Vec<Carried>, AllocError>
+    ensures { IfOk result
+        (λ carried. carried.items ≡ all_carried base.now initials.now trace.now) }
 {
     trace
         .iter()
-        .map(|sent| carried_of(base, trace, sent))
+        .map(|sent| carried_of(base, initials, sent))
         .collect(alloc)
 }

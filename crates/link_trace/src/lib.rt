@@ -5,17 +5,20 @@
 mod carried;
 mod drawing;
 mod fate;
+mod laws;
 mod marks;
 mod meanings;
 mod packets;
+mod places;
 mod rows;
 mod sent;
 mod strokes;
 mod table;
 mod text;
 
-pub use carried::{Base, Carried, all_carried};
+pub use carried::{Base, Carried, PathInitials, all_carried};
 pub use drawing::picture;
+pub use laws::first_octets_are_the_places;
 pub use packets::capture;
 pub use rows::{Rate, Rates, Row, rows_of};
 pub use sent::Sent;

@@ -3,8 +3,11 @@
 use crate::strokes::{Dot, Stroke};
 use std::alloc::{AllocError, Global};
 
-/// The most strokes, and the most dots, that a panel has: beyond that several segments go into one.
+/// Beyond so many strokes, or dots, of a panel several segments go into one.
 const MOST: usize = 10_000;
+
+/// A stroke ends before a segment that stands further to the right than its width.
+const WIDTH: u64 = 30;
 
 /// What a panel of 8,800 by 3,400 units shows: so many ticks and places, of which the first lie at 900 and at the floor.
 #[derive(Clone, Copy)]
@@ -102,13 +105,19 @@ impl Span {
     }
 }
 
+/// Whether the next segment stands apart from those of a span.
+fn is_apart(scale: &Scale, span: &Span, stroke: &Stroke) -> bool {
+    let (end, next) = (scale.x(span.last.tick), scale.x(stroke.tick));
+    next.saturating_sub(end) > WIDTH
+}
+
 fn put_span(text: &mut String, scale: &Scale, span: &Span) -> Result<(), AllocError> {
     let (x, y) = (scale.x(span.first.tick), scale.y(span.first.from));
     let (to_x, to_y) = (scale.x(span.last.tick), scale.y(span.last.to));
     write!(text, "M{x} {y}L{to_x} {to_y}")
 }
 
-/// The span with a stroke more; a full one is put first.
+/// The span with a stroke more; a full one, and one behind which there is a pause, is put first.
 fn grown(
     text: &mut String,
     panel: &Panel,
@@ -118,7 +127,7 @@ fn grown(
     match held {
         None => Ok(Some(Span::of(stroke))),
         Some(span) => {
-            if span.count < panel.step {
+            if span.count < panel.step && !is_apart(&panel.scale, &span, stroke) {
                 return Ok(Some(span.with(stroke)));
             }
             put_span(text, &panel.scale, &span)?;

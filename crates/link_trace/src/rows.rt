@@ -2,10 +2,12 @@
 
 ghost use Rattle.std.specs.Prelude.{◌≡◌, ◌-◌, ◌++◌, ◌∷◌, [], filter, length, IfOk, OnOk};
 ghost use Rattle.outside_kit.specs.declared.side.Side.TheVariants.{A, B};
-ghost use Rattle.link_trace.specs.Rows.{again_behind, below, capped, edge_behind, end_of, first_octets, first_octets_from, goodput, if_from, is_from, is_on, last_tick, lost_of, moved_behind, moved_by, octets_from, octets_of, places_below, reach, row_of, rows_of, tick_at};
+ghost use Rattle.link_trace.specs.Rows.{again_by, below, capped, edge_behind, end_of, first_octets_from, fresh_by, goodput, if_from, is_from, is_on, last_tick, lost_of, moved_by, octets_from, octets_of, reach, row_of, rows_of, shares_of, tick_at};
 
 use crate::carried::Carried;
+use crate::places::{carry, repeated};
 use outside_kit::Side;
+use range_marks::RangeMarks;
 use std::alloc::{AllocError, Global};
 
 /// The congestion window and the smoothed round-trip time that an end told last, in octets and ticks.
@@ -36,14 +38,24 @@ pub struct Row {
     pub segments: usize,
     /// Octets of payload, each as often as it was sent.
     pub octets: u64,
-    /// Those of them at positions that were sent before on this path.
+    /// Those of them at places that the direction had carried before, at positions that were sent before on this path.
     pub again: u64,
-    /// Those at new positions, at places that the direction had reached before on any path.
+    /// Those at places that the direction had carried before, at new positions.
     pub moved: u64,
+    /// Those at places that no segment of the direction had carried before.
+    pub fresh: u64,
     /// Segments that a line of the script lets go lost.
     pub lost: usize,
     /// What the end of this side told last.
     pub rate: Option<Rate>,
+}
+
+/// Octets of one direction of a path, by whether they were sent before.
+#[derive(Clone, Copy, Debug)]
+pub(crate) struct Shares {
+    pub again: u64,
+    pub moved: u64,
+    pub fresh: u64,
 }
 
 fn is_from(side: Side, carried: &Carried) -> bool
@@ -111,19 +123,6 @@ fn end_of(carried: &Carried) -> u64
     u64::from(carried.position) + u64::from(carried.len)
 }
 
-/// Octets at positions that were sent before.
-#[tactic(auto, using(crate::proofs::Sums::capped_more))]
-fn again_of(row: &[Carried]) -> u64
-    ensures { result ≡ capped (again_behind 0 row.now) }
-{
-    let (mut again, mut edge) = (0_u64, 0_u64);
-    for segment in row {
-        again = again.saturating_add(below(segment.position, segment.len, edge));
-        edge = edge.max(end_of(segment));
-    }
-    again
-}
-
 /// The place behind a segment's payload.
 pub fn reach(place: Option<u32>, len: u32) -> u64
     ensures { result ≡ reach place len }
@@ -140,25 +139,34 @@ pub fn reach(place: Option<u32>, len: u32) -> u64
     }
 }
 
-/// Octets at places below this one.
-fn places_below(place: Option<u32>, len: u32, top: u64) -> u64
-    ensures { result ≡ places_below place len top }
-{
-    match place {
-        None => 0,
-        Some(place) => below(place, len, top),
-    }
-}
-
-/// Octets of a segment of this path at new positions, at places that the direction had reached before.
-fn moved_by(path: usize, edge: u64, top: u64, carried: &Carried) -> u64
-    ensures { result ≡ moved_by path edge top carried.now }
+/// Octets of a segment of this path that are sent again, where so many stand at places that were carried before.
+fn again_by(path: usize, edge: u64, repeated: u64, carried: &Carried) -> u64
+    ensures { result ≡ again_by path edge repeated carried.now }
 {
     if usize::from(carried.path) != path {
         return 0;
     }
-    let moved = places_below(carried.place, carried.len, top);
-    moved.saturating_sub(below(carried.position, carried.len, edge))
+    below(carried.position, carried.len, edge).min(repeated)
+}
+
+/// Those that moved.
+fn moved_by(path: usize, edge: u64, repeated: u64, carried: &Carried) -> u64
+    ensures { result ≡ moved_by path edge repeated carried.now }
+{
+    if usize::from(carried.path) != path {
+        return 0;
+    }
+    repeated.saturating_sub(below(carried.position, carried.len, edge))
+}
+
+/// Those at places that weren't carried before.
+fn fresh_by(path: usize, repeated: u64, carried: &Carried) -> u64
+    ensures { result ≡ fresh_by path repeated carried.now }
+{
+    if usize::from(carried.path) != path {
+        return 0;
+    }
+    u64::from(carried.len).saturating_sub(repeated)
 }
 
 fn edge_behind(path: usize, edge: u64, carried: &Carried) -> u64
@@ -171,18 +179,26 @@ fn edge_behind(path: usize, edge: u64, carried: &Carried) -> u64
     }
 }
 
-/// Octets at new positions, at places that the direction had reached before.
+/// The octets of a path, by whether they were sent before.
 #[tactic(auto, using(crate::proofs::Sums::capped_more))]
-fn moved_of(path: usize, direction: &[Carried]) -> u64
-    ensures { result ≡ capped (moved_behind path 0 0 direction.now) }
+fn shares_of(alloc: Global, path: usize, direction: &[Carried]) -> Result<Shares, AllocError>
+    ensures { IfOk result (λ shares. shares ≡ shares_of path direction.now) }
 {
-    let (mut moved, mut edge, mut top) = (0_u64, 0_u64, 0_u64);
+    let mut places: RangeMarks<bool> = RangeMarks::new(alloc);
+    let (mut again, mut moved, mut fresh, mut edge) = (0_u64, 0_u64, 0_u64, 0_u64);
     for segment in direction {
-        moved = moved.saturating_add(moved_by(path, edge, top, segment));
+        let repeated = repeated(&places, segment.place, segment.len);
+        again = again.saturating_add(again_by(path, edge, repeated, segment));
+        moved = moved.saturating_add(moved_by(path, edge, repeated, segment));
+        fresh = fresh.saturating_add(fresh_by(path, repeated, segment));
         edge = edge_behind(path, edge, segment);
-        top = top.max(reach(segment.place, segment.len));
+        carry(&mut places, segment.place, segment.len)?;
     }
-    moved
+    Ok(Shares {
+        again,
+        moved,
+        fresh,
+    })
 }
 
 /// Segments that a line of the script lets go lost.
@@ -222,6 +238,7 @@ fn row_of(
 {
     let row = path_of(alloc, carried, path, side)?;
     let direction = side_of(alloc, carried, side)?;
+    let shares = shares_of(alloc, path, &direction)?;
     Ok(Row {
         path,
         from: side,
@@ -229,8 +246,9 @@ fn row_of(
         last: final_tick(&row),
         segments: row.as_slice().len(),
         octets: octets_of(&row),
-        again: again_of(&row),
-        moved: moved_of(path, &direction),
+        again: shares.again,
+        moved: shares.moved,
+        fresh: shares.fresh,
         lost: lost_of(&row),
         rate,
     })
@@ -266,15 +284,6 @@ pub fn rows_of(alloc: Global, rates: &[Rates], carried: &[Carried]) -> Result<Ve
     Ok(rows)
 }
 
-/// Octets that were sent for the first time.
-fn first_octets(row: &Row) -> u64
-    ensures { result ≡ first_octets row.now }
-{
-    row.octets
-        .saturating_sub(row.again)
-        .saturating_sub(row.moved)
-}
-
 /// So many octets where the row is of this direction.
 fn if_from(side: Side, row: &Row, octets: u64) -> u64
     ensures { result ≡ if_from side row.now octets }
@@ -301,7 +310,7 @@ pub fn first_octets_from(side: Side, rows: &[Row]) -> u64
 {
     let mut octets = 0_u64;
     for row in rows {
-        octets = octets.saturating_add(if_from(side, row, first_octets(row)));
+        octets = octets.saturating_add(if_from(side, row, row.fresh));
     }
     octets
 }

@@ -12,9 +12,10 @@ use Rattle.path_core.specs.Octets.{octets}
 use Rattle.run_log.specs.declared.turn.Turn as logged
 use Rattle.run_outside.specs.Inputs.{opening_count, order_of}
 use Rattle.run_outside.specs.Reading.{log_reading}
-use Rattle.run_outside.specs.Script.{script_meaning}
+use Rattle.link_script.specs.Reading.{reading}
 use Rattle.run_outside.specs.declared.input.Input.{Input}
 use Rattle.run_outside.specs.declared.status.Status.{Status}
+use Rattle.run_trace.specs.Initials.{initials_in}
 use Rattle.run_trace.specs.Rates.{rates_of}
 use Rattle.run_trace.specs.Trace.{all_turns}
 use Rattle.run_words.specs.Lines.{Line, Work, replay}
@@ -26,13 +27,13 @@ use Rattle.mptcp_view.proofs.Refusing.{holds_one}
 
 -- the table of what a trace carries
 pub table_shown : {V E : Type 0} (items : V → List ℕ) (view : View) (script : Script) (w : WorldState (List ℕ)) (trace : List Sent) (rates : List Rates) (carried : List Carried)
-    → view ≡ Summary → rates ≡ rates_of w.crew → carried ≡ all_carried (base_in script) trace
+    → view ≡ Summary → rates ≡ rates_of w.crew → carried ≡ all_carried (base_in script) (initials_in script) trace
     → (r : Result V E) → IfOk r (λ text. items text ≡ summary_of rates carried) → IfOk r (λ shown. IsViewFrom view script w trace (items shown))
 table_shown items view script w trace rates carried is rates_are carried_are (Err e) h = tt
 table_shown items view script w trace rates carried is rates_are carried_are (Ok text) h = rw (is, ← rates_are, ← carried_are) h
 
 module _ (content : List ℕ → Option (List ℕ)) (line : Line) (log : List ℕ) (input : Input) (turns : List logged.Turn) (lines : ℕ) where
-  pub are_inputs : line.work ≡ replay log → IfSome (content line.names.script) (λ told. script_meaning told ≡ Ok input.script)
+  pub are_inputs : line.work ≡ replay log → IfSome (content line.names.script) (λ told. reading told ≡ Ok input.script)
       → IfSome (content line.names.file_a) (λ told. input.file_a ≡ told) → IfSome (content line.names.file_b) (λ told. input.file_b ≡ told)
       → IfSome (content log) (λ told. log_reading input.script told ≡ Ok turns) → IfSome (content log) (λ told. lines ≡ opening_count told)
       → AreInputs content line input turns lines

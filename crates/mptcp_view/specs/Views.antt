@@ -16,11 +16,12 @@ use Rattle.pcap_text.specs.Blocks.{capture_text}
 use Rattle.run_log.specs.declared.turn.Turn as logged
 use Rattle.run_outside.specs.Inputs.{IsReplayInputFault, content_of, opening_count}
 use Rattle.run_outside.specs.Reading.{log_reading}
-use Rattle.run_outside.specs.Script.{script_meaning}
+use Rattle.link_script.specs.Reading.{reading}
 use Rattle.run_outside.specs.declared.input.Input.{Input}
 use Rattle.run_outside.specs.declared.status.Named.TheVariants as named
 use Rattle.run_outside.specs.declared.status.Status.{Status}
 use Rattle.run_outside.specs.declared.status.Status.TheVariants as status
+use Rattle.run_trace.specs.Initials.{initials_in}
 use Rattle.run_trace.specs.Rates.{rates_of}
 use Rattle.run_trace.specs.Trace.{StopsAt, all_turns, trace_of}
 use Rattle.run_trace.specs.declared.making.TraceFault.{TraceFault}
@@ -75,7 +76,7 @@ base_in script = base_of (key_of script.seed 0) (key_of script.seed 2) script.ch
 -- a view of what was sent in a run of this script, which ended with this world
 abbrev pub IsViewFrom : View → Script → WorldState (List ℕ) → List Sent → List ℕ → Type 0
 IsViewFrom Capture script w trace shown = shown ≡ capture_text (blocks_of (length script.paths) trace)
-IsViewFrom Summary script w trace shown = shown ≡ summary_of (rates_of w.crew) (all_carried (base_in script) trace)
+IsViewFrom Summary script w trace shown = shown ≡ summary_of (rates_of w.crew) (all_carried (base_in script) (initials_in script) trace)
 IsViewFrom Text script w trace shown = shown ≡ lines_of script.checksum trace
 -- 2 MiB at most
 IsViewFrom Picture script w trace shown = length shown ≤ 2 ^ 21
@@ -93,7 +94,7 @@ HoldsOne old new P = IfSome old (λ held. (shown : List ℕ) × ((new ≡ Some s
 
 -- these are the inputs of the line, as far as they are told: the turns of the log stand behind so many lines
 pub record AreInputs (content : List ℕ → Option (List ℕ)) (line : Line) (input : Input) (turns : List logged.Turn) (lines : ℕ) : Type 0 where
-  pub script : IfSome (content line.names.script) (λ told. script_meaning told ≡ Ok input.script)
+  pub script : IfSome (content line.names.script) (λ told. reading told ≡ Ok input.script)
   pub file_a : IfSome (content line.names.file_a) (λ told. input.file_a ≡ told)
   pub file_b : IfSome (content line.names.file_b) (λ told. input.file_b ≡ told)
   pub order : IfSome (content_of content line named.Order) (λ told. log_reading input.script told ≡ Ok turns)

@@ -4,6 +4,8 @@ ghost use Rattle.std.specs.Prelude.{◌≡◌, ◌++◌, ◌↔◌, ◌<◌, ◌
 ghost use Rattle.outside_kit.specs.Outside.{HoldsAfter};
 ghost use Rattle.link_script.specs.Scripts.{HasRanges};
 ghost use Rattle.path_core.specs.Octets.{octets};
+ghost use Rattle.link_trace.specs.Carrying.{all_carried};
+ghost use Rattle.run_trace.specs.Initials.{initials_in};
 ghost use Rattle.run_trace.specs.Trace.{all_turns, place_of};
 ghost use Rattle.run_words.specs.Lines.{as_line, replay};
 ghost use Rattle.run_outside.specs.declared.status.Status.TheVariants.{Usage};
@@ -12,11 +14,11 @@ ghost use Rattle.world_laws.specs.Worlds.{AreLawful};
 ghost use Rattle.mptcp_view.specs.Views.{IsOutFault, IsTurnsFault, IsViewFault, IsViewFrom, IsViewOf, Shows, as_asked, asked_in, base_in, first_world, stopped_at, view_named};
 
 use link_script::Script;
-use link_trace::{Base, Sent, all_carried, capture, lines, picture, summary};
+use link_trace::{Base, Carried, Sent, all_carried, capture, lines, picture, summary};
 use outside_kit::{Outside, Port, PutFault};
 use path_core::key_of;
 use run_outside::{Replay, Status, load_replay};
-use run_trace::{Progress, TraceFault, gather, rates_of};
+use run_trace::{Progress, TraceFault, gather, initials_in, rates_of};
 use run_words::{CommandLine, Mode};
 use std::alloc::{AllocError, Global};
 use world_core::World;
@@ -55,6 +57,15 @@ fn base_in(script: &Script) -> Base
     Base::of(key_a, key_b, script.checksum)
 }
 
+/// What each segment of a run of this script carries.
+fn carried_in(alloc: Global, script: &Script, trace: &[Sent]) -> Result<Vec<Carried>, AllocError>
+    ensures { IfOk result (λ carried. carried.items ≡
+        all_carried (base_in script.now) (initials_in script.now) trace.now) }
+{
+    let initials = initials_in(alloc, script)?;
+    all_carried(alloc, &base_in(script), &initials, trace)
+}
+
 /// A view of what was sent in a run of this script, which ended with this world.
 fn shown(
     alloc: Global,
@@ -70,11 +81,11 @@ fn shown(
     match view {
         View::Capture => capture(alloc, paths, trace),
         View::Summary => {
-            let carried = all_carried(alloc, &base_in(script), trace)?;
+            let carried = carried_in(alloc, script, trace)?;
             summary(alloc, &rates_of(alloc, world)?, &carried)
         }
         View::Picture => {
-            let carried = all_carried(alloc, &base_in(script), trace)?;
+            let carried = carried_in(alloc, script, trace)?;
             picture(alloc, paths, script.lines.as_slice(), &carried)
         }
         View::Text => lines(alloc, script.checksum, trace),

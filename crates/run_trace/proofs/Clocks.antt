@@ -36,6 +36,7 @@ use Rattle.path_core.specs.Treating.{answered_heard, answered_item, item_of, bre
 use Rattle.path_agenda.specs.Items.{key_heard, keys_heard}
 use Rattle.subflow_send.specs.Records.{Record}
 use Rattle.link_model.specs.Steps.{arriving, after_delivery}
+use Rattle.world_laws.proofs.Falls.FailedChecks.{fail_answered_so}
 
 -- ---- what happens next happens before the round's end
 
@@ -77,7 +78,7 @@ module _ {C : Type 0} where
   passed_keeps (duties.Silent (silent_duties.Timer s)) p = refl
   passed_keeps (duties.Step (step_duties.Heard s index)) p = refl
   passed_keeps (duties.Silent (silent_duties.Keep s)) p = refl
-  passed_keeps (duties.Ask (ask_duties.Edge s)) p = refl
+  passed_keeps (duties.Ask (ask_duties.CheckFailed s)) p = refl
   passed_keeps (duties.Silent (silent_duties.PassFin s)) p = refl
   passed_keeps _ p = refl
 
@@ -125,6 +126,7 @@ module _ {C : Type 0} where
   heard_keeps k s (says.Mapping fin) r p = either_keeps _ _ _ p (break_keeps k s 1 r p) refl
   heard_keeps k s (says.DataFin place) r p = refl
   heard_keeps k s (says.Keys own peer) r p = refl
+  heard_keeps k s says.Fail r p = fail_answered_so (λ q. Keeps p q) s r p refl refl
   heard_keeps k s _ r p = refl
 
   item_keeps : (k : Codec C) (s : Side) (item : Option Heard) (r : Reply) (p : PathState C) → Keeps p (answered_item k s item r p)
@@ -171,7 +173,9 @@ module _ {C : Type 0} where
   answered_climbs k (duties.Step (step_duties.Unmapped s)) r p = stays p _ (break_keeps k s 6 r p)
   answered_climbs k (duties.Ask (ask_duties.SubflowFin s)) r p = stays p _ (either_keeps (is_fin_set r) _ _ p refl refl)
   answered_climbs k (duties.Ask (ask_duties.AckHeard s)) r p = stays p _ refl
+  answered_climbs k (duties.Ask (ask_duties.FailHeard s)) r p = stays p _ refl
   answered_climbs k (duties.Ask (ask_duties.Edge s)) r p = stays p _ (piece_keeps s (piece_of s p) (is_placed r) p)
+  answered_climbs k (duties.Ask (ask_duties.CheckFailed s)) r p = stays p _ refl
   answered_climbs k (duties.Ask (ask_duties.HeardFin s index)) r p = stays p _ (either_keeps (is_fin_set r) _ _ p refl refl)
   answered_climbs k (duties.Ask (ask_duties.AckOut s)) r p = stays p _ refl
   answered_climbs k (duties.Ask (ask_duties.Rate s)) r p = stays p _ refl

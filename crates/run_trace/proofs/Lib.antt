@@ -1,5 +1,6 @@
 mod Clocks
 mod Gathering
+mod InitialRows
 mod Numbered
 mod RateRows
 mod Rising

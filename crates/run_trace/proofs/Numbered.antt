@@ -6,7 +6,7 @@ use Rattle.actor_desk.specs.declared.ask.Reply.{Reply}
 use Rattle.path_core.specs.Octets.{octets}
 use Rattle.path_core.specs.Starts.{first_turn, waiting_path}
 use Rattle.path_core.specs.State.{PathState, path_of}
-use Rattle.world_laws.proofs.RoundFrame.{takes_keeps, first_keeps}
+use Rattle.world_laws.proofs.Rounds.Frame.{takes_keeps, first_keeps}
 use Rattle.world_laws.specs.Actors.{Actor, ActorCrew, member_asks, member_takes, member_next}
 use Rattle.world_laws.specs.declared.member.Member.TheVariants.{App, Path}
 use Rattle.world_laws.specs.Openings.{PathPlan, Start, opened_world, path_begins, paths_from}

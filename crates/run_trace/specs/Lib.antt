@@ -1,3 +1,4 @@
+pub mod Initials
 pub mod Rates
 pub mod Telling
 pub mod Trace

@@ -2,12 +2,14 @@
 //! the steps that a log tells.
 #![tactic(auto)]
 
+mod initials;
 mod laws;
 mod making;
 mod next;
 mod progress;
 mod rates;
 
+pub use initials::initials_in;
 pub use laws::{sent_lines_tell_the_trace, ticks_rise_by_path};
 pub use link_trace::Sent;
 pub use making::{TraceFault, gather};

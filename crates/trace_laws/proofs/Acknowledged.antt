@@ -61,6 +61,7 @@ use Rattle.path_core.specs.Events.{next_event, heard_in, at_tick, died, died_unl
 use Rattle.path_core.specs.declared.lines.LineAction.{LineAction}
 use Rattle.path_core.specs.declared.lines.LineAction.TheVariants as actions
 use Rattle.path_core.specs.Fallback.{after_fell, fell_duties, answered_fell}
+use Rattle.path_core.specs.InfiniteSending.{with_infinite}
 use Rattle.path_core.specs.Joining.{asked_at, is_listening, is_never, join_taken, joined_by, keys_begun, opened_by, refusal_of, syn_alone, with_mode_refused}
 use Rattle.path_core.specs.Joins.{is_joined, join_answer, join_asked}
 use Rattle.path_core.specs.Opening.{after_keys, answered_opened, answered_peer_key, with_peer_key}
@@ -73,6 +74,7 @@ use Rattle.path_core.specs.State.{PathState, end_at, goes_on, left, with_agenda,
 use Rattle.path_core.specs.Steps.{settled, answers, takes, begins_turn}
 use Rattle.path_core.specs.Treating.{after_keep, answered_heard, answered_item, answered_plain_ack, breaks_by_ack, counts, is_clash, is_dropped, item_of, item_passed, with_acked, with_data_fin, with_plain_ack}
 use Rattle.path_core.specs.Addressing.{after_peer_notice}
+use Rattle.world_laws.proofs.Falls.FailedChecks.{check_failed_so, checked_so, fail_answered_so, fail_heard_so, failed_so, infinite_came_so, infinite_so}
 
 -- ---- an end of a subflow
 
@@ -434,7 +436,7 @@ module _ {C : Type 0} where
   passed_acks (duties.Silent (silent_duties.Keep s)) p h = with_acks s (after_keep s (end_at s p)) p (keep_goes s (is_dropped s (end_at s p)) p h) h
   passed_acks (duties.Step (step_duties.PlainAck s)) p h = with_acks s (with_plain_ack (end_at s p)) p (same_goes s (with_plain_ack (end_at s p)) p refl refl h) h
   passed_acks (duties.Step (step_duties.Unmapped s)) p h = with_acks s (after_pieces (end_at s p)) p (same_goes s (after_pieces (end_at s p)) p refl refl h) h
-  passed_acks (duties.Ask (ask_duties.Edge s)) p h = with_acks s (after_check p.profile (end_at s p)) p (edge_goes s p.profile.spelling.checksums (mapping_here (end_at s p)) p h) h
+  passed_acks (duties.Ask (ask_duties.CheckFailed s)) p h = with_acks s (after_check p.profile (end_at s p)) p (edge_goes s p.profile.spelling.checksums (mapping_here (end_at s p)) p h) h
   passed_acks (duties.Silent (silent_duties.PassFin s)) p h = with_acks s (after_pass_fin (end_at s p)) p (fin_goes s (is_fin_next (end_at s p).tcp) p h) h
   passed_acks (duties.Ask ask_duties.JoinAgain) p h = h
   passed_acks _ p h = h
@@ -543,13 +545,14 @@ module _ {C : Type 0} where
         by true = break_acks s 1 r p h
         by false = same_on s (with_learned (after_fell fall.MappingHeard r (end_at s p))) (fell_duties s r p) p refl refl h
     heard_answered s (says.DataFin place) r p h = same_on s (with_data_fin place (after_fell fall.MappingHeard r (end_at s p))) (fell_duties s r p) p refl refl h
-    heard_answered s (says.InfiniteMapping place position) r p h = told_acks s fall.InfiniteHeard r p h
+    heard_answered s (says.InfiniteMapping place position) r p h =
+        infinite_came_so (λ e. BothAck (goes_on s e (fell_duties s r p) p)) place position r (end_at s p) (λ other. same_on s (infinite_so r other (end_at s p)) (fell_duties s r p) p refl refl h)
     heard_answered s (says.Keys mine other) r p h = keys_acks s r (Some (record { own = mine; peer = other })) p h
     heard_answered s says.Dss r p h = agenda_acks (left p) p h
     heard_answered s (says.PeerKey key) r p h = agenda_acks (left p) p h
     heard_answered s (says.Join form) r p h = agenda_acks (left p) p h
     heard_answered s (says.Notice notice) r p h = same_on s (after_peer_notice notice r (end_at s p)) (left p) p refl refl h
-    heard_answered s says.Fail r p h = agenda_acks (left p) p h
+    heard_answered s says.Fail r p h = fail_answered_so BothAck s r p (same_on s (with_infinite r (end_at s p)) _ p refl refl h) (told_acks s (fall.FailHeard false) r p h)
     heard_answered s (says.FastClose key) r p h = agenda_acks (if is_stopped_by r then stops s else left p) p h
 
     item_answered : (s : Side) (o : Option Heard) (r : Reply) (p : PathState C) → BothAck p → BothAck (answered_item k s o r p)
@@ -635,6 +638,8 @@ module _ {C : Type 0} where
     answered_acks (duties.Ask (ask_duties.Opened s)) r p h = opened_acks s (keys_heard (end_at s p).treated.items) r p h
     answered_acks (duties.Step (step_duties.Heard s index)) r p h = item_answered s (item_of index (end_at s p)) r p h
     answered_acks (duties.Ask (ask_duties.AckHeard s)) r p h = told_acks s fall.AckHeard r p h
+    answered_acks (duties.Ask (ask_duties.FailHeard s)) r p h =
+        fail_heard_so (λ e. BothAck (goes_on s e (fell_duties s r p) p)) r (end_at s p) (λ own owes. same_on s (failed_so r own owes (end_at s p)) (fell_duties s r p) p refl refl h)
     answered_acks (duties.Step (step_duties.PlainAck s)) r p h = plain_ack_acks s r p h
     answered_acks (duties.Ask (ask_duties.SubflowAck s)) r p h = same_on s _ (left p) p refl refl h
     answered_acks (duties.Ask (ask_duties.PlainData s)) r p h = told_acks s fall.PlainData r p h
@@ -642,6 +647,9 @@ module _ {C : Type 0} where
     answered_acks (duties.Step (step_duties.Unmapped s)) r p h = break_acks s 6 r p h
     answered_acks (duties.Ask (ask_duties.SubflowFin s)) r p h = plain_fin_acks s (is_fin_set r) p h
     answered_acks (duties.Ask (ask_duties.Edge s)) r p h = piece_acks s (piece_of s p) (is_placed r) p h
+    answered_acks (duties.Ask (ask_duties.CheckFailed s)) r p h =
+        check_failed_so (λ e. BothAck (goes_on s e (fell_duties s r p) p)) p.profile.spelling.checksums r (end_at s p)
+        (λ told broken recv forgets. same_on s (checked_so r told broken recv (end_at s p)) (fell_duties s r p) p refl refl h)
     answered_acks (duties.Ask (ask_duties.HeardFin s index)) r p h = fin_set_acks s (is_fin_set r) p h
     answered_acks (duties.Ask (ask_duties.AckOut s)) r p h = same_on s (after_ack_out r (end_at s p)) (left p) p refl refl h
     answered_acks (duties.Ask (ask_duties.Rate s)) r p h = same_on s _ (left p) p refl refl h

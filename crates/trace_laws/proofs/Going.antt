@@ -1,9 +1,9 @@
 -- Once a run is delivered each octet of both files was in a segment that was handed to a link.
-use Rattle.std.proofs.Common.{◌≡◌, refl, sym, ◌∙◌, ap, subst, ℕ, zero, suc, ◌+◌, ◌-◌, ◌<◌, ◌≤◌, ◌⊎◌, inl, inr, ⊎_elim, Bool, true, false, if◌then◌else◌, nat_le, nat_lt, Result, Ok, Err, Option, Some, None, option_map, option_and_then, option_to_list, List, [], ◌∷◌, ◌++◌, length, length-take, length-drop, take, drop, map, fold, append_assoc, arith}
+use Rattle.std.proofs.Common.{◌≡◌, refl, sym, ◌∙◌, ap, subst, ℕ, zero, suc, ◌+◌, ◌-◌, ◌^◌, ◌<◌, ◌≤◌, ◌⊎◌, inl, inr, ⊎_elim, Bool, true, false, if◌then◌else◌, nat_le, nat_lt, Result, Ok, Err, Option, Some, None, option_map, option_and_then, option_to_list, List, [], ◌∷◌, ◌++◌, length, length-append, length-take, length-drop, take, drop, map, fold, append_assoc, arith}
 use Rattle.std.specs.List.{count_by, slice_get}
 use Rattle.std.proofs.lemmas.Bool.{and_parts, cases_lt, eqb-true, false≢true, leb-true, ltb-true}
 use Rattle.std.proofs.lemmas.List.{drop-append-le, take-append-le}
-use Rattle.std.proofs.lemmas.Option.{same_Some}
+use Rattle.std.proofs.lemmas.Option.{same_Some, slice_get_within}
 use Rattle.outside_kit.specs.declared.side.Side.{Side}
 use Rattle.outside_kit.specs.declared.side.Side.TheVariants.{A, B}
 use Rattle.pipe_model.specs.Prefix.{IsPrefix}
@@ -49,27 +49,37 @@ use Rattle.subflow_send.specs.Records.{Record}
 use Rattle.subflow_tcp.specs.States.{may_finish}
 use Rattle.link_script.specs.declared.script.ScriptLine.{ScriptLine}
 use Rattle.link_trace.specs.declared.sent.Sent.{Sent}
+use Rattle.link_trace.specs.Carrying.{carried_of}
+use Rattle.link_trace.specs.FirstOctets.{HasOctet}
+use Rattle.run_trace.specs.Initials.{initials_of}
 use Rattle.run_trace.specs.Trace.{sent_as, sent_at, sent_by, sent_next, trace_of}
 use Rattle.world_core.specs.Looking.{crew_path, member_path}
 use Rattle.world_laws.specs.declared.member.Member.TheVariants.{App, Path}
 use Rattle.world_laws.specs.Actors.{Actor, ActorCrew, is_over, member_asks, member_next, member_takes}
 use Rattle.world_laws.specs.Granted.{asks_for, gives, grants_byte}
+use Rattle.world_laws.specs.declared.outcome.Outcome.TheVariants.{Delivered}
+use Rattle.world_laws.specs.Outcomes.{outcome_of}
 use Rattle.world_laws.specs.Openings.{PathPlan, Start, new_path, opened_world, path_begins, paths_from}
 use Rattle.world_laws.specs.Promises.{IsPlain, NumbersFit}
 use Rattle.world_laws.specs.StampedBooks.{answer_to}
 use Rattle.world_laws.specs.Worlds.{AreLawful, WorldState, Turn, after_turn, all_over, asked, begins, crew_after, end_round, greatest, note_of, stepped, world_run}
-use Rattle.world_laws.proofs.CastLifting.{writes_the_files}
-use Rattle.world_laws.proofs.Doing.{has_last}
-use Rattle.world_laws.proofs.Lanes.{plainly}
-use Rattle.world_laws.proofs.PathAsks.{IsHeardAsk, IsQuietAsk, IsQuietDuty, heard_asks, quiet_asks}
-use Rattle.world_laws.proofs.PromisesMade.{run_fresh}
-use Rattle.world_laws.proofs.Settled.{settled_settled}
-use Rattle.world_laws.proofs.WeavingRounds.{run_append}
+use Rattle.world_laws.proofs.Worlds.CastLifting.{writes_the_files}
+use Rattle.world_laws.proofs.Lanes.Doing.{has_last}
+use Rattle.world_laws.proofs.Falls.FailedChecks.{subflow_acks_so}
+use Rattle.world_laws.proofs.Lanes.OfAWorld.{plainly}
+use Rattle.world_laws.proofs.Asks.OfPaths.{IsHeardAsk, IsQuietAsk, IsQuietDuty, heard_asks, quiet_asks}
+use Rattle.world_laws.proofs.Promises.Made.{run_fresh}
+use Rattle.world_laws.proofs.Lanes.Roads.{put_there}
+use Rattle.world_laws.proofs.Worlds.Settled.{settled_settled}
+use Rattle.world_laws.proofs.Weaving.WholeRounds.{run_append}
 use Rattle.trace_laws.specs.Granting.{WasGranted}
+use Rattle.trace_laws.specs.Counting.{base_from}
 use Rattle.trace_laws.specs.Sending.{CarriesPlace, DeliveredFilesWereSent, ended}
 use Rattle.trace_laws.proofs.Acknowledged.{BothAck, ack_at, begins_acks, takes_acks}
 use Rattle.trace_laws.proofs.Grants.{all_noted, delivered_were_granted, same_books, same_from}
 use Rattle.trace_laws.proofs.Handing.{SendsNext, grants, granted_goes}
+use Rattle.trace_laws.proofs.MomentFacts.{MemberFacts, MomentFacts, PathFacts, carried_from, moment_facts, unsent_placed}
+use Rattle.trace_laws.proofs.ReadingBack.{Placed}
 
 -- ---- a note that grants
 
@@ -134,10 +144,10 @@ module _ (p : PathState (List ℕ)) (s : Side) (path most : ℕ) (standby : Bool
 
   duty_asks : (d : Duty) → ask_for octets d p ≡ Grant → AsksByData s most d p
   duty_asks (duties.Step (step_duties.Data t)) is = data_asks t (first_unsent (end_at t p)) refl is
-  duty_asks (duties.Step (step_duties.Heard t index)) is = absurd (subst (IsHeardAsk t) is (heard_asks octets p t (item_of index (end_at t p))))
+  duty_asks (duties.Step (step_duties.Heard t index)) is = absurd (subst (IsHeardAsk (path_of p) t) is (heard_asks octets p t (item_of index (end_at t p))))
   duty_asks (duties.Ask (ask_duties.SynHeard t)) is = cc
   duty_asks (duties.Ask (ask_duties.SynAnswered t)) is = cc
-  duty_asks (duties.Ask (ask_duties.SubflowAck t)) is = cc
+  duty_asks (duties.Ask (ask_duties.SubflowAck t)) is = absurd (subflow_acks_so (λ x. x ≡ Grant → ⊥) t (end_at t p) (λ none. cc) (λ next none. cc) is)
   duty_asks (duties.Step step_duties.Events) is = absurd (quiet_never (duties.Step step_duties.Events) tt is)
   duty_asks (duties.Step (step_duties.Look t)) is = absurd (quiet_never (duties.Step (step_duties.Look t)) tt is)
   duty_asks (duties.Step (step_duties.PlainAck t)) is = absurd (quiet_never (duties.Step (step_duties.PlainAck t)) tt is)
@@ -150,9 +160,11 @@ module _ (p : PathState (List ℕ)) (s : Side) (path most : ℕ) (standby : Bool
   duty_asks (duties.Ask (ask_duties.Opened t)) is = absurd (quiet_never (duties.Ask (ask_duties.Opened t)) tt is)
   duty_asks (duties.Ask (ask_duties.Live t)) is = absurd (quiet_never (duties.Ask (ask_duties.Live t)) tt is)
   duty_asks (duties.Ask (ask_duties.AckHeard t)) is = absurd (quiet_never (duties.Ask (ask_duties.AckHeard t)) tt is)
+  duty_asks (duties.Ask (ask_duties.FailHeard t)) is = absurd (quiet_never (duties.Ask (ask_duties.FailHeard t)) tt is)
   duty_asks (duties.Ask (ask_duties.PlainData t)) is = absurd (quiet_never (duties.Ask (ask_duties.PlainData t)) tt is)
-  duty_asks (duties.Ask (ask_duties.GoIdentity t)) is = absurd (quiet_never (duties.Ask (ask_duties.GoIdentity t)) tt is)
+  duty_asks (duties.Ask (ask_duties.GoIdentity t)) is = cc
   duty_asks (duties.Ask (ask_duties.Edge t)) is = absurd (quiet_never (duties.Ask (ask_duties.Edge t)) tt is)
+  duty_asks (duties.Ask (ask_duties.CheckFailed t)) is = absurd (quiet_never (duties.Ask (ask_duties.CheckFailed t)) tt is)
   duty_asks (duties.Ask (ask_duties.HeardFin t index)) is = absurd (quiet_never (duties.Ask (ask_duties.HeardFin t index)) tt is)
   duty_asks (duties.Ask (ask_duties.SubflowFin t)) is = absurd (quiet_never (duties.Ask (ask_duties.SubflowFin t)) tt is)
   duty_asks (duties.Ask (ask_duties.AckOut t)) is = absurd (quiet_never (duties.Ask (ask_duties.AckOut t)) tt is)
@@ -172,27 +184,49 @@ module _ (p : PathState (List ℕ)) (s : Side) (path most : ℕ) (standby : Bool
 
 -- ---- what was granted, and isn't sent yet
 
--- the next step of a path sends it
-abbrev Pending : Side → List ℕ → ℕ → Actor (List ℕ) → Type 0
-Pending s file place (App a) = ⊥
-Pending s file place (Path p) = (x : Sent) × (sent_by p ≡ Some x) × CarriesPlace s file place x
+-- a segment that carries the octet at this place of the side's file, and tells that place
+pub record CarriesTold (start : Start) (s : Side) (place : ℕ) (x : Sent) : Type 0 where
+  pub carries : CarriesPlace s (pick s start.file_a start.file_b) place x
+  pub told : HasOctet s place (carried_of (base_from start) (initials_of start.paths) x)
 
-sends_pending : (s : Side) (file : List ℕ) (place from : ℕ) (piece : List ℕ) (p : PathState (List ℕ)) → SendsNext s piece p → from ≤ place → place < from + length piece
-    → piece ≡ take (length piece) (drop from file) → Pending s file place (Path p)
-sends_pending s file place from piece p n below above part =
+-- the next step of a path sends it
+abbrev Pending : Start → Side → ℕ → Actor (List ℕ) → Type 0
+Pending start s place (App a) = ⊥
+Pending start s place (Path p) = (x : Sent) × (sent_by p ≡ Some x) × CarriesTold start s place x
+
+-- a segment that is read at a place has that octet
+told_at_place : (start : Start) (s : Side) (place from len : ℕ) (x : Sent) → x.from ≡ s → Placed (base_from start) (initials_of start.paths) x from len → from ≤ place → place < from + len
+    → HasOctet s place (carried_of (base_from start) (initials_of start.paths) x)
+told_at_place start s place from len x same_side placed below above = record {
+  from = carried_from (base_from start) (initials_of start.paths) x ∙ same_side;
+  place = from;
+  told = placed.told;
+  below = below;
+  above = let same = placed.len_is in omega (arith, above, same);
+}
+
+sends_pending : (start : Start) (s : Side) (place from : ℕ) (piece : List ℕ) (p : PathState (List ℕ)) → SendsNext s from piece p → PathFacts start p → from < 2 ^ 64 → from ≤ place → place < from + length piece
+    → piece ≡ take (length piece) (drop from (pick s start.file_a start.file_b)) → Pending start s place (Path p)
+sends_pending start s place from piece p n facts small below above part =
     let same = ap length n.payload in (
       n.sent,
       n.is,
       record {
-        from = n.from;
-        first = from;
-        below = below;
-        above = omega (arith, above, same);
-        part = n.payload ∙ part ∙ ap (λ (len : ℕ). take len (drop from file)) (sym same);
+        carries = record {
+          from = n.from;
+          first = from;
+          below = below;
+          above = omega (arith, above, same);
+          part = n.payload ∙ part ∙ ap (λ (len : ℕ). take len (drop from (pick s start.file_a start.file_b))) (sym same);
+        };
+        told = told_at_place start s place from (length piece) n.sent n.from (unsent_placed start s from piece p n facts small (omega (arith, below, above))) below above;
       },
     )
 
-module _ (s : Side) (file : List ℕ) (b : Sending) (tile : Tile b) (begins_so : IsPrefix b.written file) (path most place : ℕ) (standby : Bool) where
+module _ (start : Start) (s : Side) (b : Sending) (tile : Tile b) (begins_so : IsPrefix b.written (pick s start.file_a start.file_b)) (short : length b.written < 2 ^ 64) (path most place : ℕ) (standby : Bool) where
+  abbrev file : List ℕ
+  file = pick s start.file_a start.file_b
+
   -- a part of what was written is that part of the file
   part_is : (from n : ℕ) → from + n ≤ length b.written → take n (drop from b.written) ≡ take n (drop from file)
   part_is from n within =
@@ -202,10 +236,10 @@ module _ (s : Side) (file : List ℕ) (b : Sending) (tile : Tile b) (begins_so :
 
   module _ (p : PathState (List ℕ)) (settled_so : IsSettled p) (acked : BothAck p) where
     reply_pending : (ds : List Duty) → p.agenda ≡ duties.Step (step_duties.Data s) ∷ ds → first_unsent (end_at s p) ≡ None → most ≡ payload_size p.profile
-        → (r : Result Span Why) → decision path most standby b ≡ r → covers place (reply_by r b) ≡ true
-        → Pending s file place (Path (takes octets (replies.Send (reply_by r b)) p))
-    reply_pending ds agenda none most_is (Err why) decided gives = absurd (false≢true gives)
-    reply_pending ds agenda none most_is (Ok span) decided gives =
+        → (r : Result Span Why) → decision path most standby b ≡ r → covers place (reply_by r b) ≡ true → PathFacts start (takes octets (replies.Send (reply_by r b)) p)
+        → Pending start s place (Path (takes octets (replies.Send (reply_by r b)) p))
+    reply_pending ds agenda none most_is (Err why) decided gives facts = absurd (false≢true gives)
+    reply_pending ds agenda none most_is (Ok span) decided gives facts =
         let m = decision-MayTake path most standby b span decided in
         let bounds = and_parts (nat_le span.from place) (nat_lt place span.to) gives in
         let low = leb-true span.from place bounds.0 in let high = ltb-true place span.to bounds.1 in
@@ -215,19 +249,20 @@ module _ (s : Side) (file : List ℕ) (b : Sending) (tile : Tile b) (begins_so :
         let may : may_ask p.profile s (end_at s p) ≡ true = subst (λ (o : Option Record). data_stands p.profile s (end_at s p) o ≡ true) none stood in
         let goes = granted_goes s ds span (part_of span b.written) p agenda none may (ack_at s p acked) (omega (arith, len, m.whole, m.most, most_is)) in
         let part = part_is span.from n (omega (arith, m.within, m.whole, tile.whole)) in
-        sends_pending s file place span.from (part_of span b.written) (takes octets (grants span (part_of span b.written)) p) goes low (omega (arith, high, len, m.whole))
+        sends_pending start s place span.from (part_of span b.written) (takes octets (grants span (part_of span b.written)) p) goes facts (omega (arith, m.within, m.whole, tile.whole, short)) low (omega (arith, high, len, m.whole))
         (part ∙ ap (λ (k : ℕ). take k (drop span.from file)) (sym len))
 
     -- a path that was granted a byte sends it next
     path_pending : asks_of octets p ≡ Some (desk.Send s (send_calls.Grant path most standby)) → covers place (send_reply b (send_calls.Grant path most standby)) ≡ true
-        → Pending s file place (Path (takes octets (replies.Send (send_reply b (send_calls.Grant path most standby))) p))
-    path_pending asks gives = by p.agenda refl
+        → PathFacts start (takes octets (replies.Send (send_reply b (send_calls.Grant path most standby))) p)
+        → Pending start s place (Path (takes octets (replies.Send (send_reply b (send_calls.Grant path most standby))) p))
+    path_pending asks gives facts = by p.agenda refl
       where
-        first : (d : Duty) (ds : List Duty) → p.agenda ≡ d ∷ ds → AsksByData s most d p → Pending s file place (Path (takes octets (replies.Send (send_reply b (send_calls.Grant path most standby))) p))
+        first : (d : Duty) (ds : List Duty) → p.agenda ≡ d ∷ ds → AsksByData s most d p → Pending start s place (Path (takes octets (replies.Send (send_reply b (send_calls.Grant path most standby))) p))
         first d ds agenda by_data =
-            reply_pending ds (agenda ∙ ap (λ (x : Duty). x ∷ ds) by_data.duty) by_data.none by_data.most_is (decision path most standby b) refl gives
+            reply_pending ds (agenda ∙ ap (λ (x : Duty). x ∷ ds) by_data.duty) by_data.none by_data.most_is (decision path most standby b) refl gives facts
 
-        by : (todo : List Duty) → p.agenda ≡ todo → Pending s file place (Path (takes octets (replies.Send (send_reply b (send_calls.Grant path most standby))) p))
+        by : (todo : List Duty) → p.agenda ≡ todo → Pending start s place (Path (takes octets (replies.Send (send_reply b (send_calls.Grant path most standby))) p))
         by [] agenda = absurd (none_asks (sym (ap (λ (todo : List Duty). asks_first octets todo p) agenda) ∙ asks))
           where
             none_asks : None ≡ Some (desk.Send s (send_calls.Grant path most standby)) → ⊥
@@ -246,12 +281,15 @@ pub record Stands (start : Start) (trace : List Sent) (w : WorldState (List ℕ)
   pub ready : (i : ℕ) (c : ActorCrew (List ℕ)) → slice_get w.crew i ≡ Some c → IsReady c.member
   pub told : (i : ℕ) (c : ActorCrew (List ℕ)) → slice_get w.crew i ≡ Some c → (j : ℕ) (n : Note) → slice_get c.list j ≡ Some n → (s : Side) (path place : ℕ)
       → grants_byte s path place n ≡ true
-      → Has (CarriesPlace s (pick s start.file_a start.file_b) place) trace ⊎ Pending s (pick s start.file_a start.file_b) place c.member
+      → Has (CarriesTold start s place) trace ⊎ Pending start s place c.member
 
 -- what the books of a world are
 pub record BooksFit (start : Start) (w : WorldState (List ℕ)) : Type 0 where
   pub tiles : (s : Side) → Tile (send_of s (books_in w.books))
   pub prefixes : (s : Side) → IsPrefix (send_of s (books_in w.books)).written (pick s start.file_a start.file_b)
+  pub short : (s : Side) → length (send_of s (books_in w.books)).written < 2 ^ 64
+  -- and what its paths are
+  pub facts : MomentFacts start w
 
 more_stands : (start : Start) (trace more : List Sent) (w : WorldState (List ℕ)) → Stands start trace w → Stands start (trace ++ more) w
 more_stands start trace more w h = record {
@@ -261,25 +299,25 @@ more_stands start trace more w h = record {
 
 -- a pending segment is handed over by the actor's next step
 handed_now : (start : Start) (s : Side) (place i : ℕ) (c : ActorCrew (List ℕ)) (w : WorldState (List ℕ)) (trace : List Sent) → slice_get w.crew i ≡ Some c
-    → Pending s (pick s start.file_a start.file_b) place c.member → Has (CarriesPlace s (pick s start.file_a start.file_b) place) (trace ++ option_to_list (sent_next i w))
+    → Pending start s place c.member → Has (CarriesTold start s place) (trace ++ option_to_list (sent_next i w))
 handed_now start s place i c w trace there pending = by c.member refl pending
   where
-    last : (xs : List Sent) (x : Sent) → CarriesPlace s (pick s start.file_a start.file_b) place x → Has (CarriesPlace s (pick s start.file_a start.file_b) place) (xs ++ x ∷ [])
+    last : (xs : List Sent) (x : Sent) → CarriesTold start s place x → Has (CarriesTold start s place) (xs ++ x ∷ [])
     last xs x carries = has_last xs x carries
 
-    by : (m : Actor (List ℕ)) → c.member ≡ m → Pending s (pick s start.file_a start.file_b) place m
-        → Has (CarriesPlace s (pick s start.file_a start.file_b) place) (trace ++ option_to_list (sent_next i w))
+    by : (m : Actor (List ℕ)) → c.member ≡ m → Pending start s place m
+        → Has (CarriesTold start s place) (trace ++ option_to_list (sent_next i w))
     by (App a) is pending = absurd pending
     by (Path p) is pending =
         let next : sent_next i w ≡ Some pending.0 =
         ap (λ (o : Option (ActorCrew (List ℕ))). option_and_then sent_by (crew_path o)) there ∙ ap (λ (m : Actor (List ℕ)). option_and_then sent_by (member_path m)) is ∙ pending.1 in
-        subst (λ (o : Option Sent). Has (CarriesPlace s (pick s start.file_a start.file_b) place) (trace ++ option_to_list o)) (sym next) (last trace pending.0 pending.2)
+        subst (λ (o : Option Sent). Has (CarriesTold start s place) (trace ++ option_to_list o)) (sym next) (last trace pending.0 pending.2)
 
 -- a step that grants a byte leaves it pending
-new_pending : (start : Start) (ask : Ask) (c : ActorCrew (List ℕ)) (w : WorldState (List ℕ)) → BooksFit start w → IsReady c.member → member_asks octets c.member ≡ Some ask
-    → (s : Side) (path place : ℕ) → grants_byte s path place (note_of w.books c.pass ask) ≡ true
-    → Pending s (pick s start.file_a start.file_b) place (member_takes octets (answer_to w.books ask) c.member)
-new_pending start ask c w fit ready asks s path place is = by c.member ready asks
+new_pending : (start : Start) (ask : Ask) (c : ActorCrew (List ℕ)) (w : WorldState (List ℕ)) → BooksFit start w → MemberFacts start (member_takes octets (answer_to w.books ask) c.member)
+    → IsReady c.member → member_asks octets c.member ≡ Some ask → (s : Side) (path place : ℕ) → grants_byte s path place (note_of w.books c.pass ask) ≡ true
+    → Pending start s place (member_takes octets (answer_to w.books ask) c.member)
+new_pending start ask c w fit later ready asks s path place is = by c.member later ready asks
   where
     parts : (asks_for s path ask ≡ true) × (gives place (answer_to w.books ask) ≡ true)
     parts = and_parts (asks_for s path ask) (gives place (answer_to w.books ask)) is
@@ -298,16 +336,18 @@ new_pending start ask c w fit ready asks s path place is = by c.member ready ask
     none : (d : AppDuty) (ds : List AppDuty) (a : AppState) → Some (app_ask d a) ≡ Some ask → ⊥
     none d ds a there = app_asks_none d a s path bytes.most bytes.standby (same_Some (app_ask d a) ask there ∙ bytes.is)
 
-    by : (m : Actor (List ℕ)) → IsReady m → member_asks octets m ≡ Some ask → Pending s (pick s start.file_a start.file_b) place (member_takes octets (answer_to w.books ask) m)
-    by (App a) ready there = app a.agenda there
+    by : (m : Actor (List ℕ)) → MemberFacts start (member_takes octets (answer_to w.books ask) m) → IsReady m → member_asks octets m ≡ Some ask
+        → Pending start s place (member_takes octets (answer_to w.books ask) m)
+    by (App a) later ready there = app a.agenda there
       where
-        app : (todo : List AppDuty) → app_asks_first todo a ≡ Some ask → Pending s (pick s start.file_a start.file_b) place (member_takes octets (answer_to w.books ask) (App a))
+        app : (todo : List AppDuty) → app_asks_first todo a ≡ Some ask → Pending start s place (member_takes octets (answer_to w.books ask) (App a))
         app [] there = cc
         app (d ∷ ds) there = absurd (none d ds a there)
-    by (Path p) ready there =
-        subst (λ (r : Reply). Pending s (pick s start.file_a start.file_b) place (Path (takes octets r p))) (sym (ap (answer_to w.books) bytes.is ∙ answer_is s bytes.most bytes.standby))
-        (path_pending s (pick s start.file_a start.file_b) (send_of s (books_in w.books)) (fit.tiles s) (fit.prefixes s) path bytes.most place bytes.standby p ready.0 ready.1
-        (there ∙ ap Some bytes.is) gives_is)
+    by (Path p) later ready there =
+        let reply = ap (answer_to w.books) bytes.is ∙ answer_is s bytes.most bytes.standby in
+        subst (λ (r : Reply). Pending start s place (Path (takes octets r p))) (sym reply)
+        (path_pending start s (send_of s (books_in w.books)) (fit.tiles s) (fit.prefixes s) (fit.short s) path bytes.most place bytes.standby p ready.0 ready.1
+        (there ∙ ap Some bytes.is) gives_is (subst (λ (r : Reply). PathFacts start (takes octets r p)) reply later))
 
 ready_next : (m : Actor (List ℕ)) (r : Reply) → IsReady m → IsReady (member_takes octets r m)
 ready_next (App a) r ready = tt
@@ -321,9 +361,9 @@ ready_begins (Path p) ready =
 
 -- ---- a turn
 
-step_stands : (start : Start) (i : ℕ) (ask : Ask) (c : ActorCrew (List ℕ)) (w : WorldState (List ℕ)) (trace : List Sent) → BooksFit start w → slice_get w.crew i ≡ Some c
-    → member_asks octets c.member ≡ Some ask → Stands start trace w → Stands start (trace ++ option_to_list (sent_next i w)) (asked octets i (Some ask) c w)
-step_stands start i ask c w trace fit there asks h = record {
+step_stands : (start : Start) (i : ℕ) (ask : Ask) (c : ActorCrew (List ℕ)) (w : WorldState (List ℕ)) (trace : List Sent) → BooksFit start w → MomentFacts start (asked octets i (Some ask) c w)
+    → slice_get w.crew i ≡ Some c → member_asks octets c.member ≡ Some ask → Stands start trace w → Stands start (trace ++ option_to_list (sent_next i w)) (asked octets i (Some ask) c w)
+step_stands start i ask c w trace fit later there asks h = record {
   ready = λ k x at. ready_at k x (in_set w.crew i after_it k x at);
   told = λ k x at j n at_note s path place is. told_at k x j n at_note s path place is (in_set w.crew i after_it k x at);
 }
@@ -332,7 +372,7 @@ step_stands start i ask c w trace fit there asks h = record {
     after_it = crew_after octets ask w.books c
 
     Told : Side → ℕ → ActorCrew (List ℕ) → Type 0
-    Told s place x = Has (CarriesPlace s (pick s start.file_a start.file_b) place) (trace ++ option_to_list (sent_next i w)) ⊎ Pending s (pick s start.file_a start.file_b) place x.member
+    Told s place x = Has (CarriesTold start s place) (trace ++ option_to_list (sent_next i w)) ⊎ Pending start s place x.member
 
     ready_at : (k : ℕ) (x : ActorCrew (List ℕ)) → ((k ≡ i) × (after_it ≡ x)) ⊎ ((k ≡ i → ⊥) × (slice_get w.crew k ≡ Some x)) → IsReady x.member
     ready_at k x (inl here) = subst (λ (y : ActorCrew (List ℕ)). IsReady y.member) here.1 (ready_next c.member (answer_to w.books ask) (h.ready i c there))
@@ -344,7 +384,7 @@ step_stands start i ask c w trace fit there asks h = record {
         (λ pending. inl (handed_now start s place i c w trace there pending)) (h.told i c there j n old s path place is)
     own j n s path place is (inr new) =
         let one = in_one (note_of w.books c.pass ask) n (j - length c.list) new.1 in
-        inr (new_pending start ask c w fit (h.ready i c there) asks s path place (subst (λ (m : Note). grants_byte s path place m ≡ true) (sym one.1) is))
+        inr (new_pending start ask c w fit (later i after_it (put_there w.crew i after_it (slice_get_within w.crew i c there))) (h.ready i c there) asks s path place (subst (λ (m : Note). grants_byte s path place m ≡ true) (sym one.1) is))
 
     told_at : (k : ℕ) (x : ActorCrew (List ℕ)) (j : ℕ) (n : Note) → slice_get x.list j ≡ Some n → (s : Side) (path place : ℕ) → grants_byte s path place n ≡ true
         → ((k ≡ i) × (after_it ≡ x)) ⊎ ((k ≡ i → ⊥) × (slice_get w.crew k ≡ Some x)) → Told s place x
@@ -354,9 +394,9 @@ step_stands start i ask c w trace fit there asks h = record {
     told_at k x j n at_note s path place is (inr other) = ⊎_elim (λ has. inl (Has-more (option_to_list (sent_next i w)) has)) (λ pending. inr pending) (h.told k x other.1 j n at_note s path place is)
 
 -- an actor whose turn ended has nothing pending
-over_none : (s : Side) (file : List ℕ) (place : ℕ) (m : Actor (List ℕ)) → is_over m ≡ true → Pending s file place m → ⊥
-over_none s file place (App a) over pending = pending
-over_none s file place (Path p) over pending = by p.agenda refl over
+over_none : (start : Start) (s : Side) (place : ℕ) (m : Actor (List ℕ)) → is_over m ≡ true → Pending start s place m → ⊥
+over_none start s place (App a) over pending = pending
+over_none start s place (Path p) over pending = by p.agenda refl over
   where
     nothing : None ≡ Some pending.0 → ⊥
     nothing is = cc
@@ -378,7 +418,7 @@ round_stands start w trace h = by (all_over w.crew) refl
       ready = λ i c at. let found = in_map (begins (greatest 0 w.crew)) w.crew i c at in
           subst (λ (y : ActorCrew (List ℕ)). IsReady y.member) found.2 (ready_begins found.0.member (h.ready i found.0 found.1));
       told = λ i c at j n at_note s path place is. let found = in_map (begins (greatest 0 w.crew)) w.crew i c at in
-          ⊎_elim (λ has. inl has) (λ pending. absurd (over_none s (pick s start.file_a start.file_b) place found.0.member (over_at w.crew i found.0 over found.1) pending))
+          ⊎_elim (λ has. inl has) (λ pending. absurd (over_none start s place found.0.member (over_at w.crew i found.0 over found.1) pending))
           (h.told i found.0 found.1 j n (subst (λ (y : ActorCrew (List ℕ)). slice_get y.list j ≡ Some n) (sym found.2) at_note) s path place is);
     }
 
@@ -386,26 +426,26 @@ round_stands start w trace h = by (all_over w.crew) refl
     by true over = next over
     by false over = h
 
-turn_stands : (start : Start) (turn : Turn) (w : WorldState (List ℕ)) (trace : List Sent) → BooksFit start w → Stands start trace w
+turn_stands : (start : Start) (turn : Turn) (w : WorldState (List ℕ)) (trace : List Sent) → BooksFit start w → MomentFacts start (after_turn octets turn w) → Stands start trace w
     → Stands start (trace ++ sent_at turn w) (after_turn octets turn w)
-turn_stands start (Turn.Step i) w trace fit h = by (slice_get w.crew i) refl
+turn_stands start (Turn.Step i) w trace fit later h = by (slice_get w.crew i) refl later
   where
-    at : (c : ActorCrew (List ℕ)) (o : Option Ask) → slice_get w.crew i ≡ Some c → member_asks octets c.member ≡ o
+    at : (c : ActorCrew (List ℕ)) (o : Option Ask) → slice_get w.crew i ≡ Some c → member_asks octets c.member ≡ o → MomentFacts start (asked octets i o c w)
         → Stands start (trace ++ option_to_list (sent_next i w)) (asked octets i o c w)
-    at c None there asks = more_stands start trace (option_to_list (sent_next i w)) w h
-    at c (Some ask) there asks = step_stands start i ask c w trace fit there asks h
+    at c None there asks later = more_stands start trace (option_to_list (sent_next i w)) w h
+    at c (Some ask) there asks later = step_stands start i ask c w trace fit later there asks h
 
-    by : (o : Option (ActorCrew (List ℕ))) → slice_get w.crew i ≡ o → Stands start (trace ++ option_to_list (sent_next i w)) (stepped octets i o w)
-    by None there = more_stands start trace (option_to_list (sent_next i w)) w h
-    by (Some c) there = at c (member_asks octets c.member) there refl
-turn_stands start Turn.Round w trace fit h = round_stands start w (trace ++ []) (more_stands start trace [] w h)
+    by : (o : Option (ActorCrew (List ℕ))) → slice_get w.crew i ≡ o → MomentFacts start (stepped octets i o w) → Stands start (trace ++ option_to_list (sent_next i w)) (stepped octets i o w)
+    by None there later = more_stands start trace (option_to_list (sent_next i w)) w h
+    by (Some c) there later = at c (member_asks octets c.member) there refl later
+turn_stands start Turn.Round w trace fit later h = round_stands start w (trace ++ []) (more_stands start trace [] w h)
 
 run_stands : (start : Start) (turns : List Turn) (w : WorldState (List ℕ)) (trace : List Sent) → ((more : List Turn) → BooksFit start (world_run octets more w)) → Stands start trace w
     → Stands start (trace ++ trace_of turns w) (world_run octets turns w)
 run_stands start [] w trace fit h = more_stands start trace [] w h
 run_stands start (turn ∷ turns) w trace fit h =
     subst (λ (t : List Sent). Stands start t (world_run octets turns (after_turn octets turn w))) (append_assoc trace (sent_at turn w) (trace_of turns (after_turn octets turn w)))
-    (run_stands start turns (after_turn octets turn w) (trace ++ sent_at turn w) (λ more. fit (turn ∷ more)) (turn_stands start turn w trace (fit []) h))
+    (run_stands start turns (after_turn octets turn w) (trace ++ sent_at turn w) (λ more. fit (turn ∷ more)) (turn_stands start turn w trace (fit []) (fit (turn ∷ [])).facts h))
 
 -- ---- the opening
 
@@ -449,8 +489,10 @@ opened_stands start = record {
 -- the books at every moment
 books_fit : (start : Start) (turns : List Turn) → IsPlain start → NumbersFit start → BooksFit start (world_run octets turns (opened_world start))
 books_fit start turns plain fit = record {
-  tiles = λ s. subst (λ (w : WorldState (List ℕ)). Tile (send_of s (books_in w.books))) (sym (run_fresh start turns plain fit)) (tile s);
+  tiles = λ s. subst (λ (w : WorldState (List ℕ)). Tile (send_of s (books_in w.books))) (sym (run_fresh start turns plain.size fit)) (tile s);
   prefixes = prefix;
+  short = short;
+  facts = moment_facts start turns plain fit;
 }
   where
     v : WorldState Carried
@@ -463,6 +505,13 @@ books_fit start turns plain fit = record {
     prefix : (s : Side) → IsPrefix (send_of s (books_in (world_run octets turns (opened_world start)).books)).written (pick s start.file_a start.file_b)
     prefix A = (writes_the_files octets start turns).a.prefix
     prefix B = (writes_the_files octets start turns).b.prefix
+
+    within : (file written : List ℕ) → IsPrefix written file → length file < 2 ^ 31 - 2 → length written < 2 ^ 64
+    within file written begins_so small = let same = ap length begins_so.whole_is in omega (arith, same, small, length-append written begins_so.rest)
+
+    short : (s : Side) → length (send_of s (books_in (world_run octets turns (opened_world start)).books)).written < 2 ^ 64
+    short A = within start.file_a _ (prefix A) fit.short_a
+    short B = within start.file_b _ (prefix B) fit.short_b
 
 -- an item whose number isn't 0
 abbrev ItemWith : {X : Type 0} → (X → ℕ) → List X → Type 0
@@ -498,23 +547,31 @@ granted_before s place w h = by (all_over w.crew) h
 
 -- what was granted by the end of a round was sent
 granted_sent : (start : Start) (trace : List Sent) (w : WorldState (List ℕ)) → Stands start trace w → all_over w.crew ≡ true → (s : Side) (place : ℕ) → WasGranted s place w.crew
-    → Has (CarriesPlace s (pick s start.file_a start.file_b) place) trace
+    → Has (CarriesTold start s place) trace
 granted_sent start trace w h over s place granted =
     let at = item_of_sum (λ (c : ActorCrew (List ℕ)). count_by (grants_byte s granted.path place) c.list) 0 w.crew granted.granted in
     let note = item_of_sum (λ (n : Note). if grants_byte s granted.path place n then 1 else 0) 0 at.1.0.list at.1.1.1 in
-    ⊎_elim (λ has. has) (λ pending. absurd (over_none s (pick s start.file_a start.file_b) place at.1.0.member (over_at w.crew at.0 at.1.0 over at.1.1.0) pending))
+    ⊎_elim (λ has. has) (λ pending. absurd (over_none start s place at.1.0.member (over_at w.crew at.0 at.1.0 over at.1.1.0) pending))
     (h.told at.0 at.1.0 at.1.1.0 note.0 note.1.0 note.1.1.0 s granted.path place (is_so (grants_byte s granted.path place note.1.0) note.1.1.1))
   where
     is_so : (b : Bool) → 1 ≤ (if b then 1 else 0) → b ≡ true
     is_so true some = refl
     is_so false some = absurd (omega (arith, some))
 
-pub delivered_were_sent : DeliveredFilesWereSent
-delivered_were_sent start turns plain fit lawful delivered s place below =
+-- each octet of the files was in a segment that told its place
+pub delivered_were_told : (start : Start) (turns : List Turn) → IsPlain start → NumbersFit start → AreLawful octets (ended turns) (opened_world start)
+    → outcome_of (world_run octets (ended turns) (opened_world start)).crew ≡ Delivered
+    → (s : Side) (place : ℕ) → place < length (pick s start.file_a start.file_b) → Has (CarriesTold start s place) (trace_of (ended turns) (opened_world start))
+delivered_were_told start turns plain fit lawful delivered s place below =
     let w = world_run octets turns (opened_world start) in
     let stood : Stands start (trace_of turns (opened_world start)) w =
     run_stands start turns (opened_world start) [] (λ more. books_fit start more plain fit) (opened_stands start) in
     let granted = delivered_were_granted start (ended turns) plain fit delivered s place below in
     let before = granted_before s place w (subst (λ (x : WorldState (List ℕ)). WasGranted s place x.crew) (run_append octets turns (Turn.Round ∷ []) (opened_world start)) granted) in
-    subst (Has (CarriesPlace s (pick s start.file_a start.file_b) place)) (sym (trace_append turns (Turn.Round ∷ []) (opened_world start)))
+    subst (Has (CarriesTold start s place)) (sym (trace_append turns (Turn.Round ∷ []) (opened_world start)))
     (Has-more (trace_of (Turn.Round ∷ []) w) (granted_sent start (trace_of turns (opened_world start)) w stood (lawful_over turns (opened_world start) lawful) s place before))
+
+pub delivered_were_sent : DeliveredFilesWereSent
+delivered_were_sent start turns plain fit lawful delivered s place below =
+    let has = delivered_were_told start turns plain fit lawful delivered s place below in
+    record { at = has.at; item = has.item; there = has.there; holds = has.holds.carries }

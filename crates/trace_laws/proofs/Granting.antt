@@ -21,8 +21,8 @@ use Rattle.stream_lanes.specs.View.{view_of}
 use Rattle.stream_lanes.specs.Lane.{Ask as LaneAsk, Cell, Lane}
 use Rattle.stream_lanes.specs.Lane.Ask.{AskGrant, AskAckIn, AskPlace, AskFin, AskAckOut}
 use Rattle.stream_lanes.specs.Moves.{Flags, Move, cells_from, takes_grant}
-use Rattle.stream_lanes.specs.Streams.{Direction, StreamEvent, after, asks, asks_at, is_done, moves, reads, with_send}
-use Rattle.stream_lanes.specs.Streams.StreamEvent.{Write, Close, Return, GoIdentity, AbortSend, Read, AbortRead, Moves, Asks}
+use Rattle.stream_lanes.specs.Streams.{Direction, StreamEvent, after, asks, asks_at, is_done, moves, reads, with_send, goes_infinite, may_go}
+use Rattle.stream_lanes.specs.Streams.StreamEvent.{Write, Close, Return, GoIdentity, AbortSend, Read, AbortRead, Moves, Asks, GoInfinite}
 use Rattle.stream_lanes.specs.Duo.{Duo, Event, flags_ab, flags_ba, after_event, after_events}
 use Rattle.stream_lanes.specs.Duo.Event.{ToB, ToA, FallA, FallB, LoosenA, LoosenB, BeginJoin, SendJoin, HearJoin}
 use Rattle.stream_lanes.proofs.Directions.{acked_sent, fin_sent, moved_sent, placed_sent}
@@ -30,9 +30,9 @@ use Rattle.stream_lanes.proofs.Lists.{in_append, in_set}
 use Rattle.stream_lanes.proofs.Promises.{records_fit}
 use Rattle.actor_desk.specs.declared.ask.Ask.{Ask}
 use Rattle.actor_desk.specs.declared.ask.Ask.TheVariants as desk
-use Rattle.world_laws.proofs.Lanes.{AreSilent, CallIs, LaneAsks, ReassemblyCallIs, SendCallIs, TurnShows, call_events, is_silent}
-use Rattle.world_laws.proofs.PlacesSent.{ack_out_sent}
-use Rattle.world_laws.proofs.Strolling.{events_held}
+use Rattle.world_laws.proofs.Lanes.OfAWorld.{AreSilent, CallIs, LaneAsks, ReassemblyCallIs, SendCallIs, TurnShows, call_events, is_silent}
+use Rattle.world_laws.proofs.Places.Sent.{ack_out_sent}
+use Rattle.world_laws.proofs.Lanes.Strolling.{events_held}
 
 -- ---- one direction
 
@@ -158,7 +158,15 @@ module _ (f : Flags) (d : Direction) (holds : DirectionHolds f d) where
       by : (b : Bool) → Adds (Grants send_calls.GoIdentity d) d (if b then with_send GoIdentityBook d else d)
       by true = lanes_same _ f d (with_send GoIdentityBook d) refl
       by false = lanes_same _ f d d refl
-  send_adds (send_calls.GoInfinite path) event is = absurd is
+  send_adds (send_calls.GoInfinite path) event is = event_is _ f d event (GoInfinite path is.0) is.1 (at (slice_get d.lanes path) refl)
+    where
+      choose : (b : Bool) (e : Direction) → Adds (Grants (send_calls.GoInfinite path) d) d e → Adds (Grants (send_calls.GoInfinite path) d) d (if b then e else d)
+      choose true e adds = adds
+      choose false e adds = lanes_same _ f d d refl
+
+      at : (o : Option Lane) → slice_get d.lanes path ≡ o → Adds (Grants (send_calls.GoInfinite path) d) d (goes_infinite path is.0 o d)
+      at None there = lanes_same _ f d d refl
+      at (Some p) there = choose (may_go path is.0 d.send p) _ (put_same _ f d path p _ _ refl there refl)
   send_adds send_calls.Abort event is = event_is _ f d event AbortSend is (lanes_same _ f d _ refl)
 
 -- ---- both directions

@@ -35,14 +35,14 @@ use Rattle.world_laws.specs.Openings.{Start, opened_world}
 use Rattle.world_laws.specs.Outcomes.{outcome_by}
 use Rattle.world_laws.specs.Promises.{was_told_end}
 use Rattle.world_laws.specs.Worlds.{WorldState, Turn, after_turn, all_over, asked, begins, crew_after, greatest, note_of, stepped, world_run}
-use Rattle.world_laws.proofs.Beginning.{each_opening_shows}
-use Rattle.world_laws.proofs.CastLifting.{writes_the_files}
-use Rattle.world_laws.proofs.Joining.{each_turn_shows}
-use Rattle.world_laws.proofs.Lanes.{Carries, IsSteady, Links, Shown, WorldShows, asked_by, asked_in, first_duo, plainly, turn_events, turn_is}
-use Rattle.world_laws.proofs.PromisesMade.{run_fresh}
-use Rattle.world_laws.proofs.PromisesShown.{same_told}
-use Rattle.world_laws.proofs.Steady.{always_steady}
-use Rattle.world_laws.proofs.Strolling.{events_held}
+use Rattle.world_laws.proofs.Lanes.Beginning.{each_opening_shows}
+use Rattle.world_laws.proofs.Worlds.CastLifting.{writes_the_files}
+use Rattle.world_laws.proofs.Lanes.EveryTurn.{each_turn_shows}
+use Rattle.world_laws.proofs.Lanes.OfAWorld.{Carries, IsSteady, Links, Shown, WorldShows, asked_by, asked_in, first_duo, plainly, turn_events, turn_is}
+use Rattle.world_laws.proofs.Promises.Made.{run_fresh}
+use Rattle.world_laws.proofs.Promises.OverOctets.{same_told}
+use Rattle.world_laws.proofs.Worlds.Steady.{always_steady}
+use Rattle.world_laws.proofs.Lanes.Strolling.{events_held}
 use Rattle.trace_laws.specs.Granting.{DeliveredFilesWereGranted, WasGranted}
 use Rattle.trace_laws.proofs.Granting.{AskGrants, Grants, Had, TurnGrants, turn_grows, way}
 
@@ -254,7 +254,7 @@ delivered_were_granted start turns plain fit delivered s place below =
     w = world_run octets turns (opened_world start)
 
     is : w ≡ shown_world v
-    is = run_fresh start turns plain fit
+    is = run_fresh start turns plain.size fit
 
     both : (was_told_end A w ≡ true) × (was_told_end B w ≡ true)
     both = and_parts (was_told_end A w) (was_told_end B w) (delivered_told _ _ _ _ delivered)

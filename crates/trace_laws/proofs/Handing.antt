@@ -32,6 +32,7 @@ use Rattle.path_core.specs.Ends.{PathEnd}
 use Rattle.path_core.specs.Looking.{departing, departing_as, first_sends, unsent_sends}
 use Rattle.path_core.specs.Octets.{made, octets, sum_of}
 use Rattle.path_core.specs.OptionsOut.{mapping_of, record_or_ack, spelled_by}
+use Rattle.path_segments.specs.Spelling.{whole_number}
 use Rattle.path_core.specs.State.{PathState, Profile, end_at, goes_on, with_agenda}
 use Rattle.path_core.specs.Steps.{answers, settled, settles_down, takes}
 use Rattle.link_trace.specs.declared.sent.Sent.{Sent}
@@ -61,7 +62,7 @@ payload_is checksum segment whole =
     ∙ sym (drop-drop (length segment.options) 20 (octets_with checksum segment)) ∙ ap (drop (length segment.options)) (rest_is checksum segment)
     ∙ drop_at segment.options segment.payload (length segment.options) refl
 
-made_payload : (spelling : Spelling) (s : Side) (segment : PlainSegment) → payload_in (made spelling s segment) ≡ segment.payload
+pub made_payload : (spelling : Spelling) (s : Side) (segment : PlainSegment) → payload_in (made spelling s segment) ≡ segment.payload
 unfolding segment_text spelled
 made_payload spelling s segment = payload_is (sum_of spelling s segment) (spelled spelling (spelled_by s) segment)
     (padded_len (unpadded_options spelling (spelled_by s) segment))
@@ -119,33 +120,52 @@ module _ (c : Profile) (s : Side) (span : Span) (piece : List ℕ) (e : PathEnd)
 
 -- ---- a path whose next step sends a piece
 
-pub record SendsNext (s : Side) (piece : List ℕ) (p : PathState (List ℕ)) : Type 0 where
+-- the piece from this place of the side's stream on
+pub record SendsNext (s : Side) (from_place : ℕ) (piece : List ℕ) (p : PathState (List ℕ)) : Type 0 where
   pub sent : Sent
   pub is : sent_by p ≡ Some sent
   pub from : sent.from ≡ s
   pub payload : payload_in sent.octets ≡ piece
+  -- its record is the first unsent one
+  pub source : Record
+  pub sends : first_sends p.agenda p ≡ unsent_sends s (Some source)
+  pub unsent : first_unsent (end_at s p) ≡ Some source
+  pub number : source.mapping.number ≡ whole_number p.profile.spelling (spelled_by s) from_place
+  pub piece_is : source.piece ≡ piece
 
 -- what departs is of this side, and has this payload
 abbrev DepartsWith : Side → List ℕ → Option Departing → Type 0
 DepartsWith s piece None = ⊥
 DepartsWith s piece (Some d) = (d.from ≡ s) × (payload_in d.octets ≡ piece)
 
-departs : (s : Side) (piece : List ℕ) (p : PathState (List ℕ)) (o : Option Departing) → departing p ≡ o → DepartsWith s piece o → SendsNext s piece p
-departs s piece p None is with_it = absurd with_it
-departs s piece p (Some d) is with_it =
-    record { sent = sent_as p d; is = ap (λ (o : Option Departing). option_map (sent_as p) o) is; from = with_it.0; payload = with_it.1 }
+departs : (s : Side) (from_place : ℕ) (piece : List ℕ) (r : Record) (p : PathState (List ℕ)) (o : Option Departing) → departing p ≡ o → DepartsWith s piece o
+    → first_sends p.agenda p ≡ unsent_sends s (Some r) → first_unsent (end_at s p) ≡ Some r
+    → r.mapping.number ≡ whole_number p.profile.spelling (spelled_by s) from_place → r.piece ≡ piece → SendsNext s from_place piece p
+departs s from_place piece r p None is with_it sends unsent number piece_is = absurd with_it
+departs s from_place piece r p (Some d) is with_it sends unsent number piece_is = record {
+  sent = sent_as p d;
+  is = ap (λ (o : Option Departing). option_map (sent_as p) o) is;
+  from = with_it.0;
+  payload = with_it.1;
+  source = r;
+  sends = sends;
+  unsent = unsent;
+  number = number;
+  piece_is = piece_is;
+}
 
 -- with its record as the first unsent one
-sends_record : (s : Side) (piece : List ℕ) (ds : List Duty) (r : Record) (p : PathState (List ℕ)) → p.agenda ≡ duties.Step (step_duties.Data s) ∷ ds
-    → first_unsent (end_at s p) ≡ Some r → r.piece ≡ piece → SendsNext s piece p
-sends_record s piece ds r p agenda first piece_is =
-    departs s piece p (option_map (departing_as p) (unsent_sends s (Some r)))
+sends_record : (s : Side) (from_place : ℕ) (piece : List ℕ) (ds : List Duty) (r : Record) (p : PathState (List ℕ)) → p.agenda ≡ duties.Step (step_duties.Data s) ∷ ds
+    → first_unsent (end_at s p) ≡ Some r → r.mapping.number ≡ whole_number p.profile.spelling (spelled_by s) from_place → r.piece ≡ piece → SendsNext s from_place piece p
+sends_record s from_place piece ds r p agenda first number piece_is =
+    departs s from_place piece r p (option_map (departing_as p) (unsent_sends s (Some r)))
     (ap (λ (todo : List Duty). option_map (departing_as p) (first_sends todo p)) agenda
     ∙ ap (λ (o : Option Record). option_map (departing_as p) (unsent_sends s o)) first) (
       refl,
       made_payload p.profile.spelling s (record_or_ack p.profile s (first_unsent (end_at s p)) (end_at s p))
           ∙ ap (λ (o : Option Record). (record_or_ack p.profile s o (end_at s p)).payload) first ∙ piece_is,
     )
+    (ap (λ (todo : List Duty). first_sends todo p) agenda ∙ ap (unsent_sends s) first) first number piece_is
 
 -- the reply to an ask for bytes
 abbrev pub grants : Span → List ℕ → Reply
@@ -158,6 +178,10 @@ module _ (s : Side) (ds : List Duty) (span : Span) (piece : List ℕ) (p : PathS
   end_is : (s : Side) (e : PathEnd) (ds : List Duty) (p : PathState (List ℕ)) → end_at s (goes_on s e ds p) ≡ e
   end_is A e ds p = refl
   end_is B e ds p = refl
+
+  profile_is : (s : Side) (e : PathEnd) (ds : List Duty) (p : PathState (List ℕ)) → (goes_on s e ds p).profile ≡ p.profile
+  profile_is A e ds p = refl
+  profile_is B e ds p = refl
 
   stands_so : may_ask p.profile s (end_at s p) ≡ true → Acks (end_at s p).tcp → length piece ≤ payload_size p.profile → first_unsent (end_at s p) ≡ None
       → stands (duties.Step (step_duties.Data s)) q ≡ true
@@ -176,9 +200,10 @@ module _ (s : Side) (ds : List Duty) (span : Span) (piece : List ℕ) (p : PathS
 
   -- what was granted is sent next
   pub granted_goes : p.agenda ≡ duties.Step (step_duties.Data s) ∷ ds → first_unsent (end_at s p) ≡ None → may_ask p.profile s (end_at s p) ≡ true → Acks (end_at s p).tcp
-      → length piece ≤ payload_size p.profile → SendsNext s piece (takes octets (grants span piece) p)
+      → length piece ≤ payload_size p.profile → SendsNext s span.from piece (takes octets (grants span piece) p)
   granted_goes agenda none asks acked short =
       let is = taken_is agenda none ∙ settled_is (stands_so asks acked short none) in
-      subst (SendsNext s piece) (sym is)
-      (sends_record s piece ds (pushed p.profile s span piece (end_at s p)) (with_agenda (duties.Step (step_duties.Data s) ∷ ds) q) refl
-      (ap first_unsent (end_is s (granted p.profile s span piece (end_at s p)) (duties.Step (step_duties.Data s) ∷ ds) p) ∙ unsent_is p.profile s span piece (end_at s p) none) refl)
+      subst (SendsNext s span.from piece) (sym is)
+      (sends_record s span.from piece ds (pushed p.profile s span piece (end_at s p)) (with_agenda (duties.Step (step_duties.Data s) ∷ ds) q) refl
+      (ap first_unsent (end_is s (granted p.profile s span piece (end_at s p)) (duties.Step (step_duties.Data s) ∷ ds) p) ∙ unsent_is p.profile s span piece (end_at s p) none)
+      (ap (λ (c : Profile). whole_number c.spelling (spelled_by s) span.from) (sym (profile_is s (granted p.profile s span piece (end_at s p)) (duties.Step (step_duties.Data s) ∷ ds) p))) refl)

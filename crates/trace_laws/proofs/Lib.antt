@@ -1,5 +1,9 @@
 mod Acknowledged
+mod Counted
 mod Going
 mod Granting
 mod Grants
 mod Handing
+mod MomentFacts
+mod PayloadsPlaced
+mod ReadingBack

@@ -1,5 +1,6 @@
 //! Laws of what a run has sent.
 
+ghost use Rattle.trace_laws.specs.Counting.{DeliveredFilesWereCounted};
 ghost use Rattle.trace_laws.specs.Granting.{DeliveredFilesWereGranted};
 ghost use Rattle.trace_laws.specs.Sending.{DeliveredFilesWereSent};
 
@@ -14,4 +15,10 @@ pub fn delivered_files_were_granted()
 /// than 2^31 - 2 octets.
 pub fn delivered_files_were_sent()
     ensures { DeliveredFilesWereSent }
+{}
+
+/// A law: where a run is delivered as a round ends the table by path and direction counts as many octets that were sent for the first
+/// time as the file has. It holds of each script that alters no payload, over files shorter than 2^31 - 2 octets.
+pub fn delivered_files_were_counted()
+    ensures { DeliveredFilesWereCounted }
 {}

@@ -3,4 +3,6 @@
 
 mod laws;
 
-pub use laws::{delivered_files_were_granted, delivered_files_were_sent};
+pub use laws::{
+    delivered_files_were_counted, delivered_files_were_granted, delivered_files_were_sent,
+};
