@@ -3,3 +3,4 @@ pub mod InKind
 pub mod Small
 pub mod Entered
 pub mod Inserting
+mod LastNote

@@ -24,6 +24,7 @@ use Rattle.control_book.specs.declared.call.ControlCall.TheVariants as control_c
 use Rattle.control_book.specs.Calls.{can_ask}
 use Rattle.control_book.specs.Control.{Control}
 use Rattle.control_book.specs.Replies as control
+use Rattle.linked_increase.specs.Places.{row_of}
 use Rattle.control_book.specs.Laws.{RowsAreRight}
 use Rattle.control_book.proofs.RowsRight.{right_once, rows_stay_right, rows_can_grow}
 use Rattle.actor_desk.specs.declared.ask.Ask.TheVariants as asks
@@ -193,7 +194,7 @@ control_small c (control_calls.Live path backup) right can = tt
 control_small c (control_calls.Dead path) right can = tt
 control_small c (control_calls.Backup path on) right can = tt
 control_small c (control_calls.Rate path window rtt) right can =
-    let grow = rows_can_grow c.paths (control.row_of path window rtt) right (record { some_window = can.1; window = can.2; some_rtt = can.3; rtt = can.4 }) can.0 in
+    let grow = rows_can_grow c.paths (row_of path window rtt) right (record { some_window = can.1; window = can.2; some_rtt = can.3; rtt = can.4 }) can.0 in
     record { among = grow.1; in_range = grow.0 }
 control_small c (control_calls.Announce id) right can = tt
 control_small c (control_calls.Withdraw id) right can = tt

@@ -22,15 +22,19 @@ use Rattle.actor_desk.specs.declared.ask.Ask.TheVariants as asks
 use Rattle.actor_desk.specs.Desk.{SixBooks}
 use Rattle.actor_desk.specs.Words.{pick}
 
+-- a send book with its journal: as it was opened, and every entry since
 abbrev pub SendJournal : Type 0
 SendJournal = Journaled Sending SendCall SendReply
 
+-- the same of a reassembly book
 abbrev pub ReassemblyJournal : Type 0
 ReassemblyJournal = Journaled Arriving ReassemblyCall ReassemblyReply
 
+-- and of a control book
 abbrev pub ControlJournal : Type 0
 ControlJournal = Journaled Control ControlCall ControlReply
 
+-- the books of both sides, each with its journal
 pub record StampedBooks : Type 0 where
   pub send_a : SendJournal
   pub send_b : SendJournal
@@ -98,18 +102,21 @@ after_send_entry s call pass b = record b {
   send_b = pick s b.send_b (after_entering sending.reply_to sending.after_call b.send_b pass call);
 }
 
+-- the same of a reassembly book
 abbrev pub after_reassembly_entry : Side → ReassemblyCall → Pass → StampedBooks → StampedBooks
 after_reassembly_entry s call pass b = record b {
   reassembly_a = pick s (after_entering arriving.reply_to arriving.after_call b.reassembly_a pass call) b.reassembly_a;
   reassembly_b = pick s b.reassembly_b (after_entering arriving.reply_to arriving.after_call b.reassembly_b pass call);
 }
 
+-- and of a control book
 abbrev pub after_control_entry : Side → ControlCall → Pass → StampedBooks → StampedBooks
 after_control_entry s call pass b = record b {
   control_a = pick s (after_entering controlling.reply_to control.after b.control_a pass call) b.control_a;
   control_b = pick s b.control_b (after_entering controlling.reply_to control.after b.control_b pass call);
 }
 
+-- the books after a step of any kind; a local one is entered nowhere
 abbrev pub after_entry : Ask → Pass → StampedBooks → StampedBooks
 after_entry (asks.Send s call) pass b = after_send_entry s call pass b
 after_entry (asks.Reassembly s call) pass b = after_reassembly_entry s call pass b

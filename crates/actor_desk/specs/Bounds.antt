@@ -26,6 +26,7 @@ use Rattle.actor_desk.specs.Kinds.{AreTiled, CanBeAsked, IsOfKind}
 abbrev pub IsPlace : ℕ → Type 0
 IsPlace n = n ≤ 2 ^ 62 + 2 ^ 20
 
+-- each place and each count in a send book's reply is such a number
 abbrev pub IsSmallSend : SendReply → Type 0
 IsSmallSend (send_replies.Taken count) = IsPlace count
 IsSmallSend (send_replies.Granted span piece) = IsPlace span.from × IsPlace span.to
@@ -49,6 +50,7 @@ pub record CanGrow (asked : Row) (rows : List Row) : Type 0 where
   pub among : Contains rows asked
   pub in_range : All IsInRange rows
 
+-- Rate: the rows are such, and one of them is what the path just told
 abbrev pub IsSmallControl : ControlCall → ControlReply → Type 0
 IsSmallControl (control_calls.Rate path window rtt) (control_replies.Rows rows) = CanGrow (record { path = path; window = window; rtt = rtt }) rows
 IsSmallControl _ _ = Unit {0}
@@ -67,15 +69,17 @@ TakesReply (Some x) r = IsOfKind x r × IsBounded x r
 
 -- ---- books within bounds
 
--- data numbers stay below 2^62, DATA_FIN's too
+-- places stay below 2^62, that of DATA_FIN too
 pub record IsWrittenSmall (b : Sending) : Type 0 where
   pub written : length b.written ≤ 2 ^ 62 - 3
 
+-- bytes lie below place 2^62, the stream ends there at latest, and a book takes at most 1,048,576 octets past those read
 pub record IsReceivedSmall (b : Arriving) : Type 0 where
   pub places : top b ≤ 2 ^ 62
   pub ends : IfSome b.known_end (λ e. e ≤ 2 ^ 62)
   pub room : b.capacity ≤ 1048576
 
+-- so it is with the books of both sides, and each row that is kept is its path's own and can be linked
 pub record AreSmall (books : SixBooks) : Type 0 where
   pub send_a : IsWrittenSmall books.send_a
   pub send_b : IsWrittenSmall books.send_b
@@ -86,10 +90,11 @@ pub record AreSmall (books : SixBooks) : Type 0 where
 
 -- ---- laws
 
--- books that were opened are so, and each call keeps them so
+-- books that were opened with buffers of at most 1,048,576 octets are so
 abbrev pub OpenedBooksAreSmall : Type 0
 OpenedBooksAreSmall = (buffer key_a key_b : ℕ) → buffer ≤ 1048576 → AreSmall (opened_books buffer key_a key_b)
 
+-- and each call that meets its conditions keeps them so
 abbrev pub BooksStaySmall : Type 0
 BooksStaySmall = (books : SixBooks) (x : Ask) → AreSmall books → CanBeAsked x → AreSmall (after_ask x books)
 

@@ -18,6 +18,7 @@ use Rattle.actor_desk.specs.declared.ask.Reply.{Reply}
 use Rattle.actor_desk.specs.declared.ask.Reply.TheVariants as replies
 use Rattle.actor_desk.specs.Words.{pick}
 
+-- a send book, a reassembly book and a control book for each side
 pub record SixBooks : Type 0 where
   pub send_a : sending.Sending
   pub send_b : sending.Sending
@@ -42,18 +43,21 @@ reply_of books (asks.Reassembly s call) = replies.Reassembly (arriving_steps.rep
 reply_of books (asks.Control s call) = replies.Control (control_replies.reply_to (control_of s books) call)
 reply_of books (asks.Local step) = replies.Done
 
+-- the asked book after the call; the other five stay
 abbrev pub after_send_call : Side → SendCall → SixBooks → SixBooks
 after_send_call s call books = record books {
   send_a = pick s (sending_steps.after_call books.send_a call) books.send_a;
   send_b = pick s books.send_b (sending_steps.after_call books.send_b call);
 }
 
+-- the same of a reassembly book
 abbrev pub after_reassembly_call : Side → ReassemblyCall → SixBooks → SixBooks
 after_reassembly_call s call books = record books {
   reassembly_a = pick s (arriving_steps.after_call books.reassembly_a call) books.reassembly_a;
   reassembly_b = pick s books.reassembly_b (arriving_steps.after_call books.reassembly_b call);
 }
 
+-- and of a control book
 abbrev pub after_control_call : Side → ControlCall → SixBooks → SixBooks
 after_control_call s call books = record books {
   control_a = pick s (control_steps.after books.control_a call) books.control_a;

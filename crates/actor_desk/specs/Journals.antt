@@ -58,14 +58,17 @@ pub record ArePaired (after : ℕ) (lists journals : List (List Note)) : Type 0 
 abbrev pub comes_first : Note → Note → Bool
 comes_first x y = nat_lt x.stamp y.stamp || (x.stamp == y.stamp && nat_lt x.actor y.actor)
 
+-- a note stands before the first one that it comes before
 abbrev pub with_note : Note → List Note → List Note
 with_note x [] = x ∷ []
 with_note x (y ∷ notes) = if comes_first x y then x ∷ y ∷ notes else y ∷ with_note x notes
 
+-- each of these notes is put in so
 abbrev pub with_notes : List Note → List Note → List Note
 with_notes [] order = order
 with_notes (x ∷ notes) order = with_notes notes (with_note x order)
 
+-- the notes above a stamp of all lists, in that order
 abbrev pub in_order : ℕ → List (List Note) → List Note
 in_order after [] = []
 in_order after (list ∷ lists) = with_notes (above after list) (in_order after lists)

@@ -48,6 +48,7 @@ IsSendKind (send_calls.GoInfinite path) send_replies.Scattered = Unit {0}
 IsSendKind send_calls.Abort send_replies.Noted = Unit {0}
 IsSendKind _ _ = ⊥
 
+-- a read gives some bytes, and no more than were asked for
 abbrev pub IsReassemblyKind : ReassemblyCall → ReassemblyReply → Type 0
 IsReassemblyKind (reassembly_calls.Place at bytes) (reassembly_replies.Placed count) = Unit {0}
 IsReassemblyKind (reassembly_calls.Place at bytes) (reassembly_replies.Beyond edge) = Unit {0}
@@ -62,6 +63,7 @@ IsReassemblyKind reassembly_calls.AckOut (reassembly_replies.Ack next window) = 
 IsReassemblyKind (reassembly_calls.Abort by_peer) reassembly_replies.Noted = Unit {0}
 IsReassemblyKind _ _ = ⊥
 
+-- each call has replies of its own; what these carry stands open
 abbrev pub IsControlKind : ControlCall → ControlReply → Type 0
 IsControlKind (control_calls.Look path) (control_replies.Standing mode standby sole notice) = Unit {0}
 IsControlKind (control_calls.PeerKey key) control_replies.Noted = Unit {0}
@@ -118,5 +120,6 @@ CanBeAsked (asks.Reassembly s call) = arriving.CanAsk call
 CanBeAsked (asks.Control s call) = can_ask call
 CanBeAsked (asks.Local step) = Unit {0}
 
+-- where both send books are sound, a call that meets its conditions is answered by a reply that it can have
 abbrev pub BooksAnswerInKind : Type 0
 BooksAnswerInKind = (books : SixBooks) (x : Ask) → AreTiled books → CanBeAsked x → IsOfKind x (reply_of books x)

@@ -12,6 +12,7 @@ abbrev pub is_nil : {X : Type 0} → List X → Bool
 is_nil [] = true
 is_nil (x ∷ xs) = false
 
+-- all but the first
 abbrev pub tail_of : {X : Type 0} → List X → List X
 tail_of [] = []
 tail_of (x ∷ xs) = xs

@@ -6,7 +6,7 @@ use reassembly_book::{ReassemblyCall, ReassemblyReply};
 use send_book::{SendCall, SendReply};
 
 /// A step that an actor makes by itself, at no book.
-#[derive(Clone, Copy, Debug, PartialEq, Eq)]
+#[derive(Clone, Copy)]
 pub enum LocalStep {
     /// A copy arrives at an end.
     Arrive {
@@ -35,7 +35,7 @@ pub enum LocalStep {
 }
 
 /// What an actor asks.
-#[derive(Debug, Drop, PartialEq)]
+#[derive(Drop)]
 pub enum Ask {
     /// The send book of a side.
     Send(Side, SendCall),
@@ -48,7 +48,7 @@ pub enum Ask {
 }
 
 /// What an actor is answered.
-#[derive(Debug, Drop, PartialEq)]
+#[derive(Drop)]
 pub enum Reply {
     /// By a send book.
     Send(SendReply),
@@ -61,7 +61,7 @@ pub enum Reply {
 }
 
 /// A step that was made, as it stands in an actor's list.
-#[derive(Debug, Drop, PartialEq)]
+#[derive(Drop)]
 pub struct Note {
     /// The place of the step among all: at a book one more than the greater of `seen` and the book's stamp before, and else
     /// one more than `seen`.

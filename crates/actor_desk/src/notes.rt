@@ -1,10 +1,14 @@
 //! The list of an actor's notes.
-ghost use Rattle.std.specs.Prelude.{◌≡◌, ◌++◌, ◌==◌, ◌↔◌, [], ◌∷◌, length, IfSome, IsNone, OnOk, OnErr, option_map};
+ghost use Rattle.std.specs.Prelude.{◌≡◌, ◌+◌, ◌^◌, ◌<◌, ◌++◌, ◌==◌, ◌↔◌, [], ◌∷◌, List, length, IfSome, IsNone, IsTrue, OnOk, OnErr, option_map};
 ghost use Rattle.std.specs.List.{slice_get};
+ghost use Rattle.actor_desk.specs.declared.ask.Note.{Note};
 
 use crate::ask::Note;
 use std::alloc::{AllocError, Global};
 use std::marker::Model;
+
+/// The most notes that a list has, 2^57 - 1.
+const MOST_NOTES: u64 = (1 << 57) - 1;
 
 /// Notes, one after the other. Contracts see their list.
 #[derive(Drop)]
@@ -45,6 +49,13 @@ impl Notes {
         self.notes.is_empty()
     }
 
+    /// Whether there is room for a note more. There always is: 2^57 notes are longer than any vector.
+    pub fn has_room(&self) -> bool
+        ensures { IsTrue result ↔ (length self.now + 1 < 2 ^ 57) }
+    {
+        (self.notes.len() as u64) < MOST_NOTES
+    }
+
     /// The notes in order, lent.
     pub fn as_slice(&self) -> &[Note]
         ensures { result.now ≡ self.now }
@@ -75,5 +86,13 @@ impl Notes {
         ensures empty { IsNone result → self.new ≡ [] }
     {
         self.notes.pop()
+    }
+
+    /// The last note leaves the list, where there is one.
+    pub fn take_back(&mut self)
+        ensures { (notes : List Note) (note : Note) →
+            self.old ≡ notes ++ note ∷ [] → self.new ≡ notes }
+    {
+        self.pop();
     }
 }

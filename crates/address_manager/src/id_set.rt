@@ -5,7 +5,7 @@ use std::marker::Model;
 
 /// A set of ids, which are numbers of one octet, as address ids and path numbers are. It takes no memory. Contracts see
 /// the list that says of each id whether it is in the set. The lowest one is kept, and not searched for.
-#[derive(Clone, Copy, Debug)]
+#[derive(Clone, Copy)]
 pub struct IdSet {
     members: [bool; 256],
     first: Option<u8>,

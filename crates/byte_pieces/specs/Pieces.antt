@@ -48,6 +48,7 @@ abbrev pub with_piece : Piece → List Piece → List Piece
 with_piece q [] = q ∷ []
 with_piece q (p ∷ ps) = if nat_lt p.at q.at then p ∷ with_piece q ps else q ∷ p ∷ ps
 
+-- each of these pieces is put in so
 abbrev pub with_pieces : List Piece → List Piece → List Piece
 with_pieces [] ps = ps
 with_pieces (q ∷ qs) ps = with_pieces qs (with_piece q ps)

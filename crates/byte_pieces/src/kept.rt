@@ -11,7 +11,7 @@ use std::marker::Model;
 /// The bytes that are kept from a position on. Contracts see that position, the list of the places from there on, each
 /// with its byte or without one, and that list as it will be once the bytes that are held are kept too. Positions are at
 /// most 2^62.
-#[derive(Debug, Drop)]
+#[derive(Drop)]
 pub struct BytePieces {
     alloc: Global,
     /// The first position that counts.

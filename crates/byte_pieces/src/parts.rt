@@ -9,7 +9,7 @@ use std::marker::Model;
 
 /// Bytes that stand side by side, lent part by part in order. Contracts see the list of the parts that are left, each
 /// the list of its bytes.
-#[derive(Debug, Drop)]
+#[derive(Drop)]
 pub struct Parts<'a> {
     pieces: &'a VecDeque<Piece>,
     /// How many of the pieces were given.

@@ -4,7 +4,7 @@ ghost use Rattle.byte_pieces.specs.Pieces.{end_of, cut_front, cut_end};
 use bytes::Bytes;
 
 /// Bytes that stand side by side.
-#[derive(Debug, Drop)]
+#[derive(Drop)]
 pub(crate) struct Piece {
     /// The position of the first byte.
     pub(crate) at: u64,

@@ -1,14 +1,8 @@
 -- What a step of the handshake hears in the option of a segment, if there is one (RFC 8684, section 3.1). The keys of
 -- an MP_CAPABLE tell the step that it belongs to; at the other steps it is as good as none, as are the other options.
-use Rattle.std.specs.Borrow.{Bor}
-use Rattle.std.specs.Prelude.{ℕ, Bool, ◌||◌, Option, Some, None, option_map}
-use Rattle.mptcp_options.specs.declared.option.MpOption.{MpOption}
+use Rattle.std.specs.Prelude.{ℕ, Bool, ◌||◌, Option, Some, None}
 use Rattle.mptcp_options.specs.declared.capable.CapableKeys.TheVariants.{NoKey, Sender, Both, WithData}
-use Rattle.mptcp_options.specs.Value.{OptionValue, Capable, value_of}
-
--- the option that a step is given, as a value
-abbrev pub value_heard : Option (Bor MpOption) → Option OptionValue
-value_heard heard = option_map (λ option. value_of option.now) heard
+use Rattle.mptcp_options.specs.Value.{OptionValue, Capable}
 
 -- on a SYN, without a key: flag A
 abbrev pub flag_on_syn : Option OptionValue → Option Bool

@@ -7,7 +7,7 @@ use std::error::Error;
 use std::fmt;
 
 /// Why a step of the handshake takes nothing from the segment that came.
-#[derive(Clone, Copy, Debug, PartialEq, Eq)]
+#[derive(Clone, Copy, Debug)]
 pub enum CapableFault {
     /// The segment has no MP_CAPABLE of the step's form. One of another form counts as absent, as does any other
     /// option.

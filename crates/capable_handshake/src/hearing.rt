@@ -1,6 +1,7 @@
 ghost use Rattle.std.specs.Prelude.{◌≡◌, ◌≢◌, ◌↔◌, ℕ, option_map, IsNone, IsSomeAnd};
 ghost use Rattle.std.specs.Result.{result_ok};
-ghost use Rattle.capable_handshake.specs.Heard.{value_heard, flag_on_syn, key_and_flag_on_syn_ack, keys_on_ack, checksums_used};
+ghost use Rattle.mptcp_options.specs.Value.{value_heard};
+ghost use Rattle.capable_handshake.specs.Heard.{flag_on_syn, key_and_flag_on_syn_ack, keys_on_ack, checksums_used};
 
 use crate::fault::CapableFault;
 use mptcp_options::{CapableKeys, MpOption};

@@ -1,7 +1,8 @@
 -- What the lines of a list say: SCRIPT FILE_A FILE_B, with one space between.
 use Rattle.std.specs.Prelude.{ℕ, suc, ◌≡◌, ◌&&◌, ◌==◌, Bool, nat_lt, nat_le, if◌then◌else◌, length, List, [], ◌∷◌, ◌++◌, Option, Some, None, Result, Ok, Err}
-use Rattle.std.specs.List.{list_all, onto_first, slice_split}
+use Rattle.std.specs.List.{list_all, slice_split}
 use Rattle.std.specs.Option.{ok_or}
+use Rattle.outside_kit.specs.Lines.{text_lines}
 use Rattle.connection_list.specs.declared.list.Listed.{Listed}
 use Rattle.connection_list.specs.declared.list.ListFault.{ListFault}
 use Rattle.connection_list.specs.declared.list.ListFault.TheVariants.{Line, Memory}
@@ -12,15 +13,17 @@ pub record Names : Type 0 where
   pub file_a : List ℕ
   pub file_b : List ℕ
 
+-- names that the code lends, as lists of octets
 abbrev pub as_names : Listed → Names
 as_names listed = record { script = listed.script.now; file_a = listed.file_a.now; file_b = listed.file_b.now }
 
 -- ---- a line
 
--- a name has printable octets, and isn't empty
+-- a printable octet but the space
 abbrev pub is_name_octet : ℕ → Bool
 is_name_octet octet = nat_le 0x21 octet && nat_le octet 0x7E
 
+-- a name has such octets, and isn't empty
 abbrev pub is_name : List ℕ → Bool
 is_name word = nat_lt 0 (length word) && list_all is_name_octet word
 
@@ -35,11 +38,6 @@ abbrev pub names_in : List ℕ → Option Names
 names_in line = names_by (slice_split (λ octet. octet == 32) line)
 
 -- ---- the lines
-
--- a line ends with LF, and what stands after the last LF is a line where it isn't empty
-abbrev pub list_lines : List ℕ → List (List ℕ)
-list_lines [] = []
-list_lines (octet ∷ octets) = if octet == 10 then [] ∷ list_lines octets else onto_first octet (list_lines octets)
 
 -- the line with this number, counted from 1: as many as 64 may be there
 abbrev pub line_reading : ℕ → List ℕ → Result Names ℕ
@@ -60,8 +58,9 @@ abbrev pub lines_reading : List (List ℕ) → Result (List Names) ℕ
 lines_reading [] = Err 1
 lines_reading (line ∷ lines) = read_on 1 [] (line ∷ lines)
 
+-- what a list says: the names of each line, or the number of the first line that is out of form
 abbrev pub list_reading : List ℕ → Result (List Names) ℕ
-list_reading list = lines_reading (list_lines list)
+list_reading list = lines_reading (text_lines list)
 
 -- ---- an answer
 

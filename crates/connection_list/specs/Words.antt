@@ -9,6 +9,7 @@ pub record NamedList : Type 0 where
   pub list : List ℕ
   pub rounds : ℕ
 
+-- words that the code lends, the name as a list of octets
 abbrev pub as_words : ListWords → NamedList
 as_words words = record { list = words.list.now; rounds = words.rounds }
 

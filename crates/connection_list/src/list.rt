@@ -1,10 +1,12 @@
 //! The lines of a list.
 
-ghost use Rattle.std.specs.Prelude.{◌≡◌, ◌<◌, ◌≤◌, ◌∷◌, ◌==◌, [], IfOk, IsTrue, OnOk, length, map, option_map, position};
+ghost use Rattle.std.specs.Prelude.{◌≡◌, ◌<◌, ◌≤◌, ◌∷◌, ◌==◌, [], IfOk, IsTrue, OnOk, length, map, option_map};
 ghost use Rattle.std.specs.List.{list_all, slice_split};
-ghost use Rattle.connection_list.specs.Lists.{IsReading, as_names, is_name, is_name_octet, line_reading, list_lines, list_reading, names_by, names_in, read_on};
+ghost use Rattle.outside_kit.specs.Lines.{text_lines};
+ghost use Rattle.connection_list.specs.Lists.{IsReading, as_names, is_name, is_name_octet, line_reading, list_reading, names_by, names_in, read_on};
 ghost use Rattle.connection_list.specs.declared.list.ListFault.TheVariants.{Memory};
 
+use outside_kit::split_line;
 use std::alloc::{AllocError, AllocFailed, Global};
 use std::str;
 
@@ -12,7 +14,7 @@ use std::str;
 pub const MOST_CONNECTIONS: usize = 64;
 
 /// A connection of a list: the names of its script and of both files.
-#[derive(Clone, Copy, Debug)]
+#[derive(Clone, Copy)]
 pub struct Listed<'a> {
     /// The name of the script.
     pub script: &'a str,
@@ -23,7 +25,7 @@ pub struct Listed<'a> {
 }
 
 /// Why a list wasn't read.
-#[derive(Clone, Copy, Debug, PartialEq, Eq)]
+#[derive(Clone, Copy)]
 pub enum ListFault {
     /// The first line that is out of form, counted from 1: line 65, however it is, and line 1 of an empty list.
     Line { line: u64 },
@@ -117,25 +119,6 @@ fn read_line(alloc: Global, line: &[u8]) -> Result<Option<Listed<'_>>, AllocErro
     Ok(listed_by(&words))
 }
 
-/// The place of the first LF.
-fn line_end(text: &[u8]) -> Option<usize>
-    ensures { result ≡ position (λ octet. octet == 10) text.now }
-{
-    text.iter().position(|octet| *octet == b'\n')
-}
-
-/// Cuts the first line off: the octets before the first LF, and those behind it.
-fn split_line(list: &[u8]) -> (&[u8], &[u8])
-    requires { 0 < length list.now }
-    ensures line { list_lines list.entry.now ≡ result.0.now ∷ list_lines result.1.now }
-    ensures shorter { length result.1.now < length list.entry.now }
-{
-    match line_end(list) {
-        Some(end) => (&list[..end], &list[end + 1..]),
-        None => (list, &[]),
-    }
-}
-
 /// The connection of the line with this number, counted from 1.
 fn listed_at(alloc: Global, line: &[u8], number: u64) -> Result<Listed<'_>, ListFault>
     ensures exact { IsReading as_names result (line_reading number line.entry.now) }
@@ -153,7 +136,7 @@ fn listed_at(alloc: Global, line: &[u8], number: u64) -> Result<Listed<'_>, List
 /// The connections of the lines of a list that isn't empty.
 fn read_lines(alloc: Global, list: &[u8]) -> Result<Vec<Listed<'_>>, ListFault>
     ensures exact { IsReading (λ connections. map as_names connections.items) result
-        (read_on 1 [] (list_lines list.entry.now)) }
+        (read_on 1 [] (text_lines list.entry.now)) }
     ensures few { IfOk result (λ connections. length connections.items ≤ 64) }
 {
     let mut connections = Vec::new(alloc);

@@ -9,7 +9,7 @@ use run_words::read_number;
 const MOST_ROUNDS: u32 = 1_024;
 
 /// What the words ask for.
-#[derive(Clone, Copy, Debug)]
+#[derive(Clone, Copy)]
 pub struct ListWords<'a> {
     /// The name of the list; not empty.
     pub list: &'a str,

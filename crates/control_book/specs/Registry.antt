@@ -31,12 +31,14 @@ is_standing Living = true
 is_standing Opening = true
 is_standing Idle = false
 
+-- what is kept of a path, which is idle past the last one
 abbrev pub state_of : List PathState → ℕ → PathState
 state_of paths path = slice_index_or paths path idle
 
 abbrev pub lives : List PathState → ℕ → Bool
 lives paths path = is_living (state_of paths path).phase
 
+-- the path lives or opens
 abbrev pub stands : List PathState → ℕ → Bool
 stands paths path = is_standing (state_of paths path).phase
 
@@ -64,6 +66,7 @@ standby paths backups path =
 unfoldable pub told_row : List PathState → Row → ℕ → Option Row
 told_row paths came path = if path == came.path then Some came else (if lives paths path then (state_of paths path).row else None)
 
+-- the rows that are told beside one that just came, it among them, in the order of their paths
 abbrev pub rows_with : List PathState → Row → List Row
 rows_with paths came = filter_map (told_row paths came) every_path
 

@@ -3,7 +3,7 @@ use Rattle.std.specs.Prelude.{ℕ, ◌==◌, Bool, true, false, not, ◌&&◌, �
 use Rattle.key_material.specs.declared.address.Address.{Address}
 use Rattle.key_material.specs.KeyDigest.{token_of}
 use Rattle.key_material.specs.AddressHmac.{add_addr64_of}
-use Rattle.linked_increase.specs.declared.rows.Row.{Row}
+use Rattle.linked_increase.specs.Places.{row_of}
 use Rattle.fallback_state.specs.declared.fall.Mode.{Mode}
 use Rattle.fallback_state.specs.declared.fall.Mode.TheVariants as mode
 use Rattle.fallback_state.specs.declared.fall.Event.{Event}
@@ -76,14 +76,17 @@ notice_on c path =
     else (if carries c path then notice.Carrier (peer_or_zero c.keys.peer)
     else address_notice (announcement c path) (lowest (withdrawals_on c.notices.withdrawals path)))
 
+-- Look: the mode, whether the path is on standby and whether it is the sole one, and its notice
 abbrev pub look_reply : ℕ → Control → ControlReply
 look_reply path c = reply.Standing c.fall.mode (standby c.paths c.addresses.backups path) (sole c.paths path) (notice_on c path)
 
 -- Keys and joins.
 
+-- Keys: what the peer shows as the side's own key has to be that
 abbrev pub keys_reply : ℕ → Control → ControlReply
 keys_reply own c = if own == c.keys.own then reply.Noted else reply.KeysDiffer c.keys.own
 
+-- Fell: what the table of events says of the event
 abbrev pub fell_reply : ℕ → Event → Control → ControlReply
 fell_reply path event c = reply.Verdict (fall_step c.fall path (sole c.paths path) event).1
 
@@ -107,9 +110,8 @@ join_heard_reply token c =
 -- Rows, addresses and the fast close.
 
 -- the row of what a path tells
-abbrev pub row_of : ℕ → ℕ → ℕ → Row
-row_of path window rtt = record { path = path; window = window; rtt = rtt }
 
+-- Rate: the path's own row, and the one kept of each other living path
 abbrev pub rate_reply : ℕ → ℕ → ℕ → Control → ControlReply
 rate_reply path window rtt c = reply.Rows (rows_with c.paths (row_of path window rtt))
 
@@ -122,9 +124,11 @@ told_heard heard.Echo = reply.Echo
 told_heard heard.BadHmac = reply.BadHmac
 told_heard heard.Known = reply.Known
 
+-- Heard: the HMAC is wrong, or the address is known already, or it is to be echoed
 abbrev pub address_reply : ℕ → Address → ℕ → ℕ → Control → ControlReply
 address_reply id address port hmac c = told_heard (heard_reply is_same id address (is_right id address port hmac c) c.addresses)
 
+-- FastHeard: a fast close shows the side's own key (RFC 8684, section 3.5)
 abbrev pub fast_heard_reply : ℕ → Control → ControlReply
 fast_heard_reply key c = if key == c.keys.own then reply.Stopped else reply.OtherKey c.keys.own
 

@@ -1,5 +1,6 @@
 -- What each call changes in a side's control book: one definition for each.
 use Rattle.std.specs.Prelude.{ℕ, ◌==◌, Bool, true, false, not, ◌&&◌, ◌||◌, if◌then◌else◌, List, [], ◌∷◌, Some, None, is_some, fold, slice_set}
+use Rattle.linked_increase.specs.Places.{row_of}
 use Rattle.key_material.specs.declared.address.Address.{Address}
 use Rattle.key_material.specs.declared.address.Address.TheVariants.{V4}
 use Rattle.key_material.specs.KeyDigest.{token_of}
@@ -16,7 +17,7 @@ use Rattle.control_book.specs.declared.call.Notice.{Notice}
 use Rattle.control_book.specs.declared.call.Notice.TheVariants as notice
 use Rattle.control_book.specs.Registry.{every_path, stands, lives, sole, lowest_living, with_phase, with_row, with_removed}
 use Rattle.control_book.specs.Control.{Control, with_withdrawal}
-use Rattle.control_book.specs.Replies.{is_sure, is_starting, notice_on, row_of, is_right}
+use Rattle.control_book.specs.Replies.{is_sure, is_starting, notice_on, is_right}
 
 -- an address that was told to be taken back is no longer to be told on that path
 abbrev pub after_notice : Notice → ℕ → Control → Control
@@ -27,9 +28,11 @@ after_notice (notice.Announce id) path c = c
 after_notice (notice.Carrier key) path c = c
 after_notice notice.Reset path c = c
 
+-- Look: the path was told its notice
 abbrev pub after_look : ℕ → Control → Control
 after_look path c = after_notice (notice_on c path) path c
 
+-- PeerKey: the peer's key is kept
 abbrev pub after_peer_key : ℕ → Control → Control
 after_peer_key key c = record c { keys = record c.keys { peer = Some key } }
 
@@ -41,6 +44,7 @@ after_event path sole event c = record c { fall = (fall_step c.fall path sole ev
 abbrev pub after_keys : ℕ → ℕ → Control → Control
 after_keys own peer c = if own == c.keys.own then after_event 0 false event.KeysHeard (after_peer_key peer c) else c
 
+-- Fell: the side takes the event, by whether the path is the sole one
 abbrev pub after_fell : ℕ → Event → Control → Control
 after_fell path event c = after_event path (sole c.paths path) event c
 
@@ -48,9 +52,11 @@ after_fell path event c = after_event path (sole c.paths path) event c
 abbrev pub after_join : Control → Control
 after_join c = record c { fall = record c.fall { joined = true } }
 
+-- JoinBegin: at a sure side the path opens, and the side has begun a join
 abbrev pub after_join_begin : ℕ → Control → Control
 after_join_begin path c = if is_sure c.fall.mode then after_join (record c { paths = with_phase path Opening c.paths }) else c
 
+-- JoinHeard: where the token is the side's, the side is confirmed, and nothing fell or failed, it has answered a join
 abbrev pub after_join_heard : ℕ → Control → Control
 after_join_heard token c =
     if token == token_of c.keys.own && c.fall.confirmed && (is_starting c.fall.mode || is_sure c.fall.mode) then after_join c else c
@@ -59,12 +65,15 @@ after_join_heard token c =
 abbrev pub after_backup : ℕ → Bool → Control → Control
 after_backup path on c = record c { addresses = record c.addresses { backups = slice_set c.addresses.backups path on } }
 
+-- Live: the path lives, as a backup or not
 abbrev pub after_live : ℕ → Bool → Control → Control
 after_live path backup c = after_backup path backup (record c { paths = with_phase path Living c.paths })
 
+-- Dead: the path neither lives nor opens any more
 abbrev pub after_dead : ℕ → Control → Control
 after_dead path c = record c { paths = with_phase path Idle c.paths }
 
+-- Rate: the path's row is kept, with its window in octets and its round-trip time in ticks
 abbrev pub after_rate : ℕ → ℕ → ℕ → Control → Control
 after_rate path window rtt c = record c { paths = with_row path (row_of path window rtt) c.paths }
 
@@ -72,6 +81,7 @@ after_rate path window rtt c = record c { paths = with_row path (row_of path win
 abbrev pub path_address : ℕ → Address
 path_address id = V4 (10 ∷ 0 ∷ id ∷ 2 ∷ [])
 
+-- Announce: the address of the path of this id is announced
 abbrev pub after_announce : ℕ → Control → Control
 after_announce id c = record c { addresses = addresses_announced id (path_address id) c.addresses }
 
@@ -88,6 +98,7 @@ withdrawn_on id paths withdrawals path =
 abbrev pub withdrawn : ℕ → List PathState → List (List Bool) → List (List Bool)
 withdrawn id paths withdrawals = fold (withdrawn_on id paths) withdrawals every_path
 
+-- Withdraw: a known id is to be taken back on the living paths but its own, and its path's address is removed
 abbrev pub after_withdraw : ℕ → Control → Control
 after_withdraw id c =
     if is_known id c then
@@ -97,14 +108,17 @@ after_withdraw id c =
     }
     else c
 
+-- Heard: the address is kept where the HMAC is right
 abbrev pub after_heard : ℕ → Address → ℕ → ℕ → Control → Control
 after_heard id address port hmac c =
     record c { addresses = addresses_heard id address (is_right id address port hmac c) c.addresses }
 
+-- Echoed: the announcement of a known id has ended
 abbrev pub after_echoed : ℕ → Control → Control
 after_echoed id c =
     if is_known id c then record c { addresses = record c.addresses { due = slice_set c.addresses.due id false } } else c
 
+-- Removed: what was announced or kept under a known id is dropped, and its path's address is removed
 abbrev pub after_removed : ℕ → Control → Control
 after_removed id c =
     if is_known id c then record c { addresses = addresses_removed id c.addresses; paths = with_removed id c.paths } else c
@@ -115,6 +129,7 @@ after_fast_close c =
     after_event 0 false event.Stop
     (record c { notices = record c.notices { carrier = if is_some c.keys.peer then lowest_living c.paths else None } })
 
+-- FastHeard: the side stops where the key is its own
 abbrev pub after_fast_heard : ℕ → Control → Control
 after_fast_heard key c = if key == c.keys.own then after_event 0 false event.Stop c else c
 

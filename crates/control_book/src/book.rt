@@ -20,7 +20,7 @@ use std::alloc::{AllocError, Global};
 use std::marker::Model;
 
 /// The two keys of a connection.
-#[derive(Clone, Copy, Debug, PartialEq, Eq)]
+#[derive(Clone, Copy)]
 pub struct Keys {
     /// The side's own key.
     pub own: u64,
@@ -29,7 +29,7 @@ pub struct Keys {
 }
 
 /// What is still to be told on which path.
-#[derive(Clone, Copy, Debug)]
+#[derive(Clone, Copy)]
 pub struct Notices {
     /// The path that tells the fast close.
     pub carrier: Option<u8>,

@@ -3,7 +3,7 @@ use key_material::Address;
 use linked_increase::Rows;
 
 /// What the control book of a side can be asked. A path is its number, below 16.
-#[derive(Clone, Copy, Debug, PartialEq, Eq)]
+#[derive(Clone, Copy)]
 pub enum ControlCall {
     /// What the path's end has to know at the start of a turn.
     Look {
@@ -84,7 +84,7 @@ pub enum ControlCall {
 }
 
 /// What a path's end has to tell the peer, or to do.
-#[derive(Clone, Copy, Debug, PartialEq, Eq)]
+#[derive(Clone, Copy)]
 pub enum Notice {
     Nothing,
     /// To announce the address of this id (ADD_ADDR).
@@ -98,7 +98,7 @@ pub enum Notice {
 }
 
 /// What the control book answers.
-#[derive(Clone, Copy, Debug, PartialEq, Eq)]
+#[derive(Clone, Copy)]
 pub enum ControlReply {
     /// To a look: how the side stands, whether the path is granted nothing as another one is no backup, whether no other
     /// path lives or opens, and the path's notice.

@@ -8,7 +8,7 @@ use key_material::Address;
 use linked_increase::{Row, Rows};
 
 /// How far a path is.
-#[derive(Clone, Copy, Debug, PartialEq, Eq)]
+#[derive(Clone, Copy)]
 pub enum Phase {
     /// It neither lives nor opens.
     Idle,
@@ -19,7 +19,7 @@ pub enum Phase {
 }
 
 /// What a side keeps of one of its paths.
-#[derive(Clone, Copy, Debug, PartialEq, Eq)]
+#[derive(Clone, Copy)]
 pub struct PathState {
     /// How far it is.
     pub phase: Phase,

@@ -1,7 +1,7 @@
 ghost use Rattle.std.specs.Prelude.{◌≡◌, true, false};
 
 /// How far the two DATA_FINs of a connection have come, as one end of a path knows it.
-#[derive(Clone, Copy, Debug, PartialEq, Eq)]
+#[derive(Clone, Copy)]
 pub struct CloseState {
     /// The peer's DATA_FIN came.
     pub peer_came: bool,

@@ -11,7 +11,7 @@ use std::marker::Model;
 pub const MAX_OCTETS: u32 = 65_535;
 
 /// The sum over a mapping and the octets of its data that were added so far, in order.
-#[derive(Debug, Drop)]
+#[derive(Drop)]
 pub struct DssSum {
     /// The mapping, with the checksum that came with it.
     mapping: Mapping,

@@ -45,6 +45,7 @@ AreApart [] = Unit {0}
 AreApart (run ∷ []) = Unit {0}
 AreApart (run ∷ next ∷ runs) = (joins run next ≡ false) × AreApart (next ∷ runs)
 
+-- the runs are in order and as few as can be; they and the infinite one have positions and places of 64 bits
 pub record IsKept (runs : List Run) (tail : Option Run) : Type 0 where
   pub ordered : AreOrdered 0 runs
   pub fewest : AreApart runs
@@ -58,11 +59,12 @@ joined told run = record { pos = min told.pos run.pos; place = min told.place ru
 abbrev pub lies_before : Run → Run → Bool
 lies_before told run = nat_le run.to told.pos && not (joins told run)
 
--- the told run joined with the first ones of these, as long as it joins the next, and how many those are
+-- the told run joined with the first ones of these, as long as it joins the next
 abbrev pub absorbed : Run → List Run → Run
 absorbed told [] = told
 absorbed told (run ∷ runs) = if joins told run then absorbed (joined told run) runs else told
 
+-- how many those are
 abbrev pub count_joined : Run → List Run → ℕ
 count_joined told [] = 0
 count_joined told (run ∷ runs) = if joins told run then suc (count_joined (joined told run) runs) else 0

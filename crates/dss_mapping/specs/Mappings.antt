@@ -39,6 +39,7 @@ mappings_code =
     (λ v. (v.places, (v.tail, (v.live, (v.forgotten, v.held)))))
     (λ p. record { places = p.0; tail = p.1.0; live = p.1.1.0; forgotten = p.1.1.1.0; held = p.1.1.1.1 }) (λ _. refl)
 
+-- the same with the room beside them
 abbrev pub store_code : Coded MappingStore
 store_code =
     code_by (Mappings × ℕ) (coded× mappings_code coded_ℕ) (λ v. (v.mappings, v.ready)) (λ p. record { mappings = p.0; ready = p.1 }) (λ _. refl)
@@ -50,6 +51,7 @@ no_mappings = record { places = map.empty; tail = None; live = []; forgotten = 0
 abbrev pub octets_in : ℕ → Bool → ℕ
 octets_in len fin = if fin then len - 1 else len
 
+-- how many octets a mapping has, DATA_FIN left out
 abbrev pub octets_of : KeptMapping → ℕ
 octets_of kept = octets_in kept.mapping.length kept.fin
 

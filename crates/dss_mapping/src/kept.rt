@@ -6,7 +6,7 @@ use crate::run::Run;
 use seq_units::{Mapping, Pos};
 
 /// A mapping that was learned.
-#[derive(Clone, Copy, Debug, PartialEq, Eq)]
+#[derive(Clone, Copy)]
 pub struct KeptMapping {
     /// The position of its first octet.
     pub pos: Pos,

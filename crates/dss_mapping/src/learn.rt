@@ -1,7 +1,7 @@
 use seq_units::Pos;
 
 /// What becomes of a mapping that is told.
-#[derive(Clone, Copy, Debug, PartialEq, Eq)]
+#[derive(Clone, Copy, Debug)]
 pub enum Learn {
     /// It is kept now: it has a position that had no place.
     New,

@@ -16,7 +16,7 @@ use std::marker::Model;
 /// What a side learned of the mappings of one direction of a subflow. Contracts see which place each position has, by the
 /// mappings and by the infinite one, the mappings that were not let go, the position below which they were, the mappings
 /// that are held until they are treated, and for how many more there is room.
-#[derive(Debug, Drop)]
+#[derive(Drop)]
 pub struct Mappings {
     /// The positions that have a place by a mapping, in order. No two runs touch that have one distance between place and
     /// position, so that there are as few as can be.

@@ -6,7 +6,7 @@ ghost use Rattle.dss_mapping.specs.Kept.{joins, lies_before, joined};
 use seq_units::Pos;
 
 /// Positions side by side: `pos`, and all after it below `to`. Their places lie side by side too, from `place` on.
-#[derive(Clone, Copy, Debug, PartialEq, Eq)]
+#[derive(Clone, Copy)]
 pub struct Run {
     /// The first position.
     pub pos: Pos,

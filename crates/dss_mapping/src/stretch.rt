@@ -1,7 +1,7 @@
 use seq_units::Pos;
 
 /// Positions side by side from one on: either all have places, side by side too, or none has one.
-#[derive(Clone, Copy, Debug)]
+#[derive(Clone, Copy)]
 pub(crate) struct Stretch {
     /// The place of the first position.
     pub place: Option<u64>,

@@ -62,10 +62,11 @@ IdentityIsStopped = (fall : Fall) (hs : List Happening) → fall.mode ≡ Identi
 abbrev pub NoSideStartsAgain : Type 0
 NoSideStartsAgain = (fall : Fall) (hs : List Happening) → fall.mode ≢ Starting → (after_all hs fall).mode ≢ Starting
 
--- a confirmed side stays so, and no event touches whether the side joined
+-- a confirmed side stays so
 abbrev pub ConfirmedStays : Type 0
 ConfirmedStays = (fall : Fall) (hs : List Happening) → fall.confirmed ≡ true → (after_all hs fall).confirmed ≡ true
 
+-- no event touches whether the side joined
 abbrev pub JoinedStays : Type 0
 JoinedStays = (fall : Fall) (hs : List Happening) → (after_all hs fall).joined ≡ fall.joined
 

@@ -10,13 +10,15 @@ use Rattle.fallback_state.specs.declared.fall.Verdict.{Verdict}
 use Rattle.fallback_state.specs.declared.fall.Verdict.TheVariants.{Stay, Went, SendFail, BreakPath}
 use Rattle.fallback_state.specs.Modes.{is_starting, is_identity, reads_mappings, writes_mappings, receiving, sending}
 
--- what a row does: nothing; a new mode; a reset of the path
+-- a row that changes nothing
 abbrev pub stays : Fall → Fall × Verdict
 stays fall = (fall, Stay)
 
+-- a row that gives the side a new mode
 abbrev pub goes : Mode → Fall → Fall × Verdict
 goes mode fall = (record fall { mode = mode }, Went mode)
 
+-- a row that resets the path for this reason (RFC 8684, section 3.6), and changes nothing at the side
 abbrev pub breaks : ℕ → Fall → Fall × Verdict
 breaks reason fall = (fall, BreakPath reason)
 

@@ -71,7 +71,7 @@ impl Mode {
 }
 
 /// What happens to a side on one of its paths.
-#[derive(Clone, Copy, Debug, PartialEq, Eq)]
+#[derive(Clone, Copy, Debug)]
 pub enum Event {
     /// A SYN, a SYN/ACK or the first ACK of path 0 came without the option that the handshake needs.
     PlainHandshake,
@@ -96,7 +96,7 @@ pub enum Event {
 }
 
 /// What the side does about an event.
-#[derive(Clone, Copy, Debug, PartialEq, Eq)]
+#[derive(Clone, Copy, Debug)]
 pub enum Verdict {
     /// Nothing.
     Stay,
@@ -109,7 +109,7 @@ pub enum Verdict {
 }
 
 /// Where a side stands.
-#[derive(Clone, Copy, Debug, PartialEq, Eq)]
+#[derive(Clone, Copy)]
 pub struct Fall {
     /// How it uses Multipath TCP.
     pub mode: Mode,

@@ -1,19 +1,13 @@
 -- What a step of a join hears in the option of a segment, if there is one (RFC 8684, section 3.2). The form of an
 -- MP_JOIN tells the step that it belongs to; at the other steps it is as good as none, as are the other options.
-use Rattle.std.specs.Borrow.{Bor}
-use Rattle.std.specs.Prelude.{ℕ, List, Option, Some, None, option_map, ◌==◌, if◌then◌else◌, Result, Ok, Err}
+use Rattle.std.specs.Prelude.{ℕ, List, Option, Some, None, ◌==◌, if◌then◌else◌, Result, Ok, Err}
 use Rattle.key_material.specs.JoinHmac.{join_b64_of}
-use Rattle.mptcp_options.specs.declared.option.MpOption.{MpOption}
 use Rattle.mptcp_options.specs.declared.join.JoinForm.TheVariants.{Syn, Answer, Third}
-use Rattle.mptcp_options.specs.Value.{OptionValue, Join, value_of}
+use Rattle.mptcp_options.specs.Value.{OptionValue, Join}
 use Rattle.join_handshake.specs.declared.fault.JoinFault.{JoinFault}
 use Rattle.join_handshake.specs.declared.fault.JoinFault.TheVariants.{NoOption, BadHmac}
 use Rattle.join_handshake.specs.declared.hearing.JoinSyn.{JoinSyn}
 use Rattle.join_handshake.specs.declared.hearing.JoinAnswer.{JoinAnswer}
-
--- the option that a step is given, as a value
-abbrev pub value_heard : Option (Bor MpOption) → Option OptionValue
-value_heard heard = option_map (λ option. value_of option.now) heard
 
 -- on a SYN: what A asks for
 abbrev pub syn_heard : Option OptionValue → Option JoinSyn

@@ -1,7 +1,7 @@
 use thiserror::Error;
 
 /// Why a step of a join takes nothing from the segment that came.
-#[derive(Clone, Copy, Debug, PartialEq, Eq, Error)]
+#[derive(Clone, Copy, Debug, Error)]
 pub enum JoinFault {
     /// The segment has no MP_JOIN of the step's form. One of another form counts as absent, as does any other option.
     #[error("no MP_JOIN of this step")]

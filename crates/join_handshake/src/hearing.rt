@@ -1,14 +1,15 @@
 ghost use Rattle.std.specs.Prelude.{◌≡◌, ◌≢◌, ◌↔◌, IsOk, IsNone, IsSomeAnd};
 ghost use Rattle.std.specs.Result.{result_ok};
+ghost use Rattle.mptcp_options.specs.Value.{value_heard};
 ghost use Rattle.key_material.specs.JoinHmac.{join_a160_of};
-ghost use Rattle.join_handshake.specs.Heard.{value_heard, syn_heard, answer_heard, answer_taken, third_heard};
+ghost use Rattle.join_handshake.specs.Heard.{syn_heard, answer_heard, answer_taken, third_heard};
 
 use crate::fault::JoinFault;
 use key_material::{join_a160, join_b64};
 use mptcp_options::{JoinForm, MpOption};
 
 /// What B takes from the MP_JOIN of a SYN.
-#[derive(Clone, Copy, Debug, PartialEq, Eq)]
+#[derive(Clone, Copy, Debug)]
 pub struct JoinSyn {
     /// Whether A wants the path as a backup.
     pub backup: bool,
@@ -21,7 +22,7 @@ pub struct JoinSyn {
 }
 
 /// What A takes from the MP_JOIN of a SYN/ACK.
-#[derive(Clone, Copy, Debug, PartialEq, Eq)]
+#[derive(Clone, Copy, Debug)]
 pub struct JoinAnswer {
     /// Whether B wants the path as a backup.
     pub backup: bool,

@@ -4,19 +4,19 @@ use Rattle.std.proofs.lemmas.Bool.{and_parts, eqb-true}
 use Rattle.std.proofs.lemmas.Option.{same_Some}
 use Rattle.std.specs.List.{slice_get}
 use Rattle.std.specs.Result.{result_ok}
+use Rattle.outside_kit.specs.declared.side.Side.{Side}
 use Rattle.pipe_model.specs.Octets.{octet}
 use Rattle.segment_wire.specs.Options.{option_octets}
 use Rattle.segment_wire.specs.Reading.{segment_meaning}
 use Rattle.segment_wire.specs.Segment.{Segment}
+use Rattle.segment_wire.specs.Paths.{addresses_from}
 use Rattle.mptcp_options.specs.declared.join.JoinForm.TheVariants.{Syn}
 use Rattle.mptcp_options.specs.Meaning.{option_meaning, subtype, ends_with_checksum, differs_in_checksum, is_of_another_kind, is_misframed, is_foreign, has_no_flags, is_unusable, has_length_of_table, value_at}
 use Rattle.mptcp_options.specs.Dss.{has_mapping}
 use Rattle.mptcp_options.specs.Value as wire
 use Rattle.path_segments.specs.declared.expected.Expected.{Expected}
-use Rattle.path_segments.specs.declared.spelling.Side.{Side as SpelledSide}
 use Rattle.path_segments.specs.declared.spelling.Spelling.{Spelling}
 use Rattle.path_segments.specs.Heard.{heard_in, heard_option, heard_segment, known_in, known_or}
-use Rattle.path_segments.specs.Spelling.{addresses_from}
 use Rattle.stream_lanes.specs.Words.{Every}
 use Rattle.join_route.specs.Laws.{AskedTokensAreHeard}
 use Rattle.join_route.specs.Tokens.{ShowsToken, AllShowToken}
@@ -74,7 +74,7 @@ module _ (P : wire.OptionValue → Type 0) (checksums : Bool) (token : ℕ) wher
 
 -- ---- what is heard of octets whose token is asked for
 
-module _ (spelling : Spelling) (from : SpelledSide) (expected : Expected) (key_token : ℕ) where
+module _ (spelling : Spelling) (from : Side) (expected : Expected) (key_token : ℕ) where
   -- an option that is heard shows the token
   abbrev HeardShows : wire.OptionValue → Type 0
   HeardShows x = ShowsToken key_token (heard_option spelling from expected x)

@@ -1,18 +1,12 @@
 -- What holds of the token by which octets are routed.
-use Rattle.std.specs.Prelude.{ℕ, ◌≡◌, Some, Option, List}
+use Rattle.std.specs.Prelude.{ℕ, ◌≡◌, Some, List}
+use Rattle.segment_wire.specs.Paths.{addresses_from}
+use Rattle.outside_kit.specs.declared.side.Side.{Side}
 use Rattle.path_segments.specs.declared.expected.Expected.{Expected}
-use Rattle.path_segments.specs.declared.position.HeardPosition.{HeardPosition}
-use Rattle.path_segments.specs.declared.segment.PathOption.{PathOption}
-use Rattle.path_segments.specs.declared.segment.PathSegment.{PathSegment}
-use Rattle.path_segments.specs.declared.spelling.Side.{Side}
 use Rattle.path_segments.specs.declared.spelling.Spelling.{Spelling}
-use Rattle.path_segments.specs.Heard.{heard_in}
-use Rattle.path_segments.specs.Spelling.{addresses_from}
+use Rattle.path_segments.specs.Heard.{HeardSegment, heard_in}
 use Rattle.join_route.specs.Routing.{join_token}
 use Rattle.join_route.specs.Tokens.{AllShowToken}
-
-abbrev HeardSegment : Type 0
-HeardSegment = PathSegment HeardPosition (List (PathOption (Option ℕ) (List ℕ))) (List ℕ)
 
 -- where octets ask to join by a token, and all that is heard of them shows one, it is that one
 abbrev pub AskedTokensAreHeard : Type 0

@@ -23,6 +23,7 @@ abbrev pub meant_token : Meaning → Option ℕ
 meant_token (Known (Join (Syn backup id token nonce))) = Some token
 meant_token _ = None
 
+-- the same of an option's octets
 abbrev pub option_token : List ℕ → Option ℕ
 option_token option = meant_token (option_meaning option Bool.false)
 
@@ -30,6 +31,7 @@ option_token option = meant_token (option_meaning option Bool.false)
 abbrev pub asks_to_open : Segment → Bool
 asks_to_open segment = segment.head.syn && not segment.head.ack_set
 
+-- the token of a SYN without ACK, by the first MP_JOIN that it has
 abbrev pub segment_token : Segment → Option ℕ
 segment_token segment = if asks_to_open segment then option_and_then option_token (first_join segment.options) else None
 

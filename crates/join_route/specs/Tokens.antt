@@ -10,5 +10,6 @@ abbrev pub ShowsToken : ℕ → PathOption (Option ℕ) (List ℕ) → Type 0
 ShowsToken token (Join (Syn backup id shown nonce)) = shown ≡ token
 ShowsToken token _ = Unit {0}
 
+-- each of these options that asks to join shows this token
 abbrev pub AllShowToken : ℕ → List (PathOption (Option ℕ) (List ℕ)) → Type 0
 AllShowToken token options = Every (ShowsToken token) options

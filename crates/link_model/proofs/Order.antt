@@ -9,7 +9,7 @@ use Rattle.link_model.specs.declared.flight.Flight.{Flight}
 use Rattle.link_model.specs.declared.flight.Due.{Due}
 use Rattle.link_model.specs.Fate.{fate_of, is_stripped, is_altered}
 use Rattle.link_model.specs.State.{LinkState}
-use Rattle.link_model.specs.Steps.{rank, comes_before, with_flight, with_flights, arrivals, changed, peer, next_number, after_send, after_delivery, after_cut, without, is_due, next_due}
+use Rattle.link_model.specs.Steps.{rank, comes_before, with_flight, with_flights, arrivals, changed, next_number, after_send, after_delivery, after_cut, without, is_due, next_due}
 use Rattle.link_model.specs.Order.{IsFirst, AreInOrder}
 
 -- ---- the order by three numbers

@@ -4,6 +4,7 @@ use Rattle.std.specs.List.{AllByRecursion}
 use Rattle.outside_kit.specs.Memory.{one_more as counted}
 use Rattle.outside_kit.specs.declared.side.Side.{Side}
 use Rattle.outside_kit.specs.declared.side.Side.TheVariants.{A, B}
+use Rattle.outside_kit.specs.Side.{peer}
 use Rattle.link_script.specs.declared.script.ScriptLine.{ScriptLine}
 use Rattle.link_script.specs.declared.script.ScriptLine.TheVariants.{Drop, Strip, Alter, Dup, Late, StripAll, Die, Prio, Add, Remove, FastClose}
 use Rattle.link_script.specs.Places.{same_side}
@@ -12,7 +13,7 @@ use Rattle.link_model.specs.declared.fate.Fate.TheVariants as fate
 use Rattle.link_model.specs.declared.flight.Flight.{Flight}
 use Rattle.link_model.specs.Fate.{is_named, fate_told, told_if, told_or, fate_of, is_stripped, is_altered}
 use Rattle.link_model.specs.State.{LinkState}
-use Rattle.link_model.specs.Steps.{rank, comes_before, with_flight, with_flights, arrivals, changed, peer, next_number, after_send}
+use Rattle.link_model.specs.Steps.{rank, comes_before, with_flight, with_flights, arrivals, changed, next_number, after_send}
 use Rattle.link_model.specs.Order.{IsFirst, AreInOrder}
 use Rattle.link_model.specs.Laws.{moves, going_to, WereSentBefore, plain_flight}
 use Rattle.link_model.proofs.Order.{before_behind, behind_is}

@@ -14,6 +14,7 @@ use Rattle.link_model.specs.declared.fate.SegmentFate.{SegmentFate}
 abbrev pub is_named : Side → ℕ → Side → ℕ → Bool
 is_named from number side named = same_side side from && named == number
 
+-- this fate, where the line names the segment
 abbrev pub told_if : Bool → Fate → Option Fate
 told_if named f = if named then Some f else None
 
@@ -31,6 +32,7 @@ ticks_of fate.Lost = 0
 ticks_of (fate.Late ticks) = ticks
 ticks_of (fate.Twice ticks) = ticks
 
+-- what was told, or else the other fate
 abbrev pub told_or : Option Fate → Fate → Fate
 told_or (Some f) other = f
 told_or None other = other
@@ -46,6 +48,7 @@ is_stripped_by from number now (Strip path side named) = is_named from number si
 is_stripped_by from number now (StripAll path side tick) = same_side side from && nat_le tick now
 is_stripped_by from number now line = false
 
+-- one of these lines does that
 abbrev pub is_stripped : Side → ℕ → ℕ → List ScriptLine → Bool
 is_stripped from number now lines = list_any (is_stripped_by from number now) lines
 
@@ -54,6 +57,7 @@ abbrev pub is_altered_by : Side → ℕ → ScriptLine → Bool
 is_altered_by from number (Alter path side named) = is_named from number side named
 is_altered_by from number line = false
 
+-- one of these lines does that
 abbrev pub is_altered : Side → ℕ → List ScriptLine → Bool
 is_altered from number lines = list_any (is_altered_by from number) lines
 

@@ -3,12 +3,13 @@
 use Rattle.std.specs.Prelude.{◌≡◌, ℕ, ◌+◌, ◌≤◌, Bool, true, false, List, [], ◌∷◌, ◌++◌, map, filter}
 use Rattle.std.specs.List.{AllByRecursion}
 use Rattle.outside_kit.specs.declared.side.Side.{Side}
+use Rattle.outside_kit.specs.Side.{peer}
 use Rattle.link_script.specs.declared.script.ScriptLine.{ScriptLine}
 use Rattle.link_script.specs.declared.script.ScriptLine.TheVariants.{Drop, Dup, Late}
 use Rattle.link_script.specs.Places.{same_side}
 use Rattle.link_model.specs.declared.flight.Flight.{Flight}
 use Rattle.link_model.specs.State.{LinkState}
-use Rattle.link_model.specs.Steps.{peer, next_number, comes_before, changed}
+use Rattle.link_model.specs.Steps.{next_number, comes_before, changed}
 use Rattle.link_model.specs.Fate.{is_stripped, is_altered}
 
 -- ---- a direction of which no line speaks
@@ -24,7 +25,7 @@ moves from line = false
 abbrev pub going_to : {C : Type 0} → Side → List (Flight C) → List (Flight C)
 going_to to flights = filter (λ f. same_side f.to to) flights
 
--- none of these copies has a greater number than the segment of this one, which would arrive at this tick, or arrives later
+-- each of these copies arrives at this tick or before, and none has a greater number than this one
 abbrev pub WereSentBefore : {C : Type 0} → ℕ → ℕ → List (Flight C) → Type 0
 WereSentBefore number tick flights = AllByRecursion (λ f. (f.tick ≤ tick) × (f.number ≤ number)) flights
 
@@ -43,6 +44,7 @@ plain_flight strip alter from carried now link = record {
 abbrev pub shown_flight : {C D : Type 0} → (C → D) → Flight C → Flight D
 shown_flight show f = record { tick = f.tick; to = f.to; number = f.number; carried = show f.carried }
 
+-- a link with each of its copies shown so
 abbrev pub with_copies_shown : {C D : Type 0} → (C → D) → LinkState C → LinkState D
 with_copies_shown show link = record {
   path = link.path;

@@ -4,6 +4,7 @@ use Rattle.std.specs.Prelude.{ℕ, zero, suc, ◌+◌, Bool, true, false, ◌&&�
 use Rattle.outside_kit.specs.Memory.{one_more as counted}
 use Rattle.outside_kit.specs.declared.side.Side.{Side}
 use Rattle.outside_kit.specs.declared.side.Side.TheVariants.{A, B}
+use Rattle.outside_kit.specs.Side.{peer}
 use Rattle.link_script.specs.declared.script.PathLine.{PathLine}
 use Rattle.link_script.specs.declared.script.Script.{Script}
 use Rattle.link_script.specs.declared.script.ScriptLine.{ScriptLine}
@@ -15,13 +16,9 @@ use Rattle.link_model.specs.declared.flight.Due.{Due}
 use Rattle.link_model.specs.Fate.{fate_of, is_stripped, is_altered}
 use Rattle.link_model.specs.State.{LinkState}
 
--- the side at the other end
-abbrev pub peer : Side → Side
-peer A = B
-peer B = A
-
 -- ---- a new link
 
+-- a path is named, and it is this one
 abbrev pub is_path : ℕ → Option ℕ → Bool
 is_path path (Some named) = named == path
 is_path path None = false
@@ -100,6 +97,7 @@ after_send strip alter from carried now link =
 
 -- ---- arrivals
 
+-- when a copy arrives, at which side, and its number
 abbrev pub due_of : {C : Type 0} → Flight C → Due
 due_of f = record { tick = f.tick; to = f.to; copy = f.number }
 
@@ -116,6 +114,7 @@ is_due due f = f.tick == due.tick && (same_side f.to due.to && f.number == due.c
 abbrev pub arriving : {C : Type 0} → Due → LinkState C → Option (Flight C)
 arriving due link = find (is_due due) link.under_way
 
+-- the copies but the one in this place, if there is a place
 abbrev pub without : {C : Type 0} → Option ℕ → List (Flight C) → List (Flight C)
 without (Some place) flights = remove flights place
 without None flights = flights

@@ -8,7 +8,7 @@ use link_script::ScriptLine;
 use outside_kit::Side;
 
 /// When a segment arrives, and how often. Ticks are milliseconds.
-#[derive(Clone, Copy, Debug, PartialEq, Eq)]
+#[derive(Clone, Copy)]
 pub enum Fate {
     /// Once, after the delay of the link.
     OnTime,
@@ -27,7 +27,7 @@ pub enum Fate {
 }
 
 /// What becomes of a segment that a link takes.
-#[derive(Clone, Copy, Debug, PartialEq, Eq)]
+#[derive(Clone, Copy)]
 pub struct SegmentFate {
     /// When it arrives, and how often.
     pub arrival: Fate,

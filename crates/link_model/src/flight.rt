@@ -1,7 +1,7 @@
 use outside_kit::Side;
 
 /// A copy of a segment under way.
-#[derive(Clone, Copy, Debug, PartialEq, Eq)]
+#[derive(Clone, Copy)]
 pub struct Flight<C> {
     /// The tick at which it arrives.
     pub tick: u64,
@@ -14,7 +14,7 @@ pub struct Flight<C> {
 }
 
 /// An arrival: which copy arrives where, and when.
-#[derive(Clone, Copy, Debug, PartialEq, Eq)]
+#[derive(Clone, Copy)]
 pub struct Due {
     /// The tick at which it arrives.
     pub tick: u64,

@@ -1,10 +1,11 @@
 ghost use Rattle.std.specs.Prelude.{◌≡◌, ◌+◌, ◌<◌, ◌≤◌, ℕ, List, ◌∷◌, [], ◌++◌, Bool, true, false};
 ghost use Rattle.std.specs.List.{AllByRecursion};
 ghost use Rattle.outside_kit.specs.declared.side.Side.{Side};
+ghost use Rattle.outside_kit.specs.Side.{peer};
 ghost use Rattle.link_model.specs.declared.flight.Flight.{Flight};
 ghost use Rattle.link_model.specs.declared.flight.Due.{Due};
 ghost use Rattle.link_model.specs.State.{LinkState};
-ghost use Rattle.link_model.specs.Steps.{peer, next_number, after_send, after_delivery};
+ghost use Rattle.link_model.specs.Steps.{next_number, after_send, after_delivery};
 ghost use Rattle.link_model.specs.Order.{AreInOrder};
 ghost use Rattle.link_model.specs.Laws.{moves, going_to, WereSentBefore, plain_flight, with_copies_shown};
 

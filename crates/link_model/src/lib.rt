@@ -16,4 +16,4 @@ pub use laws::{
     copies_are_in_order, copies_arrive_later, plain_links_keep_their_order,
     sending_commutes_with_showing,
 };
-pub use link::{Link, addresses_from};
+pub use link::Link;

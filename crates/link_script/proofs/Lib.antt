@@ -1,5 +1,4 @@
 pub mod Numerals
-pub mod Cuts
 pub mod Slices
 pub mod ReadTurns
 pub mod WrittenText

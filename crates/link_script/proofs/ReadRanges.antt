@@ -7,6 +7,7 @@ use Rattle.std.proofs.lemmas.Bool.{or_parts, or_from, or_cases, both_ways, ltb-f
 use Rattle.std.proofs.lemmas.List.{length-append, length-map, length_push}
 use Rattle.std.proofs.lemmas.List.Folds.{list_any-append}
 use Rattle.std.proofs.lemmas.List.Sums.{fold-append, sum_by-append}
+use Rattle.outside_kit.specs.Lines.{text_lines}
 use Rattle.link_script.specs.declared.fault.ScriptFault.{ScriptFault}
 use Rattle.link_script.specs.declared.fault.ScriptFault.TheVariants as fault
 use Rattle.link_script.specs.declared.fault.ScriptKind.{ScriptKind}
@@ -21,7 +22,7 @@ use Rattle.link_script.specs.Places.{is_path, is_end, is_misplaced, is_out_of_or
 use Rattle.link_script.specs.Reading.{Gives, first_line, in_place, later_line, next_line, at_line, seen_after, read_on, blank, with_line, script_of, reading}
 use Rattle.link_script.specs.Scripts.{HasRanges}
 use Rattle.link_script.specs.Steps.{◌>>=◌}
-use Rattle.link_script.specs.Words.{text_lines, words_of, is_passed_over}
+use Rattle.link_script.specs.Words.{words_of, is_passed_over}
 use Rattle.link_script.specs.Writing.{seed_lines, checksum_lines, short_lines, buffer_lines, path_lines, event_lines, lines_of}
 use Rattle.link_script.proofs.LineRanges.{IsLine, line_is}
 use Rattle.link_script.proofs.ScriptRanges.{Kept, kept_blank, IsNew, kept_more}

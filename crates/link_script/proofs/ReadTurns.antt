@@ -3,13 +3,13 @@ use Rattle.std.proofs.Common.{◌≡◌, ℕ, suc, ◌+◌, true, false, eqb, Li
 use Rattle.std.specs.List.{list_any}
 use Rattle.std.proofs.lemmas.Bool.{eqb-true}
 use Rattle.std.proofs.lemmas.List.{nil_from_length}
+use Rattle.outside_kit.specs.Lines.{text_lines}
 use Rattle.link_script.specs.declared.fault.ScriptFault.{ScriptFault}
 use Rattle.link_script.specs.declared.fault.ScriptFault.TheVariants as fault
 use Rattle.link_script.specs.declared.fault.ScriptKind.TheVariants.{Missing}
 use Rattle.link_script.specs.declared.line.Line.{Line}
 use Rattle.link_script.specs.Places.{is_end}
 use Rattle.link_script.specs.Reading.{Fails, seen_after, read_on}
-use Rattle.link_script.specs.Words.{text_lines}
 
 pub goes_on : (number : ℕ) (seen now : List Line) (rest line after : List ℕ) (whole : Result (List Line) ScriptFault)
     → text_lines rest ≡ line ∷ text_lines after → seen_after number seen line ≡ Ok now

@@ -7,6 +7,7 @@ use Rattle.std.proofs.lemmas.List.{append-nil}
 use Rattle.std.proofs.lemmas.List.Elements.{recursion_from_All}
 use Rattle.std.proofs.lemmas.List.Folds.{list_any-append}
 use Rattle.std.proofs.lemmas.List.Sums.{fold-append}
+use Rattle.outside_kit.specs.Lines.{text_lines}
 use Rattle.link_script.specs.declared.fault.ScriptFault.{ScriptFault}
 use Rattle.link_script.specs.Ranges.{most_lines}
 use Rattle.link_script.specs.declared.line.Line.{Line}
@@ -18,7 +19,7 @@ use Rattle.link_script.specs.declared.script.ScriptLine.TheVariants.{Drop}
 use Rattle.link_script.specs.Places.{is_end}
 use Rattle.link_script.specs.Reading.{in_place, later_line, seen_after, read_on, blank, with_line, script_of, reading}
 use Rattle.link_script.specs.Scripts.{IsPath, IsEvent, OpensPlainly, HasRanges}
-use Rattle.link_script.specs.Words.{text_lines, words_of, is_passed_over}
+use Rattle.link_script.specs.Words.{words_of, is_passed_over}
 use Rattle.link_script.specs.Writing.{spaced, line_words, line_text, event_words, ended, seed_lines, checksum_lines, short_lines, buffer_lines, path_lines, event_lines, lines_of, text_of}
 use Rattle.link_script.proofs.WrittenLines.{line_again, plain_line}
 use Rattle.link_script.proofs.ScriptRanges.{wider}

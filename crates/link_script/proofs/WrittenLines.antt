@@ -5,6 +5,7 @@ use Rattle.std.specs.Fmt.{decimal}
 use Rattle.std.proofs.lemmas.Bool.{eqb-true, eq-eqb, true≢false, false≢true}
 use Rattle.outside_kit.specs.declared.side.Side.{Side}
 use Rattle.outside_kit.specs.declared.side.Side.TheVariants.{A, B}
+use Rattle.outside_kit.specs.Side.{side_word}
 use Rattle.link_script.specs.declared.limits.Limits.{Limits}
 use Rattle.link_script.specs.Ranges.{seeds, buffers, path_numbers, segment_sizes, delays, segment_numbers, latenesses, run_ticks, address_ids}
 use Rattle.link_script.specs.declared.line.Line.{Line}
@@ -15,7 +16,7 @@ use Rattle.link_script.specs.declared.script.ScriptLine.TheVariants.{Drop, Strip
 use Rattle.link_script.specs.Lines.{seed_line, checksum_line, short_line, buffer_line, path_options, may_have, path_of, path_line, segment, drop_line, strip_line, alter_line, dup_line, late_line, strip_all_line, die_line, prio_line, add_line, remove_line, fast_close_line, end_line, line_of}
 use Rattle.link_script.specs.Numbers.{within}
 use Rattle.link_script.specs.Scripts.{IsInRange, IsPath, IsEvent}
-use Rattle.link_script.specs.Words.{fixed, keyword, direction, direction_word, side, side_word, switch, switch_word}
+use Rattle.link_script.specs.Words.{fixed, keyword, direction, direction_word, side, switch, switch_word}
 use Rattle.link_script.specs.Writing.{backup_words, event_words, line_words}
 use Rattle.link_script.proofs.LineRanges.{most_paths, IsLine}
 use Rattle.link_script.proofs.WrittenWords.{IsPlain, ArePlain, plain_number, number_again, later_path}

@@ -8,12 +8,13 @@ use Rattle.std.proofs.lemmas.Bool.{and_parts, and_from, not-true, le-leb, lt-ltb
 use Rattle.std.proofs.lemmas.Bool.Decides.{nat_tests}
 use Rattle.std.proofs.lemmas.Fmt.{digits_decimal, digits_value-decimal, decimal_nonempty, length-decimal-le}
 use Rattle.std.proofs.lemmas.List.Folds.{list_all-append}
+use Rattle.outside_kit.specs.Lines.{text_lines}
 use Rattle.link_script.specs.declared.limits.Limits.{Limits}
 use Rattle.link_script.specs.Ranges.{most_digits, first_path_number}
 use Rattle.link_script.specs.declared.line.Line.{Line}
 use Rattle.link_script.specs.Numbers.{is_numeral, is_within, within}
 use Rattle.link_script.specs.Scripts.{IsInRange}
-use Rattle.link_script.specs.Words.{text_lines, words_of}
+use Rattle.link_script.specs.Words.{words_of}
 use Rattle.link_script.specs.Writing.{spaced, line_words, line_text, ended}
 use Rattle.link_script.proofs.Numerals.{digits}
 

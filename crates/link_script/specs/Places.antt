@@ -38,7 +38,8 @@ abbrev pub lacks : ℕ → Option ℕ → Bool
 lacks paths (Some path) = nat_le paths path
 lacks paths None = paths == 0
 
--- a line that can't stand after so many paths: settings stand before path 0, the paths come in their order, and all else comes after the path that it speaks of
+-- a line that can't stand after so many paths: settings stand before path 0, the paths come in their order, and all else comes
+-- after the path that it speaks of
 abbrev pub is_misplaced : ℕ → Line → Bool
 is_misplaced paths Header = true
 is_misplaced paths (Seed n) = nat_lt 0 paths
@@ -67,6 +68,7 @@ settled_by_event (Prio path side tick on) = None
 settled_by_event (Add id tick) = None
 settled_by_event (Remove side id tick) = None
 
+-- the same of every line; the header, a path and the end settle nothing
 abbrev pub settled_by : Line → Option Subject
 settled_by (Seed n) = Some settles.Seed
 settled_by (Checksum on) = Some settles.Checksum
@@ -96,12 +98,15 @@ is_same (settles.Death p) (settles.Death q) = p == q
 is_same (settles.FastClose a) (settles.FastClose b) = same_side a b
 is_same a b = false
 
+-- both lines settle something, and it is the same
 abbrev pub are_same : Option Subject → Option Subject → Bool
 are_same (Some a) (Some b) = is_same a b
 are_same a b = false
 
+-- two lines settle the same thing
 abbrev pub settle_one : Line → Line → Bool
 settle_one a b = are_same (settled_by a) (settled_by b)
 
+-- an earlier line settles what this one does
 abbrev pub is_repeated : List Line → Line → Bool
 is_repeated seen line = list_any (λ earlier. settle_one earlier line) seen

@@ -2,18 +2,22 @@
 use Rattle.std.specs.Prelude.{ℕ, ◌-◌, ◌^◌}
 use Rattle.link_script.specs.declared.limits.Limits.{Limits}
 
+-- lines of a text, those that are passed over among them
 abbrev pub most_lines : ℕ
 most_lines = 4096
 
+-- digits of a number
 abbrev pub most_digits : ℕ
 most_digits = 20
 
 abbrev pub default_seed : ℕ
 default_seed = 1
 
+-- octets of a buffer
 abbrev pub default_buffer : ℕ
 default_buffer = 65536
 
+-- numbers of 64 bits
 abbrev pub seeds : Limits
 seeds = record { least = 0; most = 2 ^ 64 - 1 }
 
@@ -25,6 +29,7 @@ buffers = record { least = 4096; most = 1048576 }
 abbrev pub path_numbers : Limits
 path_numbers = record { least = 0; most = 15 }
 
+-- the number of the path that opens the connection
 abbrev pub first_path_number : Limits
 first_path_number = record { least = 0; most = 0 }
 

@@ -2,6 +2,7 @@
 use Rattle.std.specs.Prelude.{◌≡◌, ℕ, suc, false, List, [], ◌∷◌, ◌++◌, Result, Ok, Err, nat_lt, fold, if◌then◌else◌, codes}
 use Rattle.std.specs.List.{list_any}
 use Rattle.std.specs.Str.{bytes_eq}
+use Rattle.outside_kit.specs.Lines.{text_lines}
 use Rattle.link_script.specs.declared.fault.ScriptFault.{ScriptFault}
 use Rattle.link_script.specs.declared.fault.ScriptFault.TheVariants as fault
 use Rattle.link_script.specs.declared.fault.ScriptKind.{ScriptKind}
@@ -13,7 +14,7 @@ use Rattle.link_script.specs.declared.script.Script.{Script}
 use Rattle.link_script.specs.Lines.{line_of}
 use Rattle.link_script.specs.Places.{is_end, is_out_of_order, is_repeated}
 use Rattle.link_script.specs.Steps.{◌>>=◌}
-use Rattle.link_script.specs.Words.{text_lines, words_of, is_passed_over}
+use Rattle.link_script.specs.Words.{words_of, is_passed_over}
 
 -- A fault that a function returned is the one that reading gives; of want of memory nothing is said.
 abbrev pub Fails : {Y : Type 0} → ScriptFault → Result Y ScriptFault → Type 0
@@ -76,6 +77,7 @@ with_line script (Path index path) = record script { paths = script.paths ++ pat
 with_line script (Event event) = record script { lines = script.lines ++ event ∷ [] }
 with_line script End = script
 
+-- what these lines say together
 abbrev pub script_of : List Line → Script
 script_of lines = fold with_line blank lines
 

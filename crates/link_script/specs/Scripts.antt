@@ -20,6 +20,7 @@ pub record IsInRange (limits : Limits) (n : ℕ) : Type 0 where
   pub least : limits.least ≤ n
   pub most : n ≤ limits.most
 
+-- each number of a path is within its limits
 pub record IsPath (path : PathLine) : Type 0 where
   pub mss : IsInRange segment_sizes path.mss
   pub delay : IsInRange delays path.delay
@@ -30,7 +31,7 @@ abbrev pub OpensPlainly : List PathLine → Type 0
 OpensPlainly [] = Unit {0}
 OpensPlainly (path ∷ paths) = (path.join ≡ 0) × (path.backup ≡ false)
 
--- a line that speaks of one of so many paths
+-- a line of what happens: its numbers are in range, and a path that it names is one of so many
 abbrev pub IsEvent : ℕ → ScriptLine → Type 0
 IsEvent paths (Drop path from number) = (path < paths) × IsInRange segment_numbers number
 IsEvent paths (Strip path from number) = (path < paths) × IsInRange segment_numbers number
@@ -48,6 +49,7 @@ IsEvent paths (FastClose side tick) = IsInRange run_ticks tick
 abbrev pub SettleApart : ScriptLine → ScriptLine → Type 0
 SettleApart a b = settle_one (Event a) (Event b) ≡ false
 
+-- the limits of a script: its numbers, 1 to 16 paths, no two lines that settle one thing, and how many lines its own text has
 pub record HasRanges (script : Script) : Type 0 where
   pub seed : IsInRange seeds script.seed
   pub buffer : IsInRange buffers script.buffer

@@ -1,19 +1,15 @@
--- The fixed words of a script, and how a text is cut into lines and words.
+-- The fixed words of a script, and how a line is cut into words.
 use Rattle.std.specs.Prelude.{ℕ, Bool, true, false, List, [], ◌∷◌, Result, Ok, Err, ◌==◌, if◌then◌else◌, codes}
-use Rattle.std.specs.List.{find, slice_split, onto_first}
+use Rattle.std.specs.List.{find, slice_split}
 use Rattle.std.specs.Option.{ok_or}
 use Rattle.std.specs.Str.{bytes_eq}
 use Rattle.outside_kit.specs.declared.side.Side.{Side}
 use Rattle.outside_kit.specs.declared.side.Side.TheVariants.{A, B}
+use Rattle.outside_kit.specs.Side.{side_word}
 use Rattle.link_script.specs.declared.fault.ScriptKind.{ScriptKind}
 use Rattle.link_script.specs.declared.fault.ScriptKind.TheVariants.{Word}
 use Rattle.link_script.specs.declared.word.Keyword.{Keyword}
 use Rattle.link_script.specs.declared.word.Keyword.TheVariants.{Seed, Checksum, Short, Buffer, Path, Drop, Strip, Alter, Dup, Late, StripAll, Die, Prio, Add, Remove, FastClose, End}
-
--- a line ends with LF, and what stands after the last LF is a line where it isn't empty
-abbrev pub text_lines : List ℕ → List (List ℕ)
-text_lines [] = []
-text_lines (octet ∷ octets) = if octet == 10 then [] ∷ text_lines octets else onto_first octet (text_lines octets)
 
 -- an empty line, and one that begins with '#'
 abbrev pub is_passed_over : List ℕ → Bool
@@ -55,6 +51,7 @@ keyword_word End = codes "end"
 abbrev pub keywords : List Keyword
 keywords = Seed ∷ Checksum ∷ Short ∷ Buffer ∷ Path ∷ Drop ∷ Strip ∷ Alter ∷ Dup ∷ Late ∷ StripAll ∷ Die ∷ Prio ∷ Add ∷ Remove ∷ FastClose ∷ End ∷ []
 
+-- the keyword that a word writes
 unfoldable pub keyword : List ℕ → Result Keyword ScriptKind
 keyword word = chosen keyword_word keywords word
 
@@ -63,14 +60,11 @@ abbrev pub direction_word : Side → List ℕ
 direction_word A = codes "ab"
 direction_word B = codes "ba"
 
+-- the side that `ab` or `ba` writes
 unfoldable pub direction : List ℕ → Result Side ScriptKind
 direction word = chosen direction_word (A ∷ B ∷ []) word
 
 -- a side by itself
-abbrev pub side_word : Side → List ℕ
-side_word A = codes "a"
-side_word B = codes "b"
-
 unfoldable pub side : List ℕ → Result Side ScriptKind
 side word = chosen side_word (A ∷ B ∷ []) word
 
@@ -78,5 +72,6 @@ abbrev pub switch_word : Bool → List ℕ
 switch_word true = codes "on"
 switch_word false = codes "off"
 
+-- what `on` or `off` writes
 unfoldable pub switch : List ℕ → Result Bool ScriptKind
 switch word = chosen switch_word (true ∷ false ∷ []) word

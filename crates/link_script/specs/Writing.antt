@@ -2,6 +2,7 @@
 use Rattle.std.specs.Prelude.{ℕ, suc, Bool, true, List, [], ◌∷◌, ◌++◌, map, ◌==◌, if◌then◌else◌, codes}
 use Rattle.std.specs.Fmt.{decimal}
 use Rattle.std.specs.List.{flat_map, join_with_byte}
+use Rattle.outside_kit.specs.Side.{side_word}
 use Rattle.link_script.specs.Ranges.{default_seed, default_buffer}
 use Rattle.link_script.specs.declared.line.Line.{Line}
 use Rattle.link_script.specs.declared.line.Line.TheVariants.{Header, Seed, Checksum, Short, Buffer, Path, Event, End}
@@ -9,15 +10,17 @@ use Rattle.link_script.specs.declared.script.PathLine.{PathLine}
 use Rattle.link_script.specs.declared.script.Script.{Script}
 use Rattle.link_script.specs.declared.script.ScriptLine.{ScriptLine}
 use Rattle.link_script.specs.declared.script.ScriptLine.TheVariants.{Drop, Strip, Alter, Dup, Late, StripAll, Die, Prio, Add, Remove, FastClose}
-use Rattle.link_script.specs.Words.{direction_word, side_word, switch_word}
+use Rattle.link_script.specs.Words.{direction_word, switch_word}
 
 -- words with a space between each two
 abbrev pub spaced : List (List ℕ) → List ℕ
 spaced words = join_with_byte 32 words
 
+-- `join TICK`, left out for tick 0
 abbrev pub join_words : ℕ → List (List ℕ)
 join_words tick = if tick == 0 then [] else codes "join" ∷ decimal tick ∷ []
 
+-- `backup`, where the path is one
 abbrev pub backup_words : Bool → List (List ℕ)
 backup_words backup = if backup then codes "backup" ∷ [] else []
 
@@ -25,6 +28,7 @@ backup_words backup = if backup then codes "backup" ∷ [] else []
 abbrev pub path_words : PathLine → List (List ℕ)
 path_words path = codes "mss" ∷ decimal path.mss ∷ codes "delay" ∷ decimal path.delay ∷ (join_words path.join ++ backup_words path.backup)
 
+-- a line of what happens, its keyword first
 abbrev pub event_words : ScriptLine → List (List ℕ)
 event_words (Drop path from number) = codes "drop" ∷ decimal path ∷ direction_word from ∷ decimal number ∷ []
 event_words (Strip path from number) = codes "strip" ∷ decimal path ∷ direction_word from ∷ decimal number ∷ []
@@ -38,6 +42,7 @@ event_words (Add id tick) = codes "add" ∷ codes "b" ∷ decimal id ∷ decimal
 event_words (Remove side id tick) = codes "remove" ∷ side_word side ∷ decimal id ∷ decimal tick ∷ []
 event_words (FastClose side tick) = codes "fastclose" ∷ side_word side ∷ decimal tick ∷ []
 
+-- any line; that of a path has its number behind the keyword
 abbrev pub line_words : Line → List (List ℕ)
 line_words Header = codes "mptcp-script" ∷ codes "1" ∷ []
 line_words (Seed n) = codes "seed" ∷ decimal n ∷ []
@@ -48,12 +53,15 @@ line_words (Path index path) = codes "path" ∷ decimal index ∷ path_words pat
 line_words (Event event) = event_words event
 line_words End = codes "end" ∷ []
 
+-- what stands after the number of a path, as text
 abbrev pub path_text : PathLine → List ℕ
 path_text path = spaced (path_words path)
 
+-- a line of what happens as text, without its LF
 abbrev pub event_text : ScriptLine → List ℕ
 event_text event = spaced (event_words event)
 
+-- any line as text, without its LF
 abbrev pub line_text : Line → List ℕ
 line_text line = spaced (line_words line)
 
@@ -61,15 +69,19 @@ line_text line = spaced (line_words line)
 abbrev pub ended : Line → List ℕ
 ended line = line_text line ++ 10 ∷ []
 
+-- none for the default seed
 abbrev pub seed_lines : ℕ → List Line
 seed_lines n = if n == default_seed then [] else Seed n ∷ []
 
+-- none where checksums are off
 abbrev pub checksum_lines : Bool → List Line
 checksum_lines on = if on then Checksum true ∷ [] else []
 
+-- none where data numbers have eight octets
 abbrev pub short_lines : Bool → List Line
 short_lines on = if on then Short true ∷ [] else []
 
+-- none for buffers of the default size
 abbrev pub buffer_lines : ℕ → List Line
 buffer_lines octets = if octets == default_buffer then [] else Buffer octets ∷ []
 
@@ -81,8 +93,10 @@ path_lines index (path ∷ paths) = Path index path ∷ path_lines (suc index) p
 abbrev pub event_lines : List ScriptLine → List Line
 event_lines events = map (λ event. Event event) events
 
+-- the header, the settings, the paths, what happens, the end
 abbrev pub lines_of : Script → List Line
 lines_of script = Header ∷ (seed_lines script.seed ++ (checksum_lines script.checksum ++ (short_lines script.short ++ (buffer_lines script.buffer ++ (path_lines 0 script.paths ++ (event_lines script.lines ++ End ∷ []))))))
 
+-- the text: every line with its LF
 unfoldable pub text_of : Script → List ℕ
 text_of script = flat_map ended (lines_of script)

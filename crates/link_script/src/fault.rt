@@ -9,7 +9,7 @@ use std::error::Error;
 use std::fmt;
 
 /// What is wrong with a line. Of several kinds a line has the first in this order.
-#[derive(Clone, Copy, Debug, PartialEq, Eq)]
+#[derive(Clone, Copy, Debug)]
 pub enum ScriptKind {
     /// The line is past the last that a script may have.
     TooMany,
@@ -53,7 +53,7 @@ impl fmt::Display for ScriptKind {
 }
 
 /// Why a text was not read as a script.
-#[derive(Clone, Copy, Debug, PartialEq, Eq)]
+#[derive(Clone, Copy, Debug)]
 pub enum ScriptFault {
     /// The first line that is refused, counted from 1 over all lines, and why.
     Line { line: u64, kind: ScriptKind },

@@ -22,6 +22,7 @@ mod writing;
 pub use fault::{ScriptFault, ScriptKind};
 pub use laws::{scripts_have_their_ranges, written_is_read_again};
 pub use lists::{PathLines, ScriptLines};
+pub use number::is_numeral;
 pub use reading::parse;
 pub use script::{PathLine, Script, ScriptLine};
 pub use writing::text;

@@ -13,7 +13,7 @@ use crate::tick::{read_add, read_die, read_fast_close, read_prio, read_remove, r
 use crate::word::{Keyword, read_switch};
 
 /// What a line says.
-#[derive(Clone, Copy, Debug, PartialEq, Eq)]
+#[derive(Clone, Copy)]
 pub enum Line {
     Header,
     Seed(u64),

@@ -7,7 +7,7 @@ use std::alloc::AllocError;
 use std::marker::Model;
 
 /// The paths of a script, path 0 first.
-#[derive(Debug, Drop)]
+#[derive(Drop)]
 pub struct PathLines {
     lines: Vec<PathLine>,
 }
@@ -28,26 +28,6 @@ impl From<Vec<PathLine>> for PathLines {
     fn from(lines: Vec<PathLine>) -> Self {
         PathLines { lines }
     }
-}
-
-impl PartialEq for PathLines {
-    ghost use Rattle.link_script.specs.contracts.script.PathLinePartialEq.TheImpl.Laws.{laws-law};
-    ghost use Rattle.std.specs.Cmp.Lexicographic.{pointwise, lists_per};
-
-    ghost eq = { pointwise ⟦<PathLine as PartialEq>⟧.eq };
-
-    ghost laws = { lists_per laws-law };
-
-    fn eq(&self, other: &Self) -> bool {
-        self.lines == other.lines
-    }
-}
-
-impl Eq for PathLines {
-    ghost use Rattle.link_script.specs.contracts.script.PathLineEq.TheImpl.Laws.{laws-law};
-    ghost use Rattle.std.specs.Cmp.Lexicographic.{lists_equiv};
-
-    ghost laws = { lists_equiv laws-law };
 }
 
 impl PathLines {
@@ -76,7 +56,7 @@ impl PathLines {
 }
 
 /// What a script lets happen, in the order of its text.
-#[derive(Debug, Drop)]
+#[derive(Drop)]
 pub struct ScriptLines {
     lines: Vec<ScriptLine>,
 }
@@ -97,26 +77,6 @@ impl From<Vec<ScriptLine>> for ScriptLines {
     fn from(lines: Vec<ScriptLine>) -> Self {
         ScriptLines { lines }
     }
-}
-
-impl PartialEq for ScriptLines {
-    ghost use Rattle.link_script.specs.contracts.script.ScriptLinePartialEq.TheImpl.Laws.{laws-law};
-    ghost use Rattle.std.specs.Cmp.Lexicographic.{pointwise, lists_per};
-
-    ghost eq = { pointwise ⟦<ScriptLine as PartialEq>⟧.eq };
-
-    ghost laws = { lists_per laws-law };
-
-    fn eq(&self, other: &Self) -> bool {
-        self.lines == other.lines
-    }
-}
-
-impl Eq for ScriptLines {
-    ghost use Rattle.link_script.specs.contracts.script.ScriptLineEq.TheImpl.Laws.{laws-law};
-    ghost use Rattle.std.specs.Cmp.Lexicographic.{lists_equiv};
-
-    ghost laws = { lists_equiv laws-law };
 }
 
 impl ScriptLines {

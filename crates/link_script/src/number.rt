@@ -1,23 +1,17 @@
 //! Numbers as a script writes them: decimal digits without a sign.
 
 ghost use Rattle.std.specs.Prelude.{◌≡◌, ◌<◌, ◌≤◌, ◌^◌, IfOk, IsTrue};
-ghost use Rattle.std.specs.Char.{is_ascii_digit};
-ghost use Rattle.std.specs.List.{list_all};
 ghost use Rattle.std.specs.Option.{SomeIff};
 ghost use Rattle.std.specs.Str.Parse.{digits_value};
 ghost use Rattle.link_script.specs.Numbers.{is_numeral, within};
 
 use crate::fault::ScriptKind;
 use crate::limits::{Limits, MOST_DIGITS};
+use outside_kit::are_digits;
 use std::str;
 
-fn are_digits(word: &[u8]) -> bool
-    ensures { result ≡ list_all is_ascii_digit word.now }
-{
-    word.iter().all(|octet| octet.is_ascii_digit())
-}
-
-fn is_numeral(word: &[u8]) -> bool
+/// Whether a word has the form of a number: 1 to 20 decimal digits.
+pub fn is_numeral(word: &[u8]) -> bool
     ensures { result ≡ is_numeral word.now }
 {
     !word.is_empty() && word.len() <= MOST_DIGITS && are_digits(word)

@@ -10,7 +10,7 @@ use crate::segment::Segment;
 use outside_kit::Side;
 
 /// What a line settles, so that no second line may settle it again.
-#[derive(Clone, Copy, Debug, PartialEq, Eq)]
+#[derive(Clone, Copy, PartialEq, Eq)]
 pub enum Subject {
     Seed,
     Checksum,

@@ -4,7 +4,7 @@ use crate::lists::{PathLines, ScriptLines};
 use outside_kit::Side;
 
 /// How a connection is to run: its settings, its paths, and what happens on them.
-#[derive(Debug, Drop, PartialEq, Eq)]
+#[derive(Drop)]
 pub struct Script {
     /// The number from which keys, nonces and initial sequence numbers are drawn.
     pub seed: u64,
@@ -22,7 +22,7 @@ pub struct Script {
 }
 
 /// One path.
-#[derive(Clone, Copy, Debug, PartialEq, Eq)]
+#[derive(Clone, Copy)]
 pub struct PathLine {
     /// Octets of the maximum segment size that both ends announce.
     pub mss: u16,
@@ -38,7 +38,7 @@ pub struct PathLine {
 ///
 /// `path` is the number of a path. `from` is the side that sends, and `number` counts the segments that the link of
 /// the path takes from it, the first being 1. `tick` is a tick of the run, and `ticks` is how many pass.
-#[derive(Clone, Copy, Debug, PartialEq, Eq)]
+#[derive(Clone, Copy)]
 pub enum ScriptLine {
     /// The segment doesn't arrive.
     Drop {

@@ -12,7 +12,7 @@ use crate::word::read_direction;
 use outside_kit::Side;
 
 /// One segment of a link: the `number`-th that the link of a path takes from a side.
-#[derive(Clone, Copy, Debug, PartialEq, Eq)]
+#[derive(Clone, Copy, PartialEq, Eq)]
 pub struct Segment {
     pub path: u8,
     pub from: Side,

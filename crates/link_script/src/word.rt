@@ -1,14 +1,14 @@
-//! The fixed words of a script, and how a text is cut into lines and words.
+//! The fixed words of a script, and how a line is cut into words.
 
-ghost use Rattle.std.specs.Prelude.{◌≡◌, ◌==◌, ◌<◌, ◌∷◌, length, map, position, IfOk};
-ghost use Rattle.link_script.specs.Words.{fixed, keyword_word, keyword, direction, side, switch, text_lines, words_of, is_passed_over};
+ghost use Rattle.std.specs.Prelude.{◌≡◌, ◌==◌, map, IfOk};
+ghost use Rattle.link_script.specs.Words.{fixed, keyword_word, keyword, direction, side, switch, words_of, is_passed_over};
 
 use crate::fault::ScriptKind;
 use outside_kit::Side;
 use std::alloc::{AllocError, Global};
 
 /// The first word of a line, which says what the line is.
-#[derive(Clone, Copy, Debug, PartialEq, Eq)]
+#[derive(Clone, Copy)]
 pub enum Keyword {
     Seed,
     Checksum,
@@ -50,6 +50,7 @@ impl Keyword {
         Keyword::End,
     ];
 
+    /// The octets of the word.
     pub fn word(&self) -> &'static [u8]
         ensures { result.now ≡ keyword_word self.now }
     {
@@ -74,6 +75,7 @@ impl Keyword {
         }
     }
 
+    /// The keyword that a word writes, or the fault that none is.
     pub fn read(word: &[u8]) -> Result<Keyword, ScriptKind>
         ensures { result ≡ keyword word.now }
     {
@@ -97,6 +99,7 @@ pub fn expect_word(word: &[u8], expected: &[u8]) -> Result<(), ScriptKind>
     }
 }
 
+/// The side from which segments come: `ab` is A, `ba` is B.
 #[tactic(auto, unfolding(crate::specs::Words::direction))]
 pub fn read_direction(word: &[u8]) -> Result<Side, ScriptKind>
     ensures { result ≡ direction word.now }
@@ -108,6 +111,7 @@ pub fn read_direction(word: &[u8]) -> Result<Side, ScriptKind>
     }
 }
 
+/// The side: `a` or `b`.
 #[tactic(auto, unfolding(crate::specs::Words::side))]
 pub fn read_side(word: &[u8]) -> Result<Side, ScriptKind>
     ensures { result ≡ side word.now }
@@ -119,6 +123,7 @@ pub fn read_side(word: &[u8]) -> Result<Side, ScriptKind>
     }
 }
 
+/// Whether the switch is `on`; else it is `off`.
 #[tactic(auto, unfolding(crate::specs::Words::switch))]
 pub fn read_switch(word: &[u8]) -> Result<bool, ScriptKind>
     ensures { result ≡ switch word.now }
@@ -130,29 +135,11 @@ pub fn read_switch(word: &[u8]) -> Result<bool, ScriptKind>
     }
 }
 
+/// Whether a line is empty or begins with `#`.
 pub fn is_passed_over(line: &[u8]) -> bool
     ensures { result ≡ is_passed_over line.now }
 {
     matches!(line, [] | [b'#', ..])
-}
-
-/// The place of the first LF.
-fn line_end(text: &[u8]) -> Option<usize>
-    ensures { result ≡ position (λ octet. octet == 10) text.now }
-{
-    text.iter().position(|octet| *octet == b'\n')
-}
-
-/// Cuts the first line off a text: the octets before the first LF, and those after it.
-pub fn split_line(text: &[u8]) -> (&[u8], &[u8])
-    requires { 0 < length text.now }
-    ensures line { text_lines text.now ≡ result.0.now ∷ text_lines result.1.now }
-    ensures shorter { length result.1.now < length text.now }
-{
-    match line_end(text) {
-        Some(end) => (&text[..end], &text[end + 1..]),
-        None => (text, &[]),
-    }
 }
 
 /// The words of a line: its parts between spaces.

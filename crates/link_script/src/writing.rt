@@ -4,7 +4,7 @@ ghost use Rattle.std.specs.Prelude.{◌≡◌, ◌++◌, Some, Ok, OnOk, IfOk, s
 ghost use Rattle.std.specs.List.{flat_map};
 ghost use Rattle.link_script.specs.Reading.{reading};
 ghost use Rattle.link_script.specs.Scripts.{IsScript};
-ghost use Rattle.link_script.specs.Words.{direction_word, side_word, switch_word};
+ghost use Rattle.link_script.specs.Words.{direction_word, switch_word};
 ghost use Rattle.link_script.specs.Writing.{path_text, event_text, line_text, ended, seed_lines, checksum_lines, short_lines, buffer_lines, path_lines, event_lines, text_of};
 
 use crate::limits::{DEFAULT_BUFFER, DEFAULT_SEED};
@@ -20,15 +20,6 @@ fn direction_text(from: Side) -> &'static str
     match from {
         Side::A => "ab",
         Side::B => "ba",
-    }
-}
-
-fn side_text(side: Side) -> &'static str
-    ensures { result.now ≡ side_word side }
-{
-    match side {
-        Side::A => "a",
-        Side::B => "b",
     }
 }
 
@@ -94,18 +85,13 @@ impl fmt::Display for ScriptLine {
                 side,
                 tick,
                 on,
-            } => write!(
-                f,
-                "prio {path} {} {tick} {}",
-                side_text(side),
-                switch_text(on)
-            ),
+            } => write!(f, "prio {path} {} {tick} {}", side.word(), switch_text(on)),
             ScriptLine::Add { id, tick } => write!(f, "add b {id} {tick}"),
             ScriptLine::Remove { side, id, tick } => {
-                write!(f, "remove {} {id} {tick}", side_text(side))
+                write!(f, "remove {} {id} {tick}", side.word())
             }
             ScriptLine::FastClose { side, tick } => {
-                write!(f, "fastclose {} {tick}", side_text(side))
+                write!(f, "fastclose {} {tick}", side.word())
             }
         }
     }

@@ -25,9 +25,11 @@ abbrev pub rows_of : List ℕ → List ℕ → List ℕ → List Row
 rows_of (path ∷ paths) (window ∷ windows) (rtt ∷ rtts) = row_of path window rtt ∷ rows_of paths windows rtts
 rows_of _ _ _ = []
 
+-- the rows in 16 places, the rest of them blank
 abbrev pub padded : List Row → List Row
 padded rows = rows ++ replicate (16 - length rows) blank
 
+-- each list has 16 places, of which those behind the first `len` are blank
 pub record ArePadded (paths windows rtts : List ℕ) (len : ℕ) : Type 0 where
   pub all_paths : length paths ≡ 16
   pub all_windows : length windows ≡ 16

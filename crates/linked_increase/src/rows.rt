@@ -14,7 +14,7 @@ pub const MAX_WINDOW: u32 = 1_048_576;
 pub const MAX_RTT: u32 = 60_000;
 
 /// What one path tells of itself.
-#[derive(Clone, Copy, Debug, Default, PartialEq, Eq)]
+#[derive(Clone, Copy, Default, PartialEq, Eq)]
 pub struct Row {
     /// The number of the path.
     pub path: u8,
@@ -27,7 +27,7 @@ pub struct Row {
 impl Row {
     ghost use Rattle.linked_increase.specs.Paths.{IsInRange, leads, leading};
 
-    /// Whether the row can be linked: its window is 1 to [`MAX_WINDOW`], its round-trip time 1 to [`MAX_RTT`].
+    /// Whether the row can be linked: its window is 1 to [`MAX_WINDOW`] octets, its round-trip time 1 to [`MAX_RTT`] ticks.
     pub fn is_in_range(self) -> bool
         ensures { IsTrue result ↔ IsInRange self }
     {
@@ -60,7 +60,7 @@ impl Row {
 
 /// At most [`MAX_ROWS`] rows, which lie in the value itself: each number of a row in a list of its own, so that they take
 /// 148 octets.
-#[derive(Clone, Copy, Debug)]
+#[derive(Clone, Copy)]
 pub struct Rows {
     /// The paths of the rows, and behind them zeros.
     paths: [u8; MAX_ROWS],

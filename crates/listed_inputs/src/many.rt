@@ -10,7 +10,7 @@ use std::alloc::{AllocError, AllocFailed, Global};
 
 /// How a run of many connections has ended. Lines of the list are counted from 1, and line 0 is the list itself; `entry` and
 /// `holder` are numbers of connections, counted from 0.
-#[derive(Clone, Copy, Debug, PartialEq, Eq)]
+#[derive(Clone, Copy, Debug)]
 pub enum Many {
     /// Each connection has its line.
     Done,

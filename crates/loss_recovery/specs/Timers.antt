@@ -6,6 +6,7 @@ use Rattle.rtt_timer.specs.Rules as rules
 use Rattle.rtt_timer.specs.declared.estimate.Estimate.{Estimate}
 use Rattle.loss_recovery.specs.declared.timers.Timing.{Timing}
 
+-- at first no timer runs, and the timeout is that of RFC 6298, section 2, rule 2.1
 abbrev pub opening : Timing
 opening = record { rtt = rules.opening; timer = None; expiries = 0; news = false }
 
@@ -17,6 +18,7 @@ heard t = record t { expiries = 0 }
 abbrev pub time_since : ℕ → ℕ → ℕ
 time_since first now = min (now - first) 60000
 
+-- the estimate with the sample since this tick, if there is one
 abbrev pub sampled : Option ℕ → ℕ → Timer → Timer
 sampled None now rtt = rtt
 sampled (Some first) now rtt = rules.after_sample (time_since first now) rtt
@@ -30,6 +32,7 @@ abbrev pub timer_settled : Bool → Bool → ℕ → Timing → Option ℕ
 timer_settled reason restart now t =
     if reason then (if is_none t.timer || (t.news || restart) then Some (now + t.rtt.rto) else t.timer) else None
 
+-- the timer is settled so, and what was new counts no longer
 abbrev pub settled : Bool → Bool → ℕ → Timing → Timing
 settled reason restart now t = record t { timer = timer_settled reason restart now t; news = false }
 
@@ -47,5 +50,6 @@ abbrev pub told_of : Option Estimate → ℕ
 told_of None = 1000
 told_of (Some e) = max 1 (srtt_of e)
 
+-- the same of a timing
 abbrev pub rtt_told : Timing → ℕ
 rtt_told t = told_of t.rtt.estimate

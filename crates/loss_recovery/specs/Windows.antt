@@ -6,6 +6,7 @@ use Rattle.loss_recovery.specs.declared.windows.Told.{Told}
 use Rattle.loss_recovery.specs.declared.windows.Pending.{Pending}
 use Rattle.loss_recovery.specs.declared.windows.Congestion.{Congestion}
 
+-- at first: the initial window of this segment size, no duplicate, and nothing told
 abbrev pub opening : ℕ → Congestion
 opening mss = record {
   reno = reno.opening mss;
@@ -44,6 +45,7 @@ duplicated flight c =
 abbrev pub interrupted : Congestion → Congestion
 interrupted c = record c { duplicates = 0 }
 
+-- what a segment told is kept, to compare the next one with it
 abbrev pub with_told : Told → Congestion → Congestion
 with_told told c = record c { told = told }
 
@@ -51,22 +53,25 @@ with_told told c = record c { told = told }
 abbrev pub expired : ℕ → Bool → Congestion → Congestion
 expired flight again c = record c { duplicates = 0; reno = reno.after_expiry flight again c.reno }
 
--- the growth that was to be told
+-- the growth that was to be told is this one, in octets
 abbrev pub grown_by : ℕ → Option Pending → Congestion → Congestion
 grown_by growth None c = c
 grown_by growth (Some p) c = record c { reno = reno.after_ack p.acked growth c.reno; pending = None }
 
+-- the same of the growth that the window waits for, if it does
 abbrev pub after_growth : ℕ → Congestion → Congestion
 after_growth growth c = grown_by growth c.pending c
 
--- the same place, and the same window
+-- the same place, or both times none
 abbrev pub is_same_place : Option ℕ → Option ℕ → Bool
 is_same_place None None = true
 is_same_place (Some p) (Some q) = p == q
 is_same_place _ _ = false
 
+-- the same place, and the same window
 abbrev pub is_same_told : Told → Told → Bool
 is_same_told t u = is_same_place t.place u.place && t.window == u.window
 
+-- no growth is to be told
 abbrev pub without_pending : Congestion → Congestion
 without_pending c = record c { pending = None }

@@ -5,7 +5,7 @@ ghost use Rattle.loss_recovery.specs.Timers.{opening, heard, measured, settled, 
 use rtt_timer::Rtt;
 
 /// When an end sends again. Times are ticks of a millisecond.
-#[derive(Clone, Copy, Debug, PartialEq, Eq)]
+#[derive(Clone, Copy)]
 pub struct Timing {
     /// The round-trip times, and the timeout that follows from them.
     pub rtt: Rtt,
@@ -87,7 +87,7 @@ impl Timing {
         self.timer = None;
     }
 
-    /// The round-trip time to tell: at least 1, and 1,000 without a sample.
+    /// The round-trip time to tell, in ticks: at least 1, and 1,000 without a sample.
     pub fn rtt_told(&self) -> u32
         ensures value { result ≡ rtt_told self.now }
         ensures least { 1 ≤ result }

@@ -5,7 +5,7 @@ ghost use Rattle.loss_recovery.specs.Windows.{opening, counted, is_growth_linked
 use reno_window::Reno;
 
 /// What a copy told of the other direction: a duplicate tells the same again.
-#[derive(Clone, Copy, Debug, PartialEq, Eq)]
+#[derive(Clone, Copy)]
 pub struct Told {
     /// The place that its Data ACK named.
     pub place: Option<u64>,
@@ -14,7 +14,7 @@ pub struct Told {
 }
 
 /// What an end's window is to grow by: the caller tells that, with the windows of all paths at hand.
-#[derive(Clone, Copy, Debug, PartialEq, Eq)]
+#[derive(Clone, Copy, Debug)]
 pub struct Pending {
     /// The octets that were newly acknowledged, at least 1 and at most 2^20.
     pub acked: u32,
@@ -25,7 +25,7 @@ pub struct Pending {
 }
 
 /// How much an end may have under way, and what it heard of losses.
-#[derive(Clone, Copy, Debug, PartialEq, Eq)]
+#[derive(Clone, Copy)]
 pub struct Congestion {
     /// The congestion window.
     pub reno: Reno,
@@ -46,7 +46,7 @@ fn counted(octets: u64) -> u32
 }
 
 impl Congestion {
-    /// The window of an end that opens.
+    /// The window of an end that opens, whose segments have `mss` octets, at least one.
     pub fn new(mss: u16) -> Self
         requires { 0 < mss }
         ensures { result ≡ opening mss }
@@ -70,7 +70,7 @@ impl Congestion {
         octets > 0 && !self.reno.in_fast_recovery() && self.reno.ssthresh() <= self.reno.window()
     }
 
-    /// Something new was acknowledged, so many octets of data among it.
+    /// Something new was acknowledged, so many octets of data among it, at a round-trip time of `rtt` ticks.
     pub fn acknowledged(&mut self, octets: u64, rtt: u32)
         ensures { self.new ≡ acknowledged octets rtt self.old }
     {
@@ -134,7 +134,7 @@ impl Congestion {
         self.pending = None;
     }
 
-    /// The room of the window beside so many octets under way.
+    /// How many octets the window has room for beside so many under way.
     pub fn room(&self, flight: u64) -> u32
         ensures value { result ≡ self.now.reno.window - flight }
         ensures bound { result ≤ 1048576 }
@@ -143,7 +143,7 @@ impl Congestion {
         u64::from(window).saturating_sub(flight) as u32
     }
 
-    /// The growth that was to be told. Without one nothing changes.
+    /// The growth that was to be told, in octets. Without one to be told nothing changes.
     pub fn grow(&mut self, growth: u32)
         ensures { self.new ≡ after_growth growth self.old }
     {

@@ -1,4 +1,3 @@
-pub mod Cuts
 pub mod Framed
 pub mod LinesAgain
 pub mod Longer

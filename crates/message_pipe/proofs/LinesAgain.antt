@@ -3,9 +3,10 @@ use Rattle.std.proofs.Common.{◌≡◌, ℕ, ◌+◌, ◌<◌, ◌≤◌, ◌^�
 use Rattle.std.specs.Prelude.{◌==◌, IfSome, IsSomeAnd}
 use Rattle.std.specs.List.{onto_first}
 use Rattle.outside_kit.specs.Outside.{HoldsAfter}
+use Rattle.outside_kit.specs.Lines.{text_lines}
 use Rattle.pipe_model.specs.Prefix.{IsPrefix}
 use Rattle.message_pipe.specs.Frames.{frame_of, frames, HaveFrames, first_message, behind_first}
-use Rattle.message_pipe.specs.Lines.{lines, message_lines}
+use Rattle.message_pipe.specs.Lines.{message_lines}
 use Rattle.message_pipe.specs.LinesShown.{WholePortsShowAllLines, PortsShowFirstLines, RefusedPortsShowPrefixes}
 use Rattle.message_pipe.specs.Uses.{AreFirst}
 use Rattle.message_pipe.proofs.ReadAgain.{read_again}
@@ -25,23 +26,23 @@ within_first : (most octet : ℕ) (parts : List (List ℕ)) → Within most part
 within_first most octet [] within = (omega arith, tt)
 within_first most octet (part ∷ parts) within = (let few = within.0 in omega arith, within_more most parts within.1)
 
-within_by : (ends : Bool) (octet : ℕ) (octets : List ℕ) → Within (length octets) (lines octets)
-    → Within (length octets + 1) (if ends then [] ∷ lines octets else onto_first octet (lines octets))
-within_by true octet octets within = (omega arith, within_more (length octets) (lines octets) within)
-within_by false octet octets within = within_first (length octets) octet (lines octets) within
+within_by : (ends : Bool) (octet : ℕ) (octets : List ℕ) → Within (length octets) (text_lines octets)
+    → Within (length octets + 1) (if ends then [] ∷ text_lines octets else onto_first octet (text_lines octets))
+within_by true octet octets within = (omega arith, within_more (length octets) (text_lines octets) within)
+within_by false octet octets within = within_first (length octets) octet (text_lines octets) within
 
-lines_within : (content : List ℕ) → Within (length content) (lines content)
+lines_within : (content : List ℕ) → Within (length content) (text_lines content)
 lines_within [] = tt
 lines_within (octet ∷ octets) =
-    let P : ℕ → Type 0 = λ most. Within most (lines (octet ∷ octets)) in
+    let P : ℕ → Type 0 = λ most. Within most (text_lines (octet ∷ octets)) in
     subst P (let e : length octets + 1 ≡ length (octet ∷ octets) = omega arith in e) (within_by (octet == 10) octet octets (lines_within octets))
 
 have_within : (most : ℕ) (parts : List (List ℕ)) → most < 2 ^ 32 → Within most parts → HaveFrames parts
 have_within most [] small within = tt
 have_within most (part ∷ parts) small within = (let few = within.0 in omega arith, have_within most parts small within.1)
 
-lines_have : (content : List ℕ) → length content < 2 ^ 32 → HaveFrames (lines content)
-lines_have content small = have_within (length content) (lines content) small (lines_within content)
+lines_have : (content : List ℕ) → length content < 2 ^ 32 → HaveFrames (text_lines content)
+lines_have content small = have_within (length content) (text_lines content) small (lines_within content)
 
 -- ---- one list of messages
 
@@ -82,7 +83,7 @@ all_ones (m ∷ messages) (n ∷ list) behind have all e none =
 
 pub whole_ports_show_all_lines : WholePortsShowAllLines
 whole_ports_show_all_lines port content first held small are shows =
-    let same : shows.messages ≡ lines content = all_ones shows.messages (lines content) port.behind shows.have (lines_have content small) (sym shows.octets_are ∙ are) shows.no_more in
+    let same : shows.messages ≡ text_lines content = all_ones shows.messages (text_lines content) port.behind shows.have (lines_have content small) (sym shows.octets_are ∙ are) shows.no_more in
     let P : List (List ℕ) → Type 0 = λ messages. HoldsAfter first held (λ _. message_lines messages) in
     subst P same shows.shown_is
 
@@ -95,7 +96,7 @@ front_ones octets messages list behind have all is prefix =
 pub ports_show_first_lines : PortsShowFirstLines
 ports_show_first_lines port content first held small prefix shows = record {
   messages = shows.messages;
-  are = front_ones port.octets shows.messages (lines content) port.behind shows.have (lines_have content small) shows.octets_are prefix;
+  are = front_ones port.octets shows.messages (text_lines content) port.behind shows.have (lines_have content small) shows.octets_are prefix;
   shown_is = shows.shown_is;
 }
 
@@ -113,4 +114,4 @@ still_prefix (Some told) (Some text) messages all few shows = longer_prefix text
 
 pub refused_ports_show_prefixes : RefusedPortsShowPrefixes
 refused_ports_show_prefixes port content first held small prefix shows =
-    still_prefix first held shows.messages (lines content) (front_ones port.octets shows.messages (lines content) shows.rest shows.have (lines_have content small) shows.octets_are prefix) shows.shown_is
+    still_prefix first held shows.messages (text_lines content) (front_ones port.octets shows.messages (text_lines content) shows.rest shows.have (lines_have content small) shows.octets_are prefix) shows.shown_is

@@ -3,8 +3,9 @@ use Rattle.std.proofs.Common.{◌≡◌, ℕ, ◌+◌, ◌<◌, ◌≤◌, Bool,
 use Rattle.std.specs.Prelude.{◌==◌, ◌||◌, IfSome, option_map}
 use Rattle.std.specs.List.{onto_first}
 use Rattle.std.specs.Str.{bytes_eq}
+use Rattle.outside_kit.specs.Lines.{text_lines}
 use Rattle.message_pipe.specs.Frames.{frames}
-use Rattle.message_pipe.specs.Lines.{lines, framed}
+use Rattle.message_pipe.specs.Lines.{framed}
 use Rattle.message_pipe.specs.Lined.{lined_content}
 
 -- with one octet more in the first line
@@ -16,9 +17,9 @@ longer_first octet count (part ∷ parts) le =
     omega arith
 
 longer_by : (ends : Bool) (octet : ℕ) (octets : List ℕ) → length octets ≤ length (framed octets)
-    → length octets + 1 ≤ length (frames (if ends then [] ∷ lines octets else onto_first octet (lines octets)))
+    → length octets + 1 ≤ length (frames (if ends then [] ∷ text_lines octets else onto_first octet (text_lines octets)))
 longer_by true octet octets le = omega arith
-longer_by false octet octets le = longer_first octet (length octets) (lines octets) le
+longer_by false octet octets le = longer_first octet (length octets) (text_lines octets) le
 
 pub framed_is_longer : (content : List ℕ) → length content ≤ length (framed content)
 framed_is_longer [] = omega arith

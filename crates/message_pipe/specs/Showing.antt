@@ -44,6 +44,7 @@ pub record Counted : Type 0 where
   pub behind : List ℕ
   pub refused : Option PutFault
 
+-- a port of the code by its octets
 abbrev pub counted_of : LinePort → Counted
 counted_of port = record { octets = port.octets.items; behind = drop port.end port.octets.items; refused = port.refused }
 

@@ -10,7 +10,7 @@ use outside_kit::{Outside, Port, PutFault};
 use std::alloc::Global;
 
 /// What was put for a port, and how much of it is shown.
-#[derive(Debug, Drop)]
+#[derive(Drop)]
 pub(crate) struct LinePort {
     /// What was put for the port since it was bound.
     pub octets: Vec<u8>,

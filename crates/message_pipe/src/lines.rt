@@ -1,31 +1,11 @@
 //! The lines of a content, as messages.
 
-ghost use Rattle.std.specs.Prelude.{◌≡◌, ◌+◌, ◌^◌, ◌<◌, ◌≤◌, ◌∷◌, ◌==◌, ◌↔◌, ◌≢◌, length, position, vec_len, IfOk, IsTrue};
-ghost use Rattle.message_pipe.specs.Lines.{lines, framed};
+ghost use Rattle.std.specs.Prelude.{◌≡◌, ◌+◌, ◌^◌, ◌<◌, ◌≤◌, ◌↔◌, ◌≢◌, length, vec_len, IfOk, IsTrue};
+ghost use Rattle.message_pipe.specs.Lines.{framed};
 
 use crate::framing::push_frame;
-use outside_kit::LoadFault;
+use outside_kit::{LoadFault, split_line};
 use std::alloc::{AllocError, Global};
-
-/// The place of the first LF.
-fn line_end(content: &[u8]) -> Option<usize>
-    ensures { result ≡ position (λ octet. octet == 10) content.now }
-{
-    content.iter().position(|octet| *octet == b'\n')
-}
-
-/// Cuts the first line off a content: the octets before the first LF, and those after it.
-fn split_line(content: &[u8]) -> (&[u8], &[u8])
-    requires { 0 < length content.now }
-    ensures line { lines content.now ≡ result.0.now ∷ lines result.1.now }
-    ensures within { length result.0.now ≤ length content.now }
-    ensures shorter { length result.1.now < length content.now }
-{
-    match line_end(content) {
-        Some(end) => (&content[..end], &content[end + 1..]),
-        None => (content, &[]),
-    }
-}
 
 /// Whether the frames of the lines of a content have at most so many octets.
 pub(crate) fn has_room(content: &[u8], limit: u64) -> bool

@@ -7,7 +7,7 @@ use std::marker::Model;
 
 /// The messages of a stream whose octets come in pieces, however they were cut. Contracts see the octets that it holds: those
 /// that were fed, without the frames of the messages that were given.
-#[derive(Debug, Drop)]
+#[derive(Drop)]
 pub struct Messages {
     octets: Vec<u8>,
     /// Where the octets that are held begin.

@@ -15,6 +15,7 @@ abbrev pub add_addr_body : Bool → ℕ → Address → Option ℕ → Option �
 add_addr_body echo id address port hmac =
     bit_or 0x30 (flag_if echo 0x01) ∷ id ∷ octets_of address ++ optional w16 port ++ optional w64 hmac
 
+-- the same of REMOVE_ADDR
 abbrev pub remove_addr_body : List ℕ → List ℕ
 remove_addr_body ids = 0x40 ∷ ids
 
@@ -29,9 +30,11 @@ pub record AddAddrForm : Type 0 where
   pub hmac : Bool
   pub echo : Bool
 
+-- a row of the table
 abbrev form : ℕ → Bool → Bool → Bool → Bool → AddAddrForm
 form octets ipv4 port hmac echo = record { octets = octets; ipv4 = ipv4; port = port; hmac = hmac; echo = echo }
 
+-- each form has a length of its own
 abbrev pub add_addr_forms : List AddAddrForm
 add_addr_forms =
     -- octets IPv4  port  HMAC  echo
@@ -58,12 +61,15 @@ abbrev pub add_addr_lengths : Bool → List ℕ
 add_addr_lengths true = lengths_where (λ (f : AddAddrForm). f.echo)
 add_addr_lengths false = lengths_where (λ (f : AddAddrForm). not f.echo)
 
+-- by its length the option has an address of 4 octets
 abbrev pub is_ipv4 : List ℕ → Bool
 is_ipv4 octets = is_among (length octets) (lengths_where (λ (f : AddAddrForm). f.ipv4))
 
+-- by its length it has a port
 abbrev pub has_port : List ℕ → Bool
 has_port octets = is_among (length octets) (lengths_where (λ (f : AddAddrForm). f.port))
 
+-- by its length it has an HMAC
 abbrev pub has_hmac : List ℕ → Bool
 has_hmac octets = is_among (length octets) (lengths_where (λ (f : AddAddrForm). f.hmac))
 
@@ -75,17 +81,21 @@ port_place octets = if is_ipv4 octets then 8 else 20
 abbrev pub hmac_place : List ℕ → ℕ
 hmac_place octets = port_place octets + (if has_port octets then 2 else 0)
 
+-- the address, from the fifth octet on
 abbrev pub address_at : List ℕ → Address
 address_at octets = if is_ipv4 octets then V4 (take 4 (drop 4 octets)) else V6 (take 16 (drop 4 octets))
 
+-- the port, where there is one
 abbrev pub port_at : List ℕ → Option ℕ
 port_at octets = if has_port octets then Some (number_at w16 octets (port_place octets)) else None
 
+-- the 64 bits of the HMAC, where there is one
 abbrev pub hmac_at : List ℕ → Option ℕ
 hmac_at octets = if has_hmac octets then Some (number_at w64 octets (hmac_place octets)) else None
 
 -- ---- REMOVE_ADDR as it is read
 
+-- the ids, from the fourth octet on
 abbrev pub ids_at : List ℕ → List ℕ
 ids_at octets = drop 3 octets
 
@@ -99,6 +109,7 @@ AddAddrHasForm echo hmac = is_some hmac ≡ not echo
 abbrev pub IdsHaveForm : List ℕ → Type 0
 IdsHaveForm ids = (1 ≤ length ids) × (length ids ≤ 37)
 
+-- an IPv4 address has 4 octets, an IPv6 address 16
 abbrev pub AddressFits : Address → Type 0
 AddressFits (V4 octets) = AreOctets octets × (length octets ≡ 4)
 AddressFits (V6 octets) = AreOctets octets × (length octets ≡ 16)

@@ -9,6 +9,7 @@ use Rattle.mptcp_options.specs.Octets.{flag_if, is_among, optional, IsBelow}
 
 -- ---- as it is written
 
+-- the fields behind the flags, in network order: 8 octets for each key, 2 for the data's length and 2 for its checksum
 abbrev pub keys_text : CapableKeys → List ℕ
 keys_text NoKey = []
 keys_text (Sender sender) = to_be_bytes w64 sender
@@ -36,9 +37,11 @@ abbrev pub keys_if_long : List ℕ → Bool → Option CapableKeys
 keys_if_long octets checksum =
     if is_among (length octets) (4 ∷ 12 ∷ 20 ∷ (if checksum then 24 else 22) ∷ []) then Some (keys_at octets) else None
 
+-- flag A, by which checksums are required
 abbrev pub reads_flag_a : List ℕ → Bool
 reads_flag_a octets = is_set (octet octets 3) 0x80
 
+-- flag C, by which no more subflows are taken at the sender's address and port
 abbrev pub reads_flag_c : List ℕ → Bool
 reads_flag_c octets = is_set (octet octets 3) 0x20
 

@@ -35,7 +35,7 @@ lengths octets =
     else (if subtype octets == 7 then 12 ∷ []
     else 4 ∷ []))))))
 
--- the length is one of the table's
+-- the length is one of the table's; rule 6 is that it isn't
 unfoldable pub has_length_of_table : List ℕ → Bool
 has_length_of_table octets =
     if subtype octets == 4 then nat_le 4 (length octets) else is_among (length octets) (lengths octets)
@@ -80,15 +80,17 @@ has_no_flags octets = is_capable octets && length octets == 3
 unfoldable pub is_unusable : List ℕ → Bool
 is_unusable octets = is_capable octets && (not (is_set (octet octets 3) 0x01) || is_set (octet octets 3) 0x40)
 
--- rule 7: where a mapping or data stands, there is a checksum exactly where checksums are used
+-- a DSS with a mapping, or an MP_CAPABLE of more than 20 octets, which has data
 abbrev pub carries_mapping_or_data : List ℕ → Bool
 carries_mapping_or_data octets =
     if subtype octets == 2 then has_mapping (octet octets 3) else is_capable octets && nat_lt 20 (length octets)
 
+-- a checksum of two octets ends it
 abbrev pub ends_with_checksum : List ℕ → Bool
 ends_with_checksum octets =
     if subtype octets == 2 then length octets == dss_end (octet octets 3) + 2 else length octets == 24
 
+-- rule 7: a mapping or data stands without a checksum where checksums are used, or with one where they aren't
 unfoldable pub differs_in_checksum : List ℕ → Bool → Bool
 differs_in_checksum octets true = carries_mapping_or_data octets && not (ends_with_checksum octets)
 differs_in_checksum octets false = carries_mapping_or_data octets && ends_with_checksum octets

@@ -1,6 +1,6 @@
 -- An option as a value, the ids of a REMOVE_ADDR as a list, and what the octets of an option mean.
 use Rattle.std.specs.Borrow.{Bor}
-use Rattle.std.specs.Prelude.{◌≡◌, ℕ, ◌+◌, Bool, Option, List}
+use Rattle.std.specs.Prelude.{◌≡◌, ℕ, ◌+◌, Bool, Option, option_map, List}
 use Rattle.key_material.specs.declared.address.Address.{Address}
 use Rattle.mptcp_options.specs.declared.capable.CapableKeys.{CapableKeys}
 use Rattle.mptcp_options.specs.declared.join.JoinForm.{JoinForm}
@@ -47,6 +47,10 @@ value_of (code.Prio backup) = Prio backup
 value_of (code.Fail number) = Fail number
 value_of (code.FastClose key) = FastClose key
 value_of (code.Reset transient reason) = Reset transient reason
+
+-- of an option that is lent, if there is one
+abbrev pub value_heard : Option (Bor MpOption) → Option OptionValue
+value_heard heard = option_map (λ option. value_of option.now) heard
 
 -- the answer of the code as a meaning
 abbrev pub meaning_of : Read → Meaning

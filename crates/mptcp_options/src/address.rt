@@ -96,6 +96,7 @@ fn hmac_at(option: &[u8]) -> Option<u64>
     has_hmac(option).then(|| u64_at(option, hmac_place(option)))
 }
 
+/// Reads an ADD_ADDR, whose length tells its form (RFC 8684, section 3.4.1).
 #[tactic(auto, using(crate::proofs::AddressMeaning::option_meaning_add_addr))]
 pub fn read_add_addr(option: &[u8]) -> Read<'_>
     requires framed { IsFramed option.now }
@@ -116,6 +117,7 @@ pub fn read_add_addr(option: &[u8]) -> Read<'_>
     })
 }
 
+/// Reads a REMOVE_ADDR, which has at least one id (RFC 8684, section 3.4.2).
 #[tactic(auto, using(crate::proofs::AddressMeaning::remove_addr_forms))]
 pub fn read_remove_addr(option: &[u8]) -> Read<'_>
     requires framed { IsFramed option.now }
@@ -129,6 +131,7 @@ pub fn read_remove_addr(option: &[u8]) -> Read<'_>
     Read::Known(MpOption::Remove { ids: &option[3..] })
 }
 
+/// The octets of an ADD_ADDR after kind and length (RFC 8684, section 3.4.1).
 pub fn add_addr_body(
     echo: bool,
     id: u8,
@@ -146,6 +149,7 @@ pub fn add_addr_body(
     ])
 }
 
+/// The octets of a REMOVE_ADDR of at most 37 ids after kind and length (RFC 8684, section 3.4.2).
 pub fn remove_addr_body(ids: &[u8]) -> Body
     requires { length ids.now ≤ 37 }
     ensures { result.items ≡ remove_addr_body ids.now }

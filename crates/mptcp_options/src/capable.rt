@@ -24,7 +24,7 @@ const FLAG_C: u8 = 0x20;
 const FLAG_H: u8 = 0x01;
 
 /// The keys of an MP_CAPABLE, by the segment that it stands on (RFC 8684, section 3.1).
-#[derive(Clone, Copy, Debug, PartialEq, Eq)]
+#[derive(Clone, Copy, Debug)]
 pub enum CapableKeys {
     /// A SYN: 4 octets, no key.
     NoKey,
@@ -76,6 +76,7 @@ fn keys_if_long(option: &[u8], checksum: bool) -> Option<CapableKeys>
     }
 }
 
+/// Reads an MP_CAPABLE, whose length tells its form (RFC 8684, section 3.1).
 #[tactic(auto, using(crate::proofs::CapableMeaning::capable_forms))]
 pub fn read_capable(option: &[u8], checksum: bool) -> Read<'_>
     requires framed { IsFramed option.now }
@@ -103,6 +104,7 @@ pub fn read_capable(option: &[u8], checksum: bool) -> Read<'_>
     }
 }
 
+/// The octets of an MP_CAPABLE after kind and length; flag H is set (RFC 8684, section 3.1).
 pub fn capable_body(flag_a: bool, flag_c: bool, keys: &CapableKeys) -> Body
     ensures { result.items ≡ capable_body flag_a flag_c keys.now }
 {

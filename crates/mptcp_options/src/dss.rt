@@ -27,7 +27,7 @@ const FLAG_WIDE_ACK: u8 = 0x02;
 const FLAG_ACK: u8 = 0x01;
 
 /// A data sequence number or a Data ACK, as wide as it stands in the option (RFC 8684, section 3.3).
-#[derive(Clone, Copy, Debug, PartialEq, Eq)]
+#[derive(Clone, Copy, Debug)]
 pub enum DataNumber {
     /// All eight octets.
     Whole(u64),
@@ -36,7 +36,7 @@ pub enum DataNumber {
 }
 
 /// The mapping of a DSS (RFC 8684, section 3.3.1).
-#[derive(Clone, Copy, Debug, PartialEq, Eq)]
+#[derive(Clone, Copy, Debug)]
 pub struct DssMap {
     /// The data sequence number of the first octet.
     pub number: DataNumber,
@@ -153,6 +153,7 @@ fn mapping_at(option: &[u8], checksum: bool) -> Option<DssMap>
     })
 }
 
+/// Reads a DSS, whose flags tell its length (RFC 8684, section 3.3).
 #[tactic(auto, using(crate::proofs::DssMeaning::dss_forms))]
 pub fn read_dss(option: &[u8], checksum: bool) -> Read<'_>
     requires framed { IsFramed option.now }
@@ -233,6 +234,7 @@ fn mapping_flags(mapping: &Option<DssMap>) -> u8
     }
 }
 
+/// The octets of a DSS after kind and length (RFC 8684, section 3.3).
 pub fn dss_body(ack: &Option<DataNumber>, mapping: &Option<DssMap>, fin: bool) -> Body
     ensures { result.items ≡ dss_body ack.now mapping.now fin }
 {

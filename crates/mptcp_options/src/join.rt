@@ -12,7 +12,7 @@ use crate::subtype::MP_JOIN;
 const BACKUP: u8 = 0x01;
 
 /// An MP_JOIN, by the segment that it stands on (RFC 8684, section 3.2).
-#[derive(Clone, Copy, Debug, PartialEq, Eq)]
+#[derive(Clone, Copy, Debug)]
 pub enum JoinForm {
     /// A SYN: 12 octets, whether the subflow is a backup (flag B), the address id of the sender, the token of the
     /// receiver and the sender's nonce.
@@ -35,6 +35,7 @@ pub enum JoinForm {
     },
 }
 
+/// Reads an MP_JOIN, whose length tells its form (RFC 8684, section 3.2).
 #[tactic(auto, using(crate::proofs::JoinMeaning::join_forms))]
 pub fn read_join(option: &[u8]) -> Read<'_>
     requires framed { IsFramed option.now }
@@ -68,6 +69,7 @@ pub fn read_join(option: &[u8]) -> Read<'_>
     }
 }
 
+/// The octets of an MP_JOIN after kind and length (RFC 8684, section 3.2).
 pub fn join_body(form: &JoinForm) -> Body
     ensures { result.items ≡ join_body form.now }
 {

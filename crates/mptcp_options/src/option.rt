@@ -7,7 +7,7 @@ use key_material::Address;
 pub const KIND: u8 = 0x1E;
 
 /// An option of Multipath TCP (RFC 8684, section 3). Flags and fields that a reader ignores are no part of it.
-#[derive(Clone, Copy, Debug, PartialEq, Eq)]
+#[derive(Clone, Copy, Debug)]
 pub enum MpOption<'a> {
     /// MP_CAPABLE, which opens a connection (section 3.1): whether checksums are required (flag A), whether joins
     /// to the address and port of the segment are refused (flag C), and the keys. Flag B is 0, flag H is 1.
@@ -61,7 +61,7 @@ pub enum MpOption<'a> {
 }
 
 /// What the octets of an option say.
-#[derive(Clone, Copy, Debug, PartialEq, Eq)]
+#[derive(Clone, Copy)]
 pub enum Read<'a> {
     /// This option.
     Known(MpOption<'a>),

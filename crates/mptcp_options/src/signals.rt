@@ -11,6 +11,7 @@ use crate::subtype::{MP_FAIL, MP_FASTCLOSE, MP_PRIO, MP_TCPRST};
 /// The flag in the subtype's octet: B of MP_PRIO, T of MP_TCPRST.
 const LOW_FLAG: u8 = 0x01;
 
+/// Reads an MP_PRIO of 3 octets (RFC 8684, section 3.3.8).
 #[tactic(auto, using(crate::proofs::SignalMeaning::option_meaning_prio))]
 pub fn read_prio(option: &[u8]) -> Read<'_>
     requires framed { IsFramed option.now }
@@ -26,6 +27,7 @@ pub fn read_prio(option: &[u8]) -> Read<'_>
     })
 }
 
+/// Reads an MP_FAIL of 12 octets (RFC 8684, section 3.7).
 #[tactic(auto, using(crate::proofs::SignalMeaning::option_meaning_fail))]
 pub fn read_fail(option: &[u8]) -> Read<'_>
     requires framed { IsFramed option.now }
@@ -41,6 +43,7 @@ pub fn read_fail(option: &[u8]) -> Read<'_>
     })
 }
 
+/// Reads an MP_FASTCLOSE of 12 octets (RFC 8684, section 3.5).
 #[tactic(auto, using(crate::proofs::SignalMeaning::option_meaning_fast_close))]
 pub fn read_fast_close(option: &[u8]) -> Read<'_>
     requires framed { IsFramed option.now }
@@ -56,6 +59,7 @@ pub fn read_fast_close(option: &[u8]) -> Read<'_>
     })
 }
 
+/// Reads an MP_TCPRST of 4 octets (RFC 8684, section 3.6).
 #[tactic(auto, using(crate::proofs::SignalMeaning::option_meaning_reset))]
 pub fn read_reset(option: &[u8]) -> Read<'_>
     requires framed { IsFramed option.now }
@@ -72,24 +76,28 @@ pub fn read_reset(option: &[u8]) -> Read<'_>
     })
 }
 
+/// The octets of an MP_PRIO after kind and length.
 pub fn prio_body(backup: bool) -> Body
     ensures { result.items ≡ prio_body backup }
 {
     joined(&[&[MP_PRIO << 4 | flag_if(backup, LOW_FLAG)]])
 }
 
+/// The octets of an MP_FAIL after kind and length.
 pub fn fail_body(number: u64) -> Body
     ensures { result.items ≡ fail_body number }
 {
     joined(&[&[MP_FAIL << 4, 0], &number.to_be_bytes()])
 }
 
+/// The octets of an MP_FASTCLOSE after kind and length.
 pub fn fast_close_body(key: u64) -> Body
     ensures { result.items ≡ fast_close_body key }
 {
     joined(&[&[MP_FASTCLOSE << 4, 0], &key.to_be_bytes()])
 }
 
+/// The octets of an MP_TCPRST after kind and length.
 pub fn reset_body(transient: bool, reason: u8) -> Body
     ensures { result.items ≡ reset_body transient reason }
 {

@@ -7,9 +7,8 @@ use connection_table::run_many;
 use file_outside::FileOutside;
 use mptcp_run::{Status, fault_text, run, run_messages};
 use outside_kit::OpenGate;
+use run_outside::command_words;
 use std::alloc::{AllocError, Global};
-use std::env::{self, Env};
-use std::io;
 use std::os::fd::AsFd;
 use std::process::ExitCode;
 use std::sync::Wait;
@@ -48,23 +47,6 @@ fn end_of_many(rt: &HostRuntime, words: &[String]) -> End {
     }
 }
 
-/// The words after the program's name, or the status where there are none to be had.
-fn words_of(rt: &(impl Env + Alloc<A = Global>)) -> Result<Vec<String>, Status> {
-    let mut words = Vec::new(rt.alloc());
-    match env::args(rt) {
-        Ok(args) => {
-            for word in args.skip(1) {
-                if words.push(word).is_err() {
-                    return Err(Status::Memory);
-                }
-            }
-            Ok(words)
-        }
-        Err(error) if error.kind() == io::ErrorKind::OutOfMemory => Err(Status::Memory),
-        Err(_) => Err(Status::Usage),
-    }
-}
-
 /// Whether standard output is open. Where it isn't, a file that is opened later may have its number.
 fn has_output(rt: &HostRuntime) -> bool {
     rt.stdout().as_fd().try_clone_to_owned().is_ok()
@@ -91,7 +73,7 @@ fn run_words<R: Threads + Wait + Sync>(rt: &HostRuntime, threads: &R, words: &[S
 }
 
 fn main(rt: HostRuntime) -> ExitCode {
-    let end = match words_of(&rt) {
+    let end = match command_words(&rt) {
         Ok(words) => run_words(&rt, &rt, &words),
         Err(status) => end_of(rt.alloc(), &status),
     };

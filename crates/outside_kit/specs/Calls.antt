@@ -21,10 +21,12 @@ abbrev pub AreCallsAfter : Call → Bool → Option (List Made) → Option (List
 AreCallsAfter call ok old new =
     IfSome new (λ after. IsSomeAnd old (λ before. after ≡ before ++ record { call = call; ok = ok } ∷ []))
 
+-- a call that the code keeps, by its octets
 abbrev pub call_of : OutsideCall → Call
 call_of (kept.Load name) = Load (string_bytes name)
 call_of (kept.Bind port name) = Bind port (string_bytes name)
 call_of (kept.Put port piece) = Put port piece.items
 
+-- and whether it succeeded
 abbrev pub made_of : RecordedCall → Made
 made_of kept = record { call = call_of kept.call; ok = kept.ok }

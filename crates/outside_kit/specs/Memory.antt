@@ -32,6 +32,7 @@ pub record Recorded : Type 0 where
   pub memory : Memory
   pub made : Option (List Made)
 
+-- a file of the code by its octets
 abbrev pub stored : NamedFile → StoredFile
 stored file = record { name = string_bytes file.name; content = file.content.items }
 

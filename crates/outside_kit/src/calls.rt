@@ -9,7 +9,7 @@ use std::alloc::{AllocError, Global};
 use std::marker::Model;
 
 /// A call of an [`Outside`](crate::Outside).
-#[derive(Debug, Drop)]
+#[derive(Drop)]
 pub enum OutsideCall {
     /// The content of a name.
     Load { name: String },
@@ -20,7 +20,7 @@ pub enum OutsideCall {
 }
 
 /// A call that was made.
-#[derive(Debug, Drop)]
+#[derive(Drop)]
 pub struct RecordedCall {
     pub call: OutsideCall,
     /// Whether it succeeded.
@@ -28,7 +28,7 @@ pub struct RecordedCall {
 }
 
 /// The calls that were made, in order, or nothing once memory for one of them was wanting.
-#[derive(Debug, Drop)]
+#[derive(Drop)]
 pub struct CallRecord {
     alloc: Global,
     made: Option<Vec<RecordedCall>>,

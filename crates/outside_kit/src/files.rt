@@ -1,12 +1,12 @@
 /// A file of a [`MemoryOutside`](crate::MemoryOutside).
-#[derive(Debug, Drop)]
+#[derive(Drop)]
 pub struct NamedFile {
     pub name: String,
     pub content: Vec<u8>,
 }
 
 /// A call of a [`MemoryOutside`](crate::MemoryOutside) that is to fail.
-#[derive(Clone, Copy, Debug, PartialEq, Eq)]
+#[derive(Clone, Copy)]
 pub struct FailAt {
     /// The number of the call; loads, binds and puts are counted together, from 1.
     pub call: u64,

@@ -13,7 +13,7 @@ use std::marker::Model;
 /// An outside whose files and ports lie in memory. It tells everything, and fails where it is told to. A call that can't be noted
 /// for want of memory is refused for it, and then it tells nothing more of the calls that were made on it; but a load that fails
 /// otherwise is answered so all the same.
-#[derive(Debug, Drop)]
+#[derive(Drop)]
 pub struct MemoryOutside {
     files: Vec<NamedFile>,
     failing: Vec<FailAt>,
@@ -27,7 +27,7 @@ pub struct MemoryOutside {
 }
 
 /// What was put to a port, and how many of its binds and puts have failed.
-#[derive(Debug, Drop)]
+#[derive(Drop)]
 struct MemoryPort {
     held: Vec<u8>,
     faults: u64,

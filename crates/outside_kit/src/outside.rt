@@ -10,7 +10,7 @@ use std::error::Error;
 use std::fmt;
 
 /// Why a content wasn't loaded.
-#[derive(Clone, Copy, Debug, PartialEq, Eq)]
+#[derive(Clone, Copy, Debug)]
 pub enum LoadFault {
     /// The device failed.
     Failed,

@@ -1,5 +1,5 @@
 /// Where a connection's output goes.
-#[derive(Clone, Copy, Debug, PartialEq, Eq)]
+#[derive(Clone, Copy, Debug)]
 pub enum Port {
     /// The bytes that A's reader reads, which B sent.
     ReadByA,

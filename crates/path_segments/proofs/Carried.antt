@@ -2,12 +2,12 @@
 use Rattle.std.proofs.Common.{◌≡◌, refl, ◌∙◌, ap, ℕ, zero, suc, ◌+◌, true, Option, Some, None, List, [], ◌∷◌, ◌++◌, length, append_assoc, length-append, arith}
 use Rattle.std.specs.Prelude.{replicate}
 use Rattle.std.proofs.lemmas.List.{length-replicate}
+use Rattle.outside_kit.specs.declared.side.Side.{Side}
 use Rattle.segment_wire.specs.Options.{are_whole}
 use Rattle.segment_wire.specs.Segment.{CanCarry}
 use Rattle.segment_wire.proofs.Appended.{IsOption, are_whole-append}
 use Rattle.mptcp_options.specs.Value.{OptionValue}
 use Rattle.mptcp_options.specs.Text.{option_text}
-use Rattle.path_segments.specs.declared.spelling.Side.{Side}
 use Rattle.path_segments.specs.declared.spelling.Spelling.{Spelling}
 use Rattle.path_segments.specs.Options.{PlainOption, said_option}
 use Rattle.path_segments.specs.Spelled.{PlainSegment, syn_text, options_text, padding, padded, unpadded_options, CanSay}

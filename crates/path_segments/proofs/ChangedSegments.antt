@@ -2,6 +2,8 @@
 use Rattle.std.proofs.Common.{◌≡◌, refl, sym, ◌∙◌, ap, ℕ, ◌<◌, ◌^◌, Bool, true, not, Option, Some, None, is_some, option_map, List, [], ◌∷◌, ◌++◌, length, map, append_assoc}
 use Rattle.std.specs.Prelude.{IfSome, filter, replicate, if◌then◌else◌, Ok}
 use Rattle.std.specs.Result.{result_ok}
+use Rattle.outside_kit.specs.declared.side.Side.{Side}
+use Rattle.outside_kit.specs.Side.{peer}
 use Rattle.segment_wire.specs.Options.{option_octets}
 use Rattle.segment_wire.specs.Segment.{CanWrite, segment_text}
 use Rattle.segment_wire.specs.Reading.{segment_meaning}
@@ -9,12 +11,11 @@ use Rattle.segment_wire.specs.Changes as changes
 use Rattle.segment_wire.proofs.Again.{segment_meaning-written}
 use Rattle.segment_wire.proofs.Appended.{option_octets-append}
 use Rattle.segment_wire.proofs.Changed.{others_can_be_carried}
+use Rattle.segment_wire.specs.Paths.{addresses_from}
 use Rattle.mptcp_options.specs.Value.{OptionValue}
 use Rattle.mptcp_options.specs.Text.{option_text}
 use Rattle.path_segments.specs.declared.expected.Expected.{Expected}
-use Rattle.path_segments.specs.declared.spelling.Side.{Side}
 use Rattle.path_segments.specs.declared.spelling.Spelling.{Spelling}
-use Rattle.path_segments.specs.Spelling.{peer_of, addresses_from}
 use Rattle.path_segments.specs.Options.{PlainOption, said_option}
 use Rattle.path_segments.specs.Spelled.{PlainSegment, CanSay, options_text, padding, padded, unpadded_options, spelled, spelled_text}
 use Rattle.path_segments.specs.Heard.{heard_options, heard_segment, heard_in, first_mss}
@@ -82,7 +83,7 @@ module _ (spelling : Spelling) (from : Side) (s : PlainSegment) (can : CanSay sp
   meaning : segment_meaning (addresses_from spelling.path from) (spelled_text spelling from s) ≡ Ok (spelled spelling from s)
   meaning =
       segment_meaning-written (addresses_from spelling.path from) (spelled spelling from s)
-      (four spelling.path from) (four spelling.path (peer_of from)) (written spelling from s can)
+      (four spelling.path from) (four spelling.path (peer from)) (written spelling from s can)
 
   text-stripped : changes.text_stripped (addresses_from spelling.path from) (spelled_text spelling from s)
       ≡ segment_text (addresses_from spelling.path from) (changes.stripped (spelled spelling from s))
@@ -102,7 +103,7 @@ module _ (spelling : Spelling) (from : Side) (s : PlainSegment) (can : CanSay sp
       ap (heard_in spelling from expected) text-stripped
       ∙ ap (λ r. option_map (heard_segment spelling from expected) (result_ok r))
       (segment_meaning-written (addresses_from spelling.path from) (changes.stripped (spelled spelling from s))
-      (four spelling.path from) (four spelling.path (peer_of from)) stripped-written)
+      (four spelling.path from) (four spelling.path (peer from)) stripped-written)
 
   module _ (expected : Expected) (is : IsExpected expected) (fresh : IsFresh spelling from expected s) where
     segment-stripped : heard_segment spelling from expected (changes.stripped (spelled spelling from s)) ≡ record (meant s) { options = [] }
@@ -110,7 +111,7 @@ module _ (spelling : Spelling) (from : Side) (s : PlainSegment) (can : CanSay sp
     segment-stripped =
         rw (
           position_again spelling from expected.edge s.position fresh.position,
-          ack_again spelling (peer_of from) expected.unacknowledged s.acknowledged fresh.acknowledged,
+          ack_again spelling (peer from) expected.unacknowledged s.acknowledged fresh.acknowledged,
           window_again s.syn s.window,
           others_left spelling from expected is s,
           mss_left spelling from expected is s s.mss s.syn fresh.syn fresh.mss,

@@ -3,6 +3,7 @@ use Rattle.std.proofs.Common.{◌≡◌, refl, sym, ◌∙◌, ap, ℕ, zero, su
 use Rattle.std.specs.Prelude.{All, IfSome, replicate, if◌then◌else◌}
 use Rattle.std.specs.Int.{w16, to_be_bytes}
 use Rattle.std.proofs.lemmas.List.Elements.{All-head, All-tail}
+use Rattle.outside_kit.specs.declared.side.Side.{Side}
 use Rattle.segment_wire.specs.Options.{plain_options, option_octets}
 use Rattle.segment_wire.proofs.Fronts.{later, plain_options-padding}
 use Rattle.segment_wire.proofs.Appended.{IsOption, option_octets-append}
@@ -11,7 +12,6 @@ use Rattle.mptcp_options.specs.Text.{option_text}
 use Rattle.mptcp_options.specs.Meaning.{option_meaning, is_of_another_kind}
 use Rattle.mptcp_options.proofs.OptionLaws.{read_again}
 use Rattle.path_segments.specs.declared.expected.Expected.{Expected}
-use Rattle.path_segments.specs.declared.spelling.Side.{Side}
 use Rattle.path_segments.specs.declared.spelling.Spelling.{Spelling}
 use Rattle.path_segments.specs.Options.{PlainOption, said_option}
 use Rattle.path_segments.specs.Spelled.{PlainSegment, syn_text, options_text, padding, padded, unpadded_options, CanSayOption}

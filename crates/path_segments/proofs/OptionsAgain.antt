@@ -5,15 +5,16 @@ use Rattle.path_segments.specs.declared.expected.Expected.{Expected}
 use Rattle.path_segments.specs.declared.segment.PathOption.TheVariants.{Capable, Join, Dss, AddAddr, Remove, Prio, Fail, FastClose, Reset}
 use Rattle.path_segments.specs.declared.segment.PathMapping.{PathMapping}
 use Rattle.path_segments.specs.declared.segment.PathMapping.TheVariants.{Bytes, End, Infinite}
-use Rattle.path_segments.specs.declared.spelling.Side.{Side}
 use Rattle.path_segments.specs.declared.spelling.Spelling.{Spelling}
-use Rattle.path_segments.specs.Spelling.{peer_of, data_number}
+use Rattle.path_segments.specs.Spelling.{data_number}
 use Rattle.path_segments.specs.Options.{PlainOption, said_option, said_mapping, ends_stream, mapping_ends_stream}
 use Rattle.path_segments.specs.Heard.{place_heard, heard_mapping, heard_option}
 use Rattle.path_segments.specs.HeardLent.{IsExpected}
 use Rattle.path_segments.specs.Laws.{meant_mapping, meant_option, IsPlaceFresh, IsMappingFresh, IsOptionFresh}
 use Rattle.path_segments.proofs.NumbersAgain.{place_again, whole_again, relative_again}
 use Rattle.std.specs.Prelude.{IfSome}
+use Rattle.outside_kit.specs.declared.side.Side.{Side}
+use Rattle.outside_kit.specs.Side.{peer}
 
 module _ (spelling : Spelling) (from : Side) (expected : Expected) (is : IsExpected expected) where
   mapping_again : (m : PathMapping ℕ) → IsMappingFresh spelling.short expected m
@@ -32,10 +33,10 @@ module _ (spelling : Spelling) (from : Side) (expected : Expected) (is : IsExpec
   mapping_again_if (Some m) fresh = ap (λ n. Some n) (mapping_again m fresh)
 
   ack_again_if : (next : Option ℕ) → IfSome next (IsPlaceFresh spelling.short expected.told)
-      → option_map (place_heard spelling (peer_of from) expected.told) (option_map (data_number spelling (peer_of from)) next)
+      → option_map (place_heard spelling (peer from) expected.told) (option_map (data_number spelling (peer from)) next)
       ≡ option_map (λ n. Some n) next
   ack_again_if None fresh = refl
-  ack_again_if (Some next) fresh = ap (λ n. Some n) (place_again spelling (peer_of from) expected.told next is.told fresh)
+  ack_again_if (Some next) fresh = ap (λ n. Some n) (place_again spelling (peer from) expected.told next is.told fresh)
 
   pub option_again : (o : PlainOption) → IsOptionFresh spelling.short expected o
       → heard_option spelling from expected (said_option spelling from o) ≡ meant_option o
@@ -45,6 +46,6 @@ module _ (spelling : Spelling) (from : Side) (expected : Expected) (is : IsExpec
   option_again (AddAddr echo id address port hmac) fresh = refl
   option_again (Remove ids) fresh = refl
   option_again (Prio backup) fresh = refl
-  option_again (Fail place) fresh = ap Fail (whole_again spelling (peer_of from) expected.told place is.told fresh.below)
+  option_again (Fail place) fresh = ap Fail (whole_again spelling (peer from) expected.told place is.told fresh.below)
   option_again (FastClose key) fresh = refl
   option_again (Reset transient reason) fresh = refl

@@ -2,13 +2,15 @@
 use Rattle.std.proofs.Common.{◌≡◌, refl, ◌∙◌, ap, ℕ, ◌<◌, ◌≤◌, ◌^◌, Bool, true, false, Option, Some, None, is_some, option_map, unwrap_or, length, arith}
 use Rattle.std.specs.Prelude.{IfSome, if◌then◌else◌}
 use Rattle.std.specs.Result.{result_ok}
+use Rattle.outside_kit.specs.declared.side.Side.{Side}
+use Rattle.outside_kit.specs.declared.side.Side.TheVariants.{A, B}
+use Rattle.outside_kit.specs.Side.{peer}
 use Rattle.segment_wire.specs.Segment.{CanWrite, IsHead}
 use Rattle.segment_wire.proofs.Again.{segment_meaning-written}
+use Rattle.segment_wire.specs.Paths.{addresses_from, address_of, port_of}
 use Rattle.path_segments.specs.declared.expected.Expected.{Expected}
-use Rattle.path_segments.specs.declared.spelling.Side.{Side}
-use Rattle.path_segments.specs.declared.spelling.Side.TheVariants.{A, B}
 use Rattle.path_segments.specs.declared.spelling.Spelling.{Spelling}
-use Rattle.path_segments.specs.Spelling.{peer_of, address_of, addresses_from, port_of, subflow_number}
+use Rattle.path_segments.specs.Spelling.{subflow_number}
 use Rattle.path_segments.specs.Spelled.{PlainSegment, CanSay, window_field, spelled_head, spelled}
 use Rattle.path_segments.specs.Heard.{position_or, number_means, window_heard, heard_segment}
 use Rattle.path_segments.specs.declared.position.HeardPosition.TheVariants.{At}
@@ -39,9 +41,9 @@ module _ (spelling : Spelling) (from : Side) (s : PlainSegment) (can : CanSay sp
   head-fits : IsHead (spelled_head spelling from s)
   head-fits = record {
     source_port = port-fits spelling.path from can.path;
-    destination_port = port-fits spelling.path (peer_of from) can.path;
+    destination_port = port-fits spelling.path (peer from) can.path;
     seq = omega arith;
-    ack = ack-fits spelling (peer_of from) s.acknowledged;
+    ack = ack-fits spelling (peer from) s.acknowledged;
     window = window-fits s.syn s.window can.window;
   }
 
@@ -68,7 +70,7 @@ module _ (spelling : Spelling) (from : Side) (expected : Expected) (s : PlainSeg
   segment_again =
       rw (
         position_again spelling from expected.edge s.position fresh.position,
-        ack_again spelling (peer_of from) expected.unacknowledged s.acknowledged fresh.acknowledged,
+        ack_again spelling (peer from) expected.unacknowledged s.acknowledged fresh.acknowledged,
         window_again s.syn s.window,
         mss_again spelling from expected is s fresh.syn fresh.mss,
         options_again spelling from expected is s can.options fresh.options,
@@ -78,5 +80,5 @@ pub heard_as_meant : IsHeardAsMeant
 heard_as_meant spelling from expected s can is fresh =
     ap (λ r. option_map (heard_segment spelling from expected) (result_ok r))
     (segment_meaning-written (addresses_from spelling.path from) (spelled spelling from s)
-    (four spelling.path from) (four spelling.path (peer_of from)) (written spelling from s can))
+    (four spelling.path from) (four spelling.path (peer from)) (written spelling from s can))
     ∙ ap (λ t. Some t) (segment_again spelling from expected s can is fresh)

@@ -2,11 +2,14 @@
 -- 8684, section 3).
 use Rattle.std.specs.Prelude.{ℕ, ◌+◌, ◌-◌, ◌*◌, ◌^◌, Bool, ◌&&◌, ◌==◌, nat_lt, if◌then◌else◌, Option, Some, None, option_map, option_and_then, List, [], ◌∷◌, map}
 use Rattle.std.specs.Result.{result_ok}
+use Rattle.outside_kit.specs.declared.side.Side.{Side}
+use Rattle.outside_kit.specs.Side.{peer}
 use Rattle.seq_units.specs.Number.{number_of, position_near, below}
 use Rattle.seq_units.specs.Widening.{widened}
 use Rattle.segment_wire.specs.Options.{option_octets, mss_of}
 use Rattle.segment_wire.specs.Segment.{Segment}
 use Rattle.segment_wire.specs.Reading.{segment_meaning}
+use Rattle.segment_wire.specs.Paths.{addresses_from}
 use Rattle.mptcp_options.specs.declared.dss.DataNumber.{DataNumber}
 use Rattle.mptcp_options.specs.declared.dss.DataNumber.TheVariants.{Whole, Low}
 use Rattle.mptcp_options.specs.declared.dss.DssMap.{DssMap}
@@ -20,9 +23,8 @@ use Rattle.path_segments.specs.declared.segment.PathOption.{PathOption}
 use Rattle.path_segments.specs.declared.segment.PathOption.TheVariants.{Capable, Join, Dss, AddAddr, Remove, Prio, Fail, FastClose, Reset}
 use Rattle.path_segments.specs.declared.segment.PathMapping.{PathMapping}
 use Rattle.path_segments.specs.declared.segment.PathMapping.TheVariants.{Bytes, End, Infinite}
-use Rattle.path_segments.specs.declared.spelling.Side.{Side}
 use Rattle.path_segments.specs.declared.spelling.Spelling.{Spelling}
-use Rattle.path_segments.specs.Spelling.{peer_of, numbers_of, addresses_from}
+use Rattle.path_segments.specs.Spelling.{numbers_of}
 
 -- the position of a side's subflow that a number means
 abbrev pub position_heard : Spelling → Side → ℕ → ℕ → Option ℕ
@@ -63,16 +65,17 @@ heard_mapping spelling from expected map fin =
     else (if fin && (map.relative == 0 && map.length == 1) then End place map.checksum
     else Bytes place position map.length fin map.checksum)
 
+-- an option by places: a mapping's are of the sender's stream, those of a Data ACK and of MP_FAIL of the peer's
 abbrev pub heard_option : Spelling → Side → Expected → wire.OptionValue → PathOption (Option ℕ) (List ℕ)
 heard_option spelling from expected (wire.Capable flag_a flag_c keys) = Capable flag_a flag_c keys
 heard_option spelling from expected (wire.Join form) = Join form
 heard_option spelling from expected (wire.Dss ack mapping fin) =
-    Dss (option_map (place_heard spelling (peer_of from) expected.told) ack)
+    Dss (option_map (place_heard spelling (peer from) expected.told) ack)
     (option_map (λ (map : DssMap). heard_mapping spelling from expected map fin) mapping)
 heard_option spelling from expected (wire.AddAddr echo id address port hmac) = AddAddr echo id address port hmac
 heard_option spelling from expected (wire.RemoveAddr ids) = Remove ids
 heard_option spelling from expected (wire.Prio backup) = Prio backup
-heard_option spelling from expected (wire.Fail number) = Fail (place_heard spelling (peer_of from) expected.told (Whole number))
+heard_option spelling from expected (wire.Fail number) = Fail (place_heard spelling (peer from) expected.told (Whole number))
 heard_option spelling from expected (wire.FastClose key) = FastClose key
 heard_option spelling from expected (wire.Reset transient reason) = Reset transient reason
 
@@ -91,6 +94,7 @@ known_in checksums (octets ∷ others) = known_or (option_meaning octets checksu
 abbrev pub heard_options : Spelling → Side → Expected → List (List ℕ) → List (PathOption (Option ℕ) (List ℕ))
 heard_options spelling from expected options = map (heard_option spelling from expected) (known_in spelling.checksums options)
 
+-- the first one, or else the others
 abbrev mss_or : Option ℕ → Option ℕ → Option ℕ
 mss_or None others = others
 mss_or (Some mss) others = Some mss
@@ -102,16 +106,20 @@ first_mss (octets ∷ others) = mss_or (mss_of octets) (first_mss others)
 
 -- ---- the segment
 
+-- a segment as it is heard: a number may mean no position or place
+abbrev pub HeardSegment : Type 0
+HeardSegment = PathSegment HeardPosition (List (PathOption (Option ℕ) (List ℕ))) (List ℕ)
+
 -- a SYN's window is told as it is, all others in units of 32 octets
 abbrev pub window_heard : Bool → ℕ → ℕ
 window_heard syn window = if syn then window else 32 * window
 
-abbrev pub heard_segment : Spelling → Side → Expected → Segment
-    → PathSegment HeardPosition (List (PathOption (Option ℕ) (List ℕ))) (List ℕ)
+-- a segment by positions, at these expected ones; a maximum segment size counts on a SYN alone
+abbrev pub heard_segment : Spelling → Side → Expected → Segment → HeardSegment
 heard_segment spelling from expected s = record {
   position = number_means spelling from expected.edge s.head.seq;
   acknowledged = (if s.head.ack_set
-      then Some (number_means spelling (peer_of from) expected.unacknowledged s.head.ack)
+      then Some (number_means spelling (peer from) expected.unacknowledged s.head.ack)
       else None);
   syn = s.head.syn;
   fin = s.head.fin;
@@ -123,7 +131,6 @@ heard_segment spelling from expected s = record {
 }
 
 -- what octets say that a side sent, where they are a segment
-abbrev pub heard_in : Spelling → Side → Expected → List ℕ
-    → Option (PathSegment HeardPosition (List (PathOption (Option ℕ) (List ℕ))) (List ℕ))
+abbrev pub heard_in : Spelling → Side → Expected → List ℕ → Option HeardSegment
 heard_in spelling from expected octets =
     option_map (heard_segment spelling from expected) (result_ok (segment_meaning (addresses_from spelling.path from) octets))

@@ -6,7 +6,7 @@ use Rattle.path_segments.specs.declared.position.HeardPosition.{HeardPosition}
 use Rattle.path_segments.specs.declared.segment.PathSegment.{PathSegment}
 use Rattle.path_segments.specs.declared.segment.PathOption.{PathOption}
 use Rattle.path_segments.specs.declared.heard.HeardOptions.{HeardOptions}
-use Rattle.path_segments.specs.Heard.{heard_options}
+use Rattle.path_segments.specs.Heard.{HeardSegment, heard_options}
 use Rattle.path_segments.specs.HeardLent.{IsLow}
 
 -- the options that an iterator has still to give
@@ -14,8 +14,7 @@ abbrev pub heard_left : HeardOptions → List (PathOption (Option ℕ) (List ℕ
 heard_left o = heard_options o.spelling o.from o.expected (octets_alone (options_left o.left))
 
 -- a segment whose options and payload are lists
-abbrev pub heard_value : PathSegment HeardPosition HeardOptions (Bor (List ℕ))
-    → PathSegment HeardPosition (List (PathOption (Option ℕ) (List ℕ))) (List ℕ)
+abbrev pub heard_value : PathSegment HeardPosition HeardOptions (Bor (List ℕ)) → HeardSegment
 heard_value s = record {
   position = s.position;
   acknowledged = s.acknowledged;

@@ -1,7 +1,9 @@
 -- What is written is heard as it was meant.
 use Rattle.std.specs.Prelude.{◌≡◌, ℕ, ◌+◌, ◌*◌, ◌/◌, ◌^◌, ◌<◌, min, Bool, true, false, is_some, ◌&&◌, ◌==◌, if◌then◌else◌, Option, Some, option_map, IfSome, List, [], map, All, pos, ◌-ℤ◌}
+use Rattle.outside_kit.specs.declared.side.Side.{Side}
 use Rattle.seq_units.specs.Number.{IsNear}
 use Rattle.segment_wire.specs.Changes.{with_turned_bit, text_stripped, text_altered}
+use Rattle.segment_wire.specs.Paths.{addresses_from}
 use Rattle.mptcp_options.specs.Text.{Fits}
 use Rattle.path_segments.specs.declared.expected.Expected.{Expected}
 use Rattle.path_segments.specs.declared.position.HeardPosition.{HeardPosition}
@@ -11,9 +13,7 @@ use Rattle.path_segments.specs.declared.segment.PathOption.{PathOption}
 use Rattle.path_segments.specs.declared.segment.PathOption.TheVariants.{Capable, Join, Dss, AddAddr, Remove, Prio, Fail, FastClose, Reset}
 use Rattle.path_segments.specs.declared.segment.PathMapping.{PathMapping}
 use Rattle.path_segments.specs.declared.segment.PathMapping.TheVariants.{Bytes, End, Infinite}
-use Rattle.path_segments.specs.declared.spelling.Side.{Side}
 use Rattle.path_segments.specs.declared.spelling.Spelling.{Spelling}
-use Rattle.path_segments.specs.Spelling.{addresses_from}
 use Rattle.path_segments.specs.Options.{PlainOption, said_option, relative_number}
 use Rattle.path_segments.specs.Spelled.{PlainSegment, CanSay, spelled_text}
 use Rattle.path_segments.specs.Heard.{heard_in}
@@ -25,6 +25,7 @@ meant_mapping (Bytes place position len fin checksum) = Bytes (Some place) (Some
 meant_mapping (End place checksum) = End (Some place) checksum
 meant_mapping (Infinite place position) = Infinite (Some place) (Some position)
 
+-- so does each number of an option
 abbrev pub meant_option : PlainOption → PathOption (Option ℕ) (List ℕ)
 meant_option (Capable flag_a flag_c keys) = Capable flag_a flag_c keys
 meant_option (Join form) = Join form
@@ -40,6 +41,7 @@ meant_option (Reset transient reason) = Reset transient reason
 abbrev pub window_told : Bool → ℕ → ℕ
 window_told syn window = if syn then min 65535 window else 32 * (window / 32)
 
+-- and of a segment, whose window is the one that the octets tell
 abbrev pub meant : PlainSegment → PathSegment HeardPosition (List (PathOption (Option ℕ) (List ℕ))) (List ℕ)
 meant s = record {
   position = At s.position;
@@ -69,6 +71,7 @@ pub record IsBytes (position len : ℕ) (fin : Bool) : Type 0 where
   pub some : (len == 0) ≡ false
   pub no_end : (fin && (relative_number position == 0 && len == 1)) ≡ false
 
+-- the places and positions of a mapping are so
 abbrev pub IsMappingFresh : Bool → Expected → PathMapping ℕ → Type 0
 IsMappingFresh short expected (Bytes place position len fin checksum) =
     IsPlaceFresh short expected.place place × IsPositionFresh expected.edge position × IsBytes position len fin
@@ -76,6 +79,7 @@ IsMappingFresh short expected (End place checksum) = IsPlaceFresh short expected
 IsMappingFresh short expected (Infinite place position) =
     IsPlaceFresh short expected.place place × IsPositionFresh expected.edge position
 
+-- so are those of a DSS, and the place of MP_FAIL, which has eight octets always; other options have none
 abbrev pub IsOptionFresh : Bool → Expected → PlainOption → Type 0
 IsOptionFresh short expected (Dss next mapping) =
     IfSome next (IsPlaceFresh short expected.told) × IfSome mapping (IsMappingFresh short expected)
@@ -87,6 +91,7 @@ pub record IsHearable (spelling : Spelling) (from : Side) (expected : Expected) 
   pub fits : Fits (said_option spelling from o)
   pub fresh : IsOptionFresh spelling.short expected o
 
+-- the positions of a segment are near, and its options can be heard
 pub record IsFresh (spelling : Spelling) (from : Side) (expected : Expected) (s : PlainSegment) : Type 0 where
   pub position : IsPositionFresh expected.edge s.position
   pub acknowledged : IfSome s.acknowledged (IsPositionFresh expected.unacknowledged)

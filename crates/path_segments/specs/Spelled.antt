@@ -3,14 +3,16 @@ use Rattle.std.specs.Prelude.{ℕ, ◌-◌, ◌/◌, ◌%◌, ◌^◌, ◌≤◌
 use Rattle.std.specs.Borrow.{Bor}
 use Rattle.std.specs.Int.{w16, to_be_bytes}
 use Rattle.std.specs.List.{flat_map}
+use Rattle.outside_kit.specs.declared.side.Side.{Side}
+use Rattle.outside_kit.specs.Side.{peer}
 use Rattle.segment_wire.specs.declared.head.Head.{Head}
 use Rattle.segment_wire.specs.Segment.{Segment, segment_text, checksum_field}
+use Rattle.segment_wire.specs.Paths.{addresses_from, port_of}
 use Rattle.mptcp_options.specs.Text.{HasForm, option_text}
 use Rattle.path_segments.specs.declared.segment.PathSegment.{PathSegment}
 use Rattle.path_segments.specs.declared.segment.PathOption.{PathOption}
-use Rattle.path_segments.specs.declared.spelling.Side.{Side}
 use Rattle.path_segments.specs.declared.spelling.Spelling.{Spelling}
-use Rattle.path_segments.specs.Spelling.{peer_of, addresses_from, port_of, subflow_number}
+use Rattle.path_segments.specs.Spelling.{subflow_number}
 use Rattle.path_segments.specs.Options.{PlainOption, plain_option, said_option}
 
 -- a segment whose options and payload are lists
@@ -35,12 +37,13 @@ plain s = record {
 abbrev pub window_field : Bool → ℕ → ℕ
 window_field syn window = if syn then min 65535 window else window / 32
 
+-- the fields of its header; the number of an acknowledgement is 0 where there is none
 abbrev pub spelled_head : Spelling → Side → PlainSegment → Head
 spelled_head spelling from s = record {
   source_port = port_of spelling.path from;
-  destination_port = port_of spelling.path (peer_of from);
+  destination_port = port_of spelling.path (peer from);
   seq = subflow_number spelling from s.position;
-  ack = unwrap_or (option_map (subflow_number spelling (peer_of from)) s.acknowledged) 0;
+  ack = unwrap_or (option_map (subflow_number spelling (peer from)) s.acknowledged) 0;
   syn = s.syn;
   fin = s.fin;
   rst = s.rst;
@@ -57,13 +60,15 @@ syn_text (Some mss) = 2 ∷ 4 ∷ to_be_bytes w16 mss ++ (3 ∷ 3 ∷ 5 ∷ 1 �
 abbrev pub options_text : Spelling → Side → List PlainOption → List ℕ
 options_text spelling from options = flat_map (λ (o : PlainOption). option_text (said_option spelling from o)) options
 
--- zeros up to a multiple of four
+-- how many zeros bring so many octets to a multiple of four
 abbrev pub padding : ℕ → ℕ
 padding len = (4 - len % 4) % 4
 
+-- the octets, and zeros up to a multiple of four
 abbrev pub padded : List ℕ → List ℕ
 padded octets = octets ++ replicate (padding (length octets)) 0
 
+-- the options of a SYN, and then those of Multipath TCP
 abbrev pub unpadded_options : Spelling → Side → PlainSegment → List ℕ
 unpadded_options spelling from s = syn_text s.mss ++ options_text spelling from s.options
 

@@ -2,7 +2,7 @@ use seq_units::Pos;
 
 /// What a hearer counts from, in its own subflow end and streams: each number is read beside one of these, all of
 /// which are at most 2^62 + 2^20, with room for a buffer past the last position and the last place.
-#[derive(Clone, Copy, Debug, PartialEq, Eq)]
+#[derive(Clone, Copy)]
 pub struct Expected {
     /// The position of the next octet to receive, for sequence numbers and relative numbers.
     pub edge: Pos,

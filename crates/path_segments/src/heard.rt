@@ -5,18 +5,20 @@ ghost use Rattle.std.specs.Iterator.{YieldsFirstBy, item_count};
 ghost use Rattle.segment_wire.specs.OptionFront.{octets_alone, options_left};
 ghost use Rattle.mptcp_options.specs.Value.{value_of};
 ghost use Rattle.path_segments.specs.Heard.{known_in};
-ghost use Rattle.path_segments.specs.HeardLent.{heard_plain, IsExpected};
+ghost use Rattle.path_segments.specs.HeardLent.{IsExpected};
+ghost use Rattle.path_segments.specs.Options.{plain_option};
 
 use crate::expected::Expected;
 use crate::hearing::HeardOption;
 use crate::position::HeardPosition;
 use crate::segment::PathSegment;
-use crate::spelling::{Side, Spelling};
+use crate::spelling::Spelling;
 use mptcp_options::{MpOption, Read, read};
+use outside_kit::Side;
 use segment_wire::PlainOptions;
 
 /// The options of a segment that is heard, in their order: those that are known, by places and positions.
-#[derive(Clone, Copy, Debug)]
+#[derive(Clone, Copy)]
 pub struct HeardOptions<'a> {
     left: PlainOptions<'a>,
     spelling: Spelling,
@@ -36,7 +38,7 @@ impl<'a> Iterator for HeardOptions<'a> {
 
     type Item = HeardOption<'a>;
 
-    ghost next_gives = { YieldsFirstBy heard_plain heard_left };
+    ghost next_gives = { YieldsFirstBy plain_option heard_left };
 
     ghost remaining = { item_count heard_left };
 

@@ -1,16 +1,18 @@
 //! What octets say, by positions and places.
 
 ghost use Rattle.std.specs.Prelude.{◌≡◌, ◌<◌, ◌≤◌, ◌+◌, ◌^◌, option_map, IfSome};
+ghost use Rattle.outside_kit.specs.Side.{peer};
 ghost use Rattle.mptcp_options.specs.Value.{value_of};
 ghost use Rattle.path_segments.specs.Heard.{position_heard, number_means, number_heard, place_behind, place_heard, heard_mapping, heard_option};
-ghost use Rattle.path_segments.specs.HeardLent.{heard_plain, IsExpected, IsLow};
-ghost use Rattle.path_segments.specs.Spelling.{peer_of};
+ghost use Rattle.path_segments.specs.HeardLent.{IsExpected, IsLow};
+ghost use Rattle.path_segments.specs.Options.{plain_option};
 
 use crate::expected::Expected;
 use crate::position::HeardPosition;
 use crate::segment::{PathMapping, PathOption};
-use crate::spelling::{Side, Spelling};
+use crate::spelling::Spelling;
 use mptcp_options::{DataNumber, DssMap, MpOption};
+use outside_kit::Side;
 use seq_units::{Pos, Seq32, Seq64, near32, near64, number64, widen};
 
 /// A mapping that is heard: each number by what it means, if it means any.
@@ -101,7 +103,7 @@ impl Spelling {
         ack: Option<DataNumber>,
     ) -> Option<Option<u64>>
         requires { expected.now.told ≤ 2 ^ 62 + 2 ^ 20 }
-        ensures { result ≡ option_map (place_heard self.now (peer_of from) expected.now.told) ack }
+        ensures { result ≡ option_map (place_heard self.now (peer from) expected.now.told) ack }
     {
         match ack {
             None => None,
@@ -135,7 +137,7 @@ impl Spelling {
         option: &MpOption<'a>,
     ) -> HeardOption<'a>
         requires { IsExpected expected.now }
-        ensures { heard_plain result ≡
+        ensures { plain_option result ≡
             heard_option self.now from expected.now (value_of option.now) }
     {
         match *option {

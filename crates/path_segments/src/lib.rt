@@ -28,6 +28,6 @@ pub use listening::parse_segment;
 pub use position::HeardPosition;
 pub use sayable::can_say;
 pub use segment::{PathMapping, PathOption, PathSegment, SaidSegment};
-pub use spelling::{EndNumbers, Side, Spelling};
+pub use spelling::{EndNumbers, Spelling};
 pub use wire::relative_number;
 pub use writing::{sum, write};

@@ -1,20 +1,21 @@
 //! Hearing a segment.
 
 ghost use Rattle.std.specs.Prelude.{◌≡◌, ◌≤◌, Some, None, if◌then◌else◌, length, option_map, IfSome};
+ghost use Rattle.outside_kit.specs.Side.{peer};
 ghost use Rattle.segment_wire.specs.Options.{option_octets};
 ghost use Rattle.segment_wire.specs.Reading.{segment_of};
 ghost use Rattle.path_segments.specs.Heard.{number_means, first_mss, window_heard, heard_segment, heard_in};
 ghost use Rattle.path_segments.specs.HeardLent.{IsExpected};
 ghost use Rattle.path_segments.specs.HeardSegments.{heard_value, IsHeardShort};
-ghost use Rattle.path_segments.specs.Spelling.{peer_of};
 
 use crate::expected::Expected;
 use crate::heard::{HeardOptions, HeardSegment};
 use crate::position::HeardPosition;
 use crate::segment::PathSegment;
-use crate::spelling::{Side, Spelling};
+use crate::spelling::Spelling;
+use outside_kit::Side;
 use segment_wire::options::mss;
-use segment_wire::{SegmentRef, parse};
+use segment_wire::{SegmentRef, addresses_from, parse};
 
 /// What these octets of a side say to the other one, which expects these positions and places next, or none where they
 /// are no segment. Answers for all octets, copies nothing and takes no memory. Ports are not looked at: the path has
@@ -30,7 +31,7 @@ pub fn parse_segment<'a>(
         heard_in spelling.now from expected.now octets.now }
     ensures short { IfSome result (λ heard. IsHeardShort (heard_value heard)) }
 {
-    match parse(octets, &spelling.addresses(from)) {
+    match parse(octets, &addresses_from(spelling.path, from)) {
         Ok(segment) => Some(heard_segment(spelling, from, expected, &segment)),
         Err(_) => None,
     }
@@ -72,7 +73,7 @@ fn acknowledged_heard(
     requires { IsExpected expected.now }
     ensures { result ≡
         (if ack_set then Some
-        (number_means spelling.now (peer_of from) expected.now.unacknowledged ack) else None) }
+        (number_means spelling.now (peer from) expected.now.unacknowledged ack) else None) }
 {
     if ack_set {
         Some(spelling.number_means(from.peer(), expected.unacknowledged, ack))

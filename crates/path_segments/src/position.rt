@@ -1,5 +1,5 @@
 /// What a sequence number of a header means (RFC 9293, section 3.4).
-#[derive(Clone, Copy, Debug, PartialEq, Eq)]
+#[derive(Clone, Copy, Debug)]
 pub enum HeardPosition {
     /// This position of the subflow, counted from its SYN.
     At(u64),

@@ -6,8 +6,9 @@ ghost use Rattle.path_segments.specs.Options.{plain_option, said_mapping};
 ghost use Rattle.path_segments.specs.Spelled.{plain, options_text, unpadded_options, CanSay, CanSayOption};
 
 use crate::segment::{PathMapping, PathOption, SaidSegment};
-use crate::spelling::{Side, Spelling};
+use crate::spelling::Spelling;
 use mptcp_options::{CapableKeys, octets_of};
+use outside_kit::Side;
 
 /// Whether a side can say this segment: the number of the path is at most 15, the window at most 2^20 octets, and the
 /// payload at most 65,475 octets; each option has a form of its subtype, with a checksum exactly where checksums are

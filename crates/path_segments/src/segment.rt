@@ -1,11 +1,14 @@
+ghost use Rattle.std.specs.Prelude.{◌≡◌, ⊤};
+
 use key_material::Address;
 use mptcp_options::{CapableKeys, JoinForm};
+use std::alloc::AllocError;
 
 /// A segment of a path by positions and places.
 ///
 /// `N` is what a number of the header says: a position where it is written, and perhaps none where it is heard. `O` are
 /// the options of Multipath TCP, in their order, and `P` the payload: both are lent in code, and lists in definitions.
-#[derive(Clone, Copy, Debug)]
+#[derive(Copy)]
 pub struct PathSegment<N, O, P> {
     /// The position of the first octet of the payload, or of the SYN, or of the FIN where there is no payload.
     pub position: N,
@@ -22,11 +25,21 @@ pub struct PathSegment<N, O, P> {
     pub payload: P,
 }
 
+impl<N: Copy, O: Copy, P: Copy> Clone for PathSegment<N, O, P> {
+    ghost is_clone = { λ value copy. copy ≡ value };
+
+    ghost is_infallible = { λ _. ⊤ };
+
+    fn clone(&self) -> Result<Self, AllocError> {
+        Ok(*self)
+    }
+}
+
 /// A segment that is to be written.
 pub type SaidSegment<'a> = PathSegment<u64, &'a [PathOption<u64, &'a [u8]>], &'a [u8]>;
 
 /// An option of a segment by places and positions (RFC 8684, section 3). `I` are the ids of a REMOVE_ADDR.
-#[derive(Clone, Copy, Debug)]
+#[derive(Copy, Debug)]
 pub enum PathOption<N, I> {
     /// MP_CAPABLE, as it stands in the octets (section 3.1).
     Capable {
@@ -75,8 +88,18 @@ pub enum PathOption<N, I> {
     },
 }
 
+impl<N: Copy, I: Copy> Clone for PathOption<N, I> {
+    ghost is_clone = { λ value copy. copy ≡ value };
+
+    ghost is_infallible = { λ _. ⊤ };
+
+    fn clone(&self) -> Result<Self, AllocError> {
+        Ok(*self)
+    }
+}
+
 /// The mapping of a DSS by places of the sender's stream and positions of its subflow (RFC 8684, section 3.3.1).
-#[derive(Clone, Copy, Debug)]
+#[derive(Copy, Debug)]
 pub enum PathMapping<N> {
     /// From this position on, `length` places from this place on; with `fin` the last of them is the DATA_FIN's.
     Bytes {
@@ -96,4 +119,14 @@ pub enum PathMapping<N> {
         place: N,
         position: N,
     },
+}
+
+impl<N: Copy> Clone for PathMapping<N> {
+    ghost is_clone = { λ value copy. copy ≡ value };
+
+    ghost is_infallible = { λ _. ⊤ };
+
+    fn clone(&self) -> Result<Self, AllocError> {
+        Ok(*self)
+    }
 }

@@ -1,18 +1,11 @@
 ghost use Rattle.std.specs.Prelude.{◌≡◌};
 
 use mptcp_options::DataNumber;
-use segment_wire::Addresses;
+use outside_kit::Side;
 use seq_units::{Pos, Seq32, Seq64, number32, number64};
 
-/// The side of a connection that sends a segment: A opens, B listens.
-#[derive(Clone, Copy, Debug, PartialEq, Eq)]
-pub enum Side {
-    A,
-    B,
-}
-
 /// What one end of a path counts from.
-#[derive(Clone, Copy, Debug, PartialEq, Eq)]
+#[derive(Clone, Copy)]
 pub struct EndNumbers {
     /// The initial sequence number of its subflow: the number of position 0.
     pub initial: Seq32,
@@ -21,7 +14,7 @@ pub struct EndNumbers {
 }
 
 /// What both ends of a path need to say its segments.
-#[derive(Clone, Copy, Debug, PartialEq, Eq)]
+#[derive(Clone, Copy)]
 pub struct Spelling {
     /// The number of the path, which its ports and addresses tell: at most 15.
     pub path: u8,
@@ -33,14 +26,8 @@ pub struct Spelling {
     pub short: bool,
 }
 
-/// The port that B listens on.
-const PORT_OF_B: u16 = 5_001;
-
-/// The port of A on path 0. Path i has the i-th port behind it.
-const FIRST_PORT_OF_A: u16 = 40_000;
-
 impl Spelling {
-    ghost use Rattle.path_segments.specs.Spelling.{numbers_of, addresses_from, port_of, subflow_number, whole_number, data_number};
+    ghost use Rattle.path_segments.specs.Spelling.{numbers_of, subflow_number, whole_number, data_number};
 
     /// What the end of a side counts from.
     pub(crate) fn numbers(&self, side: Side) -> EndNumbers
@@ -49,34 +36,6 @@ impl Spelling {
         match side {
             Side::A => self.a,
             Side::B => self.b,
-        }
-    }
-
-    /// The addresses of what a side sends.
-    pub(crate) fn addresses(&self, from: Side) -> Addresses
-        ensures { result ≡ addresses_from self.now.path from }
-    {
-        let a = [10, 0, self.path, 1];
-        let b = [10, 0, self.path, 2];
-        match from {
-            Side::A => Addresses {
-                source: a,
-                destination: b,
-            },
-            Side::B => Addresses {
-                source: b,
-                destination: a,
-            },
-        }
-    }
-
-    /// The port of a side.
-    pub(crate) fn port(&self, side: Side) -> u16
-        ensures { result ≡ port_of self.now.path side }
-    {
-        match side {
-            Side::A => FIRST_PORT_OF_A + u16::from(self.path),
-            Side::B => PORT_OF_B,
         }
     }
 
@@ -103,20 +62,6 @@ impl Spelling {
             DataNumber::Low((number & u64::from(u32::MAX)) as u32)
         } else {
             DataNumber::Whole(number)
-        }
-    }
-}
-
-impl Side {
-    ghost use Rattle.path_segments.specs.Spelling.{peer_of};
-
-    /// The other side.
-    pub fn peer(self) -> Side
-        ensures { result ≡ peer_of self }
-    {
-        match self {
-            Side::A => Side::B,
-            Side::B => Side::A,
         }
     }
 }

@@ -1,13 +1,15 @@
 //! An option of a path as the option of the octets.
 
 ghost use Rattle.std.specs.Prelude.{◌≡◌, option_map};
+ghost use Rattle.outside_kit.specs.Side.{peer};
 ghost use Rattle.mptcp_options.specs.Value.{value_of};
 ghost use Rattle.path_segments.specs.Options.{plain_option, said_option, said_mapping, mapping_ends_stream, relative_number};
-ghost use Rattle.path_segments.specs.Spelling.{peer_of, data_number};
+ghost use Rattle.path_segments.specs.Spelling.{data_number};
 
 use crate::segment::{PathMapping, PathOption};
-use crate::spelling::{Side, Spelling};
+use crate::spelling::Spelling;
 use mptcp_options::{DataNumber, DssMap, MpOption};
+use outside_kit::Side;
 use seq_units::{Pos, Seq32, number32};
 
 impl Spelling {
@@ -59,7 +61,7 @@ impl Spelling {
     }
 
     fn said_ack(&self, from: Side, next: Option<u64>) -> Option<DataNumber>
-        ensures { result ≡ option_map (data_number self.now (peer_of from)) next }
+        ensures { result ≡ option_map (data_number self.now (peer from)) next }
     {
         match next {
             None => None,

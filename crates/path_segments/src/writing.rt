@@ -7,10 +7,11 @@ ghost use Rattle.path_segments.specs.Options.{plain_option, said_option};
 ghost use Rattle.path_segments.specs.Spelled.{plain, spelled_head, syn_text, options_text, padded, unpadded_options, window_field, spelled_text, spelled_sum, CanSay, CanSayOption};
 
 use crate::segment::{PathOption, SaidSegment};
-use crate::spelling::{Side, Spelling};
+use crate::spelling::Spelling;
 use arrayvec::ArrayVec;
 use mptcp_options::octets_of;
-use segment_wire::{Head, checksum_field};
+use outside_kit::Side;
+use segment_wire::{Head, addresses_from, checksum_field, port_of};
 use std::alloc::{AllocError, Global};
 
 /// The octets of the options of a segment, of which there are at most 40 (RFC 9293, section 3.1).
@@ -35,7 +36,7 @@ pub fn write(
     segment_wire::write(
         alloc,
         &spelled_head(spelling, from, segment),
-        &spelling.addresses(from),
+        &addresses_from(spelling.path, from),
         spelled_options(spelling, from, segment).as_slice(),
         segment.payload,
     )
@@ -49,7 +50,7 @@ pub fn sum(spelling: &Spelling, from: Side, segment: &SaidSegment<'_>) -> u16
 {
     checksum_field(
         &spelled_head(spelling, from, segment),
-        &spelling.addresses(from),
+        &addresses_from(spelling.path, from),
         spelled_options(spelling, from, segment).as_slice(),
         segment.payload,
     )
@@ -60,8 +61,8 @@ fn spelled_head(spelling: &Spelling, from: Side, segment: &SaidSegment<'_>) -> H
     ensures { result ≡ spelled_head spelling.now from (plain segment.now) }
 {
     Head {
-        source_port: spelling.port(from),
-        destination_port: spelling.port(from.peer()),
+        source_port: port_of(spelling.path, from),
+        destination_port: port_of(spelling.path, from.peer()),
         seq: spelling.subflow_number(from, segment.position),
         ack: match segment.acknowledged {
             None => 0,

@@ -6,14 +6,14 @@ ghost use Rattle.pcap_text.specs.Blocks.{Section, Interface, Packet, CanRecord, 
 use std::alloc::{AllocError, Global};
 
 /// Which way a packet went.
-#[derive(Clone, Copy, Debug, PartialEq, Eq)]
+#[derive(Clone, Copy)]
 pub enum Direction {
     Outbound,
     Inbound,
 }
 
 /// Where and when a packet was seen, and which way it went.
-#[derive(Clone, Copy, Debug, PartialEq, Eq)]
+#[derive(Clone, Copy)]
 pub struct Seen {
     /// The interface, counted from 0 in the order of their blocks.
     pub interface: u32,

@@ -8,7 +8,7 @@ use std::error::Error;
 use std::fmt;
 
 /// One direction of a connection: all bytes that its writer gave, and how far its reader is.
-#[derive(Debug, Drop, PartialEq)]
+#[derive(Drop)]
 pub struct Pipe {
     /// All bytes that were written, from the first on.
     pub written: Text,
@@ -38,7 +38,7 @@ impl Pipe {
 }
 
 /// What can happen to a pipe.
-#[derive(Debug, Drop, PartialEq)]
+#[derive(Drop)]
 pub enum PipeStep {
     /// The writer gives these bytes.
     Write { bytes: Text },
@@ -53,7 +53,7 @@ pub enum PipeStep {
 }
 
 /// Why a step can't happen.
-#[derive(Clone, Copy, Debug, PartialEq, Eq)]
+#[derive(Clone, Copy, Debug)]
 pub enum PipeFault {
     /// The writer has closed the stream.
     Closed,

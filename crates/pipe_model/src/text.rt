@@ -7,7 +7,7 @@ use std::alloc::{AllocError, Global};
 use std::marker::Model;
 
 /// Where the octets of a text are.
-#[derive(Debug, Drop)]
+#[derive(Drop)]
 enum Octets {
     /// In a vector of its own.
     Owned(Vec<u8>),
@@ -28,7 +28,7 @@ impl Octets {
 
 /// Octets in order: a part of a stream, of a segment, or of a file. Contracts see the list of its octets, and two
 /// texts are equal exactly where these lists are. A text that is shared gives copies and parts that share its octets.
-#[derive(Debug, Drop)]
+#[derive(Drop)]
 pub struct Text {
     alloc: Global,
     octets: Octets,

@@ -10,7 +10,7 @@ use std::marker::Model;
 /// One mark for each place from 0 on, of which the first ones may be forgotten. Contracts see how many places are
 /// forgotten, and the list of the marks of all others. Places are counted from 0, forgotten ones included, and there
 /// are fewer than 2^63 of them.
-#[derive(Debug, Drop)]
+#[derive(Drop)]
 pub struct RangeMarks<M> {
     alloc: Global,
     /// How many places are forgotten.

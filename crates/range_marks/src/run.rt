@@ -5,7 +5,7 @@ ghost use Rattle.std.specs.Iterator.{YieldsFirst, item_count};
 use std::marker::Model;
 
 /// Places side by side with one mark: `from`, and all places after it below `to`.
-#[derive(Clone, Copy, Debug)]
+#[derive(Clone, Copy)]
 pub struct Run<M> {
     /// The first place.
     pub from: u64,
@@ -16,7 +16,7 @@ pub struct Run<M> {
 }
 
 /// The runs of marks in order of their places, lent. Contracts see the list of the runs that are left.
-#[derive(Debug, Drop)]
+#[derive(Drop)]
 pub struct Runs<'a, M> {
     left: &'a [Run<M>],
 }

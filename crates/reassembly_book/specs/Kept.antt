@@ -3,6 +3,7 @@ use Rattle.std.specs.Prelude.{ℕ, zero, suc, ◌≡◌, ◌+◌, ◌^◌, ◌�
 use Rattle.byte_pieces.specs.Places.{PlacedBytes}
 use Rattle.reassembly_book.specs.State.{Arriving, filled, IsSound}
 
+-- a book of these fields: `ring` has the bytes before the first gap, and `beyond` the places from there on
 abbrev pub as_arriving : ℕ → List ℕ → ℕ → List (Option ℕ) → Option ℕ → Option Bool → Arriving
 as_arriving read ring capacity beyond known_end aborted = record {
   read = read;

@@ -4,7 +4,7 @@ use pipe_model::Text;
 use std::alloc::AllocError;
 
 /// What a reassembly book can be asked.
-#[derive(Debug, Drop, PartialEq)]
+#[derive(Drop)]
 pub enum ReassemblyCall {
     /// These bytes have arrived for the places from `at` on. `at` and their number add up to at most 2^62.
     Place {
@@ -33,7 +33,7 @@ pub enum ReassemblyCall {
 }
 
 /// What a reassembly book answers.
-#[derive(Debug, Drop, PartialEq)]
+#[derive(Drop)]
 pub enum ReassemblyReply {
     /// So many places were empty and have their byte now.
     Placed(u64),

@@ -10,6 +10,7 @@ capped octets = min 1048576 octets
 abbrev pub segments_at_first : ℕ → ℕ
 segments_at_first mss = if nat_le mss 1095 then 4 else (if nat_le mss 2190 then 3 else 2)
 
+-- IW, in octets
 abbrev pub initial_window : ℕ → ℕ
 initial_window mss = segments_at_first mss * mss
 

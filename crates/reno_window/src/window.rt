@@ -8,7 +8,7 @@ use std::marker::Model;
 pub const MAX_WINDOW: u32 = 1_048_576;
 
 /// The congestion window of one sender (RFC 5681).
-#[derive(Clone, Copy, Debug, PartialEq, Eq)]
+#[derive(Clone, Copy)]
 pub struct Reno {
     /// SMSS, the most octets of one segment.
     mss: u32,

@@ -16,7 +16,7 @@ pub const CLOCK_GRANULARITY: u32 = 1;
 
 /// What the samples so far say about the round-trip time. Both means are whole numbers of fractions of a tick: each
 /// sample rounds them up, by less than one such fraction.
-#[derive(Clone, Copy, Debug, PartialEq, Eq)]
+#[derive(Clone, Copy)]
 pub struct Estimate {
     /// SRTT, the smoothed round-trip time, in eighths of a tick.
     pub srtt_eighths: u32,

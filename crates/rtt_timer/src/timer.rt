@@ -8,7 +8,7 @@ use std::marker::Model;
 pub const INITIAL_RTO: u32 = 1_000;
 
 /// The retransmission timer of one end (RFC 6298).
-#[derive(Clone, Copy, Debug, PartialEq, Eq)]
+#[derive(Clone, Copy)]
 pub struct Rtt {
     /// What the samples say; none until the first one.
     estimate: Option<Estimate>,

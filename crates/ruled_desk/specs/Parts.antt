@@ -33,9 +33,11 @@ pub record AreLeft (out : List Bool) (s : Seats) : Type 0 where
   pub control_a : 1024 ≤ s.control_a.parts + how_many out
   pub control_b : 1024 ≤ s.control_b.parts + how_many out
 
+-- a seat with one part less
 abbrev pub less_one : {C R : Type 0} → seat.Seated C R → seat.Seated C R
 less_one s = record s { parts = s.parts - 1 }
 
+-- so is each of the six
 abbrev pub one_part_less : Seats → Seats
 one_part_less s = record {
   send_a = less_one s.send_a;
@@ -57,6 +59,7 @@ new_seats desk = record {
   control_b = seat.seated desk.control_b.table 1 [] false;
 }
 
+-- one seat with the parts and entries of both, which notes a full journal where one of them does
 abbrev pub both_of : {C R : Type 0} → seat.Seated C R → seat.Seated C R → seat.Seated C R
 both_of s t = seat.seated s.table (s.parts + t.parts) (s.own ++ t.own) (s.full || t.full)
 

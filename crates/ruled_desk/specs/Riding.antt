@@ -30,6 +30,7 @@ abbrev pub known_with : SixKnown → Option Passed → SixKnown
 known_with books None = books
 known_with books (Some pass) = all_known books pass.books
 
+-- the root with what a pass notes
 abbrev pub joined_with : Rooted → Option Passed → Rooted
 joined_with root pass = record root { books = known_with root.books pass }
 

@@ -80,6 +80,7 @@ pub record AreOf (desk : SixLocked) (books : SixKnown) : Type 0 where
   pub control_a : books.control_a.table ≡ desk.control_a.table
   pub control_b : books.control_b.table ≡ desk.control_b.table
 
+-- these entries behind those that were known; a full journal is noted where either notes it
 abbrev pub known_more : {C R : Type 0} → Known C R → Known C R → Known C R
 known_more k more = known k.table (k.own ++ more.own) (k.full || more.full)
 

@@ -58,10 +58,11 @@ module _ {B E : Type 0} where
   abbrev pub first_view : View B E
   first_view = view 1024 [] [] [] false
 
-  -- a new seat has one part
+  -- the seat gave one part to a new one
   abbrev pub without_part : View B E → View B E
   without_part v = view (v.parts - 1) v.tickets v.took v.own v.full
 
+  -- a new seat has one part
   abbrev pub newcomer : View B E
   newcomer = view 1 [] [] [] false
 
@@ -69,18 +70,23 @@ module _ {B E : Type 0} where
   abbrev pub joined : View B E → View B E → View B E
   joined v w = view (v.parts + w.parts) v.tickets v.took (v.own ++ w.own) (v.full || w.full)
 
+  -- a seat that was joined to another has nothing
   abbrev pub spent : View B E
   spent = view 0 [] [] [] false
 
+  -- it waits with this ticket
   abbrev pub waits : ℕ → View B E → View B E
   waits ticket v = view v.parts (ticket ∷ []) v.took v.own v.full
 
+  -- it is served: it has this book, and no ticket any more
   abbrev pub takes_turn : B → View B E → View B E
   takes_turn book v = view v.parts [] (book ∷ []) v.own v.full
 
+  -- it added this entry, and has the book with it
   abbrev pub adds : B → E → View B E → View B E
   adds book entry v = view v.parts v.tickets (book ∷ []) (v.own ++ entry ∷ []) v.full
 
+  -- it has the book no more; a full journal may be noted
   abbrev pub serves : Bool → View B E → View B E
   serves full v = view v.parts v.tickets [] v.own (full || v.full)
 
@@ -88,6 +94,7 @@ module _ {B E : Type 0} where
   abbrev pub IsDrawn : Me (Option B) (View B E) → ℕ → Me (Option B) (View B E) → Type 0
   IsDrawn me found after = (ticket : ℕ) × (found ≡ ticket % 2 ^ 64) × (after ≡ (waits ticket me.0, me.1))
 
+  -- it has taken the book out of the slot
   abbrev pub HasTaken : Me (Option B) (View B E) → Me (Option B) (View B E) → Type 0
   HasTaken me after = (book : B) × (after ≡ (takes_turn book me.0, (0, Some book) ∷ []))
 
@@ -99,12 +106,15 @@ module _ {B E : Type 0} where
   abbrev pub IsServed : Bool → Me (Option B) (View B E) → Me (Option B) (View B E) → Type 0
   IsServed full me after = after ≡ (serves full me.0, [])
 
+  -- of any step at the table: a ticket was drawn
   abbrev pub Draws : Step (Option B) → Me (Option B) (View B E) → ℕ → Me (Option B) (View B E) → Type 0
   Draws step me found after = IsDrawn me found after
 
+  -- of any step at the table: it was looked whether the seat's ticket is served
   abbrev pub Looks : Step (Option B) → Me (Option B) (View B E) → ℕ → Me (Option B) (View B E) → Type 0
   Looks step me found after = IsLooked me found after
 
+  -- of any step at the table: the next ticket is served
   abbrev pub Serves : Bool → Step (Option B) → Me (Option B) (View B E) → ℕ → Me (Option B) (View B E) → Type 0
   Serves full step me found after = IsServed full me after
 
@@ -134,6 +144,7 @@ module _ {O C R : Type 0} where
       (book : Journaled O C R) (entry : Entry C R) → me.0.took ≡ book ∷ [] → me.1 ≡ (0, Some (grown book (entry ∷ []))) ∷ []
       → after ≡ (adds (grown book (entry ∷ [])) entry me.0, me.1)
 
+  -- of any step at the table: an entry was added
   abbrev pub Adds : Step (Option (Journaled O C R)) → Me (Option (Journaled O C R)) (View (Journaled O C R) (Entry C R)) → ℕ
       → Me (Option (Journaled O C R)) (View (Journaled O C R) (Entry C R)) → Type 0
   Adds step me found after = IsAdded me after

@@ -29,6 +29,7 @@ impl Answering for SendBook {
         ensures { (call : SendCall) → CanAsk call → IsWrittenSmall self.now →
             IsSendKind call (reply_to self.now call) × IsSmallSend (reply_to self.now call) }
     {
+        // For the proof: the marks of the book tile.
         marks_tile(self);
     }
 }

@@ -7,11 +7,8 @@ ghost use Rattle.ruled_lock.specs.Growing.{HasLastStamp, entry_by, grown};
 
 use crate::answering::Answering;
 use actor_desk::Kept;
-use stamped_book::{Book, Pass, Refusal, Stamped, stamps_rise};
+use stamped_book::{Book, LAST_STAMP, Pass, Refusal, Stamped, stamps_rise};
 use std::marker::Model;
-
-// The greatest stamp that an entry can have.
-const LAST_STAMP: u64 = (1 << 62) - 1;
 
 /// A book of which nothing is known but that it is sound. Contracts see its opening value and its journal.
 #[derive(Drop)]
@@ -30,6 +27,7 @@ impl<O: Kept> Model for Held<O> {
 }
 
 impl<O: Answering> Held<O> {
+    /// Holds a sound book as it is.
     pub fn new(book: Stamped<O>) -> Self
         requires { O.sound (book_of O.reply_to O.after book) }
         ensures { result ≡ book }
@@ -37,6 +35,7 @@ impl<O: Answering> Held<O> {
         Held { book }
     }
 
+    /// Gives the book back, which is sound.
     pub fn into_book(self) -> Stamped<O>
         ensures value { result ≡ self }
         ensures sound { O.sound (book_of O.reply_to O.after result) }
@@ -56,6 +55,7 @@ impl<O: Answering> Held<O> {
         ensures err { OnErr result (self.new ≡ self.old) }
         ensures pass_err { OnErr result (pass.new ≡ pass.old) }
     {
+        // For the proof: what the call makes of a sound book is sound, and its stamp is in order.
         O::stays();
         self.book.book().answers();
         stamps_rise(&self.book);
@@ -66,6 +66,7 @@ impl<O: Answering> Held<O> {
     pub fn is_full(&self) -> bool
         ensures { result ≡ true ↔ HasLastStamp self.now.journal }
     {
+        // For the proof: no stamp is greater than the last one that there is.
         stamps_rise(&self.book);
         self.book.last_stamp() == LAST_STAMP
     }

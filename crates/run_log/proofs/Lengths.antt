@@ -8,6 +8,7 @@ use Rattle.std.proofs.lemmas.Bool.Decides.{nat_tests}
 use Rattle.std.proofs.lemmas.Fmt.{length-decimal-le}
 use Rattle.std.proofs.lemmas.List.Folds.{list_all-append}
 use Rattle.std.proofs.lemmas.List.Elements.{recursion_from_All}
+use Rattle.link_script.specs.Writing.{spaced}
 use Rattle.fallback_state.specs.declared.fall.Event.{Event}
 use Rattle.fallback_state.specs.declared.fall.Event.TheVariants as events
 use Rattle.fallback_state.specs.declared.fall.Verdict.{Verdict}
@@ -37,7 +38,7 @@ use Rattle.actor_desk.specs.declared.ask.LocalStep.{LocalStep}
 use Rattle.actor_desk.specs.declared.ask.LocalStep.TheVariants as steps
 use Rattle.actor_desk.specs.declared.ask.Reply.{Reply}
 use Rattle.actor_desk.specs.declared.ask.Reply.TheVariants as replies
-use Rattle.run_log.specs.Words.{spaced, verdict_words, notice_words}
+use Rattle.run_log.specs.Words.{verdict_words, notice_words}
 use Rattle.run_log.specs.Calls.{send_call_words, reassembly_call_words, heard_words, control_call_words, local_words, ask_words}
 use Rattle.run_log.specs.Replies.{send_reply_words, reassembly_reply_words, row_words, control_reply_words, reply_text}
 use Rattle.run_log.specs.Fields.{is_printable, are_words}

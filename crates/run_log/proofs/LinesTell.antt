@@ -11,6 +11,7 @@ use Rattle.std.proofs.lemmas.Fmt.{digits_value-decimal}
 use Rattle.std.proofs.lemmas.List.{append-nil}
 use Rattle.link_script.specs.Words.{words_of}
 use Rattle.link_script.proofs.Numerals.{digits}
+use Rattle.link_script.specs.Writing.{spaced}
 use Rattle.outside_kit.specs.declared.side.Object.{Object}
 use Rattle.outside_kit.specs.declared.side.Object.TheVariants as objects
 use Rattle.outside_kit.specs.declared.side.Side.TheVariants as sides
@@ -22,7 +23,7 @@ use Rattle.actor_desk.specs.declared.ask.Note.{Note}
 use Rattle.actor_desk.specs.declared.ask.Reply.{Reply}
 use Rattle.actor_desk.specs.declared.ask.Reply.TheVariants as replies
 use Rattle.actor_desk.specs.Kinds.{IsOfKind}
-use Rattle.run_log.specs.Words.{spaced, object_word}
+use Rattle.run_log.specs.Words.{object_word}
 use Rattle.run_log.specs.Calls.{ask_words}
 use Rattle.run_log.specs.Replies.{send_reply_words, reassembly_reply_words, control_reply_words, reply_text}
 use Rattle.run_log.specs.Lines.{object_of, step_text}

@@ -14,11 +14,12 @@ use Rattle.hex.specs.Hex.{lower_digits, encode_with, encode_lower}
 use Rattle.hex.proofs.HexLemmas.{length-encode_with}
 use Rattle.key_material.proofs.Octets.{AreOctets-to_be_bytes}
 use Rattle.link_script.specs.Numbers.{is_numeral}
-use Rattle.link_script.specs.Words.{text_lines}
 use Rattle.link_script.proofs.Numerals.{digits}
+use Rattle.link_script.specs.Writing.{spaced}
 use Rattle.outside_kit.specs.declared.side.Object.{Object}
 use Rattle.outside_kit.specs.declared.side.Object.TheVariants as objects
 use Rattle.outside_kit.specs.declared.side.Side.TheVariants as sides
+use Rattle.outside_kit.specs.Lines.{text_lines}
 use Rattle.actor_desk.specs.declared.ask.Note.{Note}
 use Rattle.run_log.specs.declared.fault.LogFault.{LogFault}
 use Rattle.run_log.specs.declared.form.Expected.{Expected}
@@ -27,7 +28,7 @@ use Rattle.run_log.specs.declared.outcome.Outcome.{Outcome}
 use Rattle.run_log.specs.declared.outcome.Outcome.TheVariants as outcomes
 use Rattle.run_log.specs.declared.turn.Turn.{Turn}
 use Rattle.run_log.specs.declared.turn.Turn.TheVariants.{Step}
-use Rattle.run_log.specs.Words.{spaced, object_word}
+use Rattle.run_log.specs.Words.{object_word}
 use Rattle.run_log.specs.Calls.{ask_words}
 use Rattle.run_log.specs.Replies.{reply_text}
 use Rattle.run_log.specs.Lines.{object_of, step_text, round_text, width_text, key_word, keys_text, outcome_text, ended, opening_lines, old_opening_lines, round_lines, rounds_lines}

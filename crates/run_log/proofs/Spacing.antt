@@ -4,8 +4,8 @@ use Rattle.std.specs.Prelude.{codes}
 use Rattle.std.specs.Fmt.{decimal}
 use Rattle.std.specs.List.{flat_map}
 use Rattle.std.proofs.lemmas.List.{append-nil}
+use Rattle.link_script.specs.Writing.{spaced}
 use Rattle.linked_increase.specs.declared.rows.Row.{Row}
-use Rattle.run_log.specs.Words.{spaced}
 use Rattle.run_log.specs.Calls.{heard_words}
 use Rattle.run_log.specs.Replies.{row_words}
 

@@ -2,7 +2,6 @@
 use Rattle.std.proofs.Common.{◌≡◌, ℕ, suc, ◌+◌, ◌<◌, Bool, true, false, cond, ◌&&◌, eqb, List, [], ◌∷◌, length, Option, Some, None, Result, Ok, Err, refl, sym, ap, subst, ◌∙◌, add-one, arith}
 use Rattle.std.proofs.lemmas.Bool.{eqb-true}
 use Rattle.std.proofs.lemmas.List.{nil_from_length}
-use Rattle.link_script.specs.Words.{text_lines}
 use Rattle.run_log.specs.declared.fault.LogFault.{LogFault}
 use Rattle.run_log.specs.declared.fault.LogFault.TheVariants as fault
 use Rattle.run_log.specs.declared.form.Expected.{Expected}
@@ -13,6 +12,7 @@ use Rattle.run_log.specs.Lines.{round_text, width_text}
 use Rattle.std.specs.Prelude.{codes}
 use Rattle.run_log.specs.declared.turn.Turn.TheVariants.{Round}
 use Rattle.std.specs.Str.{bytes_eq}
+use Rattle.outside_kit.specs.Lines.{text_lines}
 use Rattle.run_log.specs.declared.turn.Turn.{Turn}
 use Rattle.run_log.specs.Form.{Fails, HasRoundBelow, is_nothing, silent, tells, step_or, end_line, after_line, taken_line, read_on, reading}
 

@@ -1,6 +1,7 @@
 -- The words of a log for what an actor asks. Of octets the log tells how many there are, of an address each one.
 use Rattle.std.specs.Prelude.{ℕ, List, [], ◌∷◌, ◌++◌, length, map, codes}
 use Rattle.std.specs.Fmt.{decimal}
+use Rattle.outside_kit.specs.Side.{side_word}
 use Rattle.key_material.specs.Address.{octets_of}
 use Rattle.send_book.specs.declared.call.SendCall.{SendCall}
 use Rattle.send_book.specs.declared.call.SendCall.TheVariants as send_calls
@@ -12,7 +13,7 @@ use Rattle.actor_desk.specs.declared.ask.Ask.{Ask}
 use Rattle.actor_desk.specs.declared.ask.Ask.TheVariants as asks
 use Rattle.actor_desk.specs.declared.ask.LocalStep.{LocalStep}
 use Rattle.actor_desk.specs.declared.ask.LocalStep.TheVariants as steps
-use Rattle.run_log.specs.Words.{flag_word, side_word, event_words}
+use Rattle.run_log.specs.Words.{flag_word, event_words}
 
 abbrev pub send_call_words : SendCall → List (List ℕ)
 send_call_words (send_calls.Write bytes) = codes "write" ∷ decimal (length bytes) ∷ []

@@ -22,6 +22,7 @@ None >>= f = None
 unfoldable pub field : List ℕ → Option (List ℕ × List ℕ)
 field line = option_map (λ end. (take end line, drop (end + 1) line)) (position (λ octet. octet == 32) line)
 
+-- one decimal digit or more
 abbrev pub is_number : List ℕ → Bool
 is_number word = nat_lt 0 (length word) && list_all is_ascii_digit word
 
@@ -44,7 +45,8 @@ is_printable octet = nat_le 32 octet && nat_le octet 126
 abbrev pub are_words : List ℕ → Bool
 are_words words = nat_le 1 (length words) && nat_le (length words) 400 && list_all is_printable words
 
--- the actor of a step line: a stamp of 1 to 20 digits, the actor, an object, and what was asked and answered, of which nothing else is looked at
+-- the actor of a step line: a stamp of 1 to 20 digits, the actor, an object, and what was asked and answered, of which nothing else is
+-- looked at
 unfoldable pub step_actor : ℕ → List ℕ → Option ℕ
 step_actor actors line = do
   stamp ← field line
@@ -60,10 +62,12 @@ is_lower_hex octet = nat_le 48 octet && nat_le octet 57 || nat_le 97 octet && na
 abbrev pub is_key : List ℕ → Bool
 is_key word = length word == 16 && list_all is_lower_hex word
 
+-- a key before the space, and one behind it
 abbrev pub are_keys : Option (List ℕ × List ℕ) → Bool
 are_keys (Some (key_a, key_b)) = is_key key_a && is_key key_b
 are_keys None = false
 
+-- the word keys, and both keys behind it
 abbrev pub keys_behind : Option (List ℕ × List ℕ) → Bool
 keys_behind (Some (word, rest)) = bytes_eq word (codes "keys") && are_keys (field rest)
 keys_behind None = false
@@ -78,6 +82,7 @@ all_outcomes = outcomes.Delivered ∷ outcomes.Rounds ∷ outcomes.NoPath ∷ ou
 abbrev pub is_outcome : List ℕ → Bool
 is_outcome word = list_any (λ outcome. bytes_eq (outcome_word outcome) word) all_outcomes
 
+-- the word outcome, and an outcome behind it
 abbrev pub outcome_behind : Option (List ℕ × List ℕ) → Bool
 outcome_behind (Some (word, rest)) = bytes_eq word (codes "outcome") && is_outcome rest
 outcome_behind None = false

@@ -1,8 +1,8 @@
 -- The form of a log, line after line: what may stand next, and what it tells.
 use Rattle.std.specs.Prelude.{◌≡◌, ℕ, suc, ◌<◌, Bool, true, false, ◌&&◌, List, [], ◌∷◌, ◌++◌, Option, Some, None, Result, Ok, Err, if◌then◌else◌, codes}
 use Rattle.std.specs.Str.{bytes_eq}
+use Rattle.outside_kit.specs.Lines.{text_lines}
 use Rattle.link_script.specs.Steps.{◌>>=◌}
-use Rattle.link_script.specs.Words.{text_lines}
 use Rattle.run_log.specs.declared.fault.LogFault.{LogFault}
 use Rattle.run_log.specs.declared.fault.LogFault.TheVariants.{Line, Memory}
 use Rattle.run_log.specs.declared.form.Expected.{Expected}
@@ -27,9 +27,11 @@ format_line line =
     if bytes_eq line (codes "mptcp-log 2") then Some (silent Width)
     else (if bytes_eq line (codes "mptcp-log 1") then Some (silent Keys) else None)
 
+-- the second line of the newer format names the octets of a data number
 abbrev pub width_line : ℕ → List ℕ → Option Taken
 width_line width line = if bytes_eq line (width_text width) then Some (silent Keys) else None
 
+-- then the keys stand, and behind them the first turn
 abbrev pub keys_line : List ℕ → Option Taken
 keys_line line = if is_keys_line line then Some (silent (Turns 0 false)) else None
 
@@ -39,10 +41,12 @@ end_line round may_end line =
     if bytes_eq line (round_text round) then Some (tells Round (Turns (suc round) true))
     else (if may_end && is_outcome_line line then Some (silent Nothing) else None)
 
+-- a step goes on with the round
 abbrev pub step_or : ℕ → Option ℕ → Option Taken → Option Taken
 step_or round (Some actor) other = Some (tells (Step actor) (Turns round false))
 step_or round None other = other
 
+-- a step of one of so many actors, or what ends the round or the log
 abbrev pub turn_line : ℕ → ℕ → Bool → List ℕ → Option Taken
 turn_line actors round may_end line = step_or round (step_actor actors line) (end_line round may_end line)
 

@@ -1,12 +1,12 @@
 -- What holds of every log.
 use Rattle.std.specs.Prelude.{◌≡◌, ℕ, suc, ◌<◌, ◌≤◌, List, [], ◌∷◌, ◌++◌, length, take, map, Ok, Err, IsOk, All}
 use Rattle.std.specs.List.{flat_map, AllByRecursion}
+use Rattle.outside_kit.specs.Lines.{text_lines}
 use Rattle.linked_increase.specs.Paths.{IsInRange}
 use Rattle.control_book.specs.declared.call.ControlReply.TheVariants.{Rows}
 use Rattle.actor_desk.specs.declared.ask.Note.{Note}
 use Rattle.actor_desk.specs.declared.ask.Reply.{Reply}
 use Rattle.actor_desk.specs.declared.ask.Reply.TheVariants.{Control}
-use Rattle.link_script.specs.Words.{text_lines}
 use Rattle.run_log.specs.declared.fault.LogFault.TheVariants.{Line}
 use Rattle.run_log.specs.declared.form.Expected.TheVariants.{Format}
 use Rattle.run_log.specs.declared.outcome.Outcome.{Outcome}

@@ -2,6 +2,7 @@
 use Rattle.std.specs.Prelude.{ℕ, suc, List, [], ◌∷◌, ◌++◌, map, codes}
 use Rattle.std.specs.Fmt.{decimal}
 use Rattle.std.specs.Int.{w64, to_be_bytes}
+use Rattle.link_script.specs.Writing.{spaced}
 use Rattle.hex.specs.Hex.{encode_lower}
 use Rattle.outside_kit.specs.declared.side.Object.{Object}
 use Rattle.outside_kit.specs.declared.side.Object.TheVariants as objects
@@ -10,7 +11,7 @@ use Rattle.actor_desk.specs.declared.ask.Ask.TheVariants as asks
 use Rattle.actor_desk.specs.declared.ask.Note.{Note}
 use Rattle.run_log.specs.declared.outcome.Outcome.{Outcome}
 use Rattle.run_log.specs.declared.outcome.Outcome.TheVariants as outcomes
-use Rattle.run_log.specs.Words.{spaced, object_word}
+use Rattle.run_log.specs.Words.{object_word}
 use Rattle.run_log.specs.Calls.{ask_words}
 use Rattle.run_log.specs.Replies.{reply_text}
 

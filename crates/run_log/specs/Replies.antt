@@ -2,6 +2,7 @@
 use Rattle.std.specs.Prelude.{ℕ, List, [], ◌∷◌, ◌++◌, length, codes}
 use Rattle.std.specs.Fmt.{decimal}
 use Rattle.std.specs.List.{flat_map}
+use Rattle.link_script.specs.Writing.{spaced}
 use Rattle.linked_increase.specs.declared.rows.Row.{Row}
 use Rattle.send_book.specs.declared.call.SendReply.{SendReply}
 use Rattle.send_book.specs.declared.call.SendReply.TheVariants as send_replies
@@ -11,7 +12,7 @@ use Rattle.control_book.specs.declared.call.ControlReply.{ControlReply}
 use Rattle.control_book.specs.declared.call.ControlReply.TheVariants as control_replies
 use Rattle.actor_desk.specs.declared.ask.Reply.{Reply}
 use Rattle.actor_desk.specs.declared.ask.Reply.TheVariants as replies
-use Rattle.run_log.specs.Words.{spaced, flag_word, optional_word, reason_word, mode_word, verdict_words, notice_words}
+use Rattle.run_log.specs.Words.{flag_word, optional_word, reason_word, mode_word, verdict_words, notice_words}
 
 -- of a granted piece its places
 abbrev pub granted_words : ℕ → ℕ → List (List ℕ)

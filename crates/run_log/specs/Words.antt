@@ -1,7 +1,6 @@
 -- The words of a log for flags, numbers that may be missing, sides, and what a control book knows by name.
 use Rattle.std.specs.Prelude.{ℕ, Bool, true, false, List, [], ◌∷◌, Option, Some, None, codes}
 use Rattle.std.specs.Fmt.{decimal}
-use Rattle.std.specs.List.{join_with_byte}
 use Rattle.fallback_state.specs.declared.fall.Event.{Event}
 use Rattle.fallback_state.specs.declared.fall.Event.TheVariants as events
 use Rattle.fallback_state.specs.declared.fall.Mode.{Mode}
@@ -14,12 +13,7 @@ use Rattle.send_book.specs.declared.call.Why.{Why}
 use Rattle.send_book.specs.declared.call.Why.TheVariants as reasons
 use Rattle.outside_kit.specs.declared.side.Object.{Object}
 use Rattle.outside_kit.specs.declared.side.Object.TheVariants as objects
-use Rattle.outside_kit.specs.declared.side.Side.{Side}
 use Rattle.outside_kit.specs.declared.side.Side.TheVariants as sides
-
--- words with a space between each two
-abbrev pub spaced : List (List ℕ) → List ℕ
-spaced words = join_with_byte 32 words
 
 abbrev pub flag_word : Bool → List ℕ
 flag_word true = codes "1"
@@ -29,10 +23,6 @@ flag_word false = codes "0"
 abbrev pub optional_word : Option ℕ → List ℕ
 optional_word (Some n) = decimal n
 optional_word None = codes "-"
-
-abbrev pub side_word : Side → List ℕ
-side_word sides.A = codes "a"
-side_word sides.B = codes "b"
 
 -- the send, reassembly or control book of a side, or none but the actor itself
 abbrev pub object_word : Object → List ℕ

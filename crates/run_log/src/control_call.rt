@@ -3,10 +3,10 @@
 ghost use Rattle.std.specs.Prelude.{◌≡◌, ◌∷◌, ◌++◌, OnOk, string_bytes};
 ghost use Rattle.std.specs.Fmt.{decimal};
 ghost use Rattle.std.specs.List.{flat_map, AllByRecursion};
+ghost use Rattle.link_script.specs.Writing.{spaced};
 ghost use Rattle.control_book.specs.declared.call.ControlCall.TheVariants.{Fell};
 ghost use Rattle.key_material.specs.Address.{octets_of};
 ghost use Rattle.run_log.specs.Fitting.{IsLong, IsByte, ControlCallFits, AddressFits, HeardFits};
-ghost use Rattle.run_log.specs.Words.{spaced};
 ghost use Rattle.run_log.specs.Calls.{heard_words, control_call_words};
 
 use crate::name::{flag, put_event};
@@ -92,7 +92,7 @@ pub fn put_control_call(text: &mut String, call: &ControlCall) -> Result<(), All
         } => put_heard(text, id, address, port, hmac),
         ControlCall::Echoed { id } => write!(text, "echoed {id}"),
         ControlCall::Removed { id } => write!(text, "removed {id}"),
-        ControlCall::FastClose => write!(text, "fastclose"),
+        ControlCall::FastClose => text.push_str("fastclose"),
         ControlCall::FastHeard { key } => write!(text, "fastheard {key}"),
     }
 }

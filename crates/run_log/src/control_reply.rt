@@ -2,9 +2,9 @@
 
 ghost use Rattle.std.specs.Prelude.{◌≡◌, ◌∷◌, ◌++◌, ◌≤◌, OnOk, string_bytes, length, All};
 ghost use Rattle.std.specs.List.{flat_map};
+ghost use Rattle.link_script.specs.Writing.{spaced};
 ghost use Rattle.control_book.specs.declared.call.ControlReply.TheVariants as replies;
 ghost use Rattle.run_log.specs.Fitting.{NoticeFits, VerdictFits, RowFits, RowsFit, ControlReplyFits};
-ghost use Rattle.run_log.specs.Words.{spaced};
 ghost use Rattle.run_log.specs.Replies.{row_words, control_reply_words};
 
 use crate::name::{flag, mode_name, put_notice, put_verdict};
@@ -35,7 +35,7 @@ fn put_answered_verdict(text: &mut String, verdict: Verdict) -> Result<(), Alloc
         string_bytes text.old ++ spaced (control_reply_words (replies.Verdict verdict))) }
     ensures fits { OnOk result (VerdictFits verdict) }
 {
-    write!(text, "verdict ")?;
+    text.push_str("verdict ")?;
     put_verdict(text, verdict)
 }
 
@@ -67,7 +67,7 @@ fn put_rows(text: &mut String, rows: &[Row]) -> Result<(), AllocError>
         string_bytes text.old ++ spaced (control_reply_words (replies.Rows rows.now))) }
     ensures fits { OnOk result (RowsFit rows.now) }
 {
-    write!(text, "rows")?;
+    text.push_str("rows")?;
     put_each_row(text, rows)?;
     Ok(())
 }
@@ -84,20 +84,20 @@ pub fn put_control_reply(text: &mut String, reply: &ControlReply) -> Result<(), 
             sole,
             notice,
         } => put_standing(text, mode, standby, sole, notice),
-        ControlReply::Noted => write!(text, "noted"),
+        ControlReply::Noted => text.push_str("noted"),
         ControlReply::KeysDiffer { own } => write!(text, "keysdiffer {own}"),
         ControlReply::Verdict(verdict) => put_answered_verdict(text, verdict),
         ControlReply::Begin { own, peer } => write!(text, "begin {own} {peer}"),
-        ControlReply::NotYet => write!(text, "notyet"),
+        ControlReply::NotYet => text.push_str("notyet"),
         ControlReply::Never(mode) => write!(text, "never {}", mode_name(mode)),
         ControlReply::UnknownToken { own } => write!(text, "unknowntoken {own}"),
-        ControlReply::NotConfirmed => write!(text, "notconfirmed"),
+        ControlReply::NotConfirmed => text.push_str("notconfirmed"),
         ControlReply::Fallen(mode) => write!(text, "fallen {}", mode_name(mode)),
         ControlReply::Rows(ref rows) => put_rows(text, rows.listed().as_slice()),
-        ControlReply::Echo => write!(text, "echo"),
-        ControlReply::BadHmac => write!(text, "badhmac"),
-        ControlReply::Known => write!(text, "known"),
-        ControlReply::Stopped => write!(text, "stopped"),
+        ControlReply::Echo => text.push_str("echo"),
+        ControlReply::BadHmac => text.push_str("badhmac"),
+        ControlReply::Known => text.push_str("known"),
+        ControlReply::Stopped => text.push_str("stopped"),
         ControlReply::OtherKey { own } => write!(text, "otherkey {own}"),
     }
 }

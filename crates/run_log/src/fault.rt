@@ -9,7 +9,7 @@ use std::error::Error;
 use std::fmt;
 
 /// Why a text was not read as a log.
-#[derive(Clone, Copy, Debug, PartialEq, Eq)]
+#[derive(Clone, Copy, Debug)]
 pub enum LogFault {
     /// The first line that is refused, counted from 1. Where the outcome is missing, it is one more than the last line.
     Line(u64),

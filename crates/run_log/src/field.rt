@@ -1,7 +1,6 @@
 //! A line of a log by its fields.
 
 ghost use Rattle.std.specs.Prelude.{◌≡◌, ◌==◌, ◌<◌, ◌^◌, position, option_map, IsTrue};
-ghost use Rattle.std.specs.Char.{is_ascii_digit};
 ghost use Rattle.std.specs.List.{list_all};
 ghost use Rattle.std.specs.Option.{SomeIff};
 ghost use Rattle.std.specs.Str.Parse.{digits_value};
@@ -10,11 +9,9 @@ ghost use Rattle.run_log.specs.Fields.{field, are_keys, is_number, actor_of, is_
 
 use crate::name::object_name;
 use crate::outcome::Outcome;
-use outside_kit::{Object, Side};
+use link_script::is_numeral;
+use outside_kit::{Object, Side, are_digits};
 use std::str;
-
-/// How many digits a stamp has at most.
-const MOST_DIGITS: usize = 20;
 
 /// How many octets of words a step line has at most.
 const MOST_WORDS: usize = 400;
@@ -55,22 +52,10 @@ fn split_field(line: &[u8]) -> Option<(&[u8], &[u8])>
     Some((&line[..end], &line[end + 1..]))
 }
 
-fn are_digits(word: &[u8]) -> bool
-    ensures { result ≡ list_all is_ascii_digit word.now }
-{
-    word.iter().all(|octet| octet.is_ascii_digit())
-}
-
 fn is_number(word: &[u8]) -> bool
     ensures { result ≡ is_number word.now }
 {
     !word.is_empty() && are_digits(word)
-}
-
-fn is_stamp(word: &[u8]) -> bool
-    ensures { result ≡ is_numeral word.now }
-{
-    !word.is_empty() && word.len() <= MOST_DIGITS && are_digits(word)
 }
 
 /// The number that digits write, if it is below 2^8.
@@ -127,7 +112,7 @@ pub fn step_actor(line: &[u8], actors: u8) -> Option<u8>
     let (actor, rest) = split_field(rest)?;
     let (object, words) = split_field(rest)?;
     let actor = read_actor(actor, actors)?;
-    if is_stamp(stamp) && is_object(object) && are_words(words) {
+    if is_numeral(stamp) && is_object(object) && are_words(words) {
         Some(actor)
     } else {
         None

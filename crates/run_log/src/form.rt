@@ -15,7 +15,7 @@ const FORMAT: &[u8] = b"mptcp-log 2";
 const OLD_FORMAT: &[u8] = b"mptcp-log 1";
 
 /// What a log has to be read for.
-#[derive(Clone, Copy, Debug, PartialEq, Eq)]
+#[derive(Clone, Copy)]
 pub struct Setting {
     /// How many actors the run has.
     pub actors: u8,
@@ -24,7 +24,7 @@ pub struct Setting {
 }
 
 /// What may stand next in a log.
-#[derive(Clone, Copy, Debug, PartialEq, Eq)]
+#[derive(Clone, Copy)]
 pub enum Expected {
     /// The line of the format.
     Format,
@@ -39,7 +39,7 @@ pub enum Expected {
 }
 
 /// What a line tells, and what may stand behind it.
-#[derive(Clone, Copy, Debug, PartialEq, Eq)]
+#[derive(Clone, Copy)]
 pub struct Taken {
     pub next: Expected,
     pub turn: Option<Turn>,

@@ -1,8 +1,9 @@
 //! The words of a log for flags, sides, modes and other things that have names.
 
 ghost use Rattle.std.specs.Prelude.{◌≡◌, ◌++◌, OnOk, string_bytes};
+ghost use Rattle.link_script.specs.Writing.{spaced};
 ghost use Rattle.run_log.specs.Fitting.{OptionFits, VerdictFits, NoticeFits};
-ghost use Rattle.run_log.specs.Words.{spaced, flag_word, optional_word, side_word, object_word, reason_word, mode_word, event_words, verdict_words, notice_words};
+ghost use Rattle.run_log.specs.Words.{flag_word, optional_word, object_word, reason_word, mode_word, event_words, verdict_words, notice_words};
 
 use control_book::Notice;
 use fallback_state::{Event, Mode, Verdict};
@@ -15,15 +16,6 @@ pub fn flag(on: bool) -> &'static str
     ensures { result.now ≡ flag_word on }
 {
     if on { "1" } else { "0" }
-}
-
-pub fn side_name(side: Side) -> &'static str
-    ensures { result.now ≡ side_word side }
-{
-    match side {
-        Side::A => "a",
-        Side::B => "b",
-    }
 }
 
 /// The send, reassembly or control book of a side, or none but the actor itself.
@@ -74,7 +66,7 @@ pub fn put_optional(text: &mut String, number: Option<u64>) -> Result<(), AllocE
 {
     match number {
         Some(number) => write!(text, "{number}"),
-        None => write!(text, "-"),
+        None => text.push_str("-"),
     }
 }
 
@@ -83,16 +75,16 @@ pub fn put_event(text: &mut String, event: Event) -> Result<(), AllocError>
         string_bytes text.old ++ spaced (event_words event)) }
 {
     match event {
-        Event::PlainHandshake => write!(text, "plainhandshake"),
-        Event::PlainData => write!(text, "plaindata"),
-        Event::PlainAck => write!(text, "plainack"),
-        Event::KeysHeard => write!(text, "keysheard"),
-        Event::MappingHeard => write!(text, "mappingheard"),
-        Event::AckHeard => write!(text, "ackheard"),
-        Event::InfiniteHeard => write!(text, "infiniteheard"),
-        Event::CheckFailed => write!(text, "checkfailed"),
+        Event::PlainHandshake => text.push_str("plainhandshake"),
+        Event::PlainData => text.push_str("plaindata"),
+        Event::PlainAck => text.push_str("plainack"),
+        Event::KeysHeard => text.push_str("keysheard"),
+        Event::MappingHeard => text.push_str("mappingheard"),
+        Event::AckHeard => text.push_str("ackheard"),
+        Event::InfiniteHeard => text.push_str("infiniteheard"),
+        Event::CheckFailed => text.push_str("checkfailed"),
         Event::FailHeard { contiguous } => write!(text, "failheard {}", flag(contiguous)),
-        Event::Stop => write!(text, "stop"),
+        Event::Stop => text.push_str("stop"),
     }
 }
 
@@ -102,9 +94,9 @@ pub fn put_verdict(text: &mut String, verdict: Verdict) -> Result<(), AllocError
     ensures fits { OnOk result (VerdictFits verdict) }
 {
     match verdict {
-        Verdict::Stay => write!(text, "stay"),
+        Verdict::Stay => text.push_str("stay"),
         Verdict::Went(mode) => write!(text, "went {}", mode_name(mode)),
-        Verdict::SendFail => write!(text, "sendfail"),
+        Verdict::SendFail => text.push_str("sendfail"),
         Verdict::BreakPath(reason) => write!(text, "breakpath {reason}"),
     }
 }
@@ -115,10 +107,10 @@ pub fn put_notice(text: &mut String, notice: Notice) -> Result<(), AllocError>
     ensures fits { OnOk result (NoticeFits notice) }
 {
     match notice {
-        Notice::Nothing => write!(text, "nothing"),
+        Notice::Nothing => text.push_str("nothing"),
         Notice::Announce(id) => write!(text, "announce {id}"),
         Notice::Withdraw(id) => write!(text, "withdraw {id}"),
         Notice::Carrier { key } => write!(text, "carrier {key}"),
-        Notice::Reset => write!(text, "reset"),
+        Notice::Reset => text.push_str("reset"),
     }
 }

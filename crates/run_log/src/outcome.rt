@@ -6,7 +6,7 @@ ghost use Rattle.run_log.specs.Lines.{outcome_word};
 use std::fmt;
 
 /// How a run ended, as its log tells it.
-#[derive(Clone, Copy, Debug, PartialEq, Eq)]
+#[derive(Clone, Copy)]
 pub enum Outcome {
     /// Both readers were told the end of what the other side sends.
     Delivered,

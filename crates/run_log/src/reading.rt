@@ -1,32 +1,13 @@
 //! Reads a log.
 
-ghost use Rattle.std.specs.Prelude.{◌≡◌, ◌<◌, ◌∷◌, ◌==◌, ◌+◌, ◌-◌, ◌^◌, ◌++◌, [], length, position, OnOk, IfOk};
-ghost use Rattle.link_script.specs.Words.{text_lines};
+ghost use Rattle.std.specs.Prelude.{◌≡◌, ◌<◌, ◌+◌, ◌-◌, ◌^◌, ◌++◌, OnOk, IfOk};
 ghost use Rattle.run_log.specs.Form.{HasRoundBelow, taken_line, turn_list, after_line, reading, Gives};
 
 use crate::fault::LogFault;
 use crate::form::{Expected, Setting};
 use crate::turn::Turn;
+use outside_kit::split_line;
 use std::alloc::{AllocError, Global};
-
-/// The place of the first LF.
-fn line_end(text: &[u8]) -> Option<usize>
-    ensures { result ≡ position (λ octet. octet == 10) text.now }
-{
-    text.iter().position(|octet| *octet == b'\n')
-}
-
-/// Cuts the first line off a text: the octets before the first LF, and those after it.
-fn split_line(text: &[u8]) -> (&[u8], &[u8])
-    requires { 0 < length text.now }
-    ensures line { text_lines text.now ≡ result.0.now ∷ text_lines result.1.now }
-    ensures shorter { length result.1.now < length text.now }
-{
-    match line_end(text) {
-        Some(end) => (&text[..end], &text[end + 1..]),
-        None => (text, &[]),
-    }
-}
 
 /// Adds the turn that a line tells, if it tells one.
 fn note_turn(turns: &mut Vec<Turn>, turn: Option<Turn>) -> Result<(), AllocError>
@@ -63,6 +44,7 @@ fn take_line(
 fn read_lines(alloc: Global, setting: Setting, bytes: &[u8]) -> Result<Vec<Turn>, LogFault>
     ensures { Gives (λ turns. turns.items) result (reading setting.actors setting.width bytes.now) }
 {
+    // For the proof: there are fewer than 2^63 lines.
     let _len = bytes.len();
     let mut turns = Vec::new(alloc);
     let mut expected = Expected::Format;

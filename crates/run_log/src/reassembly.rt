@@ -1,8 +1,8 @@
 //! What a reassembly book is asked and answers, in the words of a log.
 
 ghost use Rattle.std.specs.Prelude.{◌≡◌, ◌++◌, OnOk, string_bytes};
+ghost use Rattle.link_script.specs.Writing.{spaced};
 ghost use Rattle.run_log.specs.Fitting.{ReassemblyCallFits, ReassemblyReplyFits};
-ghost use Rattle.run_log.specs.Words.{spaced};
 ghost use Rattle.run_log.specs.Calls.{reassembly_call_words};
 ghost use Rattle.run_log.specs.Replies.{reassembly_reply_words};
 
@@ -19,7 +19,7 @@ pub fn put_reassembly_call(text: &mut String, call: &ReassemblyCall) -> Result<(
         ReassemblyCall::Place { at, ref bytes } => write!(text, "place {at} {}", bytes.len()),
         ReassemblyCall::Fin { at } => write!(text, "fin {at}"),
         ReassemblyCall::Read { max } => write!(text, "read {max}"),
-        ReassemblyCall::AckOut => write!(text, "ackout"),
+        ReassemblyCall::AckOut => text.push_str("ackout"),
         ReassemblyCall::Abort { by_peer } => write!(text, "abort {}", flag(by_peer)),
     }
 }
@@ -32,13 +32,13 @@ pub fn put_reassembly_reply(text: &mut String, reply: &ReassemblyReply) -> Resul
     match *reply {
         ReassemblyReply::Placed(count) => write!(text, "placed {count}"),
         ReassemblyReply::Beyond { edge } => write!(text, "beyond {edge}"),
-        ReassemblyReply::FinSet => write!(text, "set"),
+        ReassemblyReply::FinSet => text.push_str("set"),
         ReassemblyReply::FinClash { fin, at } => write!(text, "clash {fin} {at}"),
         ReassemblyReply::Bytes(ref bytes) => write!(text, "bytes {}", bytes.len()),
-        ReassemblyReply::End => write!(text, "end"),
-        ReassemblyReply::NoneYet => write!(text, "none"),
+        ReassemblyReply::End => text.push_str("end"),
+        ReassemblyReply::NoneYet => text.push_str("none"),
         ReassemblyReply::Aborted { by_peer } => write!(text, "aborted {}", flag(by_peer)),
         ReassemblyReply::Ack { next, window } => write!(text, "ack {next} {window}"),
-        ReassemblyReply::Noted => write!(text, "noted"),
+        ReassemblyReply::Noted => text.push_str("noted"),
     }
 }

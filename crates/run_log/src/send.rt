@@ -1,9 +1,9 @@
 //! What a send book is asked and answers, in the words of a log.
 
 ghost use Rattle.std.specs.Prelude.{◌≡◌, ◌++◌, OnOk, string_bytes};
+ghost use Rattle.link_script.specs.Writing.{spaced};
 ghost use Rattle.send_book.specs.declared.call.SendReply.TheVariants.{NoGrant};
 ghost use Rattle.run_log.specs.Fitting.{IsLong, OptionFits, SendCallFits, SendReplyFits};
-ghost use Rattle.run_log.specs.Words.{spaced};
 ghost use Rattle.run_log.specs.Calls.{send_call_words};
 ghost use Rattle.run_log.specs.Replies.{granted_words, send_reply_words};
 
@@ -18,15 +18,15 @@ pub fn put_send_call(text: &mut String, call: &SendCall) -> Result<(), AllocErro
 {
     match *call {
         SendCall::Write { ref bytes } => write!(text, "write {}", bytes.len()),
-        SendCall::Close => write!(text, "close"),
+        SendCall::Close => text.push_str("close"),
         SendCall::Grant { path, max, standby } => {
             write!(text, "grant {path} {max} {}", flag(standby))
         }
         SendCall::AckIn { next, window } => write!(text, "ack {next} {window}"),
         SendCall::Return { path } => write!(text, "return {path}"),
-        SendCall::GoIdentity => write!(text, "identity"),
+        SendCall::GoIdentity => text.push_str("identity"),
         SendCall::GoInfinite { path } => write!(text, "infinite {path}"),
-        SendCall::Abort => write!(text, "abort"),
+        SendCall::Abort => text.push_str("abort"),
     }
 }
 
@@ -56,15 +56,15 @@ pub fn put_send_reply(text: &mut String, reply: &SendReply) -> Result<(), AllocE
 {
     match *reply {
         SendReply::Taken(count) => write!(text, "taken {count}"),
-        SendReply::Closed => write!(text, "closed"),
-        SendReply::Shut => write!(text, "shut"),
+        SendReply::Closed => text.push_str("closed"),
+        SendReply::Shut => text.push_str("shut"),
         SendReply::Granted { span, .. } => put_granted(text, span.from, span.to),
         SendReply::NoGrant { why, end } => put_no_grant(text, why, end),
         SendReply::Acked { bytes, fin } => write!(text, "acked {bytes} {}", flag(fin)),
         SendReply::AckFuture { written } => write!(text, "future {written}"),
         SendReply::Returned(count) => write!(text, "returned {count}"),
-        SendReply::Noted => write!(text, "noted"),
+        SendReply::Noted => text.push_str("noted"),
         SendReply::Infinite { from } => write!(text, "infinite {from}"),
-        SendReply::Scattered => write!(text, "scattered"),
+        SendReply::Scattered => text.push_str("scattered"),
     }
 }

@@ -2,8 +2,8 @@
 
 ghost use Rattle.std.specs.Prelude.{◌≡◌, ◌++◌, OnOk, IfOk, string_bytes};
 ghost use Rattle.std.specs.List.{flat_map};
+ghost use Rattle.link_script.specs.Writing.{spaced};
 ghost use Rattle.run_log.specs.Fitting.{AskFits, ReplyFits, NoteFits};
-ghost use Rattle.run_log.specs.Words.{spaced};
 ghost use Rattle.run_log.specs.Calls.{ask_words};
 ghost use Rattle.run_log.specs.Replies.{reply_text};
 ghost use Rattle.run_log.specs.Lines.{object_of, step_text, round_text, key_word, keys_text, outcome_text, opening_lines, ended};
@@ -53,15 +53,15 @@ fn put_reply(text: &mut String, reply: &Reply) -> Result<(), AllocError>
 {
     match reply {
         Reply::Send(reply) => {
-            write!(text, " = ")?;
+            text.push_str(" = ")?;
             put_send_reply(text, reply)
         }
         Reply::Reassembly(reply) => {
-            write!(text, " = ")?;
+            text.push_str(" = ")?;
             put_reassembly_reply(text, reply)
         }
         Reply::Control(reply) => {
-            write!(text, " = ")?;
+            text.push_str(" = ")?;
             put_control_reply(text, reply)
         }
         Reply::Done => Ok(()),

@@ -48,6 +48,7 @@ AreCutAt plan status [] = status ≡ Memory
 AreCutAt [] status (made ∷ more) = ⊥
 AreCutAt (call ∷ plan) status (made ∷ more) = (made.call ≡ call) × IfSucceeded made.ok (AreCutAt plan status more) ((more ≡ []) × Ends call status)
 
+-- these calls were added
 abbrev pub AddsCut : List Call → Status → Option (List Made) → Option (List Made) → Type 0
 AddsCut plan status old new = (made : List Made) × (AreCutAt plan status made × Adds made old new)
 
@@ -58,6 +59,7 @@ AreShortOf (call ∷ plan) status [] = status ≡ Memory
 AreShortOf (call ∷ plan) status (made ∷ more) =
     (made.call ≡ call) × IfSucceeded made.ok (AreShortOf plan status more) ((more ≡ []) × Ends call status)
 
+-- these calls were added
 abbrev pub AddsShort : List Call → Status → Option (List Made) → Option (List Made) → Type 0
 AddsShort plan status old new =
     (made : List Made) × (AreShortOf plan status made × Adds made old new)

@@ -6,12 +6,16 @@ use Rattle.pipe_model.specs.Prefix.{IsPrefix}
 use Rattle.run_outside.specs.declared.status.Status.{Status}
 use Rattle.run_outside.specs.declared.status.Status.TheVariants.{Put, Memory}
 
+-- what each port holds, where it is told
+abbrev pub Ports : Type 0
+Ports = Port → Option (List ℕ)
+
 -- no port's count of faults falls
 abbrev pub NeverFall : (Port → ℕ) → (Port → ℕ) → Type 0
 NeverFall old new = (port : Port) → old port ≤ new port
 
 -- nothing was bound or put
-abbrev pub IsUntouched : (Port → Option (List ℕ)) → (Port → Option (List ℕ)) → (Port → ℕ) → (Port → ℕ) → Type 0
+abbrev pub IsUntouched : Ports → Ports → (Port → ℕ) → (Port → ℕ) → Type 0
 IsUntouched held holds faults_before faults = (port : Port) → (holds port ≡ held port) × (faults port ≡ faults_before port)
 
 -- the binds and puts end a run with this status: the device failed at this port, and counted it, or there is no memory

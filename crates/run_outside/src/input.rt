@@ -36,7 +36,7 @@ pub struct Input {
 }
 
 /// The contents that every run loads, each within its limit.
-#[derive(Debug, Drop)]
+#[derive(Drop)]
 pub struct Contents {
     /// The text of the script: at most 65,536 octets.
     pub script: Vec<u8>,

@@ -24,4 +24,4 @@ pub use order::width_of;
 pub use pieces::Piece;
 pub use readers::bind_readers;
 pub use status::{Named, Status, fault_text};
-pub use words::read_words;
+pub use words::{command_words, read_words};

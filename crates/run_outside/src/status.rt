@@ -6,7 +6,7 @@ use outside_kit::{Port, Side};
 use std::alloc::{AllocError, Global};
 
 /// An input of a run.
-#[derive(Clone, Copy, Debug, PartialEq, Eq)]
+#[derive(Clone, Copy, Debug)]
 pub enum Named {
     /// What happens on the path.
     Script,
@@ -19,7 +19,7 @@ pub enum Named {
 }
 
 /// How a run has ended.
-#[derive(Clone, Copy, Debug, PartialEq, Eq)]
+#[derive(Clone, Copy, Debug)]
 pub enum Status {
     /// Both readers were told the end of what the other side sends.
     Delivered,

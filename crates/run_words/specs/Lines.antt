@@ -14,6 +14,7 @@ pub data Work : Type 0 where
   replay : Word → Work
   bench : ℕ → ℕ → Work
 
+-- the names of the script, of what A and B send, and of what B and A read
 pub record Names : Type 0 where
   pub script : Word
   pub file_a : Word
@@ -21,11 +22,13 @@ pub record Names : Type 0 where
   pub read_by_b : Word
   pub read_by_a : Word
 
+-- the work, and the names
 pub record Line : Type 0 where
   pub work : Work
   pub names : Names
 
 infixl 10 ◌>>=◌
+-- the next step goes on with what this one gave; without a value there is none
 abbrev pub ◌>>=◌ : {A B : Type 0} → Option A → (A → Option B) → Option B
 (Some x) >>= f = f x
 None >>= f = None
@@ -53,6 +56,7 @@ at_most_once values = None
 
 -- ---- the values
 
+-- a word that isn't empty
 abbrev pub is_given : Word → Bool
 is_given word = not (length word == 0)
 
@@ -97,6 +101,7 @@ work_in word rounds log number = None
 
 -- ---- the line
 
+-- each option at most once, `--mode` once, and five names
 unfoldable pub line_of_parts : List Part → Option Line
 line_of_parts parts = do
   word ← at_most_once (values_of mode_option parts)
@@ -121,12 +126,14 @@ HasRanges (bench rounds number) = (1 ≤ rounds) × (rounds ≤ 65536) × (1 ≤
 
 -- ---- what was read
 
+-- the mode of the code as work
 abbrev pub shown_work : Mode → Work
 shown_work (mode_is.Run rounds) = run rounds
 shown_work (mode_is.Serial rounds) = serial rounds
 shown_work (mode_is.Replay order) = replay order.now
 shown_work (mode_is.Bench rounds number) = bench rounds number
 
+-- a command line of the code by its octets
 abbrev pub as_line : CommandLine → Line
 as_line line = record {
   work = shown_work line.mode;

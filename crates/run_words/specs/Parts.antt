@@ -14,6 +14,7 @@ pub data Choice : Type 0 where
   order_option : Choice
   number_option : Choice
 
+-- the word behind `--`
 abbrev pub label : Choice → Word
 label mode_option = codes "mode"
 label rounds_option = codes "rounds"
@@ -47,6 +48,7 @@ abbrev pub part_in : Option Choice → Word → Option Part
 part_in (Some choice) word = Some (option choice (after_first is_equals word))
 part_in None word = if is_dashed word then None else Some (name word)
 
+-- the same, by what stands before the word's first `=`
 abbrev pub part_of : Word → Option Part
 part_of word = part_in (choice_of (before_first is_equals word)) word
 

@@ -1,7 +1,7 @@
 //! What a command line asks for.
 
 /// Which work is asked for, with what that work alone needs. Rounds are the most that are made.
-#[derive(Clone, Copy, Debug)]
+#[derive(Clone, Copy)]
 pub enum Mode<'a> {
     /// Rounds with a thread for each actor.
     Run {
@@ -28,7 +28,7 @@ pub enum Mode<'a> {
 }
 
 /// A command line: the mode, and the names of what is read and written. No name is empty.
-#[derive(Clone, Copy, Debug)]
+#[derive(Clone, Copy)]
 pub struct CommandLine<'a> {
     /// Which work is asked for.
     pub mode: Mode<'a>,

@@ -3,7 +3,7 @@
 use thiserror::Error;
 
 /// Why the words of a command line weren't read.
-#[derive(Clone, Copy, Debug, PartialEq, Eq, Error)]
+#[derive(Clone, Copy, Debug, Error)]
 pub enum WordsFault {
     /// The words break the line form.
     #[error("words out of form")]

@@ -30,14 +30,42 @@ fn with_name<'a>(alloc: Global, form: Command<'a>, name: &'a str) -> Result<Comm
     form.arg(Arg::new(alloc, name))
 }
 
+/// The form with two options more, of these names.
+fn with_two_options<'a>(
+    alloc: Global,
+    form: Command<'a>,
+    first: &'a str,
+    second: &'a str,
+) -> Result<Command<'a>, AllocError>
+    ensures { IfOk result (λ made. app_of made ≡
+        form_is.with_option second.entry.now
+        (form_is.with_option first.entry.now (app_of form.entry))) }
+{
+    let form = with_option(alloc, form, first)?;
+    with_option(alloc, form, second)
+}
+
 /// The form with its four options.
 fn with_options<'a>(alloc: Global, form: Command<'a>) -> Result<Command<'a>, AllocError>
     ensures { IfOk result (λ made. app_of made ≡ form_is.with_options (app_of form.entry)) }
 {
-    let form = with_option(alloc, form, "mode")?;
-    let form = with_option(alloc, form, "rounds")?;
-    let form = with_option(alloc, form, "order")?;
-    with_option(alloc, form, "number")
+    let form = with_two_options(alloc, form, "mode", "rounds")?;
+    with_two_options(alloc, form, "order", "number")
+}
+
+/// The form with two names more.
+fn with_two_names<'a>(
+    alloc: Global,
+    form: Command<'a>,
+    first: &'a str,
+    second: &'a str,
+) -> Result<Command<'a>, AllocError>
+    ensures { IfOk result (λ made. app_of made ≡
+        form_is.with_name second.entry.now
+        (form_is.with_name first.entry.now (app_of form.entry))) }
+{
+    let form = with_name(alloc, form, first)?;
+    with_name(alloc, form, second)
 }
 
 /// The form with the names of what is read.
@@ -45,16 +73,14 @@ fn with_inputs<'a>(alloc: Global, form: Command<'a>) -> Result<Command<'a>, Allo
     ensures { IfOk result (λ made. app_of made ≡ form_is.with_inputs (app_of form.entry)) }
 {
     let form = with_name(alloc, form, "script")?;
-    let form = with_name(alloc, form, "file_a")?;
-    with_name(alloc, form, "file_b")
+    with_two_names(alloc, form, "file_a", "file_b")
 }
 
 /// The form with the names of what is written.
 fn with_outputs<'a>(alloc: Global, form: Command<'a>) -> Result<Command<'a>, AllocError>
     ensures { IfOk result (λ made. app_of made ≡ form_is.with_outputs (app_of form.entry)) }
 {
-    let form = with_name(alloc, form, "read_by_b")?;
-    with_name(alloc, form, "read_by_a")
+    with_two_names(alloc, form, "read_by_b", "read_by_a")
 }
 
 /// A form of which nothing is said yet.

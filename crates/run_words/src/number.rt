@@ -1,20 +1,14 @@
 //! Numbers as a command line writes them: one to seven decimal digits, leading zeros among them.
 
 ghost use Rattle.std.specs.Prelude.{◌≡◌, ◌<◌, ◌≤◌, ◌^◌, IfSome, IsTrue};
-ghost use Rattle.std.specs.Char.{is_ascii_digit};
-ghost use Rattle.std.specs.List.{list_all};
 ghost use Rattle.std.specs.Option.{SomeIff};
 ghost use Rattle.std.specs.Str.Parse.{digits_value};
 ghost use Rattle.run_words.specs.Numbers as number_is;
 
+use outside_kit::are_digits;
+
 /// How many digits a number has at most.
 const MOST_DIGITS: usize = 7;
-
-fn are_digits(word: &[u8]) -> bool
-    ensures { result ≡ list_all is_ascii_digit word.now }
-{
-    word.iter().all(|octet| octet.is_ascii_digit())
-}
 
 fn is_numeral(word: &str) -> bool
     ensures { result ≡ number_is.is_numeral word.now }

@@ -24,6 +24,7 @@ padded options = options ++ replicate ((4 - length options % 4) % 4) 0
 abbrev pub other_options : List ℕ → List ℕ
 other_options options = padded (packed (filter (λ option. not (is_multipath option)) (option_octets options)))
 
+-- the segment without its Multipath TCP options
 abbrev pub stripped : Segment → Segment
 stripped segment = record segment { options = other_options segment.options }
 
@@ -32,6 +33,7 @@ abbrev pub with_turned_bit : List ℕ → List ℕ
 with_turned_bit [] = []
 with_turned_bit (first ∷ rest) = bit_xor first 1 ∷ rest
 
+-- the segment with the lowest bit of its first payload octet turned
 abbrev pub altered : Segment → Segment
 altered segment = record segment { payload = with_turned_bit segment.payload }
 

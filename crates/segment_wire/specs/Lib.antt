@@ -4,4 +4,5 @@ pub mod Checksum
 pub mod Segment
 pub mod Reading
 pub mod Changes
+pub mod Paths
 pub mod Laws

@@ -20,9 +20,11 @@ pub record Follows (options rest : Bor (List ℕ)) : Type 0 where
   pub shorter : length rest.now < length options.now
   pub whole : are_whole options.now ≡ are_whole rest.now
 
+-- the options with the addresses where they lie
 abbrev placed : Bor (List ℕ) → List (Ptr × List ℕ)
 placed options = placed_options (as_ptr options) options.now
 
+-- the options end, go on behind padding or behind a whole option, or are broken
 abbrev pub IsFront : Bor (List ℕ) → Front → Type 0
 IsFront options End = (are_whole options.now ≡ true) × (placed options ≡ [])
 IsFront options (Padding rest) = Follows options rest × (placed options ≡ placed rest)

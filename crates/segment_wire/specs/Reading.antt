@@ -35,9 +35,11 @@ head_in octets = record {
 abbrev pub header_len : List ℕ → ℕ
 header_len octets = 4 * (slice_index octets 12 / 16)
 
+-- the octets behind the fixed header, up to where the header ends
 abbrev pub options_in : List ℕ → List ℕ
 options_in octets = slice_range octets 20 (header_len octets)
 
+-- the fields, the options, and behind the header the payload
 abbrev pub segment_in : List ℕ → Segment
 segment_in octets = record { head = head_in octets; options = options_in octets; payload = drop (header_len octets) octets }
 
@@ -79,10 +81,11 @@ abbrev pub as_segment : Result SegmentRef SegmentFault → Result Segment Segmen
 as_segment (Ok lent) = Ok (segment_of lent)
 as_segment (Err fault) = Err fault
 
--- where the first option stands, and where the payload does
+-- where the options begin
 abbrev pub options_place : SegmentRef → Ptr
 options_place lent = as_ptr lent.options
 
+-- where the payload begins
 abbrev pub payload_place : SegmentRef → Ptr
 payload_place lent = as_ptr lent.payload
 

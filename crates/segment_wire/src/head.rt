@@ -15,7 +15,7 @@ pub const RST: u8 = 0x04;
 pub const ACK: u8 = 0x10;
 
 /// The IPv4 addresses of a segment, which its checksum covers (RFC 9293, section 3.1).
-#[derive(Clone, Copy, Debug, PartialEq, Eq)]
+#[derive(Clone, Copy)]
 pub struct Addresses {
     pub source: [u8; 4],
     pub destination: [u8; 4],

@@ -9,6 +9,7 @@ mod checksum;
 mod head;
 mod laws;
 pub mod options;
+mod paths;
 mod reading;
 mod writing;
 
@@ -16,5 +17,6 @@ pub use changes::{alter, strip};
 pub use head::{Addresses, Head};
 pub use laws::{different_segments_differ, read_is_written_again, written_is_read_again};
 pub use options::PlainOptions;
+pub use paths::{addresses_from, port_of};
 pub use reading::{SegmentFault, SegmentRef, parse};
 pub use writing::{checksum_field, write};

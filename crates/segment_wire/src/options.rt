@@ -17,7 +17,7 @@ const WINDOW_SCALE: u8 = 3;
 
 /// The options of a segment in their order, each a part of the input: kind, length and body. Kinds 0 and 1, which end
 /// and pad the options, are left out.
-#[derive(Clone, Copy, Debug)]
+#[derive(Clone, Copy)]
 pub struct PlainOptions<'a> {
     rest: &'a [u8],
 }

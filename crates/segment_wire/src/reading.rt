@@ -14,7 +14,7 @@ use crate::head::{ACK, Addresses, FIN, FIXED_HEADER_LEN, Head, RST, SYN};
 use crate::options::{PlainOptions, are_whole};
 
 /// Why octets are no segment: the first that holds, in this order.
-#[derive(Clone, Copy, Debug, PartialEq, Eq)]
+#[derive(Clone, Copy, Debug)]
 pub enum SegmentFault {
     /// Fewer than 20 octets.
     Short,
@@ -27,7 +27,7 @@ pub enum SegmentFault {
 }
 
 /// A segment that was read. Its options and its payload are lent from the octets that it was read from.
-#[derive(Clone, Copy, Debug)]
+#[derive(Clone, Copy)]
 pub struct SegmentRef<'a> {
     /// The fields of the fixed header.
     pub head: Head,

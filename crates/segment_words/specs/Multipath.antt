@@ -16,18 +16,22 @@ use Rattle.mptcp_options.specs.declared.dss.DssMap.{DssMap}
 use Rattle.mptcp_options.specs.Value as wire
 use Rattle.std.specs.Prelude.{slice_index}
 
+-- a number in lower-case digits behind `0x`
 abbrev pub hexadecimal : ℕ → List ℕ
 hexadecimal n = codes "0x" ++ digits 16 false n
 
+-- this word, or nothing
 abbrev pub word_if : Bool → List ℕ → List ℕ
 word_if flag word = if flag then word else []
 
+-- a checksum, where there is one
 abbrev pub optional_checksum : Option ℕ → List ℕ
 optional_checksum None = []
 optional_checksum (Some checksum) = codes " csum " ++ hexadecimal checksum
 
 -- ---- MP_CAPABLE
 
+-- the keys in braces, and behind those of a segment with data its length and checksum
 abbrev pub key_words : CapableKeys → List ℕ
 key_words NoKey = []
 key_words (Sender sender) = codes " {" ++ hexadecimal sender ++ codes "}"
@@ -35,14 +39,17 @@ key_words (Both sender receiver) = codes " {" ++ hexadecimal sender ++ codes ","
 key_words (WithData sender receiver len checksum) =
     codes " {" ++ hexadecimal sender ++ codes "," ++ hexadecimal receiver ++ codes "} len " ++ decimal len ++ optional_checksum checksum
 
+-- `csum` where checksums are required
 abbrev pub capable_words : Bool → CapableKeys → List ℕ
 capable_words required keys = codes "capable v1" ++ word_if required (codes " csum") ++ key_words keys
 
 -- ---- MP_JOIN
 
+-- the 20 octets of an HMAC
 abbrev pub third_words : List ℕ → List ℕ
 third_words hmac = codes " hmac 0x" ++ encode_lower hmac
 
+-- the form by its fields
 abbrev pub join_words : JoinForm → List ℕ
 join_words (join.Syn backup id token nonce) =
     codes "join" ++ word_if backup (codes " backup") ++ codes " id " ++ decimal id
@@ -59,26 +66,31 @@ abbrev pub number_words : DataNumber → ℕ
 number_words (Whole number) = number
 number_words (Low low) = low
 
+-- the Data ACK, where there is one
 abbrev pub ack_words : Option DataNumber → List ℕ
 ack_words None = []
 ack_words (Some number) = codes " ack " ++ decimal (number_words number)
 
+-- the mapping, where there is one
 abbrev pub mapping_words : Option DssMap → List ℕ
 mapping_words None = []
 mapping_words (Some map) =
     codes " seq " ++ decimal (number_words map.number) ++ codes " subseq " ++ decimal map.relative
     ++ codes " len " ++ decimal map.length ++ optional_checksum map.checksum
 
+-- `fin` where flag F is set
 abbrev pub dss_words : Option DataNumber → Option DssMap → Bool → List ℕ
 dss_words ack mapping fin = codes "dss" ++ word_if fin (codes " fin") ++ ack_words ack ++ mapping_words mapping
 
 -- ---- addresses
 
+-- four numbers with points between them
 abbrev pub v4_words : List ℕ → List ℕ
 v4_words octets =
     codes " " ++ decimal (slice_index octets 0) ++ codes "." ++ decimal (slice_index octets 1)
     ++ codes "." ++ decimal (slice_index octets 2) ++ codes "." ++ decimal (slice_index octets 3)
 
+-- its octets in hexadecimal, with nothing between them
 abbrev pub v6_words : List ℕ → List ℕ
 v6_words octets = codes " " ++ encode_lower octets
 
@@ -86,20 +98,25 @@ abbrev pub address_words : Address → List ℕ
 address_words (V4 octets) = v4_words octets
 address_words (V6 octets) = v6_words octets
 
+-- a port, where there is one
 abbrev pub port_words : Option ℕ → List ℕ
 port_words None = []
 port_words (Some port) = codes ":" ++ decimal port
 
+-- an HMAC, where there is one
 abbrev pub hmac_words : Option ℕ → List ℕ
 hmac_words None = []
 hmac_words (Some hmac) = codes " hmac " ++ hexadecimal hmac
 
+-- each id behind a space
 abbrev pub ids_words : List ℕ → List ℕ
 ids_words ids = flat_map (λ id. codes " " ++ decimal id) ids
 
+-- what ADD_ADDR tells behind the id
 abbrev pub announced_words : Address → Option ℕ → Option ℕ → List ℕ
 announced_words address port hmac = address_words address ++ port_words port ++ hmac_words hmac
 
+-- the ids of REMOVE_ADDR
 abbrev pub removed_words : List ℕ → List ℕ
 removed_words ids = codes "rem-addr id" ++ ids_words ids
 
@@ -111,6 +128,7 @@ key_told key = codes " key " ++ hexadecimal key
 abbrev pub fast_close_words : ℕ → List ℕ
 fast_close_words key = codes "fast-close" ++ key_told key
 
+-- an option by its name and fields
 abbrev pub value_words : wire.OptionValue → List ℕ
 value_words (wire.Capable flag_a flag_c keys) = capable_words flag_a keys
 value_words (wire.Join form) = join_words form

@@ -11,6 +11,7 @@ abbrev pub kind_words : List ℕ → List ℕ
 kind_words [] = codes "unknown"
 kind_words (kind ∷ rest) = codes "unknown-" ++ decimal kind
 
+-- of an option by what it means
 abbrev pub meaning_words : List ℕ → wire.Meaning → List ℕ
 meaning_words option (wire.Known value) = codes "mptcp " ++ value_words value
 meaning_words option wire.Malformed = codes "mptcp malformed"
@@ -20,17 +21,21 @@ meaning_words option wire.Unknown = kind_words option
 abbrev pub multipath_words : List ℕ → Bool → List ℕ
 multipath_words option checksums = meaning_words option (option_meaning option checksums)
 
+-- of a window scale, or else of one of Multipath TCP
 abbrev pub scale_words : Option ℕ → Bool → List ℕ → List ℕ
 scale_words (Some shift) checksums option = codes "wscale " ++ decimal shift
 scale_words None checksums option = multipath_words option checksums
 
+-- of a maximum segment size, or else of another one
 abbrev pub mss_words : Option ℕ → Bool → List ℕ → List ℕ
 mss_words (Some size) checksums option = codes "mss " ++ decimal size
 mss_words None checksums option = scale_words (window_scale_of option) checksums option
 
+-- of any option
 abbrev pub option_words : Bool → List ℕ → List ℕ
 option_words checksums option = mss_words (mss_of option) checksums option
 
+-- what stands before an option: a bracket opens before the first
 abbrev pub before_words : Bool → List ℕ
 before_words true = codes ", options ["
 before_words false = codes ","

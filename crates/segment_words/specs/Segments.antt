@@ -14,6 +14,7 @@ abbrev pub relative : ℕ → Option ℕ → ℕ
 relative number (Some initial) = (number + (2 ^ 32 - initial)) % 2 ^ 32
 relative number None = number
 
+-- a letter for each flag that is set, and a point for ACK
 abbrev pub flag_words : Head → List ℕ
 flag_words head =
     codes "Flags [" ++ word_if head.fin (codes "F") ++ word_if head.syn (codes "S")
@@ -23,16 +24,20 @@ flag_words head =
 abbrev pub is_numbered : Head → ℕ → Bool
 is_numbered head len = head.syn || head.fin || head.rst || nat_lt 0 len
 
+-- a number, and with payload the one behind it
 abbrev pub range_words : ℕ → ℕ → List ℕ
 range_words from len = if len == 0 then decimal from else decimal from ++ codes ":" ++ decimal (from + len)
 
+-- the number, relative to this initial one, where the segment tells it
 abbrev pub seq_words : Head → Option ℕ → ℕ → List ℕ
 seq_words head initial len =
     if is_numbered head len then codes ", seq " ++ range_words (relative head.seq initial) len else []
 
+-- the number that is acknowledged, relative to this initial one, where any is
 abbrev pub ack_words : Head → Option ℕ → List ℕ
 ack_words head initial = if head.ack_set then codes ", ack " ++ decimal (relative head.ack initial) else []
 
+-- flags, numbers, the window as it stands, the options, and octets of payload
 abbrev pub segment_words : Initials → Bool → Segment → List ℕ
 segment_words initials checksums s =
     flag_words s.head

@@ -8,4 +8,5 @@ mod multipath;
 mod options;
 mod segment;
 
+pub use multipath::word_if;
 pub use segment::{Initials, words};

@@ -1,15 +1,16 @@
 //! The options of Multipath TCP.
 
-ghost use Rattle.std.specs.Prelude.{◌≡◌, ◌++◌, [], if◌then◌else◌, OnOk, string_bytes};
+ghost use Rattle.std.specs.Prelude.{◌≡◌, ◌++◌, OnOk, string_bytes};
 ghost use Rattle.mptcp_options.specs.Value.{value_of};
-ghost use Rattle.segment_words.specs.Multipath.{ack_words, address_words, announced_words, capable_words, dss_words, fast_close_words, hmac_words, ids_words, join_words, key_told, key_words, mapping_words, number_words, optional_checksum, port_words, removed_words, third_words, v4_words, v6_words, value_words};
+ghost use Rattle.segment_words.specs.Multipath.{ack_words, address_words, announced_words, capable_words, dss_words, fast_close_words, hmac_words, ids_words, join_words, key_told, key_words, mapping_words, number_words, optional_checksum, port_words, removed_words, third_words, v4_words, v6_words, value_words, word_if};
 
 use key_material::Address;
 use mptcp_options::{CapableKeys, DataNumber, DssMap, JoinForm, MpOption};
 use std::alloc::{AllocError, Global};
 
-fn word_if(flag: bool, word: &'static str) -> &'static str
-    ensures { result.now ≡ (if flag then word.now else []) }
+/// A word where the flag is set, else none.
+pub fn word_if(flag: bool, word: &'static str) -> &'static str
+    ensures { result.now ≡ word_if flag word.now }
 {
     if flag { word } else { "" }
 }
@@ -76,7 +77,7 @@ fn put_join(alloc: Global, text: &mut String, form: &JoinForm) -> Result<(), All
             word_if(*backup, " backup"),
         ),
         JoinForm::Third { hmac } => {
-            write!(text, "join")?;
+            text.push_str("join")?;
             put_third(alloc, text, hmac)
         }
     }
@@ -204,7 +205,7 @@ fn put_announced(
 fn put_removed(text: &mut String, ids: &[u8]) -> Result<(), AllocError>
     ensures { OnOk result (string_bytes text.new ≡ string_bytes text.old ++ removed_words ids.now) }
 {
-    write!(text, "rem-addr id")?;
+    text.push_str("rem-addr id")?;
     put_ids(text, ids)
 }
 
@@ -217,7 +218,7 @@ fn put_key(text: &mut String, key: u64) -> Result<(), AllocError>
 fn put_fast_close(text: &mut String, key: u64) -> Result<(), AllocError>
     ensures { OnOk result (string_bytes text.new ≡ string_bytes text.old ++ fast_close_words key) }
 {
-    write!(text, "fast-close")?;
+    text.push_str("fast-close")?;
     put_key(text, key)
 }
 

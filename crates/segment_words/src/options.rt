@@ -17,7 +17,7 @@ fn put_kind(text: &mut String, option: &[u8]) -> Result<(), AllocError>
 {
     match option.first() {
         Some(kind) => write!(text, "unknown-{kind}"),
-        None => write!(text, "unknown"),
+        None => text.push_str("unknown"),
     }
 }
 
@@ -33,10 +33,10 @@ fn put_other(
 {
     match read(option, checksums) {
         Read::Known(option) => {
-            write!(text, "mptcp ")?;
+            text.push_str("mptcp ")?;
             put_multipath(alloc, text, &option)
         }
-        Read::Malformed => write!(text, "mptcp malformed"),
+        Read::Malformed => text.push_str("mptcp malformed"),
         Read::Unknown => put_kind(text, option),
     }
 }
@@ -64,9 +64,9 @@ fn put_before(text: &mut String, is_first: bool) -> Result<(), AllocError>
     ensures { OnOk result (string_bytes text.new ≡ string_bytes text.old ++ before_words is_first) }
 {
     if is_first {
-        write!(text, ", options [")
+        text.push_str(", options [")
     } else {
-        write!(text, ",")
+        text.push_str(",")
     }
 }
 
@@ -87,5 +87,5 @@ pub fn put_options(
         put_option(alloc, text, option, checksums)?;
         is_first = false;
     }
-    if is_first { Ok(()) } else { write!(text, "]") }
+    if is_first { Ok(()) } else { text.push_str("]") }
 }

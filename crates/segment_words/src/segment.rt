@@ -9,7 +9,7 @@ use segment_wire::{Addresses, Head, SegmentRef, parse};
 use std::alloc::{AllocError, Global};
 
 /// The numbers of the SYNs of both directions, as far as they are known: of the direction of the segment, and of the other one.
-#[derive(Clone, Copy, Debug, PartialEq, Eq)]
+#[derive(Clone, Copy)]
 pub struct Initials {
     pub own: Option<u32>,
     pub peer: Option<u32>,
@@ -114,7 +114,7 @@ pub fn words(
     let mut text = String::new(alloc);
     match parse(octets, addresses) {
         Ok(segment) => put_segment(alloc, &mut text, &segment, initials, checksums)?,
-        Err(_) => write!(text, "malformed")?,
+        Err(_) => text.push_str("malformed")?,
     }
     Ok(text)
 }

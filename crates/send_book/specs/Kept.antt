@@ -15,6 +15,7 @@ use Rattle.send_book.specs.State.{Sending}
 abbrev pub all_marks : Marks ByteMark → List ByteMark
 all_marks kept = replicate kept.forgotten Acked ++ kept.marks
 
+-- a book of these fields, where the acknowledged bytes have their marks too
 abbrev pub as_sending : ℕ → List ℕ → Marks ByteMark → Bool → Bool → ℕ → Bool → Option ℕ → Sending
 as_sending buffer written kept closed aborted edge fin owner = record {
   buffer = buffer;

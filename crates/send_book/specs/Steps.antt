@@ -23,9 +23,11 @@ unacked_len b = length b.written - acked_len b.marks
 abbrev pub bytes_taken : List ℕ → Sending → ℕ
 bytes_taken bytes b = min (length bytes) (min (b.buffer - unacked_len b) (2 ^ 62 - 3 - length b.written))
 
+-- a closed or aborted book takes nothing
 abbrev pub write_reply : List ℕ → Sending → SendReply
 write_reply bytes b = if b.closed || b.aborted then Shut else Taken (bytes_taken bytes b)
 
+-- the bytes that are taken are written, free and tried by no path
 abbrev pub after_write : List ℕ → Sending → Sending
 after_write bytes b =
     if b.closed || b.aborted then b
@@ -34,18 +36,20 @@ after_write bytes b =
       marks = b.marks ++ replicate (bytes_taken bytes b) (Free no_paths);
     }
 
--- Close
+-- Close: refused once the book was aborted
 abbrev pub close_reply : Sending → SendReply
 close_reply b = if b.aborted then Shut else Closed
 
+-- and else nothing more is written
 abbrev pub after_close : Sending → Sending
 after_close b = if b.aborted then b else record b { closed = true }
 
--- Grant: the first byte that this path may take, unless the book was given to another path alone
+-- the book was given to no path alone, or to this one
 abbrev pub is_for : ℕ → Option ℕ → Bool
 is_for path None = true
 is_for path (Some owner) = owner == path
 
+-- Grant: the first byte that this path may take, unless the book was given to another path alone
 abbrev pub first_free : ℕ → Sending → Option ℕ
 first_free path b = if is_for path b.owner then position (is_free_for path) b.marks else None
 
@@ -53,11 +57,13 @@ first_free path b = if is_for path b.owner then position (is_free_for path) b.ma
 abbrev pub run_len : ℕ → ℕ → Sending → ℕ → ℕ
 run_len path max b from = min max (min (b.edge - from) (prefix_len (is_free_for path) (drop from b.marks)))
 
+-- what the path is given from this byte on, where the peer's window is open there
 abbrev pub span_from : ℕ → ℕ → Sending → ℕ → Result Span Why
 span_from path max b from =
     if nat_le b.edge from then Err WindowShut
     else Ok (record { from = from; to = from + run_len path max b from })
 
+-- the same from the first byte that it may take, if there is one
 abbrev pub span_at : ℕ → ℕ → Sending → Option ℕ → Result Span Why
 span_at path max b None = Err NothingFree
 span_at path max b (Some from) = span_from path max b from
@@ -72,9 +78,11 @@ decision path max standby b =
 abbrev pub end_of : Sending → Option ℕ
 end_of b = if b.closed && not b.aborted then Some (length b.written) else None
 
+-- what stands at the places of a span
 abbrev pub part_of : {X : Type 0} → Span → List X → List X
 part_of span xs = take (span.to - span.from) (drop span.from xs)
 
+-- the bytes of the span, or why there are none, and the stream's end where it is known
 abbrev pub reply_by : Result Span Why → Sending → SendReply
 reply_by (Ok span) b = Granted span (part_of span b.written)
 reply_by (Err why) b = NoGrant why (end_of b)
@@ -86,6 +94,7 @@ grant_reply path max standby b = reply_by (decision path max standby b) b
 abbrev pub change_part : (ByteMark → ByteMark) → Span → List ByteMark → List ByteMark
 change_part change span marks = take span.from marks ++ (map change (part_of span marks) ++ drop span.to marks)
 
+-- the span's free bytes are held by the path, which has tried them
 abbrev pub given_by : ℕ → Result Span Why → Sending → Sending
 given_by path (Ok span) b = record b { marks = change_part (given path) span b.marks }
 given_by path (Err why) b = b
@@ -97,14 +106,17 @@ after_grant path max standby b = given_by path (decision path max standby b) b
 abbrev pub is_future : ℕ → Sending → Bool
 is_future next b = nat_lt (length b.written + (if b.closed then 1 else 0)) next
 
+-- DATA_FIN is acknowledged, now or before
 abbrev pub fin_after : ℕ → Sending → Bool
 fin_after next b = b.fin || nat_lt (length b.written) next
 
+-- what is future is refused; else how many bytes are newly acknowledged, and whether DATA_FIN is acknowledged
 abbrev pub ack_reply : ℕ → Sending → SendReply
 ack_reply next b =
     if is_future next b then AckFuture (length b.written)
     else AckedBytes (min next (length b.written) - acked_len b.marks) (fin_after next b)
 
+-- the bytes below `next` are acknowledged; the edge never moves back (RFC 8684, section 3.3.5)
 abbrev pub after_ack : ℕ → ℕ → Sending → Sending
 after_ack next window b =
     if is_future next b then b
@@ -114,10 +126,11 @@ after_ack next window b =
       fin = fin_after next b;
     }
 
--- Return
+-- Return: how many bytes the path gives back, which are all that it holds
 abbrev pub return_reply : ℕ → Sending → SendReply
 return_reply path b = Returned (count_by (is_held_by path) b.marks)
 
+-- they are free again, for paths that have not tried them
 abbrev pub after_return : ℕ → Sending → Sending
 after_return path b = record b { marks = map (returned path) b.marks }
 
@@ -131,9 +144,11 @@ tried_first path (mark ∷ marks) =
 abbrev pub is_gathered : ℕ → Sending → Bool
 is_gathered path b = is_none b.owner && tried_first path (drop (acked_len b.marks) b.marks)
 
+-- it begins at the first byte that isn't acknowledged, or is refused
 abbrev pub infinite_reply : ℕ → Sending → SendReply
 infinite_reply path b = if is_gathered path b then Infinite (acked_len b.marks) else Scattered
 
+-- the book is given to this path alone
 abbrev pub after_infinite : ℕ → Sending → Sending
 after_infinite path b = if is_gathered path b then record b { owner = Some path } else b
 

@@ -1,6 +1,7 @@
 -- A set of paths, as a truth value for each path from path 0 on.
 use Rattle.std.specs.Prelude.{ℕ, zero, suc, Bool, true, false, List, [], ◌∷◌, replicate, slice_index_or, if◌then◌else◌}
 
+-- none of the paths 0 to 15
 abbrev pub no_paths : List Bool
 no_paths = replicate 16 false
 

@@ -17,7 +17,7 @@ use std::marker::Model;
 const MAX_WRITTEN: u64 = (1 << 62) - 3;
 
 /// The written bytes of one direction of a connection, with the mark of each.
-#[derive(Debug, Drop)]
+#[derive(Drop)]
 pub struct SendBook {
     alloc: Global,
     /// How many bytes may be unacknowledged.
@@ -267,6 +267,7 @@ impl SendBook {
     fn return_reply(&self, path: u8) -> SendReply
         ensures { result ≡ return_reply path self.now }
     {
+        // For the proof: fewer than 2^63 bytes were written.
         let _written = self.written_len();
         SendReply::Returned(held_in(self.marks.runs(), path))
     }
@@ -349,6 +350,7 @@ pub fn marks_tile(book: &SendBook)
         is_free book.now.marks
         ≡ length book.now.written }
 {
+    // For the proof: the invariant of the book.
     let _marks = &book.marks;
 }
 

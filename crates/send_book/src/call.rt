@@ -4,7 +4,7 @@ use pipe_model::Text;
 use std::alloc::AllocError;
 
 /// A range of places: `from`, and all after it below `to`.
-#[derive(Clone, Copy, Debug, PartialEq, Eq)]
+#[derive(Clone, Copy)]
 pub struct Span {
     /// The first place.
     pub from: u64,
@@ -13,7 +13,7 @@ pub struct Span {
 }
 
 /// What a send book can be asked. Paths are 0 to 15.
-#[derive(Debug, Drop, PartialEq)]
+#[derive(Drop)]
 pub enum SendCall {
     /// The application writes these bytes.
     Write {
@@ -55,7 +55,7 @@ pub enum SendCall {
 }
 
 /// Why no bytes are granted, the first reason that holds.
-#[derive(Clone, Copy, Debug, PartialEq, Eq)]
+#[derive(Clone, Copy, PartialEq, Eq)]
 pub enum Why {
     /// The connection is aborted, or all bytes are acknowledged and no more are written.
     Ended,
@@ -68,7 +68,7 @@ pub enum Why {
 }
 
 /// What a send book answers.
-#[derive(Debug, Drop, PartialEq)]
+#[derive(Drop)]
 pub enum SendReply {
     /// So many of the offered bytes were taken.
     Taken(u64),

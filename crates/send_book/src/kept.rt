@@ -24,6 +24,7 @@ fn append_part(
         followed_by (map (moved change) (part (marks_len new.old) to marks.now)) new.old) }
     ensures len { OnOk result (marks_len new.new ≡ to) }
 {
+    // For the proof: there are fewer than 2^63 marks.
     let _len = marks.len();
     append_moved(new, marks.runs(), to, change)?;
     Ok(())

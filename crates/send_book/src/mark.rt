@@ -4,7 +4,7 @@ ghost use Rattle.send_book.specs.Marks.{is_free_for, is_held_by, has_tried, is_u
 use crate::tried::Tried;
 
 /// What has become of a written byte.
-#[derive(Clone, Copy, Debug, PartialEq, Eq)]
+#[derive(Clone, Copy, PartialEq, Eq)]
 pub enum ByteMark {
     /// The peer has acknowledged it.
     Acked,

@@ -14,7 +14,7 @@ impl Mark for ByteMark {
 }
 
 /// What is done to a mark.
-#[derive(Clone, Copy, Debug)]
+#[derive(Clone, Copy)]
 pub(crate) enum Move {
     /// It stays.
     Keep,

@@ -4,7 +4,7 @@ ghost use Rattle.send_book.specs.Tried.{no_paths, has_none, insert, contains};
 use std::marker::Model;
 
 /// Some of the paths 0 to 15. Contracts see a truth value for each path, from path 0 on.
-#[derive(Clone, Copy, Debug)]
+#[derive(Clone, Copy)]
 pub struct Tried {
     paths: [bool; 16],
 }

@@ -16,7 +16,7 @@ use std::alloc::{AllocError, Global};
 use std::marker::Model;
 
 /// What was taken of one write, at least one octet.
-#[derive(Debug, Drop)]
+#[derive(Drop)]
 pub(crate) struct Part {
     /// The place after its last octet.
     pub(crate) end: u64,
@@ -25,7 +25,7 @@ pub(crate) struct Part {
 }
 
 /// All written octets. Contracts see their list.
-#[derive(Debug, Drop)]
+#[derive(Drop)]
 pub(crate) struct Written {
     parts: Vec<Part>,
 }

@@ -1,5 +1,5 @@
 /// A data sequence mapping: which octets of the data stream the octets of a subflow are (RFC 8684, section 3.3.1).
-#[derive(Clone, Copy, Debug, PartialEq, Eq)]
+#[derive(Clone, Copy)]
 pub struct Mapping {
     /// The data sequence number of the first octet.
     pub number: u64,

@@ -3,11 +3,11 @@ ghost use Rattle.seq_units.specs.Number.{number_of};
 
 /// A number of 32 bits as a segment carries it: a subflow sequence or acknowledgement number, or the low half of
 /// a data number.
-#[derive(Clone, Copy, Debug, PartialEq, Eq)]
+#[derive(Clone, Copy)]
 pub struct Seq32(pub u32);
 
 /// A number of 64 bits as an option carries it: a data sequence number or a Data ACK (RFC 8684, section 3.3).
-#[derive(Clone, Copy, Debug, PartialEq, Eq)]
+#[derive(Clone, Copy)]
 pub struct Seq64(pub u64);
 
 /// A position of a stream, counted from the position of its base: of a subflow from the initial sequence number,

@@ -8,6 +8,10 @@ use Rattle.stamped_book.specs.Journal.{Journaled, book_of, last_stamp}
 abbrev pub raised : Pass → ℕ → Pass
 raised pass stamp = record pass { stamp = max pass.stamp stamp }
 
+-- a pass after a step that no book takes
+abbrev pub gone_on : Pass → Pass
+gone_on pass = record pass { stamp = pass.stamp + 1 }
+
 module _ {O C R : Type 0} where
   -- one more than the greater of the book's last stamp, which is 0 for an empty journal, and what the asker has seen
   abbrev pub next_stamp : Journaled O C R → Pass → ℕ

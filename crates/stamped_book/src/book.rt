@@ -50,6 +50,7 @@ pub trait Book {
         ensures after { IfOk result (λ _. self.new ≡ after self.old call.now) }
         ensures err { OnErr result (self.new ≡ self.old) }
     {
+        // For the proof: the clauses name it; this default asks anew.
         let _answered = answered;
         self.apply(call)
     }

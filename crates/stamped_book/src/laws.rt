@@ -9,6 +9,7 @@ pub fn stamps_rise<O: Book>(stamped: &Stamped<O>)
     ensures rise { Rise 0 stamped.now.journal }
     ensures small { last_stamp 0 stamped.now.journal < 2 ^ 62 }
 {
+    // For the proof: the journal is one of its book.
     let _journal = stamped.journal();
 }
 
@@ -16,5 +17,6 @@ pub fn stamps_rise<O: Book>(stamped: &Stamped<O>)
 pub fn journals_begin_at_an_opening<O: Book>(stamped: &Stamped<O>)
     ensures { O.opening stamped.now.opening ≡ stamped.now.opening }
 {
+    // For the proof: the book is the replay of its journal.
     let _book = stamped.book();
 }

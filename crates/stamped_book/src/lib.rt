@@ -12,4 +12,4 @@ mod stamped;
 
 pub use book::Book;
 pub use laws::{journals_begin_at_an_opening, stamps_rise};
-pub use stamped::{Entry, Pass, Refusal, Stamped, raise};
+pub use stamped::{Entry, LAST_STAMP, Pass, Refusal, Stamped, go_on, raise};

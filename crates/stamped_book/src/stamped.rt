@@ -1,6 +1,6 @@
-ghost use Rattle.std.specs.Prelude.{◌≡◌, ◌+◌, ◌^◌, ◌<◌, ◌≤◌, ◌↔◌, [], ◌∷◌, ◌++◌, IfOk, OnOk, OnErr, vec_len, vec_capacity};
+ghost use Rattle.std.specs.Prelude.{◌≡◌, ◌+◌, ◌^◌, ◌<◌, ◌≤◌, ◌↔◌, [], ◌∷◌, ◌++◌, IsOk, IfOk, OnOk, OnErr, vec_len, vec_capacity};
 ghost use Rattle.std.specs.Option.{SomeIff};
-ghost use Rattle.stamped_book.specs.Entering.{raised};
+ghost use Rattle.stamped_book.specs.Entering.{gone_on, raised};
 
 use crate::book::Book;
 use std::alloc::{AllocError, Global};
@@ -8,7 +8,7 @@ use std::marker::Model;
 use thiserror::Error;
 
 /// One call that a book took.
-#[derive(Debug, Drop, PartialEq)]
+#[derive(Drop)]
 pub struct Entry<C, R> {
     /// The place of the call among all: one more than the greater of `seen` and the book's stamp before.
     pub stamp: u64,
@@ -23,7 +23,7 @@ pub struct Entry<C, R> {
 }
 
 /// What an actor shows when it asks: its number, and the greatest stamp that it knows.
-#[derive(Clone, Copy, Debug, PartialEq, Eq)]
+#[derive(Clone, Copy)]
 pub struct Pass {
     /// The number of the actor.
     pub actor: u8,
@@ -32,7 +32,7 @@ pub struct Pass {
 }
 
 /// Why a call isn't entered.
-#[derive(Clone, Copy, Debug, PartialEq, Eq, Error)]
+#[derive(Clone, Copy, Debug, Error)]
 pub enum Refusal {
     /// There is no memory for the entry.
     #[error("out of memory")]
@@ -53,6 +53,9 @@ impl From<AllocError> for Refusal {
     }
 }
 
+/// The greatest stamp that a call can have: 2^62 - 1.
+pub const LAST_STAMP: u64 = (1 << 62) - 1;
+
 /// Gives the pass this stamp where it is greater than its own.
 pub fn raise(pass: &mut Pass, stamp: u64)
     ensures { pass.new ≡ raised pass.old stamp }
@@ -60,8 +63,20 @@ pub fn raise(pass: &mut Pass, stamp: u64)
     pass.stamp = pass.stamp.max(stamp);
 }
 
-// The greatest stamp that an entry can have.
-const LAST_STAMP: u64 = (1 << 62) - 1;
+/// Gives the pass the stamp after its own, for a step that no book takes. Stamps are 1 to 2^62 - 1; after a refusal the
+/// pass is as before.
+pub fn go_on(pass: &mut Pass) -> Result<(), Refusal>
+    ensures ok { IsOk result ↔ (pass.old.stamp + 1 < 2 ^ 62) }
+    ensures pass { OnOk result (pass.new ≡ gone_on pass.old) }
+    ensures stamps { (result ≡ Err Refusal.Stamps) ↔ (2 ^ 62 ≤ pass.old.stamp + 1) }
+    ensures err { OnErr result (pass.new ≡ pass.old) }
+{
+    let Some(stamp) = stamp_after(pass.stamp) else {
+        return Err(Refusal::Stamps);
+    };
+    pass.stamp = stamp;
+    Ok(())
+}
 
 /// A book with its journal.
 #[derive(Drop)]

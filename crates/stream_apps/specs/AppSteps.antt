@@ -15,6 +15,7 @@ use Rattle.stream_apps.specs.declared.duty.AppDuty.TheVariants.{FastClose, Abort
 use Rattle.stream_apps.specs.Apps.{AppState}
 use Rattle.actor_desk.specs.Words.{is_nil, tail_of}
 
+-- the duties of a turn, in their order
 abbrev pub start_of_app : List AppDuty
 start_of_app = FastClose ∷ AbortSend ∷ AbortReceive ∷ Write ∷ Close ∷ Read ∷ End ∷ []
 
@@ -43,6 +44,7 @@ app_stands End a = true
 abbrev pub offered : AppState → List ℕ
 offered a = take a.buffer a.rest
 
+-- what a duty asks of the side's books; a read asks for 65,536 octets at most
 abbrev pub app_ask : AppDuty → AppState → Ask
 app_ask FastClose a = asks.Control a.side control_calls.FastClose
 app_ask AbortSend a = asks.Send a.side send_calls.Abort
@@ -52,20 +54,24 @@ app_ask Close a = asks.Send a.side send_calls.Close
 app_ask Read a = asks.Reassembly a.side (reassembly_calls.Read 65536)
 app_ask End a = asks.Local steps.End
 
+-- the duties behind the first one
 abbrev pub app_left : AppState → List AppDuty
 app_left a = tail_of a.agenda
 
+-- the first duty is done
 abbrev pub app_done : AppState → AppState
 app_done a = record a { agenda = app_left a }
 
--- what was taken of its file is written
+-- how many octets of its file were taken
 abbrev pub taken_in : Reply → ℕ
 taken_in (replies.Send (send_replies.Taken count)) = count
 taken_in _ = 0
 
+-- what was taken of its file is written
 abbrev pub app_wrote : Reply → AppState → AppState
 app_wrote r a = record (app_done a) { rest = drop (taken_in r) a.rest }
 
+-- the octets that were read
 abbrev pub bytes_in : Reply → List ℕ
 bytes_in (replies.Reassembly (reassembly_replies.Bytes bytes)) = bytes
 bytes_in _ = []
@@ -80,6 +86,7 @@ ends_in _ = false
 abbrev pub app_reads_on : List ℕ → AppState → Bool
 app_reads_on bytes a = not (is_nil bytes) && nat_lt (a.count + length bytes) a.buffer
 
+-- what was read is counted, and the end is noted; it reads on, or the duty is done
 abbrev pub app_read : Reply → AppState → AppState
 app_read r a = record a {
   count = a.count + length (bytes_in r);
@@ -87,6 +94,7 @@ app_read r a = record a {
   agenda = (if app_reads_on (bytes_in r) a then a.agenda else app_left a);
 }
 
+-- what the reply to this duty makes of it
 abbrev pub app_answered : AppDuty → Reply → AppState → AppState
 app_answered FastClose r a = app_done a
 app_answered AbortSend r a = app_done a
@@ -96,14 +104,17 @@ app_answered Close r a = record (app_done a) { closed = true }
 app_answered Read r a = app_read r a
 app_answered End r a = record a { agenda = [] }
 
+-- the agenda from the first of these duties on that comes to something
 abbrev pub app_settled : List AppDuty → AppState → AppState
 app_settled [] a = record a { agenda = [] }
 app_settled (d ∷ ds) a = if app_stands d a then record a { agenda = d ∷ ds } else app_settled ds a
 
+-- what the first of these duties asks
 abbrev pub app_asks_first : List AppDuty → AppState → Option Ask
 app_asks_first [] a = None
 app_asks_first (d ∷ ds) a = Some (app_ask d a)
 
+-- what it asks next; nothing where its turn is over
 abbrev pub app_asks_of : AppState → Option Ask
 app_asks_of a = app_asks_first a.agenda a
 
@@ -112,13 +123,16 @@ abbrev pub asks_bytes : List AppDuty → Bool
 asks_bytes (Write ∷ ds) = true
 asks_bytes _ = false
 
+-- the same of the first of these duties
 abbrev pub app_answers : List AppDuty → Reply → AppState → AppState
 app_answers [] r a = a
 app_answers (d ∷ ds) r a = app_answered d r a
 
+-- duties that come to nothing are passed over
 abbrev pub app_settles_down : AppState → AppState
 app_settles_down a = app_settled a.agenda a
 
+-- it takes a reply, and stands before the next duty that comes to something
 abbrev pub app_takes : Reply → AppState → AppState
 app_takes r a = app_settles_down (app_answers a.agenda r a)
 
@@ -126,5 +140,6 @@ app_takes r a = app_settles_down (app_answers a.agenda r a)
 abbrev pub fresh_turn : AppState → AppState
 fresh_turn a = record a { count = 0; stops_in = a_round_less a.stops_in; agenda = start_of_app }
 
+-- at the first duty of its next turn that comes to something
 abbrev pub app_next_round : AppState → AppState
 app_next_round a = app_settles_down (fresh_turn a)

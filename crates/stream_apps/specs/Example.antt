@@ -22,10 +22,12 @@ pub record AppRun : Type 0 where
   pub app : AppState
   pub books : SixBooks
 
+-- after one step: the books are asked, and it takes their reply
 abbrev pub app_step : Option Ask → AppRun → AppRun
 app_step None w = w
 app_step (Some ask) w = record { app = app_takes (reply_of w.books ask) w.app; books = after_ask ask w.books }
 
+-- after so many steps
 abbrev pub after_app_steps : ℕ → AppRun → AppRun
 after_app_steps zero w = w
 after_app_steps (suc n) w = after_app_steps n (app_step (app_asks_of w.app) w)
@@ -48,6 +50,7 @@ app_of_a = record { app = first_app_turn side.A 65536 hello None; books = opened
 abbrev pub app_of_b : AppRun
 app_of_b = record { app = first_app_turn side.B 65536 [] None; books = (after_app_steps 4 app_of_a).books }
 
+-- the file is taken whole, and nothing has come
 abbrev pub turn_of_a : List Step
 turn_of_a =
     step (asks.Send side.A (send_calls.Write hello)) (replies.Send (send_replies.Taken 5))
@@ -56,6 +59,7 @@ turn_of_a =
     ∷ step (asks.Local steps.End) replies.Done
     ∷ []
 
+-- nothing is to be written, and nothing has come
 abbrev pub turn_of_b : List Step
 turn_of_b =
     step (asks.Send side.B send_calls.Close) (replies.Send send_replies.Closed)
@@ -69,6 +73,7 @@ turn_of_b =
 abbrev pub app_that_stops : AppRun
 app_that_stops = record { app = first_app_turn side.A 65536 hello (Some 99); books = opened_books 65536 8938189255999614177 5210603713849882493 }
 
+-- it stops the connection first; then its file isn't taken, and a read tells that it aborted
 abbrev pub turn_that_stops : List Step
 turn_that_stops =
     step (asks.Control side.A control_calls.FastClose) (replies.Control control_replies.Noted)

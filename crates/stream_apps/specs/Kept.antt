@@ -16,6 +16,7 @@ agenda_from (Some Read) = Read ∷ End ∷ []
 agenda_from (Some End) = End ∷ []
 agenda_from None = []
 
+-- an application of these fields, of whose file so much is written
 abbrev pub as_app_state : Side → ℕ → List ℕ → ℕ → Bool → Bool → ℕ → Option ℕ → Option AppDuty → AppState
 as_app_state s buffer file written closed told count stops_in due = record {
   side = s;
@@ -39,6 +40,7 @@ MayRead (Some Read) count buffer = count < buffer
 MayRead (Some End) count buffer = Unit {0}
 MayRead None count buffer = Unit {0}
 
+-- no more is written than the file has; the buffer has 1 to 1,048,576 octets, and as long as it may read, fewer were read
 pub record IsKept (buffer : ℕ) (file : List ℕ) (written count : ℕ) (due : Option AppDuty) : Type 0 where
   pub within : written ≤ length file
   pub room : 1 ≤ buffer

@@ -9,11 +9,12 @@ use Rattle.stream_apps.specs.Apps.{AppState}
 
 -- ---- when it stops the connection
 
--- by this line the side does, at once
+-- a line by which this side stops the connection
 abbrev pub is_fast_close : Side → ScriptLine → Bool
 is_fast_close s (line.FastClose side tick) = same_side s side
 is_fast_close s _ = false
 
+-- the tick at which a line stops the connection
 abbrev pub tick_of : ScriptLine → Option ℕ
 tick_of (line.FastClose side tick) = Some tick
 tick_of _ = None
@@ -41,5 +42,6 @@ untouched s buffer file tick = record {
   agenda = start_of_app;
 }
 
+-- at the first duty of its first turn that comes to something
 abbrev pub first_app_turn : Side → ℕ → List ℕ → Option ℕ → AppState
 first_app_turn s buffer file tick = app_settles_down (untouched s buffer file tick)

@@ -17,6 +17,7 @@ abbrev pub FirstAppStands : List AppDuty → AppState → Type 0
 FirstAppStands [] a = Unit {0}
 FirstAppStands (d ∷ ds) a = app_stands d a ≡ true
 
+-- the first duty of its agenda, if there is one, comes to something
 abbrev pub IsAppSettled : AppState → Type 0
 IsAppSettled a = FirstAppStands a.agenda a
 

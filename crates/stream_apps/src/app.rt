@@ -21,7 +21,7 @@ const READ_MAX: u32 = 65_536;
 /// The application of one side. In a turn it offers the next bytes of its file once, says once that it writes no more, and
 /// reads until nothing is there, the stream ended or was aborted, or it has read as many bytes as a side buffers. In the round
 /// that holds the tick of its fast close, where it has one, it stops the connection first (RFC 8684, section 3.5).
-#[derive(Debug, Drop)]
+#[derive(Drop)]
 pub struct App {
     side: Side,
     /// How many octets a side buffers.
@@ -302,6 +302,7 @@ impl App {
         requires kind { AnswersTo (app_asks_of self.old) reply.now }
         ensures { self.new ≡ app_takes reply.now self.old }
     {
+        // For the proof: the file has fewer than 2^63 bytes.
         let _len = self.file.len();
         self.written += self.bytes_taken(reply);
         self.due = Some(self.from_close());

@@ -1,7 +1,7 @@
 //! What an application still has to do in a turn.
 
 /// A duty of an application.
-#[derive(Clone, Copy, Debug, Default, PartialEq, Eq)]
+#[derive(Clone, Copy, Default)]
 pub enum AppDuty {
     /// Ends the connection at once: its control book takes a fast close (RFC 8684, section 3.5).
     FastClose,

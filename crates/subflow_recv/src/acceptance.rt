@@ -2,7 +2,7 @@ ghost use Rattle.std.specs.Prelude.{◌≡◌};
 ghost use Rattle.subflow_recv.specs.Receiving.{new_octets};
 
 /// What became of a payload.
-#[derive(Clone, Copy, Debug, PartialEq, Eq)]
+#[derive(Clone, Copy, Debug)]
 pub enum Acceptance {
     /// Some of its octets are in the window, and so many of these were not kept before.
     Kept(u64),

@@ -10,7 +10,7 @@ use std::marker::Model;
 /// The receiving side of a subflow. Contracts see the receive edge, the window, the list of the positions from the edge
 /// on, each with its octet or without one, and that list as it will be once the payload that is held is kept too.
 /// Positions are at most 2^62.
-#[derive(Debug, Drop)]
+#[derive(Drop)]
 pub struct SubflowRecv {
     /// The octets that are kept, from the receive edge on.
     kept: BytePieces,
@@ -175,7 +175,7 @@ impl SubflowRecv {
         requires within { to ≤ self.old.edge + length (filled self.old.places) }
         ensures { self.new ≡ after_advance to self.old }
     {
-        // The octets end at or before position 2^62, and so does `to`.
+        // For the proof: the octets end at or before position 2^62, and so does `to`.
         let _top = self.kept.top();
         self.kept.drop_front(to);
     }

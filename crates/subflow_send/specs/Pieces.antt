@@ -8,17 +8,21 @@ use Rattle.subflow_send.specs.Sendings.{sent_again, to_be_sent}
 use Rattle.subflow_send.specs.Records.{Record, span_of, Tile}
 use Rattle.subflow_send.specs.Rules.{syn_record, fin_record}
 
+-- a piece as a record of data
 abbrev pub piece_record : Piece → Record
 piece_record p = record { pos = p.pos; kind = Data; piece = p.bytes; mapping = p.mapping; sending = p.sending }
 
+-- the SYN, as long as it is kept
 abbrev pub syn_records : Option Sending → List Record
 syn_records None = []
 syn_records (Some sending) = syn_record sending ∷ []
 
+-- the FIN at its position, as long as it is kept
 abbrev pub fin_records : ℕ → Option Sending → List Record
 fin_records pos None = []
 fin_records pos (Some sending) = fin_record pos sending ∷ []
 
+-- the SYN, the pieces, the FIN
 abbrev pub all_records : Option Sending → List Piece → ℕ → Option Sending → List Record
 all_records syn pieces fin_pos fin = syn_records syn ++ (map piece_record pieces ++ fin_records fin_pos fin)
 
@@ -27,6 +31,7 @@ abbrev pub unsent_sending : Option Sending → Option Sending
 unsent_sending None = None
 unsent_sending (Some sending) = if sending.unsent then Some sending else None
 
+-- the position after a piece
 abbrev pub piece_end : Piece → ℕ
 piece_end p = p.pos + length p.bytes
 
@@ -35,6 +40,7 @@ abbrev pub uncovered_pieces : ℕ → List Piece → List Piece
 uncovered_pieces pos [] = []
 uncovered_pieces pos (p ∷ ps) = if nat_le (piece_end p) pos then uncovered_pieces pos ps else p ∷ ps
 
+-- a piece that is to be sent again
 abbrev pub unsent_piece : Piece → Piece
 unsent_piece p = record p { sending = to_be_sent p.sending }
 
@@ -52,6 +58,7 @@ sending_of r = r.sending
 abbrev pub piece_len : Piece → ℕ
 piece_len p = length p.bytes
 
+-- the octets of a piece that are under way: none where it is to be sent
 abbrev pub piece_under_way : Piece → ℕ
 piece_under_way p = if is_unsent_piece p then 0 else length p.bytes
 

@@ -10,6 +10,7 @@ use Rattle.subflow_send.specs.declared.record.Sending.{Sending}
 use Rattle.subflow_send.specs.Sendings.{never_sent, sent_again, first_at_an_expiry, to_be_sent}
 use Rattle.subflow_send.specs.Records.{Record, SendState, end_of}
 
+-- the SYN and the FIN have none
 abbrev pub no_mapping : Mapping
 no_mapping = record { number = 0; relative = 0; length = 0; checksum = 0 }
 
@@ -17,6 +18,7 @@ no_mapping = record { number = 0; relative = 0; length = 0; checksum = 0 }
 abbrev pub syn_record : Sending → Record
 syn_record sending = record { pos = 0; kind = Syn; piece = []; mapping = no_mapping; sending = sending }
 
+-- the FIN at this position
 abbrev pub fin_record : ℕ → Sending → Record
 fin_record pos sending = record { pos = pos; kind = Fin; piece = []; mapping = no_mapping; sending = sending }
 
@@ -74,6 +76,7 @@ abbrev pub sample_of : ℕ → SendState → Option ℕ
 sample_of pos v = option_and_then only_sending (last_covered pos v.records)
 
 -- ---- sending
+-- it is to be sent, for the first time or again
 abbrev pub is_unsent : Record → Bool
 is_unsent r = r.sending.unsent
 
@@ -95,6 +98,7 @@ abbrev pub after_resent : ℕ → SendState → SendState
 after_resent now v = record v { records = first_sent now v.records }
 
 -- ---- expiries
+-- it is to be sent again
 abbrev pub unsent_again : Record → Record
 unsent_again r = record r { sending = to_be_sent r.sending }
 
@@ -122,6 +126,7 @@ abbrev pub flight : SendState → ℕ
 flight v = sum_by octets_under_way v.records
 
 -- ---- by position, and the FIN by itself
+-- its first position is this one
 abbrev pub stands_at : ℕ → Record → Bool
 stands_at pos r = r.pos == pos
 

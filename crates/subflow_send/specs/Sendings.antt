@@ -2,6 +2,7 @@
 use Rattle.std.specs.Prelude.{ℕ, ◌+◌, ◌==◌, min, true, false, if◌then◌else◌}
 use Rattle.subflow_send.specs.declared.record.Sending.{Sending}
 
+-- it is to be sent for the first time
 abbrev pub never_sent : Sending
 never_sent = record { times = 0; first = 0; unsent = true; first_at_expiry = false }
 

@@ -5,7 +5,7 @@ use std::alloc::{AllocError, Global};
 use std::marker::Model;
 
 /// The octets of a piece, at most 65,475.
-#[derive(Debug, Drop)]
+#[derive(Drop)]
 pub(crate) struct Octets {
     text: Text,
 }

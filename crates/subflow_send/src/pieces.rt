@@ -13,7 +13,7 @@ use seq_units::{Mapping, Pos};
 use std::collections::VecDeque;
 
 /// Octets that were pushed together.
-#[derive(Debug, Drop)]
+#[derive(Drop)]
 pub(crate) struct Piece {
     /// The position of the first octet.
     pub(crate) pos: Pos,

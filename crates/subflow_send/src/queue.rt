@@ -15,7 +15,7 @@ use std::collections::VecDeque;
 use std::marker::Model;
 
 /// The data pieces that are not acknowledged whole, in order of their positions. Contracts see the list.
-#[derive(Debug, Drop)]
+#[derive(Drop)]
 pub(crate) struct PieceQueue {
     items: VecDeque<Piece>,
     /// No piece before this place is to be sent.

@@ -1,7 +1,7 @@
 use seq_units::{Mapping, Pos};
 
 /// What a record occupies positions for.
-#[derive(Clone, Copy, Debug, PartialEq, Eq)]
+#[derive(Clone, Copy, Debug)]
 pub enum RecordKind {
     /// The SYN, at position 0.
     Syn,
@@ -12,7 +12,7 @@ pub enum RecordKind {
 }
 
 /// How a record was sent.
-#[derive(Clone, Copy, Debug, PartialEq, Eq)]
+#[derive(Clone, Copy)]
 pub struct Sending {
     /// How often it was sent, up to 2^32 - 1.
     pub times: u32,
@@ -25,7 +25,7 @@ pub struct Sending {
 }
 
 /// A record, lent as it was pushed, with how it was sent.
-#[derive(Clone, Copy, Debug)]
+#[derive(Clone, Copy)]
 pub struct RecordRef<'a> {
     /// Its first position.
     pub pos: Pos,
@@ -40,7 +40,7 @@ pub struct RecordRef<'a> {
 }
 
 /// What an acknowledgement of a position tells.
-#[derive(Clone, Copy, Debug, PartialEq, Eq)]
+#[derive(Clone, Copy, Debug)]
 pub enum AckKind {
     /// It is above SND.UNA and at most SND.NXT: so many octets of data are acknowledged for the first time.
     New(u64),

@@ -24,7 +24,7 @@ const NO_MAPPING: Mapping = Mapping {
 
 /// The sending side of a subflow. Contracts see SND.UNA, SND.NXT, the list of the records that are not acknowledged
 /// whole, in order of their positions, and whether the FIN was pushed.
-#[derive(Debug, Drop)]
+#[derive(Drop)]
 pub struct SubflowSend {
     alloc: Global,
     /// SND.UNA: the least position that is not acknowledged.

@@ -11,9 +11,11 @@ owing_syn_ack d = record d { syn_ack = true }
 abbrev pub owing_ack : Due → Due
 owing_ack d = record d { ack = true }
 
+-- an acknowledgement one below SND.UNA
 abbrev pub owing_probe : Due → Due
 owing_probe d = record d { probe = true }
 
+-- the first record again
 abbrev pub owing_first : Due → Due
 owing_first d = record d { first = true }
 

@@ -25,6 +25,7 @@ ack_at pos s = record { position = pos; acknowledged = Some s.recv.edge; syn = f
 abbrev pub reset_segment : EndState → Outgoing
 reset_segment s = record { position = s.send.nxt; acknowledged = None; syn = false; fin = false; rst = true; length = 0 }
 
+-- the SYN/ACK stands at position 0
 abbrev pub syn_ack_segment : EndState → Outgoing
 syn_ack_segment s = record (ack_at 0 s) { syn = true }
 
@@ -32,6 +33,7 @@ syn_ack_segment s = record (ack_at 0 s) { syn = true }
 abbrev pub fin_position : SendState → ℕ
 fin_position v = if v.finished then v.nxt - 1 else v.nxt
 
+-- the FIN at its position, with an acknowledgement of what has come
 abbrev pub fin_segment : EndState → Outgoing
 fin_segment s = record (ack_at (fin_position s.send) s) { fin = true }
 
@@ -44,6 +46,7 @@ is_syn Syn = true
 is_syn Data = false
 is_syn Fin = false
 
+-- a record as a segment
 abbrev pub record_segment : EndState → Record → Outgoing
 record_segment s r = record {
   position = r.pos;
@@ -70,6 +73,7 @@ segment_for to_send.Fin s = Some (fin_segment s)
 abbrev pub answer_said : Head → Emission
 answer_said head = record { head = head; pos = 0; length = 0 }
 
+-- the segment of an occasion with its numbers; the answer of a dead end as it is kept
 abbrev pub emission_for : Occasion → EndState → Option Emission
 emission_for to_send.Answer s = option_map answer_said s.due.answer
 emission_for to_send.Reset s = option_map (said s.numbers) (segment_for to_send.Reset s)
@@ -85,6 +89,7 @@ emission_for to_send.Fin s = option_map (said s.numbers) (segment_for to_send.Fi
 abbrev pub may_go : EndState → Record → Bool
 may_go s r = if s.send.una == 0 then is_syn r.kind else nat_le (length r.piece) (room s)
 
+-- a record is to be sent, and the first such may go
 abbrev pub is_unsent_due : EndState → Bool
 is_unsent_due s = option_map_or (may_go s) (find is_unsent s.send.records) false
 
@@ -94,6 +99,7 @@ next_record s =
     if is_unsent_due s then Some to_send.Unsent
     else (if list_any is_new_fin s.send.records then Some to_send.Fin else None)
 
+-- SYN/ACK, acknowledgement and probe go before records, and the first record again before those that are to be sent
 abbrev pub next_owed : EndState → Option Occasion
 next_owed s =
     if s.due.syn_ack then Some to_send.SynAck
@@ -102,6 +108,7 @@ next_owed s =
     else (if s.due.first && has_records s then Some to_send.First
     else next_record s)))
 
+-- a reset goes first, then the answer of a dead end; an end that sends no record sends nothing else
 abbrev pub next_occasion : EndState → Option Occasion
 next_occasion s =
     if s.due.reset then Some to_send.Reset
@@ -113,6 +120,7 @@ abbrev pub emission_of : Option Occasion → EndState → Option Emission
 emission_of None s = None
 emission_of (Some occasion) s = emission_for occasion s
 
+-- what goes out next, if anything does
 abbrev pub next_emission : EndState → Option Emission
 next_emission s = emission_of (next_occasion s) s
 
@@ -121,6 +129,7 @@ next_emission s = emission_of (next_occasion s) s
 abbrev pub syn_resent : ℕ → SendState → SendState
 syn_resent now v = if v.una == 0 then after_resent now v else v
 
+-- what was sent is due no more, and a record counts one sending more
 abbrev pub after_sending : Occasion → ℕ → EndState → EndState
 after_sending to_send.Reset now s = record s { due = record s.due { reset = false } }
 after_sending to_send.Answer now s = record s { due = record s.due { answer = None } }
@@ -131,6 +140,7 @@ after_sending to_send.First now s = record s { due = record s.due { first = fals
 after_sending to_send.Unsent now s = record s { send = after_sent now s.send }
 after_sending to_send.Fin now s = record s { send = after_fin_sent now s.send }
 
+-- the same, where there is an occasion
 abbrev pub after_emitting : Option Occasion → ℕ → EndState → EndState
 after_emitting None now s = s
 after_emitting (Some occasion) now s = after_sending occasion now s

@@ -15,6 +15,7 @@ use Rattle.subflow_tcp.specs.Taking.{after_death}
 abbrev pub is_timed : Bool → EndState → Bool
 is_timed on s = not (is_closed_to_segments s.state) && (on || has_records s)
 
+-- the timer is settled by whether there is a reason for it
 abbrev pub after_settling : Bool → Bool → ℕ → EndState → EndState
 after_settling on restart now s = record s { timing = timers.settled (is_timed on s) restart now s.timing }
 
@@ -36,5 +37,6 @@ after_expiry now s = record s {
 abbrev pub after_fire : ℕ → EndState → EndState
 after_fire now s = if is_sixth s then after_death true s else after_expiry now s
 
+-- the sixth in a row is death; else the first record goes again, or without one what the layer above owes
 abbrev pub fired_of : EndState → Fired
 fired_of s = if is_sixth s then Died else (if has_records s then Again else Probe)

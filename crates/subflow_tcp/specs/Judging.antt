@@ -24,15 +24,17 @@ meaning_answering None c s = Ignored
 meaning_answering (Some acknowledged) c s =
     if nat_lt 0 acknowledged && nat_le acknowledged s.send.nxt then meaning_answer c acknowledged else Ignored
 
+-- at the limit of positions nothing counts; else what answers the SYN
 abbrev pub meaning_opening : Copy → EndState → Meaning
 meaning_opening c s = if is_at_limit s then Ignored else meaning_answering c.acknowledged c s
 
 -- ---- an end that has the peer's SYN
--- the SYN that opened it, once more
+-- there is a position, and it is this one
 abbrev pub is_at : ℕ → Option ℕ → Bool
 is_at pos None = false
 is_at pos (Some p) = p == pos
 
+-- the SYN that opened it, once more
 abbrev pub is_repeated_syn : Copy → EndState → Bool
 is_repeated_syn c s = not s.numbers.opens && (c.syn && (not c.rst && (is_none c.acknowledged && is_at 0 c.position)))
 
@@ -61,15 +63,18 @@ meaning_within pos c s =
     if c.rst then (if pos == s.recv.edge then Kills else Challenged)
     else (if c.syn then Challenged else meaning_acknowledging c.acknowledged pos s)
 
+-- a segment that begins at no position is outside, as is one that isn't acceptable
 abbrev pub meaning_placed : Option ℕ → Copy → EndState → Meaning
 meaning_placed None c s = meaning_outside c
 meaning_placed (Some pos) c s = if is_acceptable s.recv.edge pos (occupied c) then meaning_within pos c s else meaning_outside c
 
+-- at the limit of positions nothing counts; else a repeated SYN is told apart first
 abbrev pub meaning_connected : Copy → EndState → Meaning
 meaning_connected c s =
     if is_at_limit s then Ignored else (if is_repeated_syn c s then RepeatedSyn else meaning_placed c.position c s)
 
 -- ---- any end
+-- a dead end wants no segment, a waiting one hears none, and a listening one takes a SYN alone
 abbrev pub meaning_at : State → Copy → EndState → Meaning
 meaning_at Dead c s = if c.rst then Ignored else Unwanted
 meaning_at Waiting c s = Ignored

@@ -21,6 +21,7 @@ FiredTimersRest = (now : ℕ) (s : EndState) → IsWithinBounds s.timing.rtt.rto
 abbrev pub IsSettled : ℕ → EndState → Option ℕ → Type 0
 IsSettled now s timer = (timer ≡ None) ⊎ ((timer ≡ s.timing.timer) ⊎ (timer ≡ Some (now + s.timing.rtt.rto)))
 
+-- so it is, whatever reasons there are
 abbrev pub SettlingSetsTheTimeout : Type 0
 SettlingSetsTheTimeout = (on restart : Bool) (now : ℕ) (s : EndState) → IsSettled now s (after_settling on restart now s).timing.timer
 
@@ -35,9 +36,11 @@ TimerWithAReason = (on restart : Bool) (now : ℕ) (s : EndState) → is_timed o
     → IsSome (after_settling on restart now s).timing.timer
 
 -- ---- the congestion window
+-- cwnd, in octets
 abbrev pub window_of : EndState → ℕ
 window_of s = s.congestion.reno.window
 
+-- the end is in a fast recovery
 abbrev pub recovers : EndState → Bool
 recovers s = s.congestion.reno.in_fast_recovery
 

@@ -1,22 +1,30 @@
 -- The numbers of an end's segments (RFC 9293, section 3.4), and its ports.
-use Rattle.std.specs.Prelude.{ℕ, ◌+◌, ◌*◌, ◌^◌, true, false, nat_lt, if◌then◌else◌, is_some, Option, Some, None}
+use Rattle.std.specs.Prelude.{ℕ, ◌*◌, ◌^◌, true, false, nat_lt, if◌then◌else◌, is_some, Option, Some, None}
 use Rattle.std.specs.Prelude.{unwrap_or}
+use Rattle.outside_kit.specs.declared.side.Side.{Side}
+use Rattle.outside_kit.specs.declared.side.Side.TheVariants.{A, B}
+use Rattle.outside_kit.specs.Side.{peer}
 use Rattle.seq_units.specs.Number.{number_of, position_near}
 use Rattle.segment_wire.specs.declared.head.Head.{Head}
+use Rattle.segment_wire.specs.Paths.{port_of}
 use Rattle.segment_wire.specs.Segment.{Segment}
 use Rattle.subflow_tcp.specs.declared.spelling.Numbers.{Numbers}
 use Rattle.subflow_tcp.specs.declared.segments.Outgoing.{Outgoing}
 use Rattle.subflow_tcp.specs.declared.segments.Emission.{Emission}
 use Rattle.subflow_tcp.specs.Segments.{Copy}
 
--- path i goes from port 40000 + i to port 5001
+-- A opens a path, and B listens
+abbrev pub side_of : Numbers → Side
+side_of n = if n.opens then A else B
+
 abbrev pub own_port : Numbers → ℕ
-own_port n = if n.opens then 40000 + n.path else 5001
+own_port n = port_of n.path (side_of n)
 
 abbrev pub peer_port : Numbers → ℕ
-peer_port n = if n.opens then 5001 else 40000 + n.path
+peer_port n = port_of n.path (peer (side_of n))
 
 -- ---- read
+-- the initial number, or else this one
 abbrev pub initial_or : Option ℕ → ℕ → ℕ
 initial_or None number = number
 initial_or (Some initial) number = initial
@@ -50,6 +58,7 @@ heard n edge una segment = record {
 }
 
 -- ---- written
+-- the number of the position that is acknowledged, or else 0
 abbrev pub acknowledged_said : Numbers → Option ℕ → ℕ
 acknowledged_said n None = 0
 acknowledged_said n (Some p) = number_of (2 ^ 32) (peer_initial n 0) p
@@ -68,6 +77,7 @@ head_said n o = record {
   window = 0;
 }
 
+-- a segment with its header, and where its octets stand
 abbrev pub said : Numbers → Outgoing → Emission
 said n o = record { head = head_said n o; pos = o.position; length = o.length }
 
@@ -82,6 +92,7 @@ abbrev pub reset_numbers : {N : Type 0} → N → (N → ℕ → N) → Option N
 reset_numbers zeroth behind (Some acknowledged) first occupied = record { at = acknowledged; acknowledged = None }
 reset_numbers zeroth behind None first occupied = record { at = zeroth; acknowledged = Some (behind first occupied) }
 
+-- the header of such a reset
 abbrev pub reset_head : Numbers → ResetNumbers ℕ → Head
 reset_head n reset = record {
   source_port = own_port n;
@@ -95,6 +106,7 @@ reset_head n reset = record {
   window = 0;
 }
 
+-- such a reset, for a segment of this header that occupies so many numbers
 abbrev pub reset_answer : Numbers → Head → ℕ → Head
 reset_answer n head occupied =
     reset_head n (reset_numbers 0 (number_of (2 ^ 32)) (if head.ack_set then Some head.ack else None) head.seq occupied)

@@ -29,14 +29,16 @@ abbrev pub is_some_record : List Record → Bool
 is_some_record [] = false
 is_some_record (r ∷ rs) = true
 
+-- the SYN, a piece or the FIN isn't acknowledged whole
 abbrev pub has_records : EndState → Bool
 has_records s = is_some_record s.send.records
 
--- it is passed where the receive edge lies behind it
+-- the edge lies behind this position, where there is one
 abbrev pub is_behind : Option ℕ → ℕ → Bool
 is_behind None edge = false
 is_behind (Some pos) edge = nat_lt pos edge
 
+-- the receive edge lies behind the peer's FIN
 abbrev pub is_fin_passed : EndState → Bool
 is_fin_passed s = is_behind s.fin_at s.recv.edge
 

@@ -34,6 +34,7 @@ after_hearing s = record s { timing = heard s.timing }
 abbrev pub after_answering : EndState → EndState
 after_answering s = record s { due = owing_answer (is_half_open s.state) s.due }
 
+-- the SYN/ACK is owed
 abbrev pub after_repeated_syn : EndState → EndState
 after_repeated_syn s = record s { due = owing_syn_ack s.due }
 
@@ -54,6 +55,7 @@ after_death reset s = record s {
 abbrev pub is_kept : Bool → EndState → Bool
 is_kept keep s = keep && not (is_fin_passed s)
 
+-- the payload at this position, where it is kept
 abbrev pub after_keeping : Bool → ℕ → List ℕ → EndState → EndState
 after_keeping keep pos payload s = record s { recv = (if is_kept keep s then after_accept pos payload s.recv else s.recv) }
 
@@ -62,6 +64,7 @@ abbrev pub kept_new : Bool → ℕ → List ℕ → EndState → ℕ
 kept_new keep pos payload s = if is_kept keep s then new_octets (acceptance_of pos payload s.recv) else 0
 
 -- ---- a payload that is held until it is kept
+-- the payload at this position is held
 abbrev pub after_holding : ℕ → List ℕ → EndState → EndState
 after_holding pos payload s = record s { recv = after_hold pos payload s.recv }
 
@@ -69,6 +72,7 @@ after_holding pos payload s = record s { recv = after_hold pos payload s.recv }
 abbrev pub after_keeping_held : EndState → EndState
 after_keeping_held s = record s { recv = (if is_fin_passed s then without_held s.recv else after_keep_held s.recv) }
 
+-- nothing is held any more
 abbrev pub after_dropping_held : EndState → EndState
 after_dropping_held s = record s { recv = without_held s.recv }
 
@@ -99,12 +103,14 @@ after_new_ack octets since now s = record s {
   state = (if is_fin_acked s.send then after_fin_acked s.state else s.state);
 }
 
+-- only an acknowledgement of something new changes the end
 abbrev pub after_ack_kind : AckKind → Option ℕ → ℕ → EndState → EndState
 after_ack_kind (New octets) since now s = after_new_ack octets since now s
 after_ack_kind Duplicate since now s = s
 after_ack_kind Old since now s = s
 after_ack_kind Future since now s = s
 
+-- this position is acknowledged at the tick `now`
 abbrev pub after_acknowledgement : ℕ → ℕ → EndState → EndState
 after_acknowledgement pos now s =
     after_ack_kind (ack_kind pos s.send) (sample_of pos s.send) now (record s { send = after_acknowledge pos s.send })
@@ -134,9 +140,11 @@ after_duplicate s = record s {
   due = (if is_third s.congestion then owing_first s.due else s.due);
 }
 
+-- a segment that is no duplicate ends the row
 abbrev pub after_interruption : EndState → EndState
 after_interruption s = record s { congestion = interrupted s.congestion }
 
+-- a duplicate counts in the row, and any other segment ends it
 abbrev pub after_row : AckKind → Told → Copy → EndState → EndState
 after_row kind told c s = if is_duplicate kind told c s then after_duplicate s else after_interruption s
 
@@ -144,6 +152,7 @@ after_row kind told c s = if is_duplicate kind told c s then after_duplicate s e
 abbrev pub after_telling : Told → EndState → EndState
 after_telling told s = record s { congestion = with_told told s.congestion }
 
+-- a segment tells its Data ACK and its window
 abbrev pub told_by : Hint → Copy → Told
 told_by hint c = record { place = hint.data_ack; window = c.window }
 
@@ -156,6 +165,7 @@ told_by_syn c = record { place = None; window = c.window }
 abbrev pub after_occupying : Copy → EndState → EndState
 after_occupying c s = record s { due = (if nat_lt 0 (occupied c) then owing_ack s.due else s.due) }
 
+-- the end's handshake is done
 abbrev pub after_established : EndState → EndState
 after_established s = record s { state = after_handshake s.state }
 
@@ -164,6 +174,7 @@ abbrev pub after_heard_ack : ℕ → Hint → ℕ → Copy → EndState → EndS
 after_heard_ack pos hint now c s =
     after_telling (told_by hint c) (after_row (ack_kind pos s.send) (told_by hint c) c (after_acknowledgement pos now s))
 
+-- the payload and the handshake, the acknowledgement, and then what is owed
 abbrev pub after_taken : ℕ → ℕ → Hint → ℕ → Copy → EndState → EndState
 after_taken pos acknowledged hint now c s =
     after_occupying c (after_heard_ack acknowledged hint now c (after_established (after_hearing (after_payload pos hint c s))))
@@ -178,6 +189,7 @@ after_syn_ack acknowledged hint now c s =
     after_occupying c (after_telling (told_by_syn c) (after_acknowledgement acknowledged now (record (after_hearing (after_payload 1 hint c s)) { state = Established })))
 
 -- ---- all
+-- the end after a segment of this meaning
 abbrev pub after_arrival : Meaning → Hint → ℕ → Copy → EndState → EndState
 after_arrival means.Ignored hint now c s = s
 after_arrival means.Unwanted hint now c s = s
@@ -198,6 +210,7 @@ after_keeping_for (means.Accepts acknowledged) keep payload s = after_keeping ke
 after_keeping_for (means.Taken pos acknowledged) keep payload s = after_keeping keep pos payload s
 after_keeping_for _ keep payload s = s
 
+-- how many octets of it are kept that were not kept before
 abbrev pub kept_for : Meaning → Bool → List ℕ → EndState → ℕ
 kept_for means.Opens keep payload s = kept_new keep 1 payload s
 kept_for (means.Accepts acknowledged) keep payload s = kept_new keep 1 payload s
@@ -236,10 +249,12 @@ after_octets _ head occupied s = s
 abbrev pub copy_in : Segment → EndState → Copy
 copy_in segment s = read.heard s.numbers s.recv.edge s.send.una segment
 
+-- the end after a segment, by positions and then by its numbers
 abbrev pub after_segment : Hint → ℕ → Segment → EndState → EndState
 after_segment hint now segment s =
     let c = copy_in segment s in
     after_octets (meaning_of c s) segment.head (occupied c) (after_arrival (meaning_of c s) hint now c s)
 
+-- what is answered to it
 abbrev pub arrival_in : Hint → Segment → EndState → Arrival
 arrival_in hint segment s = let c = copy_in segment s in arrival_of (meaning_of c s) hint c s

@@ -4,7 +4,7 @@ ghost use Rattle.subflow_tcp.specs.Dues.{nothing_due, owing_syn_ack, owing_ack, 
 use segment_wire::Head;
 
 /// What an end owes beside the records that are to be sent.
-#[derive(Clone, Copy, Debug, PartialEq, Eq)]
+#[derive(Clone, Copy)]
 pub struct Due {
     /// The reset of an end that died.
     pub reset: bool,

@@ -18,7 +18,7 @@ use subflow_send::{RecordRef, SubflowSend};
 
 /// One end of a subflow. Contracts see its parts by what they mean: positions, never numbers, but in the header of a
 /// segment.
-#[derive(Debug, Drop)]
+#[derive(Drop)]
 pub struct Subflow {
     /// Ports and initial numbers.
     pub(crate) numbers: Numbers,

@@ -70,6 +70,7 @@ impl Subflow {
         ensures { copy_of result ≡
             heard self.now.numbers self.now.recv.edge self.now.send.una (segment_of segment.now) }
     {
+        // For the proof: what was sent ends at or before position 2^62.
         let _bound = self.send.nxt();
         self.numbers
             .heard(self.recv.edge(), self.send.una(), segment)

@@ -4,7 +4,7 @@ use segment_wire::Head;
 use seq_units::Pos;
 
 /// A segment that arrives, by positions, as the end reads it.
-#[derive(Clone, Copy, Debug)]
+#[derive(Clone, Copy)]
 pub struct Arriving<'a> {
     /// The position of its SYN, or else of its first octet; `None` where its number means none.
     pub position: Option<Pos>,
@@ -20,7 +20,7 @@ pub struct Arriving<'a> {
 }
 
 /// What the layer above knows of an arriving segment.
-#[derive(Clone, Copy, Debug, PartialEq, Eq)]
+#[derive(Clone, Copy)]
 pub struct Hint {
     /// The place that its Data ACK names, if it names one.
     pub data_ack: Option<u64>,
@@ -29,7 +29,7 @@ pub struct Hint {
 }
 
 /// Why a segment is to be sent, in the order in which they go out.
-#[derive(Clone, Copy, Debug, PartialEq, Eq)]
+#[derive(Clone, Copy)]
 pub enum Occasion {
     /// The end died, and resets the subflow.
     Reset,
@@ -50,7 +50,7 @@ pub enum Occasion {
 }
 
 /// A segment that is to be sent, by positions, without its window, options and octets.
-#[derive(Clone, Copy, Debug, PartialEq, Eq)]
+#[derive(Clone, Copy)]
 pub struct Outgoing {
     /// The position of its SYN or FIN, or else of its first octet.
     pub position: Pos,
@@ -64,7 +64,7 @@ pub struct Outgoing {
 }
 
 /// A segment that is to be sent: its header with the window 0, which the layer above sets, and which octets it carries.
-#[derive(Clone, Copy, Debug, PartialEq, Eq)]
+#[derive(Clone, Copy, PartialEq, Eq)]
 pub struct Emission {
     pub head: Head,
     /// The position of its first octet.

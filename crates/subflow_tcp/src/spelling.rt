@@ -2,14 +2,15 @@
 ghost use Rattle.std.specs.Prelude.{◌≡◌, ◌^◌, ◌<◌};
 ghost use Rattle.segment_wire.specs.Reading.{segment_of};
 ghost use Rattle.subflow_tcp.specs.Segments.{copy_of};
-ghost use Rattle.subflow_tcp.specs.Spelling.{own_port, peer_port, peer_initial, position_heard, acknowledged_heard, window_heard, heard, acknowledged_said, head_said, said, reset_head, reset_answer};
+ghost use Rattle.subflow_tcp.specs.Spelling.{side_of, own_port, peer_port, peer_initial, position_heard, acknowledged_heard, window_heard, heard, acknowledged_said, head_said, said, reset_head, reset_answer};
 
 use crate::segments::{Arriving, Emission, Outgoing};
-use segment_wire::{Head, SegmentRef};
+use outside_kit::Side;
+use segment_wire::{Head, SegmentRef, port_of};
 use seq_units::{Pos, Seq32, near32, number32};
 
 /// What an end needs to read and to write the numbers of its segments.
-#[derive(Clone, Copy, Debug, PartialEq, Eq)]
+#[derive(Clone, Copy)]
 pub struct Numbers {
     /// The number of the path, which its ports tell.
     pub path: u8,
@@ -22,26 +23,25 @@ pub struct Numbers {
 }
 
 impl Numbers {
-    /// The port of the end: 40000 and the number of the path at the end that opens, 5001 at the other.
+    /// The side of the end: A opens, B listens.
+    fn side(&self) -> Side
+        ensures { result ≡ side_of self.now }
+    {
+        if self.opens { Side::A } else { Side::B }
+    }
+
+    /// The port of the end.
     fn own_port(&self) -> u16
         ensures { result ≡ own_port self.now }
     {
-        if self.opens {
-            40_000 + u16::from(self.path)
-        } else {
-            5_001
-        }
+        port_of(self.path, self.side())
     }
 
     /// The port of the peer.
     fn peer_port(&self) -> u16
         ensures { result ≡ peer_port self.now }
     {
-        if self.opens {
-            5_001
-        } else {
-            40_000 + u16::from(self.path)
-        }
+        port_of(self.path, self.side().peer())
     }
 
     /// The peer's initial number; until it is known, that of this segment.

@@ -135,7 +135,7 @@ impl Subflow {
         ensures after { self.new ≡
             after_arrival meaning (unkept data_ack) now (copy_of arriving.now) self.old }
     {
-        // The state of an end that opens tells that its FIN wasn't pushed.
+        // For the proof: an end that opens has pushed no FIN.
         let _state = self.state;
         match meaning {
             Meaning::Ignored | Meaning::Unwanted => Arrival::Dropped,

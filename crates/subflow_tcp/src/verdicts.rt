@@ -6,7 +6,7 @@ use seq_units::Pos;
 use subflow_send::AckKind;
 
 /// What a segment that arrives means for the end, by the first rule that fits.
-#[derive(Clone, Copy, Debug, PartialEq, Eq)]
+#[derive(Clone, Copy)]
 pub enum Meaning {
     /// The end passes it over.
     Ignored,
@@ -41,7 +41,7 @@ pub enum Meaning {
 }
 
 /// What an end answers to a segment that arrived.
-#[derive(Clone, Copy, Debug, PartialEq, Eq)]
+#[derive(Clone, Copy, Debug)]
 pub enum Arrival {
     /// It was dropped without an acknowledgement.
     Dropped,
@@ -78,7 +78,7 @@ impl Arrival {
 }
 
 /// What an expiry of the timer came to.
-#[derive(Clone, Copy, Debug, PartialEq, Eq)]
+#[derive(Clone, Copy, Debug)]
 pub enum Fired {
     /// The first record is to be sent again.
     Again,

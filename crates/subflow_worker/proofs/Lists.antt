@@ -1,27 +1,9 @@
 -- The last of a list, and a list behind the slice that lent it.
-use Rattle.std.proofs.Common.{◌≡◌, refl, sym, ◌∙◌, ap, subst, ℕ, List, [], ◌∷◌, ◌++◌, length, take, drop, Option, Some, None, IfSome, IsNone}
+use Rattle.std.proofs.Common.{◌≡◌, refl, sym, ◌∙◌, ap, subst, ℕ, List, [], ◌∷◌, ◌++◌, length, take, drop, Some, IfSome}
 use Rattle.std.proofs.Math.Seq.{take-append_seam}
 use Rattle.std.specs.List.{slice_get}
 
 module _ {X : Type 0} where
-  -- lists that are the same with a last item are the same without it
-  pub same_front : (xs ys : List X) (a b : X) → xs ++ a ∷ [] ≡ ys ++ b ∷ [] → xs ≡ ys
-  same_front [] [] a b e = refl
-  same_front [] (y ∷ []) a b e = cc
-  same_front [] (y ∷ z ∷ ys) a b e = cc
-  same_front (x ∷ []) [] a b e = cc
-  same_front (x ∷ z ∷ xs) [] a b e = cc
-  same_front (x ∷ xs) (y ∷ ys) a b e = let rest = same_front xs ys a b cc in cc
-
-  -- a list that had a last item more, without it
-  pub popped : (r : Option X) (old new xs : List X) (x : X) → IfSome r (λ y. old ≡ new ++ y ∷ []) → (IsNone r → old ≡ []) → old ≡ xs ++ x ∷ [] → new ≡ xs
-  popped None old new xs x some none is = absurd (not_nil xs (sym (none refl) ∙ is))
-    where
-      not_nil : (xs : List X) → [] ≡ xs ++ x ∷ [] → ⊥
-      not_nil [] e = cc
-      not_nil (z ∷ xs) e = cc
-  popped (Some y) old new xs x some none is = same_front new xs y x (sym some ∙ is)
-
   -- the last item stands at the place of the length
   pub last_there : (xs : List X) (x : X) → slice_get (xs ++ x ∷ []) (length xs) ≡ Some x
   last_there [] x = refl

@@ -109,6 +109,7 @@ same_refusal Memory Memory = true
 same_refusal Stamps Stamps = true
 same_refusal _ _ = false
 
+-- there is a refusal of this kind
 abbrev pub refused_by : Refusal → Option Refusal → Bool
 refused_by kind None = false
 refused_by kind (Some refusal) = same_refusal refusal kind

@@ -24,6 +24,7 @@ pub(crate) fn ask_send<S: Start<SendBook>>(
     ensures rises { OnOk result (Rises pass.old pass.new) }
     ensures pass_err { OnErr result (pass.new ≡ pass.old) }
 {
+    // For the proof: the marks of the book tile.
     marks_tile(held.book());
     held.enter(pass, call)
 }
@@ -39,6 +40,7 @@ pub(crate) fn ask_reassembly<S: Start<ReassemblyBook>>(
     ensures rises { OnOk result (Rises pass.old pass.new) }
     ensures pass_err { OnErr result (pass.new ≡ pass.old) }
 {
+    // For the proof: the book is sound.
     let _book = held.book();
     held.enter(pass, call)
 }
@@ -54,6 +56,7 @@ pub(crate) fn ask_control<S: Start<ControlBook>>(
     ensures rises { OnOk result (Rises pass.old pass.new) }
     ensures pass_err { OnErr result (pass.new ≡ pass.old) }
 {
+    // For the proof: the book is sound.
     let _book = held.book();
     held.enter(pass, call)
 }

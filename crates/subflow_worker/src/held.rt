@@ -72,6 +72,7 @@ impl<O: Kept, S: Start<O>> Held<O, S> {
         ensures rises { OnOk result (Rises pass.old pass.new) }
         ensures pass_err { OnErr result (pass.new ≡ pass.old) }
     {
+        // For the proof: what the call makes of a sound book is sound.
         O::stays();
         self.book.enter(pass, call)
     }

@@ -1,5 +1,5 @@
 //! The turn of an actor at a desk, step by step to its end.
-ghost use Rattle.std.specs.Prelude.{◌≡◌, ◌+◌, ◌-◌, ◌^◌, ◌<◌, ◌≤◌, ◌++◌, ◌⊎◌, ◌∷◌, ℕ, true, false, [], nat_lt, None, Some, List, length, IfOk, IfSome, OnOk, OnErr, MatchResult};
+ghost use Rattle.std.specs.Prelude.{◌≡◌, ◌+◌, ◌-◌, ◌^◌, ◌<◌, ◌≤◌, ◌++◌, ◌⊎◌, ◌∷◌, ℕ, true, false, [], None, Some, length, IfOk, IfSome, OnOk, OnErr, MatchResult};
 ghost use Rattle.std.specs.List.{slice_get};
 ghost use Rattle.stamped_book.specs.declared.stamped.Refusal.TheVariants as refusals;
 ghost use Rattle.actor_desk.specs.declared.ask.Note.{Note};
@@ -11,28 +11,8 @@ ghost use Rattle.subflow_worker.specs.Turns.{DoesStep, IsLeft, IsUsedUp, NotesOn
 
 use actor_desk::{Actor, Ask, Crew, Desk, Note, Notes, Reply};
 use outside_kit::Gate;
-use stamped_book::{Pass, Refusal};
+use stamped_book::{Pass, Refusal, go_on};
 use std::alloc::{AllocError, Global};
-
-// The greatest stamp.
-const LAST_STAMP: u64 = (1 << 62) - 1;
-
-// The most notes that a list has. 2^57 are longer than a vector can be.
-const MOST_NOTES: u64 = (1 << 57) - 1;
-
-// The stamp after this one.
-fn go_on(pass: &mut Pass) -> Result<(), Refusal>
-    ensures rises { OnOk result (Rises pass.old pass.new) }
-    ensures next { OnOk result (pass.new.stamp ≡ pass.old.stamp + 1) }
-    ensures err { OnErr result (pass.new ≡ pass.old) }
-    ensures stamps { result ≡ Err refusals.Stamps → 2 ^ 62 - 1 ≤ pass.old.stamp }
-{
-    if pass.stamp >= LAST_STAMP {
-        return Err(Refusal::Stamps);
-    }
-    pass.stamp += 1;
-    Ok(())
-}
 
 // The reply to an ask: of the desk, or of nobody to a local step.
 fn answered<D: Desk>(desk: &mut D, pass: &mut Pass, ask: &Ask) -> Result<Reply, Refusal>
@@ -62,20 +42,6 @@ fn answered<D: Desk>(desk: &mut D, pass: &mut Pass, ask: &Ask) -> Result<Reply, 
     }
 }
 
-// Whether the list has room for a note.
-fn has_room(list: &Notes) -> bool
-    ensures { result ≡ nat_lt (length list.now) 144115188075855871 }
-{
-    (list.len() as u64) < MOST_NOTES
-}
-
-// The last note leaves the list.
-fn take_back(list: &mut Notes)
-    ensures { (notes : List Note) (note : Note) → list.old ≡ notes ++ note ∷ [] → list.new ≡ notes }
-{
-    list.pop();
-}
-
 // The actor takes the reply of a note of its list.
 fn take_at<A: Actor>(member: &mut A, list: &Notes, at: usize) -> Result<(), AllocError>
     requires { IfSome (slice_get list.now at) (λ note. TakesReply (A.asks member.old) note.reply) }
@@ -101,7 +67,7 @@ fn keep<A: Actor>(crew: &mut Crew<A>, note: Note) -> Result<(), AllocError>
     crew.list.push(note)?;
     let taken = take_at(&mut crew.member, &crew.list, at);
     if taken.is_err() {
-        take_back(&mut crew.list);
+        crew.list.take_back();
     }
     taken
 }
@@ -126,7 +92,7 @@ fn step<A: Actor, D: Desk>(alloc: Global, crew: &mut Crew<A>, desk: &mut D) -> R
     let Some(ask) = crew.member.ask(alloc)? else {
         return Ok(false);
     };
-    if !has_room(&crew.list) {
+    if !crew.list.has_room() {
         return Err(Refusal::Memory);
     }
     let seen = crew.pass.stamp;

@@ -1,8 +1,9 @@
 use Rattle.std.proofs.Common.{◌≡◌, ◌+◌, [], ◌∷◌, ◌++◌, ap, subst, sym, length, map, List, Vec, Global, arith}
 use Rattle.std.proofs.lemmas.List.{length-append}
 use Rattle.std.proofs.lemmas.Result.{err_from_is_err_and}
+use Rattle.outside_kit.specs.Lines.{text_lines}
 use Rattle.connection_list.specs.declared.list.Listed.{Listed}
-use Rattle.connection_list.specs.Lists.{as_names, list_lines, read_on}
+use Rattle.connection_list.specs.Lists.{as_names, read_on}
 use Rattle.connection_list.proofs.ReadOn.{goes_on, stops, ends}
 use Rattle.connection_list.proofs.list.read_lines.Goals as goal
 
@@ -19,7 +20,7 @@ loop-rest-preserved c =
     record {
       count = omega (arith, ap length items, length-append c.loop-rest.connections.items (c.in_ok-listed_at.field-0 ∷ []));
       few = omega (arith, few);
-      same = subst (λ (xs : List Listed). read_on (c.loop-rest.number + 1) (map as_names xs) (list_lines c.split_line.result.1.now) ≡ read_on 1 [] (list_lines c.args.list.now)) (sym items)
+      same = subst (λ (xs : List Listed). read_on (c.loop-rest.number + 1) (map as_names xs) (text_lines c.split_line.result.1.now) ≡ read_on 1 [] (text_lines c.args.list.now)) (sym items)
           (goes_on c.loop-rest.number c.loop-rest.connections.items c.in_ok-listed_at.field-0 c.loop-rest.rest.now c.split_line.result.0.now c.split_line.result.1.now _
           c.split_line.ensures.line c.in_ok-listed_at.ensures.exact c.loop-rest.invariant.same);
     }

@@ -1,5 +1,6 @@
 use Rattle.std.proofs.Common.{◌≡◌, ◌≤◌, ◌+◌, [], length, map}
-use Rattle.connection_list.specs.Lists.{as_names, list_lines, read_on}
+use Rattle.outside_kit.specs.Lines.{text_lines}
+use Rattle.connection_list.specs.Lists.{as_names, read_on}
 use Rattle.connection_list.proofs.list.read_lines.Given as goal
 
 abbrev pub invariant-loop-rest : goal.invariant-loop-rest
@@ -7,7 +8,7 @@ invariant-loop-rest l =
     record {
       count : l.number ≡ length l.connections.items + 1;
       few : l.number ≤ 65;
-      same : read_on l.number (map as_names l.connections.items) (list_lines l.rest) ≡ read_on 1 [] (list_lines l.fn.list);
+      same : read_on l.number (map as_names l.connections.items) (text_lines l.rest) ≡ read_on 1 [] (text_lines l.fn.list);
     }
 
 abbrev pub decreases-loop-rest : goal.decreases-loop-rest

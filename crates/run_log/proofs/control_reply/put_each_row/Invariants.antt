@@ -2,7 +2,7 @@ use Rattle.std.proofs.Common.{◌≡◌, ◌∷◌, ◌++◌, string_bytes, drop
 use Rattle.std.specs.Prelude.{All}
 use Rattle.run_log.specs.Fitting.{RowFits}
 use Rattle.std.specs.List.{flat_map}
-use Rattle.run_log.specs.Words.{spaced}
+use Rattle.link_script.specs.Writing.{spaced}
 use Rattle.run_log.specs.Replies.{row_words}
 use Rattle.run_log.proofs.control_reply.put_each_row.Given as goal
 

@@ -1,5 +1,5 @@
 use Rattle.std.proofs.Common.{◌≡◌, ◌≤◌, ◌+◌, length}
-use Rattle.link_script.specs.Words.{text_lines}
+use Rattle.outside_kit.specs.Lines.{text_lines}
 use Rattle.run_log.specs.Form.{HasRoundBelow, read_on, reading}
 use Rattle.run_log.proofs.reading.read_lines.Given as goal
 

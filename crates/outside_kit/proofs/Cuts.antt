@@ -5,10 +5,10 @@ use Rattle.std.specs.List.{position_or_len}
 use Rattle.std.proofs.lemmas.Bool.{ltb-false}
 use Rattle.std.proofs.lemmas.List.Quantifiers.{position-Some}
 use Rattle.std.proofs.lemmas.List.Sums.{fails_before_first}
-use Rattle.link_script.specs.Words.{text_lines}
+use Rattle.outside_kit.specs.Lines.{text_lines}
 
 -- whether an octet ends a line
-abbrev pub ends_line : ℕ → Bool
+abbrev ends_line : ℕ → Bool
 ends_line octet = octet == 10
 
 -- no octet up to there ends a line, and the one there does
