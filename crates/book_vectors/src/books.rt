@@ -8,7 +8,7 @@ mod reassembly;
 mod send;
 mod words;
 
-use case_fields::CaseFault;
+use case_fields::{CaseFault, put_word};
 use control::open_control;
 use control_book::ControlBook;
 use outside_kit::Side;
@@ -63,13 +63,21 @@ impl Books {
         Ok(())
     }
 
-    /// The words of the open book's reply.
-    fn asked(&mut self, alloc: Global, name: &str, fields: &[&str]) -> Result<String, CaseFault> {
+    /// Puts the words of the open book's reply.
+    fn put_asked(
+        &mut self,
+        alloc: Global,
+        text: &mut String,
+        name: &str,
+        fields: &[&str],
+    ) -> Result<(), CaseFault> {
         match self.which {
             Which::Nothing => Err(CaseFault::Form),
-            Which::Send => send::asked(alloc, &mut self.send, name, fields),
-            Which::Reassembly => reassembly::asked(alloc, &mut self.reassembly, name, fields),
-            Which::Control => control::asked(alloc, &mut self.control, name, fields),
+            Which::Send => send::put_asked(alloc, text, &mut self.send, name, fields),
+            Which::Reassembly => {
+                reassembly::put_asked(alloc, text, &mut self.reassembly, name, fields)
+            }
+            Which::Control => control::put_asked(alloc, text, &mut self.control, name, fields),
         }
     }
 
@@ -82,26 +90,32 @@ impl Books {
         }
     }
 
-    /// The answer to the words of a case.
-    fn answer_to(
+    /// Puts the answer to the words of a case.
+    fn put_answer_to(
         &mut self,
         alloc: Global,
+        text: &mut String,
         name: &str,
         fields: &[&str],
-    ) -> Result<String, CaseFault> {
+    ) -> Result<(), CaseFault> {
         if matches!(name, "send" | "reassembly" | "control") {
             self.open(alloc, name, fields)?;
-            return Ok(String::from_str(alloc, "open")?);
+            return put_word(text, "open");
         }
-        self.asked(alloc, name, fields)
+        self.put_asked(alloc, text, name, fields)
     }
 }
 
-/// The answer to a case.
-pub fn answer(alloc: Global, books: &mut Books, case: &str) -> Result<String, CaseFault> {
+/// Puts the answer to a case.
+pub fn put_answer(
+    alloc: Global,
+    text: &mut String,
+    books: &mut Books,
+    case: &str,
+) -> Result<(), CaseFault> {
     let words: Vec<&str> = case.split(' ').collect(alloc)?;
     match words.as_slice() {
-        [name, fields @ ..] => books.answer_to(alloc, name, fields),
+        [name, fields @ ..] => books.put_answer_to(alloc, text, name, fields),
         [] => Err(CaseFault::Form),
     }
 }

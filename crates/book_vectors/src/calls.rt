@@ -3,7 +3,7 @@
 //! the numbers as they are declared. Numbers are decimal, a truth value is 0 or 1. The octets of a Write and of a Place are
 //! read where the call is made.
 
-use case_fields::{CaseFault, parsed_at, truth_at, word_at};
+use case_fields::{CaseFault, pair_at, parsed_at, quad_at, truth_at, word_at};
 use control_book::ControlCall;
 use fallback_state::Event;
 use key_material::Address;
@@ -14,23 +14,30 @@ use send_book::SendCall;
 pub fn send_call(name: &str, fields: &[&str]) -> Result<SendCall, CaseFault> {
     match name {
         "close" => Ok(SendCall::Close),
-        "grant" => Ok(SendCall::Grant {
-            path: parsed_at(fields, 0)?,
-            max: parsed_at(fields, 1)?,
-            standby: truth_at(fields, 2)?,
-        }),
-        "ack" | "ackin" => Ok(SendCall::AckIn {
-            next: parsed_at(fields, 0)?,
-            window: parsed_at(fields, 1)?,
-        }),
-        "return" => Ok(SendCall::Return {
-            path: parsed_at(fields, 0)?,
-        }),
+        "grant" => grant(fields),
+        "ack" | "ackin" => ack_in(fields),
         "identity" | "goidentity" => Ok(SendCall::GoIdentity),
-        "infinite" | "goinfinite" => Ok(SendCall::GoInfinite {
-            path: parsed_at(fields, 0)?,
-        }),
         "abort" => Ok(SendCall::Abort),
+        _ => send_path_call(name, parsed_at(fields, 0)?),
+    }
+}
+
+fn grant(fields: &[&str]) -> Result<SendCall, CaseFault> {
+    let (path, max) = pair_at(fields, 0)?;
+    let standby = truth_at(fields, 2)?;
+    Ok(SendCall::Grant { path, max, standby })
+}
+
+fn ack_in(fields: &[&str]) -> Result<SendCall, CaseFault> {
+    let (next, window) = pair_at(fields, 0)?;
+    Ok(SendCall::AckIn { next, window })
+}
+
+/// A call of the send book that names a path alone.
+fn send_path_call(name: &str, path: u8) -> Result<SendCall, CaseFault> {
+    match name {
+        "return" => Ok(SendCall::Return { path }),
+        "infinite" | "goinfinite" => Ok(SendCall::GoInfinite { path }),
         _ => Err(CaseFault::Form),
     }
 }
@@ -72,10 +79,7 @@ fn event_at(fields: &[&str], place: usize) -> Result<Event, CaseFault> {
 
 /// Four octets of an address from a place on.
 fn four_at(fields: &[&str], place: usize) -> Result<[u8; 4], CaseFault> {
-    let first = parsed_at(fields, place)?;
-    let second = parsed_at(fields, place.saturating_add(1))?;
-    let third = parsed_at(fields, place.saturating_add(2))?;
-    let fourth = parsed_at(fields, place.saturating_add(3))?;
+    let (first, second, third, fourth) = quad_at(fields, place)?;
     Ok([first, second, third, fourth])
 }
 
@@ -93,11 +97,13 @@ fn heard(fields: &[&str]) -> Result<ControlCall, CaseFault> {
     } else {
         (Address::V4(four_at(fields, 1)?), 5)
     };
+    let id = parsed_at(fields, 0)?;
+    let (port, hmac) = pair_at(fields, place)?;
     Ok(ControlCall::Heard {
-        id: parsed_at(fields, 0)?,
+        id,
         address,
-        port: parsed_at(fields, place)?,
-        hmac: parsed_at(fields, place.saturating_add(1))?,
+        port,
+        hmac,
     })
 }
 
@@ -115,11 +121,10 @@ fn path_call(name: &str, path: u8, fields: &[&str]) -> Result<ControlCall, CaseF
             token: parsed_at(fields, 1)?,
         }),
         "dead" => Ok(ControlCall::Dead { path }),
-        "rate" => Ok(ControlCall::Rate {
-            path,
-            window: parsed_at(fields, 1)?,
-            rtt: parsed_at(fields, 2)?,
-        }),
+        "rate" => {
+            let (window, rtt) = pair_at(fields, 1)?;
+            Ok(ControlCall::Rate { path, window, rtt })
+        }
         "live" | "backup" => Ok(priority_call(name, path, truth_at(fields, 1)?)),
         _ => Err(CaseFault::Form),
     }
@@ -151,10 +156,10 @@ pub fn control_call(name: &str, fields: &[&str]) -> Result<ControlCall, CaseFaul
         "peerkey" => Ok(ControlCall::PeerKey {
             key: parsed_at(fields, 0)?,
         }),
-        "keys" => Ok(ControlCall::Keys {
-            own: parsed_at(fields, 0)?,
-            peer: parsed_at(fields, 1)?,
-        }),
+        "keys" => {
+            let (own, peer) = pair_at(fields, 0)?;
+            Ok(ControlCall::Keys { own, peer })
+        }
         "heard" => heard(fields),
         "fastclose" => Ok(ControlCall::FastClose),
         "fastheard" => Ok(ControlCall::FastHeard {

@@ -7,18 +7,19 @@ ghost use Rattle.std.specs.Prelude.{◌<◌};
 mod came;
 mod sent;
 
-use case_fields::{CaseFault, parsed_at};
+use case_fields::{CaseFault, pair_at, put_numbers, put_value, put_word};
 use std::alloc::Global;
 use subflow_tcp::Subflow;
 
 /// `open ISS MSS` or `listen ISS MSS`.
 fn begin(
     alloc: Global,
+    text: &mut String,
     end: &mut Subflow,
     fields: &[&str],
     opens: bool,
-) -> Result<String, CaseFault> {
-    let (iss, mss) = (parsed_at::<u32>(fields, 0)?, parsed_at::<u16>(fields, 1)?);
+) -> Result<(), CaseFault> {
+    let (iss, mss): (u32, u16) = pair_at(fields, 0)?;
     if mss == 0 {
         return Err(CaseFault::Form);
     }
@@ -27,22 +28,27 @@ fn begin(
     } else {
         Subflow::listen(alloc, 0, iss, mss)
     };
-    let state = end.state();
-    Ok(format!(in alloc; "{state:?}")?)
+    put_value(text, &end.state())
 }
 
 /// `show`.
-fn show(alloc: Global, end: &Subflow) -> Result<String, CaseFault> {
-    let (state, una, nxt) = (end.state(), end.una(), end.nxt());
-    let (edge, room) = (end.edge(), end.room());
-    Ok(format!(in alloc; "{state:?} {una} {nxt} {edge} {room}")?)
+fn show(text: &mut String, end: &Subflow) -> Result<(), CaseFault> {
+    put_value(text, &end.state())?;
+    put_word(text, " ")?;
+    let room = u64::from(end.room());
+    put_numbers(text, " ", &[end.una(), end.nxt(), end.edge(), room])
 }
 
-/// The answer to a case.
-pub fn answer(alloc: Global, end: &mut Subflow, line: &str) -> Result<String, CaseFault> {
+/// Puts the answer to a case.
+pub fn put_answer(
+    alloc: Global,
+    text: &mut String,
+    end: &mut Subflow,
+    line: &str,
+) -> Result<(), CaseFault> {
     let words: Vec<&str> = line.split(' ').collect(alloc)?;
     match words.as_slice() {
-        [name, fields @ ..] => step(alloc, end, name, fields),
+        [name, fields @ ..] => step(alloc, text, end, name, fields),
         [] => Err(CaseFault::Form),
     }
 }
@@ -50,24 +56,25 @@ pub fn answer(alloc: Global, end: &mut Subflow, line: &str) -> Result<String, Ca
 /// What a step answers.
 fn step(
     alloc: Global,
+    text: &mut String,
     end: &mut Subflow,
     name: &str,
     fields: &[&str],
-) -> Result<String, CaseFault> {
+) -> Result<(), CaseFault> {
     match name {
-        "open" => begin(alloc, end, fields, true),
-        "listen" => begin(alloc, end, fields, false),
-        "arrive" => came::arrive(alloc, end, fields),
-        "read" => came::read(alloc, end),
-        "grow" => came::grow(alloc, end, fields),
-        "push" => sent::push(alloc, end, fields),
-        "emit" => sent::emit(alloc, end, fields),
-        "hold" => sent::hold(alloc, end, fields),
-        "fire" => sent::fire(alloc, end, fields),
-        "finish" => sent::finish(alloc, end),
-        "owe" => sent::owe(alloc, end, fields),
-        "kill" => sent::kill(alloc, end, fields),
-        "show" => show(alloc, end),
+        "open" => begin(alloc, text, end, fields, true),
+        "listen" => begin(alloc, text, end, fields, false),
+        "arrive" => came::arrive(alloc, text, end, fields),
+        "read" => came::read(text, end),
+        "grow" => came::grow(text, end, fields),
+        "push" => sent::push(alloc, text, end, fields),
+        "emit" => sent::emit(text, end, fields),
+        "hold" => sent::hold(text, end, fields),
+        "fire" => sent::fire(text, end, fields),
+        "finish" => sent::finish(text, end),
+        "owe" => sent::owe(text, end, fields),
+        "kill" => sent::kill(text, end, fields),
+        "show" => show(text, end),
         _ => Err(CaseFault::Form),
     }
 }

@@ -9,61 +9,74 @@
 mod note;
 mod reply;
 
-use case_fields::{CaseFault, octets_at, parsed_at, word_at};
+use case_fields::{
+    CaseFault, octets_at, pair_at, parsed_at, put_value, put_word, triple_at, with_line_ends,
+    word_at,
+};
 use note::note_of;
 use pipe_model::Text;
 use run_log::{LogFault, Outcome, Turn, line, opening, outcome_line, read_log, round_line};
 use std::alloc::{AllocError, Global};
 
-/// A text with LF for each `;`.
-fn with_line_ends(alloc: Global, case: &str) -> Result<String, AllocError> {
-    let mut text = String::new(alloc);
-    for (place, line) in case.split(';').enumerate() {
-        if place > 0 {
-            text.push('\n')?;
-        }
-        text.push_str(line)?;
-    }
-    Ok(text)
-}
-
-/// Turns in words.
-fn turn_words(alloc: Global, turns: &[Turn]) -> Result<String, AllocError> {
-    let mut words = String::from_str(alloc, "ok")?;
+/// Puts turns in words.
+fn put_turns(text: &mut String, turns: &[Turn]) -> Result<(), CaseFault> {
+    put_word(text, "ok")?;
     for turn in turns {
-        match turn {
-            Turn::Step(actor) => write!(words, " {actor}")?,
-            Turn::Round => words.push_str(" /")?,
+        put_turn(text, turn)?;
+    }
+    Ok(())
+}
+
+fn put_turn(text: &mut String, turn: &Turn) -> Result<(), CaseFault> {
+    match turn {
+        Turn::Step(actor) => {
+            put_word(text, " ")?;
+            put_value(text, actor)
         }
-    }
-    Ok(words)
-}
-
-/// What `read_log` answers to a text.
-fn read(alloc: Global, fields: &[&str], text: &[u8]) -> Result<String, CaseFault> {
-    match read_log(alloc, text, parsed_at(fields, 0)?, parsed_at(fields, 1)?) {
-        Ok(turns) => Ok(turn_words(alloc, &turns)?),
-        Err(LogFault::Line(number)) => Ok(format!(in alloc; "line {number}")?),
-        Err(LogFault::Memory) => Err(CaseFault::Memory),
+        Turn::Round => put_word(text, " /"),
     }
 }
 
-/// The answer to `text ACTORS WIDTH TEXT`.
-fn read_text(alloc: Global, case: &str) -> Result<String, CaseFault> {
+fn put_fault(text: &mut String, fault: LogFault) -> Result<(), CaseFault> {
+    match fault {
+        LogFault::Line(number) => {
+            put_word(text, "line ")?;
+            put_value(text, &number)
+        }
+        LogFault::Memory => Err(CaseFault::Memory),
+    }
+}
+
+/// Puts what `read_log` answers to octets.
+fn put_read(
+    alloc: Global,
+    text: &mut String,
+    fields: &[&str],
+    octets: &[u8],
+) -> Result<(), CaseFault> {
+    let (actors, width) = pair_at(fields, 0)?;
+    match read_log(alloc, octets, actors, width) {
+        Ok(turns) => put_turns(text, turns.as_slice()),
+        Err(fault) => put_fault(text, fault),
+    }
+}
+
+/// Puts the answer to `text ACTORS WIDTH TEXT`.
+fn put_text(alloc: Global, text: &mut String, case: &str) -> Result<(), CaseFault> {
     let Some((actors, rest)) = case.split_once(" ") else {
         return Err(CaseFault::Form);
     };
-    let Some((width, text)) = rest.split_once(" ") else {
+    let Some((width, lines)) = rest.split_once(" ") else {
         return Err(CaseFault::Form);
     };
-    let text = with_line_ends(alloc, text)?;
-    read(alloc, &[actors, width], text.as_bytes())
+    let lines = with_line_ends(alloc, lines)?;
+    put_read(alloc, text, &[actors, width], lines.as_bytes())
 }
 
-/// The answer to `octets ACTORS WIDTH HEX`.
-fn read_octets(alloc: Global, fields: &[&str]) -> Result<String, CaseFault> {
+/// Puts the answer to `octets ACTORS WIDTH HEX`.
+fn put_octets(alloc: Global, text: &mut String, fields: &[&str]) -> Result<(), CaseFault> {
     let octets = octets_at(alloc, fields, 2)?;
-    read(alloc, fields, &octets)
+    put_read(alloc, text, fields, octets.as_slice())
 }
 
 fn outcome_at(fields: &[&str]) -> Result<Outcome, CaseFault> {
@@ -83,37 +96,45 @@ fn written(alloc: Global, name: &str, case: &str) -> Result<Text, CaseFault> {
         return Ok(line(alloc, &note)?);
     }
     let fields: Vec<&str> = case.split(' ').collect(alloc)?;
+    line_of(alloc, name, fields.as_slice())
+}
+
+/// A line that tells no note.
+fn line_of(alloc: Global, name: &str, fields: &[&str]) -> Result<Text, CaseFault> {
     match name {
-        "round" => Ok(round_line(alloc, parsed_at(&fields, 0)?)?),
-        "outcome" => Ok(outcome_line(alloc, outcome_at(&fields)?)?),
+        "round" => Ok(round_line(alloc, parsed_at(fields, 0)?)?),
+        "outcome" => Ok(outcome_line(alloc, outcome_at(fields)?)?),
         "opening" => {
-            let width = parsed_at(&fields, 0)?;
-            let key_a = parsed_at(&fields, 1)?;
-            let key_b = parsed_at(&fields, 2)?;
+            let (width, key_a, key_b) = triple_at(fields, 0)?;
             Ok(opening(alloc, width, key_a, key_b)?)
         }
         _ => Err(CaseFault::Form),
     }
 }
 
-/// The answer to a case.
-pub fn answer(alloc: Global, input: &str) -> Result<String, CaseFault> {
+/// Puts the lines that a case asks to write.
+fn put_written(alloc: Global, text: &mut String, name: &str, case: &str) -> Result<(), CaseFault> {
+    let lines = written(alloc, name, case)?;
+    put_word(
+        text,
+        String::from_utf8_lossy(alloc, lines.as_bytes())?.as_str(),
+    )?;
+    // the program ends the last line
+    text.pop();
+    Ok(())
+}
+
+/// Puts the answer to a case.
+pub fn put_answer(alloc: Global, text: &mut String, input: &str) -> Result<(), CaseFault> {
     let Some((name, case)) = input.split_once(" ") else {
         return Err(CaseFault::Form);
     };
     match name {
-        "text" => read_text(alloc, case),
+        "text" => put_text(alloc, text, case),
         "octets" => {
             let fields: Vec<&str> = case.split(' ').collect(alloc)?;
-            read_octets(alloc, &fields)
+            put_octets(alloc, text, fields.as_slice())
         }
-        _ => {
-            let mut text = String::new(alloc);
-            let lines = written(alloc, name, case)?;
-            text.push_str(String::from_utf8_lossy(alloc, lines.as_bytes())?.as_str())?;
-            // the program ends the last line
-            text.pop();
-            Ok(text)
-        }
+        _ => put_written(alloc, text, name, case),
     }
 }

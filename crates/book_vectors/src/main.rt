@@ -13,7 +13,7 @@ mod logs;
 mod pairs;
 
 use books::Books;
-use case_fields::CaseFault;
+use case_fields::{CaseFault, put_word};
 use std::alloc::{AllocError, Global};
 use std::io::{self, BufWriter, Write};
 use subflow_tcp::Subflow;
@@ -25,39 +25,58 @@ struct Opened {
     end: Subflow,
 }
 
-/// The answer to a case.
-fn answer(alloc: Global, opened: &mut Opened, line: &str) -> Result<String, CaseFault> {
+/// Puts the answer to a case.
+fn put_answer(
+    alloc: Global,
+    text: &mut String,
+    opened: &mut Opened,
+    line: &str,
+) -> Result<(), CaseFault> {
     let Some((part, case)) = line.split_once(" ") else {
         return Err(CaseFault::Form);
     };
     if part == "log" {
-        return logs::answer(alloc, case);
+        return logs::put_answer(alloc, text, case);
     }
-    let answer = part_answer(alloc, opened, part, case)?;
-    Ok(format!(in alloc; "{line} = {answer}")?)
+    put_word(text, line)?;
+    put_word(text, " = ")?;
+    put_part_answer(alloc, text, opened, part, case)
 }
 
-/// What a part answers.
-fn part_answer(
+/// Puts what a part answers.
+fn put_part_answer(
     alloc: Global,
+    text: &mut String,
     opened: &mut Opened,
     part: &str,
     case: &str,
-) -> Result<String, CaseFault> {
+) -> Result<(), CaseFault> {
     match part {
-        "book" => books::answer(alloc, &mut opened.books, case),
-        "end" => ends::answer(alloc, &mut opened.end, case),
-        "pair" => pairs::answer(alloc, case),
+        "book" => books::put_answer(alloc, text, &mut opened.books, case),
+        "end" => ends::put_answer(alloc, text, &mut opened.end, case),
+        "pair" => pairs::put_answer(alloc, text, case),
         _ => Err(CaseFault::Form),
     }
 }
 
-/// What is printed for a line of input.
-fn respond(alloc: Global, opened: &mut Opened, line: &str) -> Result<String, CaseFault> {
+/// Puts what is printed for a line of input.
+fn respond(
+    alloc: Global,
+    text: &mut String,
+    opened: &mut Opened,
+    line: &str,
+) -> Result<(), CaseFault> {
     if line.is_empty() || line.starts_with("#") {
-        return Ok(String::from_str(alloc, line)?);
+        return put_word(text, line);
     }
-    answer(alloc, opened, line)
+    put_answer(alloc, text, opened, line)
+}
+
+/// What is printed for a line of input.
+fn response(alloc: Global, opened: &mut Opened, line: &str) -> Result<String, CaseFault> {
+    let mut text = String::new(alloc);
+    respond(alloc, &mut text, opened, line)?;
+    Ok(text)
 }
 
 /// What is printed for each line of input.
@@ -65,7 +84,7 @@ fn respond_all(rt: &HostRuntime, opened: &mut Opened) -> io::Result<()> {
     let mut out = BufWriter::new(rt.alloc(), io::writer(rt))?;
     for line in rt.lines(rt.alloc()) {
         let line = line?;
-        match respond(rt.alloc(), opened, line.as_str()) {
+        match response(rt.alloc(), opened, line.as_str()) {
             Ok(text) => writeln!(out, "{text}")?,
             Err(CaseFault::Form) => writeln!(out, "not a case: {line}")?,
             Err(CaseFault::Memory) => return Err(AllocError.into()),

@@ -17,40 +17,42 @@ mod peer;
 mod run;
 
 use case::Case;
-use case_fields::CaseFault;
+use case_fields::{CaseFault, put_numbers, put_word};
 use run::Run;
-use std::alloc::{AllocError, Global};
+use std::alloc::Global;
 
-/// What the sides received, and how their ends stand.
-fn ends(alloc: Global, run: &Run) -> Result<String, AllocError> {
-    let a = run.a.outcome(alloc)?;
-    let b = run.b.outcome(alloc)?;
-    format!(in alloc; "A {a}, B {b}")
+/// Puts what the sides received, and how their ends stand.
+fn put_ends(text: &mut String, run: &Run) -> Result<(), CaseFault> {
+    put_word(text, "A ")?;
+    run.a.put_outcome(text)?;
+    put_word(text, ", B ")?;
+    run.b.put_outcome(text)
 }
 
-/// How many segments the sides sent.
-fn segments(alloc: Global, run: &Run) -> Result<String, AllocError> {
+/// Puts how many segments the sides sent.
+fn put_segments(text: &mut String, run: &Run) -> Result<(), CaseFault> {
     let (a, b) = run.sent();
-    format!(in alloc; "A {a}, B {b}")
+    put_word(text, "A ")?;
+    put_numbers(text, ", B ", &[a, b])
 }
 
-/// What a case asks of a run.
-fn run_text(alloc: Global, name: &str, run: &Run) -> Result<String, CaseFault> {
+/// Puts what a case asks of a run.
+fn put_run(text: &mut String, name: &str, run: &Run) -> Result<(), CaseFault> {
     match name {
-        "ends" => Ok(ends(alloc, run)?),
-        "segments" => Ok(segments(alloc, run)?),
+        "ends" => put_ends(text, run),
+        "segments" => put_segments(text, run),
         _ => Err(CaseFault::Form),
     }
 }
 
-/// The answer to a case.
-pub fn answer(alloc: Global, line: &str) -> Result<String, CaseFault> {
+/// Puts the answer to a case.
+pub fn put_answer(alloc: Global, text: &mut String, line: &str) -> Result<(), CaseFault> {
     let Some((name, rest)) = line.split_once(" ") else {
         return Err(CaseFault::Form);
     };
     if name == "link" {
-        return links::link(alloc, rest);
+        return links::put_link(alloc, text, rest);
     }
     let run = Run::of_case(alloc, Case::read(alloc, rest)?)?;
-    run_text(alloc, name, &run)
+    put_run(text, name, &run)
 }

@@ -4,9 +4,9 @@
 //! octets it keeps of what it is to put. `CONTENT` is `-` for none, `text` and the text itself, `lines` and a text in which `;` stands
 //! for LF, or `times`, a number and a line that stands so often. Shown are the answer, what the program says of it, and what the log holds.
 
-use case_fields::{CaseFault, parsed_at, word_at};
+use case_fields::{CaseFault, failing, parsed_at, with_line_ends, word_at};
 use connection_table::run_many;
-use outside_kit::{FailAt, MemoryOutside, NamedFile, Port};
+use outside_kit::{MemoryOutside, NamedFile, Port};
 use std::alloc::{AllocError, Global};
 
 /// The words of the command line.
@@ -19,22 +19,6 @@ fn words_of(alloc: Global, field: &str) -> Result<Vec<String>, AllocError> {
         words.push(String::from_str(alloc, word)?)?;
     }
     Ok(words)
-}
-
-/// The call that fails, if any, and how many octets it keeps.
-fn failing(alloc: Global, field: &str) -> Result<Vec<FailAt>, CaseFault> {
-    if field == "-" {
-        return Ok(Vec::new(alloc));
-    }
-    let fields: Vec<&str> = field.split(' ').collect(alloc)?;
-    let call = parsed_at(fields.as_slice(), 0)?;
-    let kept = parsed_at(fields.as_slice(), 1)?;
-    Ok(Vec::from_slice(alloc, &[FailAt { call, kept }])?)
-}
-
-/// A text with LF for each `;`.
-fn with_line_ends(alloc: Global, text: &str) -> Result<Vec<u8>, AllocError> {
-    Ok(text.replace(alloc, ";", "\n")?.into_bytes())
 }
 
 /// A line that stands so often.
@@ -55,7 +39,7 @@ fn repeated(alloc: Global, field: &str) -> Result<Vec<u8>, CaseFault> {
 fn content(alloc: Global, field: &str) -> Result<Vec<u8>, CaseFault> {
     match field.split_once(" ") {
         Some(("text", text)) => Ok(Vec::from_slice(alloc, text.as_bytes())?),
-        Some(("lines", text)) => Ok(with_line_ends(alloc, text)?),
+        Some(("lines", text)) => Ok(with_line_ends(alloc, text)?.into_bytes()),
         Some(("times", line)) => repeated(alloc, line),
         None if field == "-" => Ok(Vec::new(alloc)),
         _ => Err(CaseFault::Form),

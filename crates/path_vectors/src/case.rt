@@ -6,7 +6,7 @@
 ghost use Rattle.std.specs.Prelude.{IfOk};
 ghost use Rattle.link_script.specs.Scripts.{HasRanges};
 
-use case_fields::{CaseFault, octets_at, parsed_at, word_at};
+use case_fields::{CaseFault, content, lines_in, octets_at, parsed_at, word_at};
 use link_script::{Script, ScriptFault, parse};
 use std::alloc::{AllocError, Global};
 
@@ -73,20 +73,10 @@ fn shown_at(fields: &[&str], place: usize) -> Result<Shown, CaseFault> {
     }
 }
 
-/// A text with LF for each `;`.
-fn with_line_ends(alloc: Global, field: &str) -> Result<String, AllocError> {
-    let mut text = String::new(alloc);
-    for line in field.split(';') {
-        text.push_str(line)?;
-        text.push('\n')?;
-    }
-    Ok(text)
-}
-
 fn script(alloc: Global, field: &str) -> Result<Script, CaseFault>
     ensures { IfOk result (λ script. HasRanges script) }
 {
-    let text = with_line_ends(alloc, field)?;
+    let text = lines_in(alloc, field)?;
     match parse(alloc, text.as_bytes()) {
         Ok(script) => Ok(script),
         Err(ScriptFault::Line { .. }) => Err(CaseFault::Form),
@@ -134,25 +124,4 @@ fn file(alloc: Global, field: &str) -> Result<Option<Vec<u8>>, CaseFault> {
         "none" => Ok(None),
         _ => Ok(Some(content(alloc, field)?)),
     }
-}
-
-/// The octets of a file.
-fn content(alloc: Global, field: &str) -> Result<Vec<u8>, CaseFault> {
-    match field.split_once(" ") {
-        Some(("text", text)) => Ok(Vec::from_slice(alloc, text.as_bytes())?),
-        Some(("hex", digits)) => octets_at(alloc, &[digits], 0),
-        Some(("made", count)) => Ok(made(alloc, parsed_at(&[count], 0)?)?),
-        None if field == "-" => Ok(Vec::new(alloc)),
-        _ => Err(CaseFault::Form),
-    }
-}
-
-/// The octet that is made for a place.
-fn made_at(place: u32) -> u8 {
-    (place % 251) as u8
-}
-
-/// So many made octets.
-fn made(alloc: Global, count: u32) -> Result<Vec<u8>, AllocError> {
-    (0..count).map(made_at).collect(alloc)
 }

@@ -5,10 +5,7 @@ ghost use Rattle.actor_desk.specs.Kinds.{CanBeAsked};
 
 use actor_desk::{Ask, Desk, Note, Reply};
 use case_fields::CaseFault;
-use stamped_book::{Pass, Refusal};
-
-/// More steps than any case has.
-const LAST_STAMP: u64 = 1 << 61;
+use stamped_book::{Pass, Refusal, go_on};
 
 /// What a case has no answer to.
 fn fault_of(refusal: Refusal) -> CaseFault {
@@ -18,15 +15,6 @@ fn fault_of(refusal: Refusal) -> CaseFault {
     }
 }
 
-/// The stamp of a step that nobody answers.
-fn go_on(pass: &mut Pass) -> Result<(), CaseFault> {
-    if pass.stamp >= LAST_STAMP {
-        return Err(CaseFault::Form);
-    }
-    pass.stamp += 1;
-    Ok(())
-}
-
 fn reply_to<D: Desk>(desk: &mut D, pass: &mut Pass, ask: &Ask) -> Result<Reply, CaseFault>
     requires asked { CanBeAsked ask.now }
     requires serves { D.serves desk.old pass.old.actor }
@@ -34,7 +22,7 @@ fn reply_to<D: Desk>(desk: &mut D, pass: &mut Pass, ask: &Ask) -> Result<Reply, 
 {
     match ask {
         Ask::Local(_) => {
-            go_on(pass)?;
+            go_on(pass).map_err(fault_of)?;
             Ok(Reply::Done)
         }
         _ => match desk.call(pass, ask) {

@@ -3,10 +3,11 @@
 //!
 //! `joined KEY_A KEY_B NONCE_A NONCE_B OCTETS`: the same of a join, whose keys and nonces these are.
 
-use case_fields::{CaseFault, octets_at, parsed_at, truth_at};
-use join_handshake::JoinFault;
+use case_fields::{
+    CaseFault, octets_at, parsed_at, put_text, put_value, put_word, quad_at, truth_at,
+};
 use mptcp_options::{MpOption, Read, read};
-use std::alloc::{AllocError, Global};
+use std::alloc::Global;
 
 /// The option that these octets say, where checksums are used.
 fn heard(octets: &[u8]) -> Option<MpOption<'_>> {
@@ -16,84 +17,119 @@ fn heard(octets: &[u8]) -> Option<MpOption<'_>> {
     }
 }
 
-pub fn capable(alloc: Global, fields: &[&str]) -> Result<String, CaseFault> {
+pub fn capable(alloc: Global, text: &mut String, fields: &[&str]) -> Result<(), CaseFault> {
     let (checksums, own) = (truth_at(fields, 0)?, parsed_at(fields, 1)?);
     let octets = octets_at(alloc, fields, 2)?;
-    let option = heard(octets.as_slice());
-    let at_syn = at_capable_syn(alloc, checksums, option.as_ref())?;
-    let at_syn_ack = at_capable_answer(alloc, checksums, option.as_ref())?;
-    let at_ack = at_capable_keys(alloc, own, option.as_ref())?;
-    Ok(format!(in alloc; "{at_syn}; {at_syn_ack}; {at_ack}")?)
+    put_capable(text, checksums, own, heard(octets.as_slice()).as_ref())
 }
 
-fn at_capable_syn(
-    alloc: Global,
+fn put_capable(
+    text: &mut String,
     checksums: bool,
-    option: Option<&MpOption<'_>>,
-) -> Result<String, AllocError> {
-    match capable_handshake::server_syn(checksums, option) {
-        Ok(used) => format!(in alloc; "{used}"),
-        Err(fault) => format!(in alloc; "{fault}"),
-    }
-}
-
-fn at_capable_answer(
-    alloc: Global,
-    checksums: bool,
-    option: Option<&MpOption<'_>>,
-) -> Result<String, AllocError> {
-    match capable_handshake::client_answer(checksums, option) {
-        Ok((key, used)) => format!(in alloc; "{key} {used}"),
-        Err(fault) => format!(in alloc; "{fault}"),
-    }
-}
-
-fn at_capable_keys(
-    alloc: Global,
     own: u64,
     option: Option<&MpOption<'_>>,
-) -> Result<String, AllocError> {
-    match capable_handshake::server_keys(own, option) {
-        Ok(key) => format!(in alloc; "{key}"),
-        Err(fault) => format!(in alloc; "{fault}"),
+) -> Result<(), CaseFault> {
+    put_capable_syn(text, checksums, option)?;
+    put_word(text, "; ")?;
+    put_capable_answer(text, checksums, option)?;
+    put_word(text, "; ")?;
+    put_capable_keys(text, own, option)
+}
+
+fn put_capable_syn(
+    text: &mut String,
+    checksums: bool,
+    option: Option<&MpOption<'_>>,
+) -> Result<(), CaseFault> {
+    match capable_handshake::server_syn(checksums, option) {
+        Ok(used) => put_value(text, &used),
+        Err(fault) => put_text(text, &fault),
     }
 }
 
-pub fn joined(alloc: Global, fields: &[&str]) -> Result<String, CaseFault> {
-    let (key_a, key_b) = (parsed_at(fields, 0)?, parsed_at(fields, 1)?);
-    let (nonce_a, nonce_b) = (parsed_at(fields, 2)?, parsed_at(fields, 3)?);
-    let octets = octets_at(alloc, fields, 4)?;
-    let option = heard(octets.as_slice());
-    let at_syn = at_join_syn(alloc, option.as_ref())?;
-    let at_syn_ack = at_join_answer(alloc, key_a, key_b, nonce_a, option.as_ref())?;
-    let third = join_handshake::server_third(key_a, key_b, nonce_a, nonce_b, option.as_ref());
-    let at_ack = third_text(alloc, third)?;
-    Ok(format!(in alloc; "{at_syn}; {at_syn_ack}; {at_ack}")?)
+fn put_capable_answer(
+    text: &mut String,
+    checksums: bool,
+    option: Option<&MpOption<'_>>,
+) -> Result<(), CaseFault> {
+    match capable_handshake::client_answer(checksums, option) {
+        Ok((key, used)) => Ok(write!(text, "{key} {used}")?),
+        Err(fault) => put_text(text, &fault),
+    }
 }
 
-fn at_join_answer(
-    alloc: Global,
+fn put_capable_keys(
+    text: &mut String,
+    own: u64,
+    option: Option<&MpOption<'_>>,
+) -> Result<(), CaseFault> {
+    match capable_handshake::server_keys(own, option) {
+        Ok(key) => put_value(text, &key),
+        Err(fault) => put_text(text, &fault),
+    }
+}
+
+pub fn joined(alloc: Global, text: &mut String, fields: &[&str]) -> Result<(), CaseFault> {
+    let (key_a, key_b, nonce_a, nonce_b) = quad_at(fields, 0)?;
+    let joining = Joining {
+        key_a,
+        key_b,
+        nonce_a,
+        nonce_b,
+    };
+    let octets = octets_at(alloc, fields, 4)?;
+    put_joined(text, &joining, heard(octets.as_slice()).as_ref())
+}
+
+/// The keys and the nonces of both sides of a join.
+#[derive(Drop)]
+struct Joining {
     key_a: u64,
     key_b: u64,
     nonce_a: u32,
+    nonce_b: u32,
+}
+
+fn put_joined(
+    text: &mut String,
+    joining: &Joining,
     option: Option<&MpOption<'_>>,
-) -> Result<String, AllocError> {
-    match join_handshake::client_answer(key_a, key_b, nonce_a, option) {
-        Ok(answer) => format!(in alloc; "{answer:?}"),
-        Err(fault) => format!(in alloc; "{fault}"),
-    }
+) -> Result<(), CaseFault> {
+    put_join_syn(text, option)?;
+    put_word(text, "; ")?;
+    put_join_answer(text, joining, option)?;
+    put_word(text, "; ")?;
+    put_join_third(text, joining, option)
 }
 
-fn third_text(alloc: Global, third: Result<(), JoinFault>) -> Result<String, AllocError> {
-    match third {
-        Ok(()) => format!(in alloc; "right"),
-        Err(fault) => format!(in alloc; "{fault}"),
-    }
-}
-
-fn at_join_syn(alloc: Global, option: Option<&MpOption<'_>>) -> Result<String, AllocError> {
+fn put_join_syn(text: &mut String, option: Option<&MpOption<'_>>) -> Result<(), CaseFault> {
     match join_handshake::server_syn(option) {
-        Ok(asked) => format!(in alloc; "{asked:?}"),
-        Err(fault) => format!(in alloc; "{fault}"),
+        Ok(asked) => put_value(text, &asked),
+        Err(fault) => put_text(text, &fault),
+    }
+}
+
+fn put_join_answer(
+    text: &mut String,
+    joining: &Joining,
+    option: Option<&MpOption<'_>>,
+) -> Result<(), CaseFault> {
+    let (key_a, key_b) = (joining.key_a, joining.key_b);
+    match join_handshake::client_answer(key_a, key_b, joining.nonce_a, option) {
+        Ok(answer) => put_value(text, &answer),
+        Err(fault) => put_text(text, &fault),
+    }
+}
+
+fn put_join_third(
+    text: &mut String,
+    joining: &Joining,
+    option: Option<&MpOption<'_>>,
+) -> Result<(), CaseFault> {
+    let (key_a, key_b) = (joining.key_a, joining.key_b);
+    let (nonce_a, nonce_b) = (joining.nonce_a, joining.nonce_b);
+    match join_handshake::server_third(key_a, key_b, nonce_a, nonce_b, option) {
+        Ok(()) => put_word(text, "right"),
+        Err(fault) => put_text(text, &fault),
     }
 }

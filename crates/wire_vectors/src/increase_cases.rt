@@ -4,18 +4,16 @@
 ghost use Rattle.std.specs.Prelude.{◌≤◌, All, IfOk};
 ghost use Rattle.linked_increase.specs.Paths.{IsInRange};
 
-use case_fields::{CaseFault, parsed_at};
+use case_fields::{CaseFault, pair_at, put_value, put_word, triple_at};
 use linked_increase::{MAX_ACKED, MAX_MSS, Row, Rows};
-use std::alloc::Global;
 
-pub fn grow(alloc: Global, fields: &[&str]) -> Result<String, CaseFault> {
-    let mss: u32 = parsed_at(fields, 0)?;
-    let acked: u32 = parsed_at(fields, 1)?;
+pub fn grow(text: &mut String, fields: &[&str]) -> Result<(), CaseFault> {
+    let (mss, acked): (u32, u32) = pair_at(fields, 0)?;
     if mss > MAX_MSS || acked > MAX_ACKED || fields.len() < 5 {
         return Err(CaseFault::Form);
     }
     let rows = rows_at(&fields[2..])?;
-    growths(alloc, mss, acked, &rows)
+    put_growths(text, mss, acked, &rows)
 }
 
 /// The rows that the fields tell, three fields a row.
@@ -24,11 +22,8 @@ fn rows_at(fields: &[&str]) -> Result<Rows, CaseFault>
 {
     let mut rows = Rows::default();
     for fields in fields.chunks(3) {
-        let row = Row {
-            path: parsed_at(fields, 0)?,
-            window: parsed_at(fields, 1)?,
-            rtt: parsed_at(fields, 2)?,
-        };
+        let (path, window, rtt) = triple_at(fields, 0)?;
+        let row = Row { path, window, rtt };
         if rows.is_full() || !row.is_in_range() {
             return Err(CaseFault::Form);
         }
@@ -38,7 +33,7 @@ fn rows_at(fields: &[&str]) -> Result<Rows, CaseFault>
 }
 
 /// alpha, and the growth of each row.
-fn growths(alloc: Global, mss: u32, acked: u32, rows: &Rows) -> Result<String, CaseFault>
+fn put_growths(text: &mut String, mss: u32, acked: u32, rows: &Rows) -> Result<(), CaseFault>
     requires rows { All IsInRange rows.now }
     requires mss { mss ≤ 1460 }
     requires acked { acked ≤ 1048576 }
@@ -48,11 +43,13 @@ fn growths(alloc: Global, mss: u32, acked: u32, rows: &Rows) -> Result<String, C
     if slice.is_empty() {
         return Err(CaseFault::Form);
     }
-    let alpha = linked_increase::alpha(rows);
-    let mut text = format!(in alloc; "{alpha}")?;
+    put_value(text, &linked_increase::alpha(rows))?;
     for index in 0..slice.len() {
-        let growth = linked_increase::growth(&slice[index], rows, mss, acked);
-        text.push_str(format!(in alloc; " {growth}")?.as_str())?;
+        put_word(text, " ")?;
+        put_value(
+            text,
+            &linked_increase::growth(&slice[index], rows, mss, acked),
+        )?;
     }
-    Ok(text)
+    Ok(())
 }

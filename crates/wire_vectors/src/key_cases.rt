@@ -8,67 +8,64 @@
 //!
 //! `drawn SEED STREAM WORD`: a word that stands for a random one.
 
-use case_fields::{CaseFault, digits, octets_at, parsed_at};
+use case_fields::{
+    CaseFault, octets_at, parsed_at, put_digits, put_numbers, put_value, put_word, quad_at,
+    triple_at,
+};
 use key_material::{Address, add_addr64, hmac_of_pieces, idsn, join_a160, join_b64, token};
 use std::alloc::Global;
 
-pub fn key(alloc: Global, fields: &[&str]) -> Result<String, CaseFault> {
+pub fn key(text: &mut String, fields: &[&str]) -> Result<(), CaseFault> {
     let key: u64 = parsed_at(fields, 0)?;
-    let token = token(key);
-    let idsn = idsn(key);
-    Ok(format!(in alloc; "{token} {idsn}")?)
+    put_numbers(text, " ", &[u64::from(token(key)), idsn(key)])
 }
 
-pub fn hmac(alloc: Global, fields: &[&str]) -> Result<String, CaseFault> {
+pub fn hmac(alloc: Global, text: &mut String, fields: &[&str]) -> Result<(), CaseFault> {
     let key = octets_at(alloc, fields, 0)?;
     let message = octets_at(alloc, fields, 1)?;
+    put_hmacs(alloc, text, key.as_slice(), message.as_slice())
+}
+
+fn put_hmacs(
+    alloc: Global,
+    text: &mut String,
+    key: &[u8],
+    message: &[u8],
+) -> Result<(), CaseFault> {
     if key.len() > 64 {
         return Err(CaseFault::Form);
     }
-    let whole = digits(
-        alloc,
-        &key_material::hmac(key.as_slice(), message.as_slice()),
-    )?;
-    let (prefix, rest) = message.as_slice().split_at(message.len() / 3);
-    let pieces = digits(alloc, &hmac_of_pieces(key.as_slice(), &[prefix, rest]))?;
-    Ok(format!(in alloc; "{whole} {pieces}")?)
+    put_digits(alloc, text, &key_material::hmac(key, message))?;
+    put_word(text, " ")?;
+    let (prefix, rest) = message.split_at(message.len() / 3);
+    put_digits(alloc, text, &hmac_of_pieces(key, &[prefix, rest]))
 }
 
-pub fn join(alloc: Global, fields: &[&str]) -> Result<String, CaseFault> {
-    let (key_a, key_b) = (parsed_at(fields, 0)?, parsed_at(fields, 1)?);
-    let (nonce_a, nonce_b) = (parsed_at(fields, 2)?, parsed_at(fields, 3)?);
-    let of_b = join_b64(key_a, key_b, nonce_a, nonce_b);
-    let of_a = digits(alloc, &join_a160(key_a, key_b, nonce_a, nonce_b))?;
-    Ok(format!(in alloc; "{of_b} {of_a}")?)
+pub fn join(alloc: Global, text: &mut String, fields: &[&str]) -> Result<(), CaseFault> {
+    let (key_a, key_b, nonce_a, nonce_b) = quad_at(fields, 0)?;
+    put_value(text, &join_b64(key_a, key_b, nonce_a, nonce_b))?;
+    put_word(text, " ")?;
+    put_digits(alloc, text, &join_a160(key_a, key_b, nonce_a, nonce_b))
 }
 
-pub fn address(alloc: Global, fields: &[&str]) -> Result<String, CaseFault> {
-    let (sender, receiver) = (parsed_at(fields, 0)?, parsed_at(fields, 1)?);
-    let id: u8 = parsed_at(fields, 2)?;
-    let octets = octets_at(alloc, fields, 3)?;
-    let port: u16 = parsed_at(fields, 4)?;
-    let Some(address) = address_of(octets.as_slice()) else {
-        return Err(CaseFault::Form);
-    };
-    let hmac = add_addr64(sender, receiver, id, &address, port);
-    Ok(format!(in alloc; "{hmac}")?)
+pub fn address(alloc: Global, text: &mut String, fields: &[&str]) -> Result<(), CaseFault> {
+    let (sender, receiver, id) = triple_at(fields, 0)?;
+    let address = address_of(octets_at(alloc, fields, 3)?.as_slice())?;
+    let port = parsed_at(fields, 4)?;
+    put_value(text, &add_addr64(sender, receiver, id, &address, port))
 }
 
-fn address_of(octets: &[u8]) -> Option<Address> {
+fn address_of(octets: &[u8]) -> Result<Address, CaseFault> {
     if octets.len() == 4 {
-        Some(Address::V4(*octets.first_chunk().unwrap()))
+        Ok(Address::V4(*octets.first_chunk().unwrap()))
     } else if octets.len() == 16 {
-        Some(Address::V6(*octets.first_chunk().unwrap()))
+        Ok(Address::V6(*octets.first_chunk().unwrap()))
     } else {
-        None
+        Err(CaseFault::Form)
     }
 }
 
-pub fn drawn(alloc: Global, fields: &[&str]) -> Result<String, CaseFault> {
-    let word = key_material::drawn(
-        parsed_at(fields, 0)?,
-        parsed_at(fields, 1)?,
-        parsed_at(fields, 2)?,
-    );
-    Ok(format!(in alloc; "{word}")?)
+pub fn drawn(text: &mut String, fields: &[&str]) -> Result<(), CaseFault> {
+    let (seed, stream, word) = triple_at(fields, 0)?;
+    put_value(text, &key_material::drawn(seed, stream, word))
 }

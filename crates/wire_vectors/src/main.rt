@@ -28,73 +28,90 @@ mod timer_cases;
 mod window_cases;
 mod words_cases;
 
-use case_fields::CaseFault;
+use case_fields::{CaseFault, put_word};
 use std::alloc::{AllocError, Global};
 use std::io::{self, BufWriter, Write};
 
-/// The answer to a case of octets, keys and numbers.
-fn wire_answer(alloc: Global, name: &str, fields: &[&str]) -> Result<String, CaseFault> {
+/// Puts the answer to a case of octets, keys and numbers.
+fn put_wire_answer(
+    alloc: Global,
+    text: &mut String,
+    name: &str,
+    fields: &[&str],
+) -> Result<(), CaseFault> {
     match name {
-        "option" => option_cases::option(alloc, fields),
-        "segment" => segment_cases::segment(alloc, fields),
-        "written" => segment_cases::written(alloc, fields),
-        "sum" => sum_cases::sum(alloc, fields),
-        "sums" => sum_cases::sums(alloc, fields),
-        "key" => key_cases::key(alloc, fields),
-        "hmac" => key_cases::hmac(alloc, fields),
-        "join" => key_cases::join(alloc, fields),
-        "address" => key_cases::address(alloc, fields),
-        "message" => message_cases::message(alloc, fields),
-        "frames" => message_cases::frames(alloc, fields),
-        "drawn" => key_cases::drawn(alloc, fields),
-        "number" => number_cases::number(alloc, fields),
-        "near32" => number_cases::near32(alloc, fields),
-        "near64" => number_cases::near64(alloc, fields),
-        "widen" => number_cases::widen(alloc, fields),
-        "pipe" => pipe_cases::pipe(alloc, fields),
-        "spelled" => spelling_cases::spelled(alloc, fields),
-        "heard" => spelling_cases::heard(alloc, fields),
-        _ => leaf_answer(alloc, name, fields),
+        "option" => option_cases::option(alloc, text, fields),
+        "segment" => segment_cases::segment(alloc, text, fields),
+        "written" => segment_cases::written(alloc, text, fields),
+        "sum" => sum_cases::sum(alloc, text, fields),
+        "sums" => sum_cases::sums(alloc, text, fields),
+        "key" => key_cases::key(text, fields),
+        "hmac" => key_cases::hmac(alloc, text, fields),
+        "join" => key_cases::join(alloc, text, fields),
+        "address" => key_cases::address(alloc, text, fields),
+        "message" => message_cases::message(alloc, text, fields),
+        "frames" => message_cases::frames(alloc, text, fields),
+        "drawn" => key_cases::drawn(text, fields),
+        "number" => number_cases::number(text, fields),
+        "near32" => number_cases::near32(text, fields),
+        "near64" => number_cases::near64(text, fields),
+        "widen" => number_cases::widen(text, fields),
+        "pipe" => pipe_cases::pipe(alloc, text, fields),
+        "spelled" => spelling_cases::spelled(alloc, text, fields),
+        "heard" => spelling_cases::heard(alloc, text, fields),
+        _ => put_leaf_answer(alloc, text, name, fields),
     }
 }
 
-/// The answer to a case of what stands below the ends.
-fn leaf_answer(alloc: Global, name: &str, fields: &[&str]) -> Result<String, CaseFault> {
+/// Puts the answer to a case of what stands below the ends.
+fn put_leaf_answer(
+    alloc: Global,
+    text: &mut String,
+    name: &str,
+    fields: &[&str],
+) -> Result<(), CaseFault> {
     match name {
-        "grow" => increase_cases::grow(alloc, fields),
-        "rtt" => timer_cases::rtt(alloc, fields),
-        "reno" => window_cases::reno(alloc, fields),
-        "said" => saying_cases::said(alloc, fields),
-        "fin-number" => saying_cases::fin_number(alloc, fields),
-        "capable" => hearing_cases::capable(alloc, fields),
-        "joined" => hearing_cases::joined(alloc, fields),
-        "checksum" => mapping_cases::checksum(alloc, fields),
-        "mappings" => mapping_cases::mappings(alloc, fields),
-        "marks" => marks_cases::marks(alloc, fields),
-        "records" => record_cases::records(alloc, fields),
-        "receive" => receive_cases::receive(alloc, fields),
-        "pieces" => receive_cases::pieces(alloc, fields),
-        "modes" => mode_cases::modes(alloc, fields),
+        "grow" => increase_cases::grow(text, fields),
+        "rtt" => timer_cases::rtt(alloc, text, fields),
+        "reno" => window_cases::reno(alloc, text, fields),
+        "said" => saying_cases::said(text, fields),
+        "fin-number" => saying_cases::fin_number(text, fields),
+        "capable" => hearing_cases::capable(alloc, text, fields),
+        "joined" => hearing_cases::joined(alloc, text, fields),
+        "checksum" => mapping_cases::checksum(alloc, text, fields),
+        "mappings" => mapping_cases::mappings(alloc, text, fields),
+        "marks" => marks_cases::marks(alloc, text, fields),
+        "records" => record_cases::records(alloc, text, fields),
+        "receive" => receive_cases::receive(alloc, text, fields),
+        "pieces" => receive_cases::pieces(alloc, text, fields),
+        "modes" => mode_cases::modes(text, fields),
         _ => Err(CaseFault::Form),
     }
 }
 
-/// The answer to a line of input.
-fn answer(alloc: Global, line: &str) -> Result<String, CaseFault> {
+/// Puts the answer to a line of input.
+fn put_answer(alloc: Global, text: &mut String, line: &str) -> Result<(), CaseFault> {
     if line.is_empty() || line.starts_with("#") {
-        return Ok(String::from_str(alloc, line)?);
+        return put_word(text, line);
     }
     let Some((name, case)) = line.split_once(" ") else {
         return Err(CaseFault::Form);
     };
     match name {
-        "script" => Ok(script_cases::script(alloc, case)?),
-        "words" => Ok(words_cases::words(alloc, case)?),
+        "script" => put_word(text, script_cases::script(alloc, case)?.as_str()),
+        "words" => put_word(text, words_cases::words(alloc, case)?.as_str()),
         _ => {
             let fields: Vec<&str> = case.split(' ').collect(alloc)?;
-            wire_answer(alloc, name, fields.as_slice())
+            put_wire_answer(alloc, text, name, fields.as_slice())
         }
     }
+}
+
+/// The answer to a line of input.
+fn answer(alloc: Global, line: &str) -> Result<String, CaseFault> {
+    let mut text = String::new(alloc);
+    put_answer(alloc, &mut text, line)?;
+    Ok(text)
 }
 
 fn main(rt: HostRuntime) -> io::Result<()> {

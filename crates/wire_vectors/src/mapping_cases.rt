@@ -6,63 +6,85 @@
 
 ghost use Rattle.std.specs.Prelude.{◌≤◌, ◌+◌, ◌^◌};
 
-use crate::steps::{parts_of, put_answer};
-use case_fields::{CaseFault, octets_at, parsed_at, word_at};
+use crate::steps::{Steps, put_steps};
+use case_fields::{
+    CaseFault, octets_at, pair_at, parsed_at, put_numbers, put_value, put_word, triple_at,
+};
 use dss_checksum::DssSum;
 use dss_mapping::{KeptMapping, Mappings};
 use seq_units::Mapping;
-use std::alloc::{AllocError, Global};
+use std::alloc::Global;
 
 /// The last place that a case names.
 const LAST: u64 = 1 << 61;
 
-pub fn checksum(alloc: Global, fields: &[&str]) -> Result<String, CaseFault> {
+pub fn checksum(alloc: Global, text: &mut String, fields: &[&str]) -> Result<(), CaseFault> {
+    let (number, relative, length) = triple_at(fields, 0)?;
     let mapping = Mapping {
-        number: parsed_at(fields, 0)?,
-        relative: parsed_at(fields, 1)?,
-        length: parsed_at(fields, 2)?,
+        number,
+        relative,
+        length,
         checksum: 0,
     };
     let octets = octets_at(alloc, fields, 3)?;
+    put_checksum(text, &mapping, octets.as_slice())
+}
+
+fn put_checksum(text: &mut String, mapping: &Mapping, octets: &[u8]) -> Result<(), CaseFault> {
     if octets.len() > 65_535 {
         return Err(CaseFault::Form);
     }
-    let mut sum = DssSum::new(&mapping);
-    sum.add(octets.as_slice());
-    let made = sum.make();
-    Ok(format!(in alloc; "{made}")?)
+    let mut sum = DssSum::new(mapping);
+    sum.add(octets);
+    put_value(text, &sum.make())
 }
 
-pub fn mappings(alloc: Global, fields: &[&str]) -> Result<String, CaseFault> {
+pub fn mappings(alloc: Global, text: &mut String, fields: &[&str]) -> Result<(), CaseFault> {
     let mut mappings = Mappings::new(alloc);
-    let mut text = String::new(alloc);
-    for index in 0..fields.len() {
-        let answer = step(alloc, &mut mappings, fields[index])?;
-        put_answer(&mut text, answer.as_str())?;
+    put_steps(alloc, text, &mut mappings, fields)
+}
+
+impl Steps for Mappings {
+    fn step(
+        &mut self,
+        alloc: Global,
+        text: &mut String,
+        name: &str,
+        fields: &[&str],
+    ) -> Result<(), CaseFault> {
+        match name {
+            "learn" => learn(text, self, fields),
+            "infinite" => infinite(text, self, fields),
+            "hold" => hold(alloc, self, fields),
+            "clashes" => put_value(text, &self.held_clashes()),
+            "learn-held" => {
+                self.learn_held();
+                Ok(())
+            }
+            "skip-held" => {
+                self.skip_held();
+                Ok(())
+            }
+            _ => by_position(text, self, name, parsed_at(fields, 0)?),
+        }
     }
-    Ok(text)
 }
 
-fn step(alloc: Global, mappings: &mut Mappings, word: &str) -> Result<String, CaseFault> {
-    let parts = parts_of(alloc, word)?;
-    step_by(alloc, mappings, &parts)
-}
-
-fn step_by(alloc: Global, mappings: &mut Mappings, fields: &[&str]) -> Result<String, CaseFault> {
-    match word_at(fields, 0)? {
-        "learn" => learn(alloc, mappings, fields),
-        "infinite" => infinite(alloc, mappings, fields),
-        "place" => {
-            let place = mappings.place_of(parsed_at(fields, 1)?);
-            Ok(format!(in alloc; "{place:?}")?)
-        }
-        "first" => Ok(first(alloc, mappings, parsed_at(fields, 1)?)?),
+/// A step that names a position alone.
+fn by_position(
+    text: &mut String,
+    mappings: &mut Mappings,
+    name: &str,
+    pos: u64,
+) -> Result<(), CaseFault> {
+    match name {
+        "place" => put_value(text, &mappings.place_of(pos)),
+        "first" => put_first(text, mappings, pos),
         "forget" => {
-            mappings.forget_below(parsed_at(fields, 1)?);
-            Ok(String::new(alloc))
+            mappings.forget_below(pos);
+            Ok(())
         }
-        "hold" => hold(alloc, mappings, kept_at(fields)?),
-        name => held(alloc, mappings, name),
+        _ => Err(CaseFault::Form),
     }
 }
 
@@ -76,66 +98,50 @@ fn mapping_of(length: u16) -> Mapping {
     }
 }
 
-fn learn(alloc: Global, mappings: &mut Mappings, fields: &[&str]) -> Result<String, CaseFault> {
-    let (pos, place): (u64, u64) = (parsed_at(fields, 1)?, parsed_at(fields, 2)?);
-    let mapping = mapping_of(parsed_at(fields, 3)?);
+fn learn(text: &mut String, mappings: &mut Mappings, fields: &[&str]) -> Result<(), CaseFault> {
+    let (pos, place, length): (u64, u64, u16) = triple_at(fields, 0)?;
     if place > LAST {
         return Err(CaseFault::Form);
     }
-    let learned = mappings.learn(pos, place, &mapping)?;
-    Ok(format!(in alloc; "{learned:?}")?)
+    let learned = mappings.learn(pos, place, &mapping_of(length))?;
+    put_value(text, &learned)
 }
 
-fn infinite(alloc: Global, mappings: &mut Mappings, fields: &[&str]) -> Result<String, CaseFault> {
-    let (pos, place): (u64, u64) = (parsed_at(fields, 1)?, parsed_at(fields, 2)?);
+fn infinite(text: &mut String, mappings: &mut Mappings, fields: &[&str]) -> Result<(), CaseFault> {
+    let (pos, place): (u64, u64) = pair_at(fields, 0)?;
     if place > LAST {
         return Err(CaseFault::Form);
     }
-    let learned = mappings.infinite(pos, place);
-    Ok(format!(in alloc; "{learned:?}")?)
+    put_value(text, &mappings.infinite(pos, place))
 }
 
-fn first(alloc: Global, mappings: &Mappings, pos: u64) -> Result<String, AllocError> {
+fn put_first(text: &mut String, mappings: &Mappings, pos: u64) -> Result<(), CaseFault> {
     match mappings.mapping_at(pos) {
         Some(kept) => {
-            let (pos, place, length) = (kept.pos, kept.place, kept.mapping.length);
-            format!(in alloc; "{pos}/{place}/{length}")
+            let length = u64::from(kept.mapping.length);
+            put_numbers(text, "/", &[kept.pos, kept.place, length])
         }
-        None => format!(in alloc; "None"),
+        None => put_word(text, "None"),
     }
 }
 
-fn kept_at(fields: &[&str]) -> Result<KeptMapping, CaseFault> {
-    Ok(KeptMapping {
-        pos: parsed_at(fields, 1)?,
-        place: parsed_at(fields, 2)?,
-        mapping: mapping_of(parsed_at(fields, 3)?),
-        fin: false,
-    })
-}
-
-fn hold(alloc: Global, mappings: &mut Mappings, kept: KeptMapping) -> Result<String, CaseFault> {
-    if kept.place > LAST {
+fn hold(alloc: Global, mappings: &mut Mappings, fields: &[&str]) -> Result<(), CaseFault> {
+    let (pos, place, length): (u64, u64, u16) = triple_at(fields, 0)?;
+    if place > LAST {
         return Err(CaseFault::Form);
     }
-    let told = match Vec::from_array(alloc, [kept]) {
-        Ok(told) => told,
-        Err(fault) => return Err(AllocError::from(fault).into()),
+    let kept = KeptMapping {
+        pos,
+        place,
+        mapping: mapping_of(length),
+        fin: false,
     };
     mappings.make_ready(1)?;
-    mappings.hold(told);
-    Ok(String::new(alloc))
-}
-
-fn held(alloc: Global, mappings: &mut Mappings, name: &str) -> Result<String, CaseFault> {
-    match name {
-        "clashes" => {
-            let clashes = mappings.held_clashes();
-            return Ok(format!(in alloc; "{clashes}")?);
+    match Vec::from_array(alloc, [kept]) {
+        Ok(told) => {
+            mappings.hold(told);
+            Ok(())
         }
-        "learn-held" => mappings.learn_held(),
-        "skip-held" => mappings.skip_held(),
-        _ => return Err(CaseFault::Form),
+        Err(_) => Err(CaseFault::Memory),
     }
-    Ok(String::new(alloc))
 }

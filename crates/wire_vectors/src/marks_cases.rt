@@ -3,46 +3,42 @@
 
 ghost use Rattle.std.specs.Prelude.{◌≤◌, ◌<◌, ◌+◌, ◌^◌};
 
-use crate::steps::{parts_of, put_answer};
-use case_fields::{CaseFault, parsed_at, word_at};
-use range_marks::RangeMarks;
+use crate::steps::{Steps, put_steps};
+use case_fields::{CaseFault, pair_at, parsed_at, put_value, put_word, triple_at};
+use range_marks::{RangeMarks, Run};
 use std::alloc::{AllocError, Global};
 
 /// More places than any case has.
 const MOST: u64 = 1 << 32;
 
-pub fn marks(alloc: Global, fields: &[&str]) -> Result<String, CaseFault> {
-    let mut marks = RangeMarks::new(alloc);
-    let mut text = String::new(alloc);
-    for index in 0..fields.len() {
-        let answer = step(alloc, &mut marks, fields[index])?;
-        put_answer(&mut text, answer.as_str())?;
-    }
-    Ok(text)
+pub fn marks(alloc: Global, text: &mut String, fields: &[&str]) -> Result<(), CaseFault> {
+    let mut marks: RangeMarks<u8> = RangeMarks::new(alloc);
+    put_steps(alloc, text, &mut marks, fields)
 }
 
-fn step(alloc: Global, marks: &mut RangeMarks<u8>, word: &str) -> Result<String, CaseFault> {
-    let parts = parts_of(alloc, word)?;
-    step_by(alloc, marks, &parts)
-}
-
-fn step_by(
-    alloc: Global,
-    marks: &mut RangeMarks<u8>,
-    fields: &[&str],
-) -> Result<String, CaseFault> {
-    match word_at(fields, 0)? {
-        "extend" => extend(marks, fields)?,
-        "mark" => mark(marks, fields)?,
-        "front" => drop_front(marks, parsed_at(fields, 1)?)?,
-        "back" => cut_back(marks, parsed_at(fields, 1)?)?,
-        name => return asked(alloc, marks, name, fields),
+impl Steps for RangeMarks<u8> {
+    fn step(
+        &mut self,
+        _alloc: Global,
+        text: &mut String,
+        name: &str,
+        fields: &[&str],
+    ) -> Result<(), CaseFault> {
+        match name {
+            "extend" => extend(self, fields),
+            "mark" => mark(self, fields),
+            "front" => drop_front(self, parsed_at(fields, 0)?),
+            "back" => cut_back(self, parsed_at(fields, 0)?),
+            "first" => put_first(text, self, fields),
+            "run" => put_value(text, &self.run_at(parsed_at(fields, 0)?)),
+            "runs" => put_runs(text, self),
+            _ => Err(CaseFault::Form),
+        }
     }
-    Ok(String::new(alloc))
 }
 
 fn extend(marks: &mut RangeMarks<u8>, fields: &[&str]) -> Result<(), CaseFault> {
-    let (count, mark): (u64, u8) = (parsed_at(fields, 1)?, parsed_at(fields, 2)?);
+    let (count, mark): (u64, u8) = pair_at(fields, 0)?;
     if count > MOST || marks.len() > MOST {
         return Err(CaseFault::Form);
     }
@@ -50,8 +46,7 @@ fn extend(marks: &mut RangeMarks<u8>, fields: &[&str]) -> Result<(), CaseFault> 
 }
 
 fn mark(marks: &mut RangeMarks<u8>, fields: &[&str]) -> Result<(), CaseFault> {
-    let (from, to): (u64, u64) = (parsed_at(fields, 1)?, parsed_at(fields, 2)?);
-    let mark: u8 = parsed_at(fields, 3)?;
+    let (from, to, mark): (u64, u64, u8) = triple_at(fields, 0)?;
     if to < from || marks.len() < to {
         return Err(CaseFault::Form);
     }
@@ -74,35 +69,22 @@ fn cut_back(marks: &mut RangeMarks<u8>, to: u64) -> Result<(), CaseFault> {
     Ok(())
 }
 
-fn asked(
-    alloc: Global,
-    marks: &RangeMarks<u8>,
-    name: &str,
-    fields: &[&str],
-) -> Result<String, CaseFault> {
-    match name {
-        "first" => {
-            let (from, mark): (u64, u8) = (parsed_at(fields, 1)?, parsed_at(fields, 2)?);
-            let found = marks.first_where(from, &mark);
-            Ok(format!(in alloc; "{found:?}")?)
-        }
-        "run" => {
-            let run = marks.run_at(parsed_at(fields, 1)?);
-            Ok(format!(in alloc; "{run:?}")?)
-        }
-        "runs" => Ok(runs(alloc, marks)?),
-        _ => Err(CaseFault::Form),
-    }
+fn put_first(text: &mut String, marks: &RangeMarks<u8>, fields: &[&str]) -> Result<(), CaseFault> {
+    let (from, mark): (u64, u8) = pair_at(fields, 0)?;
+    put_value(text, &marks.first_where(from, &mark))
 }
 
-fn runs(alloc: Global, marks: &RangeMarks<u8>) -> Result<String, AllocError> {
-    let mut text = String::new(alloc);
+fn put_runs(text: &mut String, marks: &RangeMarks<u8>) -> Result<(), CaseFault> {
     for run in marks.runs() {
         if !text.is_empty() {
-            text.push(',')?;
+            put_word(text, ",")?;
         }
-        let (from, to, mark) = (run.from, run.to, run.mark);
-        write!(text, "{from}-{to}={mark}")?;
+        put_run(text, run)?;
     }
-    Ok(text)
+    Ok(())
+}
+
+fn put_run(text: &mut String, run: Run<u8>) -> Result<(), AllocError> {
+    let (from, to, mark) = (run.from, run.to, run.mark);
+    write!(text, "{from}-{to}={mark}")
 }

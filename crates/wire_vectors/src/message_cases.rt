@@ -3,57 +3,69 @@
 //!
 //! `frames OCTETS ..`: the frames of these messages, one behind the other.
 
-use crate::steps::parts_of;
-use case_fields::{CaseFault, digits, octets_at, word_at};
+use crate::steps::{Steps, put_steps};
+use case_fields::{CaseFault, octets_at, put_digits, put_word};
 use message_pipe::{Messages, frame};
 use pipe_model::Text;
 use std::alloc::Global;
 
-pub fn message(alloc: Global, fields: &[&str]) -> Result<String, CaseFault> {
+pub fn message(alloc: Global, text: &mut String, fields: &[&str]) -> Result<(), CaseFault> {
     let mut messages = Messages::new(alloc);
-    let mut text = String::new(alloc);
-    for index in 0..fields.len() {
-        let answer = step(alloc, &mut messages, fields[index])?;
-        let gap = if index == 0 { "" } else { " " };
-        text.push_str(format!(in alloc; "{gap}{answer}")?.as_str())?;
-    }
-    Ok(text)
+    put_steps(alloc, text, &mut messages, fields)
 }
 
-fn step(alloc: Global, messages: &mut Messages, word: &str) -> Result<String, CaseFault> {
-    let parts = parts_of(alloc, word)?;
-    step_by(alloc, messages, &parts)
-}
-
-fn feed(alloc: Global, messages: &mut Messages, fields: &[&str]) -> Result<String, CaseFault> {
-    messages.feed(&octets_at(alloc, fields, 1)?)?;
-    Ok(String::from_str(alloc, "fed")?)
-}
-
-fn next(alloc: Global, messages: &mut Messages) -> Result<String, CaseFault> {
-    match messages.next()? {
-        Some(message) => Ok(digits(alloc, message.as_bytes())?),
-        None => Ok(String::from_str(alloc, "none")?),
-    }
-}
-
-fn step_by(alloc: Global, messages: &mut Messages, fields: &[&str]) -> Result<String, CaseFault> {
-    match word_at(fields, 0)? {
-        "feed" => feed(alloc, messages, fields),
-        "next" => next(alloc, messages),
-        "rest" => Ok(digits(alloc, messages.rest())?),
-        _ => Err(CaseFault::Form),
-    }
-}
-
-pub fn frames(alloc: Global, fields: &[&str]) -> Result<String, CaseFault> {
-    let mut text = Text::new(alloc);
-    for index in 0..fields.len() {
-        let message = octets_at(alloc, fields, index)?;
-        if message.len() > 65_535 {
-            return Err(CaseFault::Form);
+impl Steps for Messages {
+    fn step(
+        &mut self,
+        alloc: Global,
+        text: &mut String,
+        name: &str,
+        fields: &[&str],
+    ) -> Result<(), CaseFault> {
+        match name {
+            "feed" => feed(alloc, text, self, fields),
+            "next" => put_next(alloc, text, self),
+            "rest" => put_digits(alloc, text, self.rest()),
+            _ => Err(CaseFault::Form),
         }
-        frame(alloc, &message, &mut text)?;
     }
-    Ok(digits(alloc, text.as_bytes())?)
+}
+
+fn feed(
+    alloc: Global,
+    text: &mut String,
+    messages: &mut Messages,
+    fields: &[&str],
+) -> Result<(), CaseFault> {
+    let octets = octets_at(alloc, fields, 0)?;
+    messages.feed(octets.as_slice())?;
+    put_word(text, "fed")
+}
+
+fn put_next(alloc: Global, text: &mut String, messages: &mut Messages) -> Result<(), CaseFault> {
+    match messages.next()? {
+        Some(message) => put_digits(alloc, text, message.as_bytes()),
+        None => put_word(text, "none"),
+    }
+}
+
+pub fn frames(alloc: Global, text: &mut String, fields: &[&str]) -> Result<(), CaseFault> {
+    let mut framed = Text::new(alloc);
+    for index in 0..fields.len() {
+        put_frame(alloc, &mut framed, fields, index)?;
+    }
+    put_digits(alloc, text, framed.as_bytes())
+}
+
+fn put_frame(
+    alloc: Global,
+    framed: &mut Text,
+    fields: &[&str],
+    place: usize,
+) -> Result<(), CaseFault> {
+    let message = octets_at(alloc, fields, place)?;
+    if message.len() > 65_535 {
+        return Err(CaseFault::Form);
+    }
+    Ok(frame(alloc, message.as_slice(), framed)?)
 }

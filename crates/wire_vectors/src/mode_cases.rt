@@ -3,7 +3,7 @@
 
 use case_fields::{CaseFault, word_at};
 use fallback_state::{Event, Fall, Mode, fall_step};
-use std::alloc::{AllocError, Global};
+use std::alloc::AllocError;
 
 const EVENTS: [Event; 11] = [
     Event::PlainHandshake,
@@ -19,16 +19,21 @@ const EVENTS: [Event; 11] = [
     Event::Stop,
 ];
 
-pub fn modes(alloc: Global, fields: &[&str]) -> Result<String, CaseFault> {
+pub fn modes(text: &mut String, fields: &[&str]) -> Result<(), CaseFault> {
     let mode = mode_named(word_at(fields, 0)?)?;
-    let mut text = String::new(alloc);
-    put_failures(&mut text, mode, false, false)?;
-    put_failures(&mut text, mode, false, true)?;
-    put_failures(&mut text, mode, true, false)?;
-    put_failures(&mut text, mode, true, true)?;
+    put_sides(text, mode)?;
     // the program ends the last line
     text.pop();
-    Ok(text)
+    Ok(())
+}
+
+/// A side that joined or not, on the sole path or not.
+fn put_sides(text: &mut String, mode: Mode) -> Result<(), AllocError> {
+    for joined in [false, true] {
+        put_failures(text, mode, joined, false)?;
+        put_failures(text, mode, joined, true)?;
+    }
+    Ok(())
 }
 
 fn mode_named(name: &str) -> Result<Mode, CaseFault> {

@@ -7,44 +7,32 @@
 
 ghost use Rattle.std.specs.Prelude.{◌<◌, ◌^◌};
 
-use case_fields::{CaseFault, parsed_at};
+use case_fields::{CaseFault, pair_at, put_value, put_word, triple_at};
 use seq_units::{POSITION_LIMIT, Seq32, Seq64, number32, number64};
-use std::alloc::Global;
 
-pub fn number(alloc: Global, fields: &[&str]) -> Result<String, CaseFault> {
-    let base: u64 = parsed_at(fields, 0)?;
-    let position: u64 = parsed_at(fields, 1)?;
-    let wide = number64(Seq64(base), position).0;
-    match u32::try_from(base) {
-        Ok(low) => {
-            let narrow = number32(Seq32(low), position).0;
-            Ok(format!(in alloc; "{narrow} {wide}")?)
-        }
-        Err(_) => Ok(format!(in alloc; "{wide}")?),
+pub fn number(text: &mut String, fields: &[&str]) -> Result<(), CaseFault> {
+    let (base, position): (u64, u64) = pair_at(fields, 0)?;
+    if let Ok(low) = u32::try_from(base) {
+        put_value(text, &number32(Seq32(low), position).0)?;
+        put_word(text, " ")?;
     }
+    put_value(text, &number64(Seq64(base), position).0)
 }
 
-pub fn near32(alloc: Global, fields: &[&str]) -> Result<String, CaseFault> {
-    let base = Seq32(parsed_at(fields, 0)?);
-    let expected: u64 = parsed_at(fields, 1)?;
-    let raw = Seq32(parsed_at(fields, 2)?);
+pub fn near32(text: &mut String, fields: &[&str]) -> Result<(), CaseFault> {
+    let (base, expected, raw): (u32, u64, u32) = triple_at(fields, 0)?;
     if expected >= POSITION_LIMIT {
         return Err(CaseFault::Form);
     }
-    let position = seq_units::near32(base, expected, raw);
-    Ok(format!(in alloc; "{position:?}")?)
+    put_value(text, &seq_units::near32(Seq32(base), expected, Seq32(raw)))
 }
 
-pub fn near64(alloc: Global, fields: &[&str]) -> Result<String, CaseFault> {
-    let base = Seq64(parsed_at(fields, 0)?);
-    let expected: u64 = parsed_at(fields, 1)?;
-    let raw = Seq64(parsed_at(fields, 2)?);
-    let position = seq_units::near64(base, expected, raw);
-    Ok(format!(in alloc; "{position:?}")?)
+pub fn near64(text: &mut String, fields: &[&str]) -> Result<(), CaseFault> {
+    let (base, expected, raw): (u64, u64, u64) = triple_at(fields, 0)?;
+    put_value(text, &seq_units::near64(Seq64(base), expected, Seq64(raw)))
 }
 
-pub fn widen(alloc: Global, fields: &[&str]) -> Result<String, CaseFault> {
-    let expected = Seq64(parsed_at(fields, 0)?);
-    let wide = seq_units::widen(expected, parsed_at(fields, 1)?).0;
-    Ok(format!(in alloc; "{wide}")?)
+pub fn widen(text: &mut String, fields: &[&str]) -> Result<(), CaseFault> {
+    let (expected, low): (u64, u32) = pair_at(fields, 0)?;
+    put_value(text, &seq_units::widen(Seq64(expected), low).0)
 }

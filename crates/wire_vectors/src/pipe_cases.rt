@@ -1,41 +1,42 @@
 //! `pipe STEP ..`: what each step of a stream that opens empty is answered, in words with one blank between them. A step is
 //! `write:OCTETS`, `close`, `read:COUNT`, `ack:TO:RECEIVED` or `end`.
 
-use crate::steps::parts_of;
-use case_fields::{CaseFault, octets_at, parsed_at, word_at};
+use crate::steps::{Steps, put_steps};
+use case_fields::{CaseFault, octets_at, pair_at, parsed_at, put_word};
 use pipe_model::{Pipe, PipeFault, PipeStep, Text, pipe_step};
 use std::alloc::Global;
 
-pub fn pipe(alloc: Global, fields: &[&str]) -> Result<String, CaseFault> {
+pub fn pipe(alloc: Global, text: &mut String, fields: &[&str]) -> Result<(), CaseFault> {
     let mut pipe = Pipe::new(alloc);
-    let mut text = String::new(alloc);
-    for index in 0..fields.len() {
-        let step = step_of(alloc, fields[index])?;
-        let gap = if index == 0 { "" } else { " " };
-        let answer = word_of(pipe_step(&mut pipe, &step));
-        text.push_str(format!(in alloc; "{gap}{answer}")?.as_str())?;
+    put_steps(alloc, text, &mut pipe, fields)
+}
+
+impl Steps for Pipe {
+    fn step(
+        &mut self,
+        alloc: Global,
+        text: &mut String,
+        name: &str,
+        fields: &[&str],
+    ) -> Result<(), CaseFault> {
+        let step = step_of(alloc, name, fields)?;
+        put_word(text, word_of(pipe_step(self, &step)))
     }
-    Ok(text)
 }
 
-fn step_of(alloc: Global, word: &str) -> Result<PipeStep, CaseFault> {
-    let parts = parts_of(alloc, word)?;
-    step_by(alloc, &parts)
-}
-
-fn step_by(alloc: Global, fields: &[&str]) -> Result<PipeStep, CaseFault> {
-    match word_at(fields, 0)? {
+fn step_of(alloc: Global, name: &str, fields: &[&str]) -> Result<PipeStep, CaseFault> {
+    match name {
         "write" => Ok(PipeStep::Write {
-            bytes: Text::from(octets_at(alloc, fields, 1)?),
+            bytes: Text::from(octets_at(alloc, fields, 0)?),
         }),
         "close" => Ok(PipeStep::Close),
         "read" => Ok(PipeStep::Read {
-            count: parsed_at(fields, 1)?,
+            count: parsed_at(fields, 0)?,
         }),
-        "ack" => Ok(PipeStep::Ack {
-            to: parsed_at(fields, 1)?,
-            received: parsed_at(fields, 2)?,
-        }),
+        "ack" => {
+            let (to, received) = pair_at(fields, 0)?;
+            Ok(PipeStep::Ack { to, received })
+        }
         "end" => Ok(PipeStep::TellEnd),
         _ => Err(CaseFault::Form),
     }

@@ -7,10 +7,10 @@
 
 ghost use Rattle.std.specs.Prelude.{◌≤◌, ◌<◌, ◌+◌, ◌^◌, length};
 
-use crate::steps::{parts_of, put_answer};
+use crate::steps::{Steps, put_steps};
 use byte_pieces::{BytePieces, Parts};
-use case_fields::{CaseFault, digits, octets_at, parsed_at, word_at};
-use std::alloc::{AllocError, Global};
+use case_fields::{CaseFault, octets_at, parsed_at, put_digits, put_numbers, put_value, put_word};
+use std::alloc::Global;
 use subflow_recv::SubflowRecv;
 
 /// The last place that a case names.
@@ -27,37 +27,36 @@ impl Piece {
     /// Those behind the name of a step.
     fn read(alloc: Global, fields: &[&str]) -> Result<Self, CaseFault> {
         Ok(Piece {
-            at: parsed_at(fields, 1)?,
-            octets: octets_at(alloc, fields, 2)?,
+            at: parsed_at(fields, 0)?,
+            octets: octets_at(alloc, fields, 1)?,
         })
     }
 }
 
 /// The octets of all parts, in one piece.
-fn held_text(alloc: Global, parts: Parts<'_>) -> Result<String, AllocError> {
+fn put_joined(alloc: Global, text: &mut String, parts: Parts<'_>) -> Result<(), CaseFault> {
     let mut octets = Vec::new(alloc);
     for part in parts {
         octets.extend_from_slice(part)?;
     }
-    digits(alloc, octets.as_slice())
+    put_digits(alloc, text, octets.as_slice())
 }
 
-/// Octets part by part, with `,` between the parts.
-fn parts_text(alloc: Global, parts: Parts<'_>) -> Result<String, AllocError> {
-    let mut text = String::new(alloc);
+/// Octets part by part behind an empty text, with `,` between the parts.
+fn put_parts(alloc: Global, text: &mut String, parts: Parts<'_>) -> Result<(), CaseFault> {
     for part in parts {
         if !text.is_empty() {
-            text.push(',')?;
+            put_word(text, ",")?;
         }
-        text.push_str(digits(alloc, part)?.as_str())?;
+        put_digits(alloc, text, part)?;
     }
     if text.is_empty() {
-        text.push('-')?;
+        put_word(text, "-")?;
     }
-    Ok(text)
+    Ok(())
 }
 
-pub fn receive(alloc: Global, fields: &[&str]) -> Result<String, CaseFault> {
+pub fn receive(alloc: Global, text: &mut String, fields: &[&str]) -> Result<(), CaseFault> {
     let window: u32 = parsed_at(fields, 0)?;
     let Some((_, steps)) = fields.split_first() else {
         return Err(CaseFault::Form);
@@ -69,50 +68,85 @@ pub fn receive(alloc: Global, fields: &[&str]) -> Result<String, CaseFault> {
     if side.edge() < 1 {
         side.pass();
     }
-    let mut text = String::new(alloc);
-    for index in 0..steps.len() {
-        let answer = receive_step(alloc, &mut side, steps[index])?;
-        put_answer(&mut text, answer.as_str())?;
-    }
-    Ok(text)
+    put_steps(alloc, text, &mut side, steps)
 }
 
-fn receive_step(alloc: Global, side: &mut SubflowRecv, word: &str) -> Result<String, CaseFault> {
-    let parts = parts_of(alloc, word)?;
-    receive_by(alloc, side, &parts)
-}
-
-fn receive_by(alloc: Global, side: &mut SubflowRecv, fields: &[&str]) -> Result<String, CaseFault> {
-    match word_at(fields, 0)? {
-        "accept" => return accept(alloc, side, Piece::read(alloc, fields)?),
-        "hold" => hold(side, Piece::read(alloc, fields)?)?,
-        "advance" => advance(side, parsed_at(fields, 1)?)?,
-        "forget" => forget(side, parsed_at(fields, 1)?)?,
-        "keep" => side.keep_held(),
-        "drop" => side.drop_held(),
-        "held" => return Ok(held_text(alloc, side.held())?),
-        "ends" => {
-            let (edge, held, window) = (side.edge(), side.held_end(), side.window_end());
-            return Ok(format!(in alloc; "{edge}/{held}/{window}")?);
+impl Steps for SubflowRecv {
+    fn step(
+        &mut self,
+        alloc: Global,
+        text: &mut String,
+        name: &str,
+        fields: &[&str],
+    ) -> Result<(), CaseFault> {
+        match name {
+            "accept" => accept(alloc, text, self, fields),
+            "hold" => hold(alloc, self, fields),
+            "keep" => {
+                self.keep_held();
+                Ok(())
+            }
+            "drop" => {
+                self.drop_held();
+                Ok(())
+            }
+            "held" => put_joined(alloc, text, self.held()),
+            "ends" => put_ends(text, self),
+            _ => move_edge(self, name, parsed_at(fields, 0)?),
         }
-        _ => return Err(CaseFault::Form),
     }
-    Ok(String::new(alloc))
 }
 
-fn accept(alloc: Global, side: &mut SubflowRecv, piece: Piece) -> Result<String, CaseFault> {
-    if piece.at > LAST || piece.octets.len() > 65_536 {
-        return Err(CaseFault::Form);
-    }
-    let acceptance = side.accept(piece.at, piece.octets.as_slice())?;
-    Ok(format!(in alloc; "{acceptance:?}")?)
+fn put_ends(text: &mut String, side: &SubflowRecv) -> Result<(), CaseFault> {
+    put_numbers(
+        text,
+        "/",
+        &[side.edge(), side.held_end(), side.window_end()],
+    )
 }
 
-fn hold(side: &mut SubflowRecv, piece: Piece) -> Result<(), CaseFault> {
-    if piece.at > LAST || piece.octets.len() > 65_536 {
+fn accept(
+    alloc: Global,
+    text: &mut String,
+    side: &mut SubflowRecv,
+    fields: &[&str],
+) -> Result<(), CaseFault> {
+    let piece = Piece::read(alloc, fields)?;
+    put_accepted(text, side, piece.at, piece.octets.as_slice())
+}
+
+fn put_accepted(
+    text: &mut String,
+    side: &mut SubflowRecv,
+    at: u64,
+    octets: &[u8],
+) -> Result<(), CaseFault> {
+    if at > LAST || octets.len() > 65_536 {
         return Err(CaseFault::Form);
     }
-    Ok(side.hold(piece.at, piece.octets.as_slice())?)
+    let acceptance = side.accept(at, octets)?;
+    put_value(text, &acceptance)
+}
+
+fn hold(alloc: Global, side: &mut SubflowRecv, fields: &[&str]) -> Result<(), CaseFault> {
+    let piece = Piece::read(alloc, fields)?;
+    hold_octets(side, piece.at, piece.octets.as_slice())
+}
+
+fn hold_octets(side: &mut SubflowRecv, at: u64, octets: &[u8]) -> Result<(), CaseFault> {
+    if at > LAST || octets.len() > 65_536 {
+        return Err(CaseFault::Form);
+    }
+    Ok(side.hold(at, octets)?)
+}
+
+/// `advance` or `forget`.
+fn move_edge(side: &mut SubflowRecv, name: &str, to: u64) -> Result<(), CaseFault> {
+    match name {
+        "advance" => advance(side, to),
+        "forget" => forget(side, to),
+        _ => Err(CaseFault::Form),
+    }
 }
 
 fn advance(side: &mut SubflowRecv, to: u64) -> Result<(), CaseFault> {
@@ -131,7 +165,7 @@ fn forget(side: &mut SubflowRecv, from: u64) -> Result<(), CaseFault> {
     Ok(())
 }
 
-pub fn pieces(alloc: Global, fields: &[&str]) -> Result<String, CaseFault> {
+pub fn pieces(alloc: Global, text: &mut String, fields: &[&str]) -> Result<(), CaseFault> {
     let from: u64 = parsed_at(fields, 0)?;
     let Some((_, steps)) = fields.split_first() else {
         return Err(CaseFault::Form);
@@ -140,54 +174,61 @@ pub fn pieces(alloc: Global, fields: &[&str]) -> Result<String, CaseFault> {
         return Err(CaseFault::Form);
     }
     let mut kept = BytePieces::new(alloc, from);
-    let mut text = String::new(alloc);
-    for index in 0..steps.len() {
-        let answer = piece_step(alloc, &mut kept, steps[index])?;
-        put_answer(&mut text, answer.as_str())?;
+    put_steps(alloc, text, &mut kept, steps)
+}
+
+impl Steps for BytePieces {
+    fn step(
+        &mut self,
+        alloc: Global,
+        text: &mut String,
+        name: &str,
+        fields: &[&str],
+    ) -> Result<(), CaseFault> {
+        match name {
+            "put" | "count" | "hold" => with_piece(alloc, text, self, name, fields),
+            "front" => drop_front(self, parsed_at(fields, 0)?),
+            "back" => cut_back(self, parsed_at(fields, 0)?),
+            "keep" => {
+                self.keep_held();
+                Ok(())
+            }
+            "drop" => {
+                self.drop_held();
+                Ok(())
+            }
+            _ => put_kept(alloc, text, self, name),
+        }
     }
-    Ok(text)
 }
 
-fn piece_step(alloc: Global, kept: &mut BytePieces, word: &str) -> Result<String, CaseFault> {
-    let parts = parts_of(alloc, word)?;
-    piece_by(alloc, kept, &parts)
+/// A step that has octets.
+fn with_piece(
+    alloc: Global,
+    text: &mut String,
+    kept: &mut BytePieces,
+    name: &str,
+    fields: &[&str],
+) -> Result<(), CaseFault> {
+    let piece = Piece::read(alloc, fields)?;
+    treat_octets(text, kept, name, piece.at, piece.octets.as_slice())
 }
 
-fn piece_by(alloc: Global, kept: &mut BytePieces, fields: &[&str]) -> Result<String, CaseFault> {
-    match word_at(fields, 0)? {
-        "put" => return put(alloc, kept, Piece::read(alloc, fields)?),
-        "count" => return count(alloc, kept, Piece::read(alloc, fields)?),
-        "hold" => hold_piece(kept, Piece::read(alloc, fields)?)?,
-        "front" => drop_front(kept, parsed_at(fields, 1)?)?,
-        "back" => cut_back(kept, parsed_at(fields, 1)?)?,
-        "keep" => kept.keep_held(),
-        "drop" => kept.drop_held(),
-        name => return pieces_text(alloc, kept, name),
-    }
-    Ok(String::new(alloc))
-}
-
-fn put(alloc: Global, kept: &mut BytePieces, piece: Piece) -> Result<String, CaseFault> {
-    if piece.at > LAST || piece.octets.len() > 65_536 {
+fn treat_octets(
+    text: &mut String,
+    kept: &mut BytePieces,
+    name: &str,
+    at: u64,
+    octets: &[u8],
+) -> Result<(), CaseFault> {
+    if at > LAST || octets.len() > 65_536 {
         return Err(CaseFault::Form);
     }
-    let count = kept.put(piece.at, piece.octets.as_slice())?;
-    Ok(format!(in alloc; "{count}")?)
-}
-
-fn count(alloc: Global, kept: &BytePieces, piece: Piece) -> Result<String, CaseFault> {
-    if piece.at > LAST || piece.octets.len() > 65_536 {
-        return Err(CaseFault::Form);
+    match name {
+        "put" => put_value(text, &kept.put(at, octets)?),
+        "count" => put_value(text, &kept.count_new(at, octets)),
+        _ => Ok(kept.hold(at, octets)?),
     }
-    let count = kept.count_new(piece.at, piece.octets.as_slice());
-    Ok(format!(in alloc; "{count}")?)
-}
-
-fn hold_piece(kept: &mut BytePieces, piece: Piece) -> Result<(), CaseFault> {
-    if piece.at > LAST || piece.octets.len() > 65_536 {
-        return Err(CaseFault::Form);
-    }
-    Ok(kept.hold(piece.at, piece.octets.as_slice())?)
 }
 
 fn drop_front(kept: &mut BytePieces, to: u64) -> Result<(), CaseFault> {
@@ -206,17 +247,16 @@ fn cut_back(kept: &mut BytePieces, to: u64) -> Result<(), CaseFault> {
     Ok(())
 }
 
-fn pieces_text(alloc: Global, kept: &BytePieces, name: &str) -> Result<String, CaseFault> {
+fn put_kept(
+    alloc: Global,
+    text: &mut String,
+    kept: &BytePieces,
+    name: &str,
+) -> Result<(), CaseFault> {
     match name {
-        "gap" => {
-            let gap = kept.gap_len();
-            Ok(format!(in alloc; "{gap}")?)
-        }
-        "parts" => Ok(parts_text(alloc, kept.in_order())?),
-        "ends" => {
-            let (from, end, top) = (kept.from(), kept.in_order_end(), kept.top());
-            Ok(format!(in alloc; "{from}/{end}/{top}")?)
-        }
+        "gap" => put_value(text, &kept.gap_len()),
+        "parts" => put_parts(alloc, text, kept.in_order()),
+        "ends" => put_numbers(text, "/", &[kept.from(), kept.in_order_end(), kept.top()]),
         _ => Err(CaseFault::Form),
     }
 }

@@ -5,46 +5,88 @@
 
 ghost use Rattle.std.specs.Prelude.{◌≤◌, ◌<◌, ◌^◌, length};
 
-use crate::steps::{parts_of, put_answer};
-use case_fields::{CaseFault, digits, octets_at, parsed_at, word_at};
+use crate::steps::{Steps, put_steps};
+use case_fields::{CaseFault, digits, octets_at, parsed_at, put_numbers, put_value, put_word};
 use seq_units::Mapping;
 use std::alloc::{AllocError, Global};
 use subflow_send::{RecordRef, SubflowSend};
 
-pub fn records(alloc: Global, fields: &[&str]) -> Result<String, CaseFault> {
+pub fn records(alloc: Global, text: &mut String, fields: &[&str]) -> Result<(), CaseFault> {
     let mut side = SubflowSend::new(alloc);
-    let mut text = String::new(alloc);
-    for index in 0..fields.len() {
-        let answer = step(alloc, &mut side, fields[index])?;
-        put_answer(&mut text, answer.as_str())?;
-    }
-    Ok(text)
+    put_steps(alloc, text, &mut side, fields)
 }
 
-fn step(alloc: Global, side: &mut SubflowSend, word: &str) -> Result<String, CaseFault> {
-    let parts = parts_of(alloc, word)?;
-    step_by(alloc, side, &parts)
-}
-
-fn step_by(alloc: Global, side: &mut SubflowSend, fields: &[&str]) -> Result<String, CaseFault> {
-    match word_at(fields, 0)? {
-        "push" => push(alloc, side, fields)?,
-        "finish" => finish(side)?,
-        "sent" => send(side, parsed_at(fields, 1)?)?,
-        "expire" => side.expired(),
-        "resent" => side.resent(parsed_at(fields, 1)?),
-        "fin-sent" => side.fin_sent(parsed_at(fields, 1)?),
-        "ack" => {
-            let kind = side.acknowledge(parsed_at(fields, 1)?);
-            return Ok(format!(in alloc; "{kind:?}")?);
+impl Steps for SubflowSend {
+    fn step(
+        &mut self,
+        alloc: Global,
+        text: &mut String,
+        name: &str,
+        fields: &[&str],
+    ) -> Result<(), CaseFault> {
+        match name {
+            "push" => push(alloc, self, fields),
+            "finish" => finish(self),
+            "expire" => {
+                self.expired();
+                Ok(())
+            }
+            "due" => put_record(alloc, text, self.due()),
+            "first" => put_record(alloc, text, self.retransmit_first()),
+            "flight" => put_flight(text, self),
+            "ends" => put_numbers(text, "/", &[self.una(), self.nxt()]),
+            "new-fin" => put_value(text, &self.has_new_fin()),
+            _ => numbered(alloc, text, self, name, parsed_at(fields, 0)?),
         }
-        name => return asked(alloc, side, name, fields),
     }
-    Ok(String::new(alloc))
+}
+
+/// A step that names a position or a tick.
+fn numbered(
+    alloc: Global,
+    text: &mut String,
+    side: &mut SubflowSend,
+    name: &str,
+    number: u64,
+) -> Result<(), CaseFault> {
+    match name {
+        "ack" => put_value(text, &side.acknowledge(number)),
+        "at" => put_record(alloc, text, side.record_at(number)),
+        "sample" => put_value(text, &side.sample(number)),
+        _ => at_tick(side, name, number),
+    }
+}
+
+/// What is sent, or sent again, at a tick.
+fn at_tick(side: &mut SubflowSend, name: &str, tick: u64) -> Result<(), CaseFault> {
+    match name {
+        "sent" => send(side, tick),
+        "resent" => {
+            side.resent(tick);
+            Ok(())
+        }
+        "fin-sent" => {
+            side.fin_sent(tick);
+            Ok(())
+        }
+        _ => Err(CaseFault::Form),
+    }
+}
+
+fn send(side: &mut SubflowSend, tick: u64) -> Result<(), CaseFault> {
+    if side.due().is_none() {
+        return Err(CaseFault::Form);
+    }
+    side.sent(tick);
+    Ok(())
 }
 
 fn push(alloc: Global, side: &mut SubflowSend, fields: &[&str]) -> Result<(), CaseFault> {
-    let octets = octets_at(alloc, fields, 1)?;
+    let octets = octets_at(alloc, fields, 0)?;
+    push_octets(side, octets.as_slice())
+}
+
+fn push_octets(side: &mut SubflowSend, octets: &[u8]) -> Result<(), CaseFault> {
     let mapping = Mapping {
         number: 7,
         relative: 1,
@@ -54,7 +96,7 @@ fn push(alloc: Global, side: &mut SubflowSend, fields: &[&str]) -> Result<(), Ca
     if octets.is_empty() || octets.len() > 1_000 || side.nxt() > 1 << 32 || side.is_finished() {
         return Err(CaseFault::Form);
     }
-    side.push(octets.as_slice(), &mapping)?;
+    side.push(octets, &mapping)?;
     Ok(())
 }
 
@@ -66,55 +108,25 @@ fn finish(side: &mut SubflowSend) -> Result<(), CaseFault> {
     Ok(())
 }
 
-fn send(side: &mut SubflowSend, tick: u64) -> Result<(), CaseFault> {
-    if side.due().is_none() {
-        return Err(CaseFault::Form);
-    }
-    side.sent(tick);
-    Ok(())
-}
-
-fn asked(
+fn put_record(
     alloc: Global,
-    side: &SubflowSend,
-    name: &str,
-    fields: &[&str],
-) -> Result<String, CaseFault> {
-    match name {
-        "due" => Ok(record(alloc, side.due())?),
-        "first" => Ok(record(alloc, side.retransmit_first())?),
-        "at" => Ok(record(alloc, side.record_at(parsed_at(fields, 1)?))?),
-        "sample" => {
-            let sample = side.sample(parsed_at(fields, 1)?);
-            Ok(format!(in alloc; "{sample:?}")?)
-        }
-        _ => numbers(alloc, side, name),
+    text: &mut String,
+    record: Option<RecordRef<'_>>,
+) -> Result<(), CaseFault> {
+    match record {
+        Some(record) => Ok(put_parts(alloc, text, &record)?),
+        None => put_word(text, "None"),
     }
 }
 
-fn record(alloc: Global, record: Option<RecordRef<'_>>) -> Result<String, AllocError> {
-    let Some(record) = record else {
-        return format!(in alloc; "None");
-    };
+fn put_parts(alloc: Global, text: &mut String, record: &RecordRef<'_>) -> Result<(), AllocError> {
     let (pos, kind) = (record.pos, record.kind);
     let octets = digits(alloc, record.piece)?;
-    format!(in alloc; "{pos}/{kind:?}/{octets}")
+    write!(text, "{pos}/{kind:?}/{octets}")
 }
 
-fn numbers(alloc: Global, side: &SubflowSend, name: &str) -> Result<String, CaseFault> {
-    match name {
-        "flight" => {
-            let (flight, again) = (side.flight(), side.again());
-            Ok(format!(in alloc; "{flight}/{again}")?)
-        }
-        "ends" => {
-            let (una, nxt) = (side.una(), side.nxt());
-            Ok(format!(in alloc; "{una}/{nxt}")?)
-        }
-        "new-fin" => {
-            let is_new = side.has_new_fin();
-            Ok(format!(in alloc; "{is_new}")?)
-        }
-        _ => Err(CaseFault::Form),
-    }
+fn put_flight(text: &mut String, side: &SubflowSend) -> Result<(), CaseFault> {
+    put_value(text, &side.flight())?;
+    put_word(text, "/")?;
+    put_value(text, &side.again())
 }

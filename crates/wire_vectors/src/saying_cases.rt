@@ -8,41 +8,36 @@
 //!
 //! A checksum is `-` where none is used. `fin-number IDSN WRITTEN`: the data number of a DATA_FIN.
 
-use case_fields::{CaseFault, parsed_at, truth_at, word_at};
+use case_fields::{
+    CaseFault, optional_at, pair_at, parsed_at, put_value, quad_at, triple_at, truth_at,
+};
 use data_close::{data_fin_option, fast_close_option, reset_option};
 use mptcp_options::MpOption;
-use std::alloc::Global;
 
-pub fn said(alloc: Global, fields: &[&str]) -> Result<String, CaseFault> {
+pub fn said(text: &mut String, fields: &[&str]) -> Result<(), CaseFault> {
     let Some((name, fields)) = fields.split_first() else {
         return Err(CaseFault::Form);
     };
-    let option = match *name {
-        "data-fin" => data_fin(fields)?,
-        "fast-close" => fast_close_option(parsed_at(fields, 0)?),
-        "reset" => reset_option(parsed_at(fields, 0)?),
-        _ => handshake(name, fields)?,
-    };
-    Ok(format!(in alloc; "{option:?}")?)
+    put_value(text, &option_of(name, fields)?)
 }
 
-pub fn fin_number(alloc: Global, fields: &[&str]) -> Result<String, CaseFault> {
-    let (idsn, written) = (parsed_at(fields, 0)?, parsed_at(fields, 1)?);
-    let number = data_close::fin_number(idsn, written);
-    Ok(format!(in alloc; "{number}")?)
+pub fn fin_number(text: &mut String, fields: &[&str]) -> Result<(), CaseFault> {
+    let (idsn, written) = pair_at(fields, 0)?;
+    put_value(text, &data_close::fin_number(idsn, written))
 }
 
-/// A checksum at a place of the fields, or `-` for none.
-fn checksum_at(fields: &[&str], place: usize) -> Result<Option<u16>, CaseFault> {
-    if word_at(fields, place)? == "-" {
-        return Ok(None);
+fn option_of(name: &str, fields: &[&str]) -> Result<MpOption<'static>, CaseFault> {
+    match name {
+        "data-fin" => data_fin(fields),
+        "fast-close" => Ok(fast_close_option(parsed_at(fields, 0)?)),
+        "reset" => Ok(reset_option(parsed_at(fields, 0)?)),
+        _ => handshake(name, fields),
     }
-    Ok(Some(parsed_at(fields, place)?))
 }
 
 fn data_fin(fields: &[&str]) -> Result<MpOption<'static>, CaseFault> {
-    let (ack, number) = (parsed_at(fields, 0)?, parsed_at(fields, 1)?);
-    Ok(data_fin_option(ack, number, checksum_at(fields, 2)?))
+    let (ack, number) = pair_at(fields, 0)?;
+    Ok(data_fin_option(ack, number, optional_at(fields, 2)?))
 }
 
 fn handshake(name: &str, fields: &[&str]) -> Result<MpOption<'static>, CaseFault> {
@@ -65,31 +60,29 @@ fn capable_answer(fields: &[&str]) -> Result<MpOption<'static>, CaseFault> {
 
 fn capable_ack(fields: &[&str]) -> Result<MpOption<'static>, CaseFault> {
     let checksums = truth_at(fields, 0)?;
-    let (sender, receiver) = (parsed_at(fields, 1)?, parsed_at(fields, 2)?);
+    let (sender, receiver) = pair_at(fields, 1)?;
     Ok(capable_handshake::ack_option(checksums, sender, receiver))
 }
 
 fn capable_data(fields: &[&str]) -> Result<MpOption<'static>, CaseFault> {
-    let (sender, receiver) = (parsed_at(fields, 0)?, parsed_at(fields, 1)?);
-    let (length, checksum) = (parsed_at(fields, 2)?, checksum_at(fields, 3)?);
+    let (sender, receiver, length) = triple_at(fields, 0)?;
+    let checksum = optional_at(fields, 3)?;
     Ok(capable_handshake::first_data_option(sender, receiver, length, checksum))
 }
 
 fn join_syn(fields: &[&str]) -> Result<MpOption<'static>, CaseFault> {
-    let (backup, id) = (truth_at(fields, 0)?, parsed_at(fields, 1)?);
-    let (token, nonce) = (parsed_at(fields, 2)?, parsed_at(fields, 3)?);
+    let backup = truth_at(fields, 0)?;
+    let (id, token, nonce) = triple_at(fields, 1)?;
     Ok(join_handshake::syn_option(backup, id, token, nonce))
 }
 
 fn join_answer(fields: &[&str]) -> Result<MpOption<'static>, CaseFault> {
-    let (key_a, key_b) = (parsed_at(fields, 0)?, parsed_at(fields, 1)?);
-    let (nonce_a, nonce_b) = (parsed_at(fields, 2)?, parsed_at(fields, 3)?);
+    let (key_a, key_b, nonce_a, nonce_b) = quad_at(fields, 0)?;
     let (backup, id) = (truth_at(fields, 4)?, parsed_at(fields, 5)?);
     Ok(join_handshake::answer_option(key_a, key_b, nonce_a, nonce_b, backup, id))
 }
 
 fn join_third(fields: &[&str]) -> Result<MpOption<'static>, CaseFault> {
-    let (key_a, key_b) = (parsed_at(fields, 0)?, parsed_at(fields, 1)?);
-    let (nonce_a, nonce_b) = (parsed_at(fields, 2)?, parsed_at(fields, 3)?);
+    let (key_a, key_b, nonce_a, nonce_b) = quad_at(fields, 0)?;
     Ok(join_handshake::third_option(key_a, key_b, nonce_a, nonce_b))
 }

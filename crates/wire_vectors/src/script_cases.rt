@@ -3,6 +3,7 @@
 //! before them. The case is printed again behind the answer, which is `ok`, or the first refused line and the kind of its fault.
 //! The script that an accepted text says is written by `text`, and printed on a line of its own.
 
+use case_fields::with_line_ends;
 use link_script::{Script, ScriptFault, parse, text};
 use std::alloc::{AllocError, Global};
 
@@ -29,18 +30,6 @@ impl<'a> Case<'a> {
             _ => None,
         }
     }
-}
-
-/// A text with LF for each `;`.
-fn with_line_ends(alloc: Global, case: &str) -> Result<String, AllocError> {
-    let mut script = String::new(alloc);
-    for (place, line) in case.split(';').enumerate() {
-        if place > 0 {
-            script.push('\n')?;
-        }
-        script.push_str(line)?;
-    }
-    Ok(script)
 }
 
 /// A text with `;` for each LF but the last.

@@ -6,10 +6,12 @@
 
 ghost use Rattle.std.specs.Prelude.{◌≤◌};
 
-use case_fields::{CaseFault, digits, four_at, octets_at, parsed_at, word_at};
+use case_fields::{
+    CaseFault, four_at, octets_at, parsed_at, put_digits, put_value, put_word, quad_at, word_at,
+};
 use segment_wire::options::{are_whole, mss, window_scale};
 use segment_wire::{Addresses, Head, SegmentRef, checksum_field, parse, write};
-use std::alloc::{AllocError, Global};
+use std::alloc::Global;
 
 fn addresses_of(alloc: Global, fields: &[&str]) -> Result<Addresses, CaseFault> {
     Ok(Addresses {
@@ -18,45 +20,59 @@ fn addresses_of(alloc: Global, fields: &[&str]) -> Result<Addresses, CaseFault> 
     })
 }
 
-pub fn segment(alloc: Global, fields: &[&str]) -> Result<String, CaseFault> {
+pub fn segment(alloc: Global, text: &mut String, fields: &[&str]) -> Result<(), CaseFault> {
     let addresses = addresses_of(alloc, fields)?;
     let octets = octets_at(alloc, fields, 2)?;
-    match parse(octets.as_slice(), &addresses) {
-        Ok(segment) => Ok(parsed_text(alloc, &segment)?),
-        Err(fault) => Ok(format!(in alloc; "{fault:?}")?),
+    put_parsed(alloc, text, octets.as_slice(), &addresses)
+}
+
+fn put_parsed(
+    alloc: Global,
+    text: &mut String,
+    octets: &[u8],
+    addresses: &Addresses,
+) -> Result<(), CaseFault> {
+    match parse(octets, addresses) {
+        Ok(segment) => put_segment(alloc, text, &segment),
+        Err(fault) => put_value(text, &fault),
     }
 }
 
-fn parsed_text(alloc: Global, segment: &SegmentRef<'_>) -> Result<String, AllocError> {
-    let head = segment.head;
-    let mut text = format!(in alloc; "{head:?}")?;
+fn put_segment(
+    alloc: Global,
+    text: &mut String,
+    segment: &SegmentRef<'_>,
+) -> Result<(), CaseFault> {
+    put_value(text, &segment.head)?;
     for option in segment.options() {
-        put_option(alloc, &mut text, option)?;
+        put_option(alloc, text, option)?;
     }
-    let payload = digits(alloc, segment.payload())?;
-    write!(text, " payload {payload}")?;
-    Ok(text)
+    put_word(text, " payload ")?;
+    put_digits(alloc, text, segment.payload())
 }
 
-fn put_option(alloc: Global, text: &mut String, option: &[u8]) -> Result<(), AllocError> {
-    let octets = digits(alloc, option)?;
-    write!(text, " option {octets}")?;
+fn put_option(alloc: Global, text: &mut String, option: &[u8]) -> Result<(), CaseFault> {
+    put_word(text, " option ")?;
+    put_digits(alloc, text, option)?;
     if let Some(size) = mss(option) {
-        write!(text, " mss {size}")?;
+        put_word(text, " mss ")?;
+        put_value(text, &size)?;
     }
     if let Some(shift) = window_scale(option) {
-        write!(text, " shift {shift}")?;
+        put_word(text, " shift ")?;
+        put_value(text, &shift)?;
     }
     Ok(())
 }
 
 fn head_of(fields: &[&str]) -> Result<Head, CaseFault> {
     let bits = word_at(fields, 6)?;
+    let (source_port, destination_port, seq, ack) = quad_at(fields, 2)?;
     Ok(Head {
-        source_port: parsed_at(fields, 2)?,
-        destination_port: parsed_at(fields, 3)?,
-        seq: parsed_at(fields, 4)?,
-        ack: parsed_at(fields, 5)?,
+        source_port,
+        destination_port,
+        seq,
+        ack,
         syn: bits.contains('S'),
         fin: bits.contains('F'),
         rst: bits.contains('R'),
@@ -65,25 +81,47 @@ fn head_of(fields: &[&str]) -> Result<Head, CaseFault> {
     })
 }
 
-pub fn written(alloc: Global, fields: &[&str]) -> Result<String, CaseFault> {
+pub fn written(alloc: Global, text: &mut String, fields: &[&str]) -> Result<(), CaseFault> {
     let addresses = addresses_of(alloc, fields)?;
     let head = head_of(fields)?;
     let options = octets_at(alloc, fields, 8)?;
     let payload = octets_at(alloc, fields, 9)?;
-    if options.len() > 40 || options.len() % 4 != 0 || !are_whole(options.as_slice()) {
+    put_written(
+        alloc,
+        text,
+        &head,
+        &addresses,
+        options.as_slice(),
+        payload.as_slice(),
+    )
+}
+
+fn put_written(
+    alloc: Global,
+    text: &mut String,
+    head: &Head,
+    addresses: &Addresses,
+    options: &[u8],
+    payload: &[u8],
+) -> Result<(), CaseFault> {
+    if options.len() > 40 || options.len() % 4 != 0 || !are_whole(options) {
         return Err(CaseFault::Form);
     }
     if payload.len() > 65_515 - options.len() {
         return Err(CaseFault::Form);
     }
-    let octets = write(
-        alloc,
-        &head,
-        &addresses,
-        options.as_slice(),
-        payload.as_slice(),
-    )?;
-    let text = digits(alloc, octets.as_slice())?;
-    let field = checksum_field(&head, &addresses, options.as_slice(), payload.as_slice());
-    Ok(format!(in alloc; "{text} {field}")?)
+    let octets = write(alloc, head, addresses, options, payload)?;
+    let field = checksum_field(head, addresses, options, payload);
+    put_octets(alloc, text, octets.as_slice(), u64::from(field))
+}
+
+fn put_octets(
+    alloc: Global,
+    text: &mut String,
+    octets: &[u8],
+    field: u64,
+) -> Result<(), CaseFault> {
+    put_digits(alloc, text, octets)?;
+    put_word(text, " ")?;
+    put_value(text, &field)
 }

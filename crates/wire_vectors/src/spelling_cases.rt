@@ -9,12 +9,16 @@
 ghost use Rattle.std.specs.Prelude.{◌<◌, ◌≤◌, ◌^◌};
 
 use crate::steps::parts_of;
-use case_fields::{CaseFault, digits, four_at, octets_at, parsed_at, truth_at, word_at};
+use case_fields::{
+    CaseFault, four_at, octets_at, optional_at, pair_at, parsed_at, put_digits, put_value,
+    put_word, quad_at, triple_at, truth_at, word_at,
+};
 use key_material::Address;
 use mptcp_options::{CapableKeys, JoinForm};
+use outside_kit::Side;
 use path_segments::{
-    EndNumbers, Expected, HeardSegment, PathMapping, PathOption, PathSegment, Side, Spelling,
-    can_say, parse_segment, write,
+    EndNumbers, Expected, HeardSegment, PathMapping, PathOption, PathSegment, Spelling, can_say,
+    parse_segment, write,
 };
 use seq_units::{POSITION_LIMIT, Seq32, Seq64};
 use std::alloc::{AllocError, Global};
@@ -23,9 +27,10 @@ use std::alloc::{AllocError, Global};
 type Said = PathOption<u64, &'static [u8]>;
 
 fn numbers_at(fields: &[&str], place: usize) -> Result<EndNumbers, CaseFault> {
+    let (initial, idsn) = pair_at(fields, place)?;
     Ok(EndNumbers {
-        initial: Seq32(parsed_at(fields, place)?),
-        idsn: Seq64(parsed_at(fields, place.saturating_add(1))?),
+        initial: Seq32(initial),
+        idsn: Seq64(idsn),
     })
 }
 
@@ -47,53 +52,47 @@ fn side_at(fields: &[&str]) -> Result<Side, CaseFault> {
     }
 }
 
-/// A position, or `-` for none.
-fn position_at(fields: &[&str], place: usize) -> Result<Option<u64>, CaseFault> {
-    if word_at(fields, place)? == "-" {
-        return Ok(None);
-    }
-    Ok(Some(parsed_at(fields, place)?))
-}
-
-/// A segment size, or `-` for none.
-fn size_at(fields: &[&str], place: usize) -> Result<Option<u16>, CaseFault> {
-    if word_at(fields, place)? == "-" {
-        return Ok(None);
-    }
-    Ok(Some(parsed_at(fields, place)?))
-}
-
-pub fn spelled(alloc: Global, fields: &[&str]) -> Result<String, CaseFault> {
+pub fn spelled(alloc: Global, text: &mut String, fields: &[&str]) -> Result<(), CaseFault> {
     let payload = octets_at(alloc, fields, 13)?;
     let options = options_at(alloc, fields)?;
-    spelled_with(alloc, fields, &options, &payload)
+    put_spelled(alloc, text, fields, options.as_slice(), payload.as_slice())
 }
 
-/// The octets of a segment with these options and this payload.
-fn spelled_with(
-    alloc: Global,
+/// The segment of these fields, with these options and this payload.
+fn segment_of<'a>(
     fields: &[&str],
-    options: &[Said],
-    payload: &[u8],
-) -> Result<String, CaseFault> {
-    let (spelling, from) = (spelling_at(fields)?, side_at(fields)?);
+    options: &'a [Said],
+    payload: &'a [u8],
+) -> Result<PathSegment<u64, &'a [Said], &'a [u8]>, CaseFault> {
     let bits = word_at(fields, 10)?;
-    let segment = PathSegment {
+    Ok(PathSegment {
         position: parsed_at(fields, 8)?,
-        acknowledged: position_at(fields, 9)?,
+        acknowledged: optional_at(fields, 9)?,
         syn: bits.contains('S'),
         fin: bits.contains('F'),
         rst: bits.contains('R'),
         window: parsed_at(fields, 11)?,
-        mss: size_at(fields, 12)?,
+        mss: optional_at(fields, 12)?,
         options,
         payload,
-    };
+    })
+}
+
+/// The octets of a segment with these options and this payload.
+fn put_spelled(
+    alloc: Global,
+    text: &mut String,
+    fields: &[&str],
+    options: &[Said],
+    payload: &[u8],
+) -> Result<(), CaseFault> {
+    let (spelling, from) = (spelling_at(fields)?, side_at(fields)?);
+    let segment = segment_of(fields, options, payload)?;
     if !can_say(&spelling, from, &segment) {
-        return Ok(format!(in alloc; "unsayable")?);
+        return put_word(text, "unsayable");
     }
     let octets = write(alloc, &spelling, from, &segment)?;
-    Ok(digits(alloc, octets.as_slice())?)
+    put_digits(alloc, text, octets.as_slice())
 }
 
 /// The options behind the payload.
@@ -133,15 +132,16 @@ fn option_of(alloc: Global, fields: &[&str]) -> Result<Said, CaseFault> {
 }
 
 fn dss_of(fields: &[&str]) -> Result<Said, CaseFault> {
+    let (next, place, position, length) = quad_at(fields, 1)?;
     let mapping = PathMapping::Bytes {
-        place: parsed_at(fields, 2)?,
-        position: parsed_at(fields, 3)?,
-        length: parsed_at(fields, 4)?,
+        place,
+        position,
+        length,
         fin: false,
         checksum: None,
     };
     Ok(PathOption::Dss {
-        next: Some(parsed_at(fields, 1)?),
+        next: Some(next),
         mapping: Some(mapping),
     })
 }
@@ -158,21 +158,33 @@ fn add_of(alloc: Global, fields: &[&str]) -> Result<Said, CaseFault> {
 
 fn form_of(alloc: Global, name: &str, fields: &[&str]) -> Result<JoinForm, CaseFault> {
     match name {
-        "join-syn" => Ok(JoinForm::Syn {
-            backup: truth_at(fields, 1)?,
-            id: parsed_at(fields, 2)?,
-            token: parsed_at(fields, 3)?,
-            nonce: parsed_at(fields, 4)?,
-        }),
-        "join-answer" => Ok(JoinForm::Answer {
-            backup: truth_at(fields, 1)?,
-            id: parsed_at(fields, 2)?,
-            hmac: parsed_at(fields, 3)?,
-            nonce: parsed_at(fields, 4)?,
-        }),
+        "join-syn" => syn_of(fields),
+        "join-answer" => answer_of(fields),
         "join-third" => third_of(octets_at(alloc, fields, 1)?.as_slice()),
         _ => Err(CaseFault::Form),
     }
+}
+
+fn syn_of(fields: &[&str]) -> Result<JoinForm, CaseFault> {
+    let backup = truth_at(fields, 1)?;
+    let (id, token, nonce) = triple_at(fields, 2)?;
+    Ok(JoinForm::Syn {
+        backup,
+        id,
+        token,
+        nonce,
+    })
+}
+
+fn answer_of(fields: &[&str]) -> Result<JoinForm, CaseFault> {
+    let backup = truth_at(fields, 1)?;
+    let (id, hmac, nonce) = triple_at(fields, 2)?;
+    Ok(JoinForm::Answer {
+        backup,
+        id,
+        hmac,
+        nonce,
+    })
 }
 
 fn third_of(octets: &[u8]) -> Result<JoinForm, CaseFault> {
@@ -182,22 +194,28 @@ fn third_of(octets: &[u8]) -> Result<JoinForm, CaseFault> {
     }
 }
 
-pub fn heard(alloc: Global, fields: &[&str]) -> Result<String, CaseFault> {
+pub fn heard(alloc: Global, text: &mut String, fields: &[&str]) -> Result<(), CaseFault> {
     let octets = octets_at(alloc, fields, 12)?;
-    heard_in(alloc, fields, &octets)
+    put_heard(alloc, text, fields, octets.as_slice())
 }
 
 fn expected_at(fields: &[&str]) -> Result<Expected, CaseFault> {
+    let (edge, unacknowledged, told, place) = quad_at(fields, 8)?;
     Ok(Expected {
-        edge: parsed_at(fields, 8)?,
-        unacknowledged: parsed_at(fields, 9)?,
-        told: parsed_at(fields, 10)?,
-        place: parsed_at(fields, 11)?,
+        edge,
+        unacknowledged,
+        told,
+        place,
     })
 }
 
 /// What these octets say.
-fn heard_in(alloc: Global, fields: &[&str], octets: &[u8]) -> Result<String, CaseFault> {
+fn put_heard(
+    alloc: Global,
+    text: &mut String,
+    fields: &[&str],
+    octets: &[u8],
+) -> Result<(), CaseFault> {
     let (spelling, from) = (spelling_at(fields)?, side_at(fields)?);
     let expected = expected_at(fields)?;
     if expected.edge >= POSITION_LIMIT || expected.unacknowledged >= POSITION_LIMIT {
@@ -207,21 +225,29 @@ fn heard_in(alloc: Global, fields: &[&str], octets: &[u8]) -> Result<String, Cas
         return Err(CaseFault::Form);
     }
     match parse_segment(&spelling, from, &expected, octets) {
-        Some(segment) => Ok(heard_text(alloc, &segment)?),
-        None => Ok(format!(in alloc; "no segment")?),
+        Some(segment) => put_segment(alloc, text, &segment),
+        None => put_word(text, "no segment"),
     }
 }
 
-fn heard_text(alloc: Global, segment: &HeardSegment<'_>) -> Result<String, AllocError> {
+fn put_segment(
+    alloc: Global,
+    text: &mut String,
+    segment: &HeardSegment<'_>,
+) -> Result<(), CaseFault> {
+    put_head(text, segment)?;
+    for option in segment.options {
+        put_word(text, "; ")?;
+        put_value(text, &option)?;
+    }
+    put_word(text, "; ")?;
+    put_digits(alloc, text, segment.payload)
+}
+
+fn put_head(text: &mut String, segment: &HeardSegment<'_>) -> Result<(), AllocError> {
     let (position, acknowledged) = (segment.position, segment.acknowledged);
     let (syn, fin, rst) = (segment.syn, segment.fin, segment.rst);
     let (window, mss) = (segment.window, segment.mss);
-    let mut text = format!(in alloc; "{position:?} {acknowledged:?} {syn} {fin} {rst}")?;
-    write!(text, " {window} {mss:?}")?;
-    for option in segment.options {
-        write!(text, "; {option:?}")?;
-    }
-    let payload = digits(alloc, segment.payload)?;
-    write!(text, "; {payload}")?;
-    Ok(text)
+    write!(text, "{position:?} {acknowledged:?} {syn} {fin} {rst}")?;
+    write!(text, " {window} {mss:?}")
 }

@@ -5,17 +5,20 @@
 
 ghost use Rattle.std.specs.Prelude.{◌≤◌, ◌^◌, length};
 
-use case_fields::{CaseFault, octets_at, parsed_at};
+use case_fields::{CaseFault, octets_at, pair_at, put_numbers, put_value};
 use std::alloc::{AllocError, Global};
 
-pub fn sum(alloc: Global, fields: &[&str]) -> Result<String, CaseFault> {
+pub fn sum(alloc: Global, text: &mut String, fields: &[&str]) -> Result<(), CaseFault> {
     let octets = octets_at(alloc, fields, 0)?;
+    put_sum(text, octets.as_slice())
+}
+
+fn put_sum(text: &mut String, octets: &[u8]) -> Result<(), CaseFault> {
     if octets.len() > 1 << 32 {
         return Err(CaseFault::Form);
     }
-    let total = ones_sum::sum(octets.as_slice());
-    let folded = ones_sum::fold(total);
-    Ok(format!(in alloc; "{total} {folded}")?)
+    let total = ones_sum::sum(octets);
+    put_numbers(text, " ", &[total, u64::from(ones_sum::fold(total))])
 }
 
 /// So many octets of any value.
@@ -56,15 +59,19 @@ fn summed_from(octets: &[u8], lengths: u16) -> u64 {
     count
 }
 
-pub fn sums(alloc: Global, fields: &[&str]) -> Result<String, CaseFault> {
-    let lengths: u16 = parsed_at(fields, 0)?;
-    let places: u8 = parsed_at(fields, 1)?;
-    let octets = made(alloc, lengths.saturating_add(u16::from(places)))?;
+/// How many of the octets from each of the first places on have that sum.
+fn summed(octets: &[u8], lengths: u16, places: u8) -> u64 {
     let mut count: u64 = 0;
     for place in 0..usize::from(places) {
         if let Some(rest) = octets.get(place..) {
             count = count.wrapping_add(summed_from(rest, lengths));
         }
     }
-    Ok(format!(in alloc; "{count}")?)
+    count
+}
+
+pub fn sums(alloc: Global, text: &mut String, fields: &[&str]) -> Result<(), CaseFault> {
+    let (lengths, places): (u16, u8) = pair_at(fields, 0)?;
+    let octets = made(alloc, lengths.saturating_add(u16::from(places)))?;
+    put_value(text, &summed(octets.as_slice(), lengths, places))
 }

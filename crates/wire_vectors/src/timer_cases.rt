@@ -1,33 +1,40 @@
 //! `rtt STEP ..`: the retransmission timeout as a timer opens and after each step, and then the smoothed round-trip time, in
 //! ticks. A step is a sample of so many ticks, or `expire`.
 
-use case_fields::{CaseFault, parsed_at};
+use crate::steps::{Steps, put_steps};
+use case_fields::{CaseFault, parsed_at, put_value, put_word};
 use rtt_timer::{MAX_SAMPLE, Rtt};
 use std::alloc::Global;
 
-pub fn rtt(alloc: Global, fields: &[&str]) -> Result<String, CaseFault> {
+pub fn rtt(alloc: Global, text: &mut String, fields: &[&str]) -> Result<(), CaseFault> {
     let mut timer = Rtt::new();
-    let mut rto = timer.rto();
-    let mut text = format!(in alloc; "{rto}")?;
-    for index in 0..fields.len() {
-        step(&mut timer, fields[index])?;
-        rto = timer.rto();
-        write!(text, " {rto}")?;
-    }
-    let srtt = timer.srtt();
-    write!(text, " {srtt:?}")?;
-    Ok(text)
+    put_value(text, &timer.rto())?;
+    put_steps(alloc, text, &mut timer, fields)?;
+    put_word(text, " ")?;
+    put_value(text, &timer.srtt())
 }
 
-fn step(timer: &mut Rtt, word: &str) -> Result<(), CaseFault> {
-    if word == "expire" {
-        timer.expire();
-        return Ok(());
+impl Steps for Rtt {
+    fn step(
+        &mut self,
+        _alloc: Global,
+        text: &mut String,
+        name: &str,
+        _fields: &[&str],
+    ) -> Result<(), CaseFault> {
+        if name == "expire" {
+            self.expire();
+        } else {
+            sample(self, parsed_at(&[name], 0)?)?;
+        }
+        put_value(text, &self.rto())
     }
-    let sample: u32 = parsed_at(&[word], 0)?;
-    if sample > MAX_SAMPLE {
+}
+
+fn sample(timer: &mut Rtt, ticks: u32) -> Result<(), CaseFault> {
+    if ticks > MAX_SAMPLE {
         return Err(CaseFault::Form);
     }
-    timer.sample(sample);
+    timer.sample(ticks);
     Ok(())
 }

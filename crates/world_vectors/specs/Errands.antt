@@ -15,6 +15,7 @@ call_of errands.Write = calls.Write (120 ∷ [])
 call_of errands.Close = calls.Close
 call_of errands.GoIdentity = calls.GoIdentity
 
+-- as long as calls are left, the next one at A's send book
 abbrev pub asks_of : Caller → Option Ask
 asks_of caller = if caller.left == 0 then None else Some (asks.Send side.A (call_of caller.errand))
 

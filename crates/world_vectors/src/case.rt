@@ -7,10 +7,9 @@
 //! the number of the call of the outside that fails, and how many octets it keeps of what it is to put. `SHOWN` is `log`,
 //! `sums`, `read` or `calls`.
 
-use crate::content::{content, with_line_ends};
 use crate::order::edited;
-use case_fields::{CaseFault, parsed_at, word_at};
-use outside_kit::{FailAt, MemoryOutside, NamedFile};
+use case_fields::{CaseFault, content, failing, lines_in, word_at};
+use outside_kit::{MemoryOutside, NamedFile};
 use std::alloc::{AllocError, Global};
 
 /// What is shown of a run.
@@ -92,7 +91,7 @@ impl<'a> Case<'a> {
     /// The outside that the case tells of, where `log` is that of the last serial case.
     pub fn outside(&self, alloc: Global, log: &[u8]) -> Result<MemoryOutside, CaseFault> {
         let mut files = Vec::new(alloc);
-        let script = with_line_ends(alloc, self.script)?;
+        let script = lines_in(alloc, self.script)?.into_bytes();
         push_file(alloc, &mut files, "script", script)?;
         push_file(alloc, &mut files, "a", content(alloc, self.file_a)?)?;
         push_file(alloc, &mut files, "b", content(alloc, self.file_b)?)?;
@@ -147,15 +146,4 @@ fn order(alloc: Global, field: &str, log: &[u8]) -> Result<Option<Vec<u8>>, Case
         None if field == "-" => Ok(None),
         _ => Err(CaseFault::Form),
     }
-}
-
-/// The call that fails, if any, and how many octets it keeps.
-fn failing(alloc: Global, field: &str) -> Result<Vec<FailAt>, CaseFault> {
-    if field == "-" {
-        return Ok(Vec::new(alloc));
-    }
-    let fields: Vec<&str> = field.split(' ').collect(alloc)?;
-    let call = parsed_at(fields.as_slice(), 0)?;
-    let kept = parsed_at(fields.as_slice(), 1)?;
-    Ok(Vec::from_slice(alloc, &[FailAt { call, kept }])?)
 }

@@ -1,16 +1,15 @@
 //! Within how many rounds the run of a clean script ends: `enough | SCRIPT | LENGTH_A | LENGTH_B`, with the lengths of both files
 //! in octets. Shown is the answer of `rounds_enough`.
 
-use crate::content::with_line_ends;
-use case_fields::{CaseFault, parsed_at, word_at};
+use case_fields::{CaseFault, lines_in, parsed_at, word_at};
 use clean_finish::rounds_enough;
 use link_script::{Script, parse};
 use std::alloc::Global;
 
 /// The script that a field tells.
 fn script_in(alloc: Global, field: &str) -> Result<Script, CaseFault> {
-    let text = with_line_ends(alloc, field)?;
-    match parse(alloc, text.as_slice()) {
+    let text = lines_in(alloc, field)?;
+    match parse(alloc, text.as_bytes()) {
         Ok(script) => Ok(script),
         Err(_) => Err(CaseFault::Form),
     }

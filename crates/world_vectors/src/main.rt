@@ -14,7 +14,6 @@
 mod books_shown;
 mod caller;
 mod case;
-mod content;
 mod enough;
 mod meeting;
 mod opening;

@@ -6,7 +6,7 @@
 ghost use Rattle.std.specs.Prelude.{IsTrue};
 ghost use Rattle.control_book.specs.Calls.{can_ask};
 
-use crate::books::words::reply_words;
+use crate::books::words::put_reply;
 use crate::calls::control_call;
 use actor_desk::{Ask, Reply};
 use case_fields::{CaseFault, parsed_at, word_at};
@@ -44,17 +44,23 @@ fn may_ask(call: &ControlCall) -> bool
     }
 }
 
-/// The words of the book's reply to a call.
-pub fn asked(
+/// Puts the words of the book's reply to a call.
+pub fn put_asked(
     alloc: Global,
+    text: &mut String,
     book: &mut ControlBook,
     name: &str,
     fields: &[&str],
-) -> Result<String, CaseFault> {
+) -> Result<(), CaseFault> {
     let call = control_call(name, fields)?;
     if !may_ask(&call) {
         return Err(CaseFault::Form);
     }
     let reply = book.apply(&call)?;
-    Ok(reply_words(alloc, Ask::Control(Side::A, call), Reply::Control(reply))?)
+    put_reply(
+        alloc,
+        text,
+        Ask::Control(Side::A, call),
+        Reply::Control(reply),
+    )
 }

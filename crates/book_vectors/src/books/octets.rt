@@ -1,6 +1,6 @@
 //! Octets of a case: a word as it stands, or `made N`, of which the octet at place k of the stream is k modulo 251.
 
-use case_fields::{CaseFault, parsed_at, word_at};
+use case_fields::{CaseFault, parsed_at, put_value, put_word, word_at};
 use pipe_model::Text;
 use std::alloc::{AllocError, Global};
 
@@ -45,14 +45,23 @@ fn is_made(place: u64, octets: &[u8]) -> bool {
         == u64::from(*octet))
 }
 
-/// Octets as they are, or their number where there are many: `made` or `other`.
-pub fn octets_text(alloc: Global, place: u64, octets: &[u8]) -> Result<String, AllocError> {
-    let count = octets.len();
+/// Puts octets as they are, or their number where there are many: `made` or `other`.
+pub fn put_octets(
+    alloc: Global,
+    text: &mut String,
+    place: u64,
+    octets: &[u8],
+) -> Result<(), CaseFault> {
     if is_made(place, octets) {
-        return format!(in alloc; "made {count}");
+        return put_count(text, "made ", octets.len());
     }
-    if count > SHOWN {
-        return format!(in alloc; "other {count}");
+    if octets.len() > SHOWN {
+        return put_count(text, "other ", octets.len());
     }
-    String::from_utf8_lossy(alloc, octets)
+    put_word(text, String::from_utf8_lossy(alloc, octets)?.as_str())
+}
+
+fn put_count(text: &mut String, word: &str, count: usize) -> Result<(), CaseFault> {
+    put_word(text, word)?;
+    put_value(text, &count)
 }

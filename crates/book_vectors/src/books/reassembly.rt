@@ -5,11 +5,11 @@
 ghost use Rattle.std.specs.Prelude.{IfOk, IsTrue, ◌≤◌, ◌^◌};
 ghost use Rattle.reassembly_book.specs.Steps.{CanAsk};
 
-use crate::books::octets::{made, octets_at, octets_text};
-use crate::books::words::reply_words;
+use crate::books::octets::{made, octets_at, put_octets};
+use crate::books::words::put_reply;
 use crate::calls::reassembly_call;
 use actor_desk::{Ask, Reply};
-use case_fields::{CaseFault, parsed_at};
+use case_fields::{CaseFault, parsed_at, put_value, put_word};
 use outside_kit::Side;
 use pipe_model::Text;
 use reassembly_book::{ReassemblyBook, ReassemblyCall, ReassemblyReply};
@@ -90,17 +90,27 @@ fn call_of(alloc: Global, name: &str, fields: &[&str]) -> Result<ReassemblyCall,
     reassembly_call(name, fields)
 }
 
-/// The words of a reply to a reader that has read so many bytes before: those of a log, but the octets as they are.
-fn words_of(alloc: Global, read: u64, reply: ReassemblyReply) -> Result<String, AllocError> {
+/// Puts the words of a reply to a reader that has read so many bytes before: those of a log, but the octets as they are.
+fn put_words(
+    alloc: Global,
+    text: &mut String,
+    read: u64,
+    reply: ReassemblyReply,
+) -> Result<(), CaseFault> {
     if let ReassemblyReply::Bytes(bytes) = &reply {
-        let bytes = octets_text(alloc, read, bytes.as_bytes())?;
-        return format!(in alloc; "bytes {bytes}");
+        return put_bytes(alloc, text, read, bytes.as_bytes());
     }
-    reply_words(
+    put_reply(
         alloc,
+        text,
         Ask::Reassembly(Side::A, ReassemblyCall::AckOut),
         Reply::Reassembly(reply),
     )
+}
+
+fn put_bytes(alloc: Global, text: &mut String, read: u64, bytes: &[u8]) -> Result<(), CaseFault> {
+    put_word(text, "bytes ")?;
+    put_octets(alloc, text, read, bytes)
 }
 
 /// How many bytes were read.
@@ -111,23 +121,19 @@ fn count_of(reply: &ReassemblyReply) -> u64 {
     }
 }
 
-/// The words of the book's reply to one call.
-fn reading_text(
-    alloc: Global,
-    reading: &mut Reading,
-    call: &ReassemblyCall,
-) -> Result<String, AllocError>
-    requires { CanAsk call.now }
-{
-    let before = reading.read;
+/// The book's reply to a call, where it may be asked.
+fn reply_to(reading: &mut Reading, call: &ReassemblyCall) -> Result<ReassemblyReply, CaseFault> {
+    if !may_ask(call) {
+        return Err(CaseFault::Form);
+    }
     let reply = reading.book.apply(call)?;
-    reading.read = before.saturating_add(count_of(&reply));
-    words_of(alloc, before, reply)
+    reading.read = reading.read.saturating_add(count_of(&reply));
+    Ok(reply)
 }
 
-/// What is lent of the bytes that can be read.
-fn front(alloc: Global, reading: &Reading) -> Result<String, AllocError> {
-    octets_text(alloc, reading.read, reading.book.front())
+/// Puts what is lent of the bytes that can be read.
+fn put_front(alloc: Global, text: &mut String, reading: &Reading) -> Result<(), CaseFault> {
+    put_octets(alloc, text, reading.read, reading.book.front())
 }
 
 /// How many of the octets that are made for the places from `at` on are placed.
@@ -142,7 +148,12 @@ fn placed(alloc: Global, book: &mut ReassemblyBook, at: u64, count: u64) -> Resu
 }
 
 /// Places made octets in pieces, the last piece first.
-fn reversed(alloc: Global, reading: &mut Reading, fields: &[&str]) -> Result<String, CaseFault> {
+fn reversed(
+    alloc: Global,
+    text: &mut String,
+    reading: &mut Reading,
+    fields: &[&str],
+) -> Result<(), CaseFault> {
     let at = place_at(fields, 0)?;
     let count = place_at(fields, 1)?;
     let size: u64 = parsed_at(fields, 2)?;
@@ -157,7 +168,7 @@ fn reversed(alloc: Global, reading: &mut Reading, fields: &[&str]) -> Result<Str
         let len = size.min(count - from);
         all = all.saturating_add(placed(alloc, &mut reading.book, at + from, len)?);
     }
-    Ok(format!(in alloc; "{all}")?)
+    put_value(text, &all)
 }
 
 /// Reads once, and keeps the bytes; the reply, where it is another one.
@@ -194,7 +205,12 @@ fn read_all(
 }
 
 /// Reads until no bytes are left: how many were read and whether they are made ones, and the last reply.
-fn reads(alloc: Global, reading: &mut Reading, fields: &[&str]) -> Result<String, CaseFault> {
+fn reads(
+    alloc: Global,
+    text: &mut String,
+    reading: &mut Reading,
+    fields: &[&str],
+) -> Result<(), CaseFault> {
     let call = ReassemblyCall::Read {
         max: parsed_at(fields, 0)?,
     };
@@ -205,36 +221,41 @@ fn reads(alloc: Global, reading: &mut Reading, fields: &[&str]) -> Result<String
     let last = read_all(&mut reading.book, &call, &mut all)?;
     let start = reading.read;
     reading.read = start.saturating_add(all.len() as u64);
-    let all = octets_text(alloc, start, all.as_bytes())?;
-    let last = words_of(alloc, start, last)?;
-    Ok(format!(in alloc; "{all} {last}")?)
+    put_all(alloc, text, start, all.as_bytes())?;
+    put_words(alloc, text, start, last)
 }
 
-/// The words of the book's reply to a call that can be made.
-fn asked_once(
+/// Puts octets, and a blank behind them.
+fn put_all(alloc: Global, text: &mut String, start: u64, octets: &[u8]) -> Result<(), CaseFault> {
+    put_octets(alloc, text, start, octets)?;
+    put_word(text, " ")
+}
+
+/// Puts the words of the book's reply to a call that can be made.
+fn put_asked_once(
     alloc: Global,
+    text: &mut String,
     reading: &mut Reading,
     name: &str,
     fields: &[&str],
-) -> Result<String, CaseFault> {
-    let call = call_of(alloc, name, fields)?;
-    if !may_ask(&call) {
-        return Err(CaseFault::Form);
-    }
-    Ok(reading_text(alloc, reading, &call)?)
+) -> Result<(), CaseFault> {
+    let before = reading.read;
+    let reply = reply_to(reading, &call_of(alloc, name, fields)?)?;
+    put_words(alloc, text, before, reply)
 }
 
-/// The words of the book's reply to a call.
-pub fn asked(
+/// Puts the words of the book's reply to a call.
+pub fn put_asked(
     alloc: Global,
+    text: &mut String,
     reading: &mut Reading,
     name: &str,
     fields: &[&str],
-) -> Result<String, CaseFault> {
+) -> Result<(), CaseFault> {
     match name {
-        "front" => Ok(front(alloc, reading)?),
-        "reversed" => reversed(alloc, reading, fields),
-        "reads" => reads(alloc, reading, fields),
-        _ => asked_once(alloc, reading, name, fields),
+        "front" => put_front(alloc, text, reading),
+        "reversed" => reversed(alloc, text, reading, fields),
+        "reads" => reads(alloc, text, reading, fields),
+        _ => put_asked_once(alloc, text, reading, name, fields),
     }
 }

@@ -5,11 +5,11 @@
 ghost use Rattle.std.specs.Prelude.{IfOk, IsTrue, ◌<◌, ◌≤◌};
 ghost use Rattle.send_book.specs.Steps.{CanAsk};
 
-use crate::books::octets::{octets_at, octets_text};
-use crate::books::words::reply_words;
+use crate::books::octets::{octets_at, put_octets};
+use crate::books::words::put_reply;
 use crate::calls::send_call;
 use actor_desk::{Ask, Reply};
-use case_fields::{CaseFault, parsed_at};
+use case_fields::{CaseFault, parsed_at, put_value, put_word};
 use outside_kit::Side;
 use send_book::{SendBook, SendCall, SendReply};
 use stamped_book::Book;
@@ -81,23 +81,34 @@ fn call_of(
     send_call(name, fields)
 }
 
-/// The octets of a grant, behind a blank.
-fn piece_words(alloc: Global, reply: &SendReply) -> Result<String, AllocError> {
+/// Puts the octets of a grant behind a blank, and nothing of another reply.
+fn put_piece(alloc: Global, text: &mut String, reply: &SendReply) -> Result<(), CaseFault> {
     match reply {
         SendReply::Granted { span, piece } => {
-            let piece = octets_text(alloc, span.from, piece.as_bytes())?;
-            format!(in alloc; " {piece}")
+            put_word(text, " ")?;
+            put_octets(alloc, text, span.from, piece.as_bytes())
         }
-        _ => Ok(String::new(alloc)),
+        _ => Ok(()),
     }
 }
 
-/// The words of a reply: those of a log, and the octets of a grant.
-fn words_of(alloc: Global, call: SendCall, reply: SendReply) -> Result<String, AllocError> {
+/// The octets of a grant behind a blank.
+fn piece_words(alloc: Global, reply: &SendReply) -> Result<String, CaseFault> {
+    let mut text = String::new(alloc);
+    put_piece(alloc, &mut text, reply)?;
+    Ok(text)
+}
+
+/// Puts the words of a reply: those of a log, and the octets of a grant.
+fn put_words(
+    alloc: Global,
+    text: &mut String,
+    call: SendCall,
+    reply: SendReply,
+) -> Result<(), CaseFault> {
     let piece = piece_words(alloc, &reply)?;
-    let mut words = reply_words(alloc, Ask::Send(Side::A, call), Reply::Send(reply))?;
-    words.push_str(&piece)?;
-    Ok(words)
+    put_reply(alloc, text, Ask::Send(Side::A, call), Reply::Send(reply))?;
+    put_word(text, piece.as_str())
 }
 
 /// How many bytes a path is given, 0 where there is none for it.
@@ -129,7 +140,7 @@ fn given_once(book: &mut SendBook, fields: &[&str], max: u32) -> Result<u64, Cas
 }
 
 /// How many bytes the paths are given in turn, until each is given none.
-fn turns(alloc: Global, book: &mut SendBook, fields: &[&str]) -> Result<String, CaseFault> {
+fn turns(text: &mut String, book: &mut SendBook, fields: &[&str]) -> Result<(), CaseFault> {
     let max: u32 = parsed_at(fields, 0)?;
     if max < 1 {
         return Err(CaseFault::Form);
@@ -141,7 +152,7 @@ fn turns(alloc: Global, book: &mut SendBook, fields: &[&str]) -> Result<String, 
             count => all = all.saturating_add(count),
         }
     }
-    Ok(format!(in alloc; "{all}")?)
+    put_value(text, &all)
 }
 
 /// How many bytes the reply says were written.
@@ -152,21 +163,28 @@ fn count_taken(reply: &SendReply) -> u64 {
     }
 }
 
-/// The words of the book's reply to a call.
-pub fn asked(
+/// Puts the words of the book's reply to a call.
+pub fn put_asked(
     alloc: Global,
+    text: &mut String,
     writing: &mut Writing,
     name: &str,
     fields: &[&str],
-) -> Result<String, CaseFault> {
+) -> Result<(), CaseFault> {
     if name == "turns" {
-        return turns(alloc, &mut writing.book, fields);
+        return turns(text, &mut writing.book, fields);
     }
     let call = call_of(alloc, name, fields, writing.written)?;
-    if !may_ask(&call) {
+    let reply = reply_to(writing, &call)?;
+    put_words(alloc, text, call, reply)
+}
+
+/// The book's reply to a call, where it may be asked.
+fn reply_to(writing: &mut Writing, call: &SendCall) -> Result<SendReply, CaseFault> {
+    if !may_ask(call) {
         return Err(CaseFault::Form);
     }
-    let reply = writing.book.apply(&call)?;
+    let reply = writing.book.apply(call)?;
     writing.written = writing.written.saturating_add(count_taken(&reply));
-    Ok(words_of(alloc, call, reply)?)
+    Ok(reply)
 }

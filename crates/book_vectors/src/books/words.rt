@@ -1,11 +1,24 @@
 //! Words of replies.
 
 use actor_desk::{Ask, Note, Reply};
+use case_fields::{CaseFault, put_word};
+use pipe_model::Text;
 use run_log::line;
 use std::alloc::{AllocError, Global};
 
-/// The words in which a log tells the reply to what was asked.
-pub fn reply_words(alloc: Global, ask: Ask, reply: Reply) -> Result<String, AllocError> {
+/// Puts the words in which a log tells the reply to what was asked.
+pub fn put_reply(
+    alloc: Global,
+    text: &mut String,
+    ask: Ask,
+    reply: Reply,
+) -> Result<(), CaseFault> {
+    let told = told_line(alloc, ask, reply)?;
+    put_after_reply(alloc, text, told.as_bytes())
+}
+
+/// The line of a log that tells what was asked and the reply.
+fn told_line(alloc: Global, ask: Ask, reply: Reply) -> Result<Text, AllocError> {
     let note = Note {
         stamp: 0,
         seen: 0,
@@ -13,15 +26,14 @@ pub fn reply_words(alloc: Global, ask: Ask, reply: Reply) -> Result<String, Allo
         ask,
         reply,
     };
-    let told = line(alloc, &note)?;
-    after_reply(alloc, told.as_bytes())
+    line(alloc, &note)
 }
 
-/// What stands behind ` = ` in a line, without its end.
-fn after_reply(alloc: Global, line: &[u8]) -> Result<String, AllocError> {
+/// Puts what stands behind ` = ` in a line, without its end.
+fn put_after_reply(alloc: Global, text: &mut String, line: &[u8]) -> Result<(), CaseFault> {
     let line = String::from_utf8_lossy(alloc, line)?;
     match line.split_once(" = ") {
-        Some((_, words)) => String::from_str(alloc, words.trim_end()),
-        None => Ok(String::new(alloc)),
+        Some((_, words)) => put_word(text, words.trim_end()),
+        None => Ok(()),
     }
 }

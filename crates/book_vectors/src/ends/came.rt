@@ -1,7 +1,7 @@
 //! What comes to an end.
 ghost use Rattle.std.specs.Prelude.{◌<◌, ◌≤◌, ◌≡◌, ◌^◌, length, None};
 
-use case_fields::{CaseFault, parsed_at, word_at};
+use case_fields::{CaseFault, pair_at, parsed_at, put_value, put_word, triple_at, word_at};
 use segment_wire::{Addresses, Head, parse, write};
 use std::alloc::Global;
 use subflow_tcp::{Hint, Subflow};
@@ -14,39 +14,49 @@ const ADDRESSES: Addresses = Addresses {
 
 fn head_of(fields: &[&str]) -> Result<Head, CaseFault> {
     let bits = word_at(fields, 0)?;
+    let (seq, ack, window) = triple_at(fields, 1)?;
     Ok(Head {
         source_port: 0,
         destination_port: 0,
-        seq: parsed_at(fields, 1)?,
-        ack: parsed_at(fields, 2)?,
+        seq,
+        ack,
         syn: bits.contains('S'),
         fin: bits.contains('F'),
         rst: bits.contains('R'),
         ack_set: bits.contains('A'),
-        window: parsed_at(fields, 3)?,
+        window,
     })
 }
 
-/// `arrive BITS SEQ ACK WINDOW LENGTH TICK`: what the end answers to these octets; `BITS` are letters of `FSRA`, or `-`.
-pub fn arrive(alloc: Global, end: &mut Subflow, fields: &[&str]) -> Result<String, CaseFault> {
-    let head = head_of(fields)?;
-    let length: u16 = parsed_at(fields, 4)?;
-    let tick: u32 = parsed_at(fields, 5)?;
+/// The octets of a segment that carries so many octets.
+fn octets_of(alloc: Global, head: &Head, length: u16) -> Result<Vec<u8>, CaseFault> {
     if length > 65_515 {
         return Err(CaseFault::Form);
     }
     let payload = vec![in alloc; 0u8; usize::from(length)]?;
-    let octets = write(alloc, &head, &ADDRESSES, &[], payload.as_slice())?;
-    arrive_as(alloc, end, octets.as_slice(), tick)
+    Ok(write(alloc, head, &ADDRESSES, &[], payload.as_slice())?)
+}
+
+/// `arrive BITS SEQ ACK WINDOW LENGTH TICK`: what the end answers to these octets; `BITS` are letters of `FSRA`, or `-`.
+pub fn arrive(
+    alloc: Global,
+    text: &mut String,
+    end: &mut Subflow,
+    fields: &[&str],
+) -> Result<(), CaseFault> {
+    let head = head_of(fields)?;
+    let (length, tick) = pair_at(fields, 4)?;
+    let octets = octets_of(alloc, &head, length)?;
+    arrive_as(text, end, octets.as_slice(), tick)
 }
 
 /// These octets come at this tick.
 fn arrive_as(
-    alloc: Global,
+    text: &mut String,
     end: &mut Subflow,
     octets: &[u8],
     tick: u32,
-) -> Result<String, CaseFault> {
+) -> Result<(), CaseFault> {
     let Ok(segment) = parse(octets, &ADDRESSES) else {
         return Err(CaseFault::Form);
     };
@@ -58,25 +68,24 @@ fn arrive_as(
         keep: true,
     };
     let arrival = end.arrive(&segment, &hint, u64::from(tick))?;
-    Ok(format!(in alloc; "{arrival:?}")?)
+    put_value(text, &arrival)
 }
 
 /// `read`: the receive edge, after it moved over what is in order and over a FIN behind it.
-pub fn read(alloc: Global, end: &mut Subflow) -> Result<String, CaseFault> {
+pub fn read(text: &mut String, end: &mut Subflow) -> Result<(), CaseFault> {
     let to = end.held_end();
     end.advance(to);
     if end.is_fin_next() {
         end.pass_fin();
     }
-    let edge = end.edge();
-    Ok(format!(in alloc; "{edge}")?)
+    put_value(text, &end.edge())
 }
 
 /// `grow OCTETS`: the room of the window, after it grew by so many octets where that was to be told.
-pub fn grow(alloc: Global, end: &mut Subflow, fields: &[&str]) -> Result<String, CaseFault> {
+pub fn grow(text: &mut String, end: &mut Subflow, fields: &[&str]) -> Result<(), CaseFault> {
     let growth: u32 = parsed_at(fields, 0)?;
-    let pending = end.pending();
+    put_value(text, &end.pending())?;
     end.grow(growth);
-    let room = end.room();
-    Ok(format!(in alloc; "{pending:?} {room}")?)
+    put_word(text, " ")?;
+    put_value(text, &end.room())
 }

@@ -5,7 +5,7 @@
 use crate::calls::{control_call, reassembly_call, send_call};
 use crate::logs::reply::{control_reply, octets_at, reassembly_reply, send_reply};
 use actor_desk::{Ask, LocalStep, Note, Reply};
-use case_fields::{CaseFault, parsed_at, word_at};
+use case_fields::{CaseFault, pair_at, parsed_at, triple_at, word_at};
 use outside_kit::Side;
 use reassembly_book::ReassemblyCall;
 use send_book::SendCall;
@@ -35,11 +35,13 @@ fn local_step(name: &str, fields: &[&str]) -> Result<LocalStep, CaseFault> {
 }
 
 fn sent_step(fields: &[&str]) -> Result<LocalStep, CaseFault> {
+    let from = side_at(fields, 0)?;
+    let (copy, length, sum) = triple_at(fields, 1)?;
     Ok(LocalStep::Sent {
-        from: side_at(fields, 0)?,
-        copy: parsed_at(fields, 1)?,
-        length: parsed_at(fields, 2)?,
-        sum: parsed_at(fields, 3)?,
+        from,
+        copy,
+        length,
+        sum,
     })
 }
 
@@ -62,15 +64,26 @@ fn reassembly_ask(alloc: Global, name: &str, fields: &[&str]) -> Result<Reassemb
     reassembly_call(name, fields)
 }
 
+/// What is asked of a book of a side by a name and numbers.
+fn book_ask(
+    alloc: Global,
+    object: &str,
+    side: Side,
+    name: &str,
+    fields: &[&str],
+) -> Result<Ask, CaseFault> {
+    match object {
+        "sa" | "sb" => Ok(Ask::Send(side, send_ask(alloc, name, fields)?)),
+        "ra" | "rb" => Ok(Ask::Reassembly(side, reassembly_ask(alloc, name, fields)?)),
+        _ => Ok(Ask::Control(side, control_call(name, fields)?)),
+    }
+}
+
 /// What is asked of an object by a name and numbers.
 fn ask_of(alloc: Global, object: &str, name: &str, fields: &[&str]) -> Result<Ask, CaseFault> {
     match object {
-        "sa" => Ok(Ask::Send(Side::A, send_ask(alloc, name, fields)?)),
-        "sb" => Ok(Ask::Send(Side::B, send_ask(alloc, name, fields)?)),
-        "ra" => Ok(Ask::Reassembly(Side::A, reassembly_ask(alloc, name, fields)?)),
-        "rb" => Ok(Ask::Reassembly(Side::B, reassembly_ask(alloc, name, fields)?)),
-        "ca" => Ok(Ask::Control(Side::A, control_call(name, fields)?)),
-        "cb" => Ok(Ask::Control(Side::B, control_call(name, fields)?)),
+        "sa" | "ra" | "ca" => book_ask(alloc, object, Side::A, name, fields),
+        "sb" | "rb" | "cb" => book_ask(alloc, object, Side::B, name, fields),
         "me" => Ok(Ask::Local(local_step(name, fields)?)),
         _ => Err(CaseFault::Form),
     }
@@ -92,13 +105,14 @@ fn words(alloc: Global, text: &str) -> Result<Vec<&str>, AllocError> {
 
 /// The note of these words. What the actor knew before is not told, and taken as 0.
 fn note_by(alloc: Global, fields: &[&str], reply: &[&str]) -> Result<Note, CaseFault> {
-    let [stamp, actor, object, name, fields @ ..] = fields else {
+    let (stamp, actor) = pair_at(fields, 0)?;
+    let [_, _, object, name, fields @ ..] = fields else {
         return Err(CaseFault::Form);
     };
     Ok(Note {
-        stamp: parsed_at(&[*stamp], 0)?,
+        stamp,
         seen: 0,
-        actor: parsed_at(&[*actor], 0)?,
+        actor,
         ask: ask_of(alloc, object, name, fields)?,
         reply: reply_of(alloc, object, reply)?,
     })

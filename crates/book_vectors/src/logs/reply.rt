@@ -2,7 +2,7 @@
 //! octets, `NoGrant WHY END` with `-` for no end, `Standing MODE STANDBY SOLE NOTICE`, `Verdict VERDICT`, `Rows` with three numbers
 //! a row, and the others as they are declared. A truth value is 0 or 1.
 
-use case_fields::{CaseFault, parsed_at, truth_at, word_at};
+use case_fields::{CaseFault, optional_at, pair_at, parsed_at, triple_at, truth_at, word_at};
 use control_book::{ControlReply, Notice};
 use fallback_state::{Mode, Verdict};
 use linked_increase::{Row, Rows};
@@ -41,13 +41,6 @@ fn reason_at(fields: &[&str], place: usize) -> Result<Why, CaseFault> {
     }
 }
 
-fn end_at(fields: &[&str], place: usize) -> Result<Option<u64>, CaseFault> {
-    match word_at(fields, place)? {
-        "-" => Ok(None),
-        _ => Ok(Some(parsed_at(fields, place)?)),
-    }
-}
-
 /// A reply that tells one number.
 fn counted_reply(name: &str, count: u64) -> Result<SendReply, CaseFault> {
     match name {
@@ -60,8 +53,7 @@ fn counted_reply(name: &str, count: u64) -> Result<SendReply, CaseFault> {
 }
 
 fn granted_at(alloc: Global, fields: &[&str]) -> Result<SendReply, CaseFault> {
-    let from = parsed_at(fields, 1)?;
-    let to = parsed_at(fields, 2)?;
+    let (from, to) = pair_at(fields, 1)?;
     let piece = Text::new(alloc);
     let span = Span { from, to };
     Ok(SendReply::Granted { span, piece })
@@ -74,7 +66,7 @@ pub fn send_reply(alloc: Global, fields: &[&str]) -> Result<SendReply, CaseFault
         "granted" => granted_at(alloc, fields),
         "nogrant" => Ok(SendReply::NoGrant {
             why: reason_at(fields, 1)?,
-            end: end_at(fields, 2)?,
+            end: optional_at(fields, 2)?,
         }),
         "acked" => Ok(SendReply::Acked {
             bytes: parsed_at(fields, 1)?,
@@ -86,22 +78,23 @@ pub fn send_reply(alloc: Global, fields: &[&str]) -> Result<SendReply, CaseFault
     }
 }
 
-/// A reply that tells one number or two.
-fn placing_reply(name: &str, fields: &[&str]) -> Result<ReassemblyReply, CaseFault> {
-    let first = parsed_at(fields, 1)?;
+/// A reply that tells one number.
+fn placing_reply(name: &str, first: u64) -> Result<ReassemblyReply, CaseFault> {
     match name {
         "placed" => Ok(ReassemblyReply::Placed(first)),
         "beyond" => Ok(ReassemblyReply::Beyond { edge: first }),
-        "finclash" => Ok(ReassemblyReply::FinClash {
-            fin: first,
-            at: parsed_at(fields, 2)?,
-        }),
-        "ack" => Ok(ReassemblyReply::Ack {
-            next: first,
-            window: parsed_at(fields, 2)?,
-        }),
         _ => Err(CaseFault::Form),
     }
+}
+
+fn clash_at(fields: &[&str]) -> Result<ReassemblyReply, CaseFault> {
+    let (fin, at) = pair_at(fields, 1)?;
+    Ok(ReassemblyReply::FinClash { fin, at })
+}
+
+fn ack_at(fields: &[&str]) -> Result<ReassemblyReply, CaseFault> {
+    let (next, window) = pair_at(fields, 1)?;
+    Ok(ReassemblyReply::Ack { next, window })
 }
 
 pub fn reassembly_reply(alloc: Global, fields: &[&str]) -> Result<ReassemblyReply, CaseFault> {
@@ -114,7 +107,9 @@ pub fn reassembly_reply(alloc: Global, fields: &[&str]) -> Result<ReassemblyRepl
             by_peer: truth_at(fields, 1)?,
         }),
         "noted" => Ok(ReassemblyReply::Noted),
-        name => placing_reply(name, fields),
+        "finclash" => clash_at(fields),
+        "ack" => ack_at(fields),
+        name => placing_reply(name, parsed_at(fields, 1)?),
     }
 }
 
@@ -163,11 +158,8 @@ fn rows(fields: &[&str]) -> Result<Rows, CaseFault> {
         if rows.is_full() {
             return Err(CaseFault::Form);
         }
-        rows.push(Row {
-            path: parsed_at(fields, place)?,
-            window: parsed_at(fields, place.saturating_add(1))?,
-            rtt: parsed_at(fields, place.saturating_add(2))?,
-        });
+        let (path, window, rtt) = triple_at(fields, place)?;
+        rows.push(Row { path, window, rtt });
     }
     Ok(rows)
 }
@@ -195,15 +187,17 @@ fn standing_at(fields: &[&str]) -> Result<ControlReply, CaseFault> {
     })
 }
 
+fn begin_at(fields: &[&str]) -> Result<ControlReply, CaseFault> {
+    let (own, peer) = pair_at(fields, 1)?;
+    Ok(ControlReply::Begin { own, peer })
+}
+
 /// A reply that tells the side's own key or token, one with the peer's key behind it, or one of which no number is told.
 fn key_reply(name: &str, fields: &[&str]) -> Result<ControlReply, CaseFault> {
     match name {
+        "begin" => begin_at(fields),
         "keysdiffer" => Ok(ControlReply::KeysDiffer {
             own: parsed_at(fields, 1)?,
-        }),
-        "begin" => Ok(ControlReply::Begin {
-            own: parsed_at(fields, 1)?,
-            peer: parsed_at(fields, 2)?,
         }),
         "unknowntoken" => Ok(ControlReply::UnknownToken {
             own: parsed_at(fields, 1)?,

@@ -5,15 +5,13 @@ use crate::pairs::made::{Received, made_piece};
 use case_fields::CaseFault;
 use link_model::Link;
 use outside_kit::Side;
-use segment_wire::{Addresses, Head, SegmentRef, parse, write};
+use segment_wire::{Head, SegmentRef, addresses_from, parse, write};
 use seq_units::Mapping;
 use std::alloc::{AllocError, Global};
 use subflow_tcp::{Emission, Fired, Hint, Pending, State, Subflow};
 
-/// The addresses of A and B on path 0.
-const ADDRESS_OF_A: [u8; 4] = [10, 0, 0, 1];
-
-const ADDRESS_OF_B: [u8; 4] = [10, 0, 0, 2];
+/// The path that the segments go on.
+pub const PATH: u8 = 0;
 
 /// The window of an end that reads at once what came, 2^20 octets, as a SYN tells it, and in units of 32 octets (RFC 7323,
 /// section 2.2).
@@ -35,18 +33,6 @@ const HINT: Hint = Hint {
     keep: true,
 };
 
-/// The addresses of a segment of this side.
-fn addresses_from(side: Side) -> Addresses {
-    let (source, destination) = match side {
-        Side::A => (ADDRESS_OF_A, ADDRESS_OF_B),
-        Side::B => (ADDRESS_OF_B, ADDRESS_OF_A),
-    };
-    Addresses {
-        source,
-        destination,
-    }
-}
-
 /// A segment comes to the end.
 fn take(end: &mut Subflow, segment: &SegmentRef<'_>, now: u32) -> Result<(), CaseFault> {
     if segment.payload().len() > 65_535 {
@@ -58,7 +44,7 @@ fn take(end: &mut Subflow, segment: &SegmentRef<'_>, now: u32) -> Result<(), Cas
 
 /// Octets of the side `from` come to the end; those that are no segment are dropped.
 pub fn arrive(end: &mut Subflow, from: Side, octets: &[u8], now: u32) -> Result<(), CaseFault> {
-    match parse(octets, &addresses_from(from)) {
+    match parse(octets, &addresses_from(PATH, from)) {
         Ok(segment) => take(end, &segment, now),
         Err(_) => Ok(()),
     }
@@ -155,7 +141,7 @@ fn octets_of(
         return Err(CaseFault::Form);
     }
     let head = with_window(&emission.head);
-    Ok(write(alloc, &head, &addresses_from(side), &[], payload)?)
+    Ok(write(alloc, &head, &addresses_from(PATH, side), &[], payload)?)
 }
 
 /// Hands octets to the link.

@@ -3,7 +3,7 @@ ghost use Rattle.std.specs.Prelude.{◌<◌, length};
 ghost use Rattle.link_script.specs.Scripts.{HasRanges};
 
 use crate::pairs::peer::Closes;
-use case_fields::{CaseFault, parsed_at, word_at};
+use case_fields::{CaseFault, pair_at, parsed_at, word_at};
 use link_model::Link;
 use link_script::{Script, ScriptFault, ScriptLine, parse};
 use std::alloc::{AllocError, Global};
@@ -102,13 +102,19 @@ impl Case {
             return Err(CaseFault::Form);
         };
         let fields: Vec<&str> = words.split(' ').collect(alloc)?;
-        let (a_closes, b_closes) = closes_at(fields.as_slice(), 2)?;
+        Case::of_words(alloc, fields.as_slice(), lines)
+    }
+
+    /// The case that these words tell, on path 0 of the script that has these lines.
+    fn of_words(alloc: Global, fields: &[&str], lines: &str) -> Result<Self, CaseFault> {
+        let (octets_of_a, octets_of_b) = pair_at(fields, 0)?;
+        let (a_closes, b_closes) = closes_at(fields, 2)?;
         Ok(Case {
-            octets_of_a: parsed_at(fields.as_slice(), 0)?,
-            octets_of_b: parsed_at(fields.as_slice(), 1)?,
+            octets_of_a,
+            octets_of_b,
             a_closes,
             b_closes,
-            until: parsed_at(fields.as_slice(), 3)?,
+            until: parsed_at(fields, 3)?,
             path: Path::read(alloc, lines)?,
         })
     }

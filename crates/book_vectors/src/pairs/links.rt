@@ -4,77 +4,98 @@
 ghost use Rattle.std.specs.Prelude.{◌<◌, ◌^◌, IsSome};
 
 use crate::pairs::case::Path;
-use case_fields::{CaseFault, digits, octets_at, parsed_at, word_at};
+use case_fields::{
+    CaseFault, octets_at, parsed_at, put_digits, put_numbers, put_value, put_word, word_at,
+};
 use link_model::{Due, Link};
 use outside_kit::Side;
-use std::alloc::{AllocError, Global};
+use std::alloc::Global;
 
-pub fn link(alloc: Global, case: &str) -> Result<String, CaseFault> {
+pub fn put_link(alloc: Global, text: &mut String, case: &str) -> Result<(), CaseFault> {
     let Some((steps, lines)) = case.split_once(": ") else {
         return Err(CaseFault::Form);
     };
     let mut path = Path::read(alloc, lines)?;
-    answers(alloc, &mut path.link, steps)
+    put_word(text, answers(alloc, &mut path.link, steps)?.as_str())
 }
 
 /// The answers to all steps.
 fn answers(alloc: Global, link: &mut Link, steps: &str) -> Result<String, CaseFault> {
     let mut text = String::new(alloc);
     for word in steps.split(' ') {
-        let answer = step(alloc, link, word)?;
-        if !text.is_empty() {
-            text.push(' ')?;
-        }
-        text.push_str(answer.as_str())?;
+        put_step(alloc, &mut text, link, word)?;
     }
     Ok(text)
 }
 
-fn step(alloc: Global, link: &mut Link, word: &str) -> Result<String, CaseFault> {
+/// Puts the answer to a step, behind a blank where something stands before it.
+fn put_step(
+    alloc: Global,
+    text: &mut String,
+    link: &mut Link,
+    word: &str,
+) -> Result<(), CaseFault> {
+    if !text.is_empty() {
+        put_word(text, " ")?;
+    }
     let parts: Vec<&str> = word.split(':').collect(alloc)?;
-    step_by(alloc, link, &parts)
+    step_by(alloc, text, link, parts.as_slice())
 }
 
-fn step_by(alloc: Global, link: &mut Link, fields: &[&str]) -> Result<String, CaseFault> {
+fn step_by(
+    alloc: Global,
+    text: &mut String,
+    link: &mut Link,
+    fields: &[&str],
+) -> Result<(), CaseFault> {
     match word_at(fields, 0)? {
-        "send" => send(alloc, link, fields),
-        "due" => Ok(due_text(alloc, link.due())?),
-        "deliver" => deliver(alloc, link),
+        "send" => send(alloc, text, link, fields),
+        "due" => put_due(text, link.due()),
+        "deliver" => deliver(alloc, text, link),
         "cut" => {
             link.cut();
-            Ok(format!(in alloc; "cut")?)
+            put_word(text, "cut")
         }
         _ => Err(CaseFault::Form),
     }
 }
 
-fn send(alloc: Global, link: &mut Link, fields: &[&str]) -> Result<String, CaseFault> {
-    let from = match word_at(fields, 1)? {
-        "a" => Side::A,
-        "b" => Side::B,
-        _ => return Err(CaseFault::Form),
-    };
-    let now: u32 = parsed_at(fields, 2)?;
-    let octets = octets_at(alloc, fields, 3)?;
-    let number = link.send(from, octets.as_slice(), u64::from(now))?;
-    Ok(format!(in alloc; "{number}")?)
-}
-
-fn due_text(alloc: Global, due: Option<Due>) -> Result<String, AllocError> {
-    let Some(due) = due else {
-        return format!(in alloc; "None");
-    };
-    let (tick, copy) = (due.tick, due.copy);
-    match due.to {
-        Side::A => format!(in alloc; "{tick}/a/{copy}"),
-        Side::B => format!(in alloc; "{tick}/b/{copy}"),
+fn side_of(name: &str) -> Result<Side, CaseFault> {
+    match name {
+        "a" => Ok(Side::A),
+        "b" => Ok(Side::B),
+        _ => Err(CaseFault::Form),
     }
 }
 
-fn deliver(alloc: Global, link: &mut Link) -> Result<String, CaseFault> {
+fn send(
+    alloc: Global,
+    text: &mut String,
+    link: &mut Link,
+    fields: &[&str],
+) -> Result<(), CaseFault> {
+    let from = side_of(word_at(fields, 1)?)?;
+    let now: u32 = parsed_at(fields, 2)?;
+    let octets = octets_at(alloc, fields, 3)?;
+    let number = link.send(from, octets.as_slice(), u64::from(now))?;
+    put_value(text, &number)
+}
+
+fn put_due(text: &mut String, due: Option<Due>) -> Result<(), CaseFault> {
+    let Some(due) = due else {
+        return put_word(text, "None");
+    };
+    let side = match due.to {
+        Side::A => "/a/",
+        Side::B => "/b/",
+    };
+    put_numbers(text, side, &[due.tick, due.copy])
+}
+
+fn deliver(alloc: Global, text: &mut String, link: &mut Link) -> Result<(), CaseFault> {
     let Some(due) = link.due() else {
         return Err(CaseFault::Form);
     };
     let octets = link.deliver(&due);
-    Ok(digits(alloc, octets.as_slice())?)
+    put_digits(alloc, text, octets.as_slice())
 }

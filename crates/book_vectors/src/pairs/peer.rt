@@ -1,12 +1,12 @@
 //! One side of a case: its end, and what it sends and receives over it.
 ghost use Rattle.std.specs.Prelude.{◌<◌};
 
-use crate::pairs::calls;
+use crate::pairs::calls::{self, PATH};
 use crate::pairs::made::Received;
-use case_fields::CaseFault;
+use case_fields::{CaseFault, put_value, put_word};
 use link_model::Link;
 use outside_kit::Side;
-use std::alloc::{AllocError, Global};
+use std::alloc::Global;
 use subflow_tcp::{State, Subflow};
 
 /// More segments than any side sends at one tick.
@@ -18,7 +18,7 @@ const FIRST_OF_A: u32 = 0xffff_8000;
 const FIRST_OF_B: u32 = 1_000;
 
 /// When a side closes.
-#[derive(Clone, Copy, PartialEq, Eq)]
+#[derive(Clone, Copy)]
 pub enum Closes {
     /// As soon as all its octets are pushed.
     Unasked,
@@ -51,15 +51,8 @@ fn end_of(alloc: Global, side: Side, mss: u16) -> Subflow
     requires { 0 < mss }
 {
     match side {
-        Side::A => Subflow::open(alloc, 0, FIRST_OF_A, mss),
-        Side::B => Subflow::listen(alloc, 0, FIRST_OF_B, mss),
-    }
-}
-
-fn peer_of(side: Side) -> Side {
-    match side {
-        Side::A => Side::B,
-        Side::B => Side::A,
+        Side::A => Subflow::open(alloc, PATH, FIRST_OF_A, mss),
+        Side::B => Subflow::listen(alloc, PATH, FIRST_OF_B, mss),
     }
 }
 
@@ -88,7 +81,7 @@ impl Peer {
 
     /// Octets of the other side arrive.
     pub fn arrive(&mut self, octets: &[u8], now: u32) -> Result<(), CaseFault> {
-        calls::arrive(&mut self.end, peer_of(self.side), octets, now)?;
+        calls::arrive(&mut self.end, self.side.peer(), octets, now)?;
         calls::read(&mut self.end, &mut self.received);
         calls::grow(&mut self.end, self.mss);
         Ok(())
@@ -156,17 +149,26 @@ impl Peer {
         Err(CaseFault::Form)
     }
 
-    /// What it received, and the state of its end.
-    pub fn outcome(&self, alloc: Global) -> Result<String, AllocError> {
-        let (count, state) = (self.received.count, self.end.state());
-        let octets = if self.received.is_exact {
-            "exact"
-        } else {
-            "wrong"
-        };
+    /// Puts what it received, and the state of its end.
+    pub fn put_outcome(&self, text: &mut String) -> Result<(), CaseFault> {
+        put_value(text, &self.received.count)?;
+        put_word(
+            text,
+            if self.received.is_exact {
+                " exact "
+            } else {
+                " wrong "
+            },
+        )?;
+        put_value(text, &self.end.state())?;
         match self.died {
-            Some(tick) => format!(in alloc; "{count} {octets} {state:?} at {tick}"),
-            None => format!(in alloc; "{count} {octets} {state:?}"),
+            Some(tick) => put_death(text, tick),
+            None => Ok(()),
         }
     }
+}
+
+fn put_death(text: &mut String, tick: u32) -> Result<(), CaseFault> {
+    put_word(text, " at ")?;
+    put_value(text, &tick)
 }

@@ -1,6 +1,7 @@
-//! The octets that the fields of a case tell.
+//! The contents of files, and the calls of an outside that are to fail, as fields tell them.
 
-use case_fields::{CaseFault, octets_at, parsed_at};
+use crate::fields::{CaseFault, octets_at, parsed_at};
+use outside_kit::FailAt;
 use std::alloc::{AllocError, Global};
 
 /// The octets of a file: `-` for none, `text` and the text itself, `hex` and the octets in hexadecimal digits, `made` and
@@ -46,12 +47,28 @@ fn made(alloc: Global, count: u32) -> Result<Vec<u8>, AllocError> {
     (0..count).map(made_at).collect(alloc)
 }
 
-/// A text with LF behind each of its parts, which stand between `;`.
-pub fn with_line_ends(alloc: Global, field: &str) -> Result<Vec<u8>, AllocError> {
+/// A text with LF for each `;`.
+pub fn with_line_ends(alloc: Global, field: &str) -> Result<String, AllocError> {
+    field.replace(alloc, ";", "\n")
+}
+
+/// Lines that stand between `;`, each with LF behind it.
+pub fn lines_in(alloc: Global, field: &str) -> Result<String, AllocError> {
     let mut text = String::new(alloc);
     for line in field.split(';') {
         text.push_str(line)?;
         text.push('\n')?;
     }
-    Ok(text.into_bytes())
+    Ok(text)
+}
+
+/// The call that fails, if any, and how many octets it keeps.
+pub fn failing(alloc: Global, field: &str) -> Result<Vec<FailAt>, CaseFault> {
+    if field == "-" {
+        return Ok(Vec::new(alloc));
+    }
+    let fields: Vec<&str> = field.split(' ').collect(alloc)?;
+    let call = parsed_at(fields.as_slice(), 0)?;
+    let kept = parsed_at(fields.as_slice(), 1)?;
+    Ok(Vec::from_slice(alloc, &[FailAt { call, kept }])?)
 }
