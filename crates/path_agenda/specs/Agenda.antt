@@ -9,6 +9,7 @@ use Rattle.path_agenda.specs.declared.duty.SendDuty.TheVariants as send_duties
 use Rattle.path_agenda.specs.declared.duty.SilentDuty.TheVariants as silent_duties
 use Rattle.path_agenda.specs.declared.duty.StepDuty.TheVariants as step_duties
 
+-- the events of the round, and then the end of the turn
 abbrev pub rest_of_turn : List Duty
 rest_of_turn = duties.Step step_duties.Events ∷ duties.End ∷ []
 
@@ -26,6 +27,8 @@ emission s = emission_and s rest_of_turn
 abbrev pub reset_and : Side → List Duty → List Duty
 reset_and s ds = duties.Ask (ask_duties.LeaveNoted s) ∷ duties.Send (send_duties.ResetNoted s) ∷ ds
 
+-- a join that had to wait, how both sides stand, what is to be acknowledged, windows that grew; then, A's end first, a reset that its
+-- side told and what it sends
 abbrev pub start_of_turn : List Duty
 start_of_turn =
     duties.Ask ask_duties.JoinAgain ∷ duties.Step (step_duties.Look A) ∷ duties.Step (step_duties.Look B)

@@ -13,7 +13,7 @@ abbrev pub is_dss : Heard → Bool
 is_dss says.Dss = true
 is_dss _ = false
 
--- the places that it names are below 2^62, and an end of the stream at most that
+-- the place of a Data ACK is below 2^62, and that of a DATA_FIN at most that
 abbrev pub IsFair : Heard → Type 0
 IsFair (says.DataAck next window) = next < 2 ^ 62
 IsFair (says.DataFin place) = place ≤ 2 ^ 62
@@ -36,6 +36,7 @@ wants_ack _ = false
 
 -- ---- keys
 
+-- the peer's key, as B's SYN/ACK shows it
 abbrev pub key_in : Heard → Option ℕ
 key_in (says.PeerKey key) = Some key
 key_in _ = None
@@ -45,10 +46,12 @@ abbrev pub key_heard : List Heard → Option ℕ
 key_heard [] = None
 key_heard (item ∷ items) = option_or (key_in item) (key_heard items)
 
+-- both keys, as A shows them to B
 abbrev pub pair_in : Heard → Option KeyPair
 pair_in (says.Keys own peer) = Some (record { own = own; peer = peer })
 pair_in _ = None
 
+-- the first pair
 abbrev pub keys_heard : List Heard → Option KeyPair
 keys_heard [] = None
 keys_heard (item ∷ items) = option_or (pair_in item) (keys_heard items)
@@ -62,6 +65,7 @@ is_of_step step.Answer (Answer backup id hmac nonce) = true
 is_of_step step.Third (Third hmac) = true
 is_of_step _ _ = false
 
+-- an MP_JOIN of this form
 abbrev pub join_in : JoinStep → Heard → Option JoinForm
 join_in step (says.Join form) = if is_of_step step form then Some form else None
 join_in step _ = None

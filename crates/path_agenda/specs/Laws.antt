@@ -25,6 +25,7 @@ templates s count reason id =
     start_of_turn ∷ rest_of_turn ∷ emission s ∷ syn_came s ∷ syn_ack_came s ∷ join_came s ∷ refuses s ∷ join_answered s ∷ copy_came s count ∷ syn_again s ∷ answers s
     ∷ answers_dead s ∷ expired s ∷ expired_for_ever s ∷ announces s id ∷ withdraws s id ∷ stops s ∷ leaves s ∷ breaks s reason ∷ resets s reason ∷ []
 
+-- so it is with each of them
 abbrev pub EveryTemplateEnds : Type 0
 EveryTemplateEnds = (s : Side) (count reason id : ℕ) → list_all ends_once (templates s count reason id) ≡ true
 
@@ -75,5 +76,6 @@ pub record ChainsEnd (s : Side) (index reason : ℕ) : Type 0 where
   pub reset : weights (duties.Ask (ask_duties.Leave s) ∷ []) < weights (duties.Send (send_duties.Reset s) ∷ [])
   pub leave : weights (duties.Ask (ask_duties.Dead s) ∷ []) < weights (duties.Ask (ask_duties.Leave s) ∷ [])
 
+-- at both sides, whatever the thing and the reason
 abbrev pub EveryChainEnds : Type 0
 EveryChainEnds = (s : Side) (index reason : ℕ) → ChainsEnd s index reason

@@ -9,7 +9,7 @@ use arrayvec::ArrayVec;
 use std::marker::Model;
 
 /// The duties of a turn, the first of which comes to something. There are at most 72, those that are done among them.
-#[derive(Debug, Drop)]
+#[derive(Drop)]
 pub struct Agenda {
     duties: ArrayVec<Duty, 72>,
     /// So many of them, from the first on, are done.

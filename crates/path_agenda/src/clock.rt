@@ -6,7 +6,7 @@ use std::marker::Model;
 
 /// The tick of a path, and the first tick after its round. A round is 100 ticks, and at most 2^57 rounds follow the
 /// first one.
-#[derive(Debug, Drop)]
+#[derive(Drop)]
 pub struct Clock {
     tick: u64,
     until: u64,

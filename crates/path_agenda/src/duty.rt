@@ -3,7 +3,7 @@
 use outside_kit::Side;
 
 /// A duty of a path, by what it does. It has no octets: what it needs stands in the end that it belongs to.
-#[derive(Clone, Copy, Debug, Default, PartialEq, Eq)]
+#[derive(Clone, Copy, Default)]
 pub enum Duty {
     /// Asks a book. The reply takes no memory.
     Ask(AskDuty),
@@ -19,7 +19,7 @@ pub enum Duty {
 }
 
 /// A duty that asks a book.
-#[derive(Clone, Copy, Debug, PartialEq, Eq)]
+#[derive(Clone, Copy)]
 pub enum AskDuty {
     // ---- the start of a turn
     /// Asks at A whether the path may join the connection, where it had to wait.
@@ -89,7 +89,7 @@ pub enum AskDuty {
 }
 
 /// A duty that asks, sends a segment, or takes an event, as the path stands, and whose reply may take memory.
-#[derive(Clone, Copy, Debug, PartialEq, Eq)]
+#[derive(Clone, Copy)]
 pub enum StepDuty {
     /// Asks how the side stands, and notes what is to be told to the peer.
     Look(Side),
@@ -107,7 +107,7 @@ pub enum StepDuty {
 }
 
 /// A duty that sends a segment.
-#[derive(Clone, Copy, Debug, PartialEq, Eq)]
+#[derive(Clone, Copy)]
 pub enum SendDuty {
     /// An acknowledgement, where the window has grown enough.
     Update(Side),
@@ -145,7 +145,7 @@ pub enum SendDuty {
 }
 
 /// A duty that changes the end in silence.
-#[derive(Clone, Copy, Debug, PartialEq, Eq)]
+#[derive(Clone, Copy)]
 pub enum SilentDuty {
     /// Settles the timer.
     Timer(Side),

@@ -4,7 +4,7 @@ use crate::notice::PeerNotice;
 use mptcp_options::JoinForm;
 
 /// One of the things that the options of a copy say, by places of the streams (RFC 8684, section 3).
-#[derive(Clone, Copy, Debug, Default, PartialEq, Eq)]
+#[derive(Clone, Copy, Default)]
 pub enum Heard {
     /// A DSS came, whatever it says.
     #[default]
@@ -33,7 +33,7 @@ pub enum Heard {
 }
 
 /// The segments of the handshake that joins a path, by the form of their MP_JOIN (RFC 8684, section 3.2).
-#[derive(Clone, Copy, Debug, PartialEq, Eq)]
+#[derive(Clone, Copy)]
 pub enum JoinStep {
     /// The SYN.
     Syn,

@@ -1,7 +1,7 @@
 //! The keys of both sides.
 
 /// The key of the own side, and the peer's (RFC 8684, section 3.1).
-#[derive(Clone, Copy, Debug, PartialEq, Eq)]
+#[derive(Clone, Copy)]
 pub struct KeyPair {
     /// The own side's.
     pub own: u64,

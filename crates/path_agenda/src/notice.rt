@@ -3,7 +3,7 @@
 use key_material::Address;
 
 /// What the peer notes.
-#[derive(Clone, Copy, Debug, PartialEq, Eq)]
+#[derive(Clone, Copy)]
 pub enum PeerNotice {
     /// It announces this address under the id, perhaps with a port, and shows by this HMAC that it is the peer (ADD_ADDR,
     /// section 3.4.1).
@@ -28,7 +28,7 @@ pub enum PeerNotice {
 }
 
 /// What the own side notes.
-#[derive(Clone, Copy, Debug, PartialEq, Eq)]
+#[derive(Clone, Copy)]
 pub enum OwnNotice {
     /// It announces its address 10.0.id.2, without a port (ADD_ADDR, section 3.4.1).
     AddAddr {

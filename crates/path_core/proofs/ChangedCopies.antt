@@ -1,8 +1,8 @@
 -- What a link makes of the octets of a segment are the octets of what it makes of the segment.
 use Rattle.std.proofs.Common.{◌≡◌, refl, sym, ◌∙◌, ap, subst, ℕ, ◌≤◌, Bool, true, false, List, [], ◌∷◌, length, Ok}
 use Rattle.outside_kit.specs.declared.side.Side.{Side}
-use Rattle.outside_kit.specs.declared.side.Side.TheVariants.{A, B}
-use Rattle.link_model.specs.Octets.{addresses_from, octets_stripped, octets_altered}
+use Rattle.outside_kit.specs.Side.{peer}
+use Rattle.link_model.specs.Octets.{octets_stripped, octets_altered}
 use Rattle.link_model.specs.Steps.{changed}
 use Rattle.segment_wire.specs.declared.head.Addresses.{Addresses}
 use Rattle.segment_wire.specs.Changes as changes
@@ -10,29 +10,22 @@ use Rattle.segment_wire.specs.Reading.{segment_meaning}
 use Rattle.segment_wire.specs.Segment.{CanWrite, Segment, segment_text}
 use Rattle.segment_wire.proofs.Again.{segment_meaning-written}
 use Rattle.segment_wire.proofs.Changed.{others_can_be_carried}
-use Rattle.path_segments.specs.declared.spelling.Side.{Side as SpelledSide}
+use Rattle.segment_wire.specs.Paths.{addresses_from}
 use Rattle.path_segments.specs.declared.spelling.Spelling.{Spelling}
-use Rattle.path_segments.specs.Spelling.{peer_of, addresses_from as spelled_addresses}
 use Rattle.path_segments.specs.Spelled.{PlainSegment, CanSay, spelled, spelled_text}
 use Rattle.path_segments.proofs.ChangedSegments.{altered_is_said}
 use Rattle.path_segments.proofs.SegmentsAgain.{four, written}
 use Rattle.path_core.specs.Octets.{octets}
-use Rattle.path_core.specs.OptionsOut.{spelled_by}
 use Rattle.path_core.specs.Said.{CanBeSaid}
 use Rattle.path_core.specs.Shown.{octets_of}
 use Rattle.path_core.specs.Values.{values}
 
--- the link has the addresses of the segments
-pub same_addresses : (path : ℕ) (side : Side) → addresses_from path side ≡ spelled_addresses path (spelled_by side)
-same_addresses path A = refl
-same_addresses path B = refl
-
-module _ (spelling : Spelling) (from : SpelledSide) where
+module _ (spelling : Spelling) (from : Side) where
   abbrev between : Addresses
-  between = spelled_addresses spelling.path from
+  between = addresses_from spelling.path from
 
   means : (segment : Segment) → CanWrite segment → segment_meaning between (segment_text between segment) ≡ Ok segment
-  means segment can = segment_meaning-written between segment (four spelling.path from) (four spelling.path (peer_of from)) can
+  means segment can = segment_meaning-written between segment (four spelling.path from) (four spelling.path (peer from)) can
 
   stripped_text : (segment : Segment) → CanWrite segment → changes.text_stripped between (segment_text between segment) ≡ segment_text between (changes.stripped segment)
   unfolding changes.text_stripped
@@ -79,18 +72,15 @@ module _ (spelling : Spelling) (from : SpelledSide) where
 
 module _ (spelling : Spelling) (s : Side) (segment : PlainSegment) where
   altered_alone : CanBeSaid spelling s segment
-      → spelled_text spelling (spelled_by s) (with_bit spelling (spelled_by s) segment) ≡ octets_altered spelling.path s (spelled_text spelling (spelled_by s) segment)
+      → spelled_text spelling s (with_bit spelling s segment) ≡ octets_altered spelling.path s (spelled_text spelling s segment)
   altered_alone can =
-      sym (altered_is_said spelling (spelled_by s) segment can)
-      ∙ ap (λ a. changes.text_altered a (spelled_text spelling (spelled_by s) segment)) (sym (same_addresses spelling.path s))
+      sym (altered_is_said spelling s segment can)
 
   altered_stripped : CanBeSaid spelling s segment
-      → octets_stripped spelling.path s (spelled_text spelling (spelled_by s) (with_bit spelling (spelled_by s) segment))
-      ≡ octets_altered spelling.path s (octets_stripped spelling.path s (spelled_text spelling (spelled_by s) segment))
+      → octets_stripped spelling.path s (spelled_text spelling s (with_bit spelling s segment))
+      ≡ octets_altered spelling.path s (octets_stripped spelling.path s (spelled_text spelling s segment))
   altered_stripped can =
-      ap (λ a. changes.text_stripped a (spelled_text spelling (spelled_by s) (with_bit spelling (spelled_by s) segment))) (same_addresses spelling.path s)
-      ∙ stripped_and_altered spelling (spelled_by s) segment can
-      ∙ ap (λ a. changes.text_altered a (changes.text_stripped a (spelled_text spelling (spelled_by s) segment))) (sym (same_addresses spelling.path s))
+      stripped_and_altered spelling s segment can
 
   -- the octets of what arrives, where it can be said if a bit of it is turned
   pub octets_changed : (stripped altered : Bool) → (altered ≡ true → CanBeSaid spelling s segment)

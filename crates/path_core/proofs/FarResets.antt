@@ -7,15 +7,16 @@ use Rattle.std.specs.Result.{result_ok}
 use Rattle.seq_units.specs.Number.{number_of, position_near}
 use Rattle.segment_wire.specs.Changes as changes
 use Rattle.segment_wire.proofs.Again.{segment_meaning-written}
+use Rattle.segment_wire.specs.Paths.{addresses_from}
 use Rattle.outside_kit.specs.declared.side.Side.{Side}
+use Rattle.outside_kit.specs.Side.{peer}
 use Rattle.path_segments.specs.declared.expected.Expected.{Expected}
 use Rattle.path_segments.specs.declared.position.HeardPosition.{HeardPosition}
 use Rattle.path_segments.specs.declared.position.HeardPosition.TheVariants.{At, Nowhere}
-use Rattle.path_segments.specs.declared.spelling.Side.{Side as SpelledSide}
 use Rattle.path_segments.specs.declared.spelling.Spelling.{Spelling}
-use Rattle.path_segments.specs.Spelling.{numbers_of, subflow_number, peer_of, addresses_from}
+use Rattle.path_segments.specs.Spelling.{numbers_of, subflow_number}
 use Rattle.path_segments.specs.Spelled.{PlainSegment, CanSay, spelled, spelled_text}
-use Rattle.path_segments.specs.Heard.{heard_in, heard_segment}
+use Rattle.path_segments.specs.Heard.{heard_in, heard_segment, HeardSegment}
 use Rattle.path_segments.specs.HeardLent.{IsExpected}
 use Rattle.path_segments.specs.Laws.{IsPositionFresh, meant}
 use Rattle.path_segments.proofs.ChangedSegments.{stripped_means, stripped_is_heard}
@@ -32,7 +33,6 @@ use Rattle.path_agenda.specs.declared.heard.Heard.{Heard}
 use Rattle.path_core.specs.declared.judged.Judged.{Judged}
 use Rattle.path_core.specs.Joins.{is_joined}
 use Rattle.path_core.specs.Arriving.{position_in, copy_of, options_heard, items_of, held_of, position_numbered, reset_by, reset_for, with_held, after_copy, after_join, judged_of, judged_in, taken_as, after_judged, template_of}
-use Rattle.path_core.specs.Codec.{HeardSegment}
 use Rattle.path_core.specs.Ends.{PathEnd}
 use Rattle.path_core.specs.Events.{told_at, copy_heard}
 use Rattle.path_core.specs.Shown.{IsFarReset}
@@ -49,13 +49,13 @@ far_is_nowhere : (base expected position : ℕ) → expected + 2 ^ 31 ≤ positi
 unfolding position_near
 far_is_nowhere base expected position ahead low = grind arith
 
-module _ (spelling : Spelling) (from : SpelledSide) (expected : Expected) where
+module _ (spelling : Spelling) (from : Side) (expected : Expected) where
   from_text : (s : PlainSegment) → CanSay spelling from s
       → heard_in spelling from expected (spelled_text spelling from s) ≡ Some (heard_segment spelling from expected (spelled spelling from s))
   from_text s can =
       ap (λ r. option_map (heard_segment spelling from expected) (result_ok r))
       (segment_meaning-written (addresses_from spelling.path from) (spelled spelling from s)
-      (four spelling.path from) (four spelling.path (peer_of from)) (written spelling from s can))
+      (four spelling.path from) (four spelling.path (peer from)) (written spelling from s can))
 
   module _ (s : PlainSegment) (can : CanSay spelling from s) (far : IsFarReset spelling from expected s) where
     -- the same reset at the position that is expected

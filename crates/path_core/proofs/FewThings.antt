@@ -8,6 +8,7 @@ use Rattle.std.proofs.lemmas.Bool.{leb-true, ltb-false}
 use Rattle.std.proofs.lemmas.List.{length-take, length-drop}
 use Rattle.outside_kit.specs.declared.side.Side.{Side}
 use Rattle.outside_kit.specs.declared.side.Side.TheVariants.{A, B}
+use Rattle.outside_kit.specs.Side.{peer}
 use Rattle.key_material.specs.declared.address.Address.{Address}
 use Rattle.key_material.specs.Octets.{AreOctets}
 use Rattle.key_material.proofs.Octets.{AreOctets-take, AreOctets-drop, each_octet}
@@ -17,6 +18,7 @@ use Rattle.segment_wire.specs.declared.reading.SegmentFault.TheVariants.{Short, 
 use Rattle.segment_wire.specs.Options.{options_after, option_octets}
 use Rattle.segment_wire.specs.Reading.{segment_meaning, segment_in, options_in, header_len, is_short, has_wrong_offset, has_broken_option, has_wrong_checksum}
 use Rattle.segment_wire.specs.Segment.{Segment}
+use Rattle.segment_wire.specs.Paths.{addresses_from}
 use Rattle.mptcp_options.specs.declared.capable.CapableKeys.{CapableKeys}
 use Rattle.mptcp_options.specs.declared.capable.CapableKeys.TheVariants.{NoKey, Sender, Both, WithData}
 use Rattle.mptcp_options.specs.declared.dss.DssMap.{DssMap}
@@ -35,13 +37,10 @@ use Rattle.path_segments.specs.HeardSegments.{heard_value}
 use Rattle.path_segments.specs.declared.segment.PathMapping.{PathMapping}
 use Rattle.path_segments.specs.declared.segment.PathMapping.TheVariants.{Bytes, End, Infinite}
 use Rattle.path_segments.specs.declared.segment.PathOption.TheVariants.{Capable, Dss}
-use Rattle.path_segments.specs.declared.spelling.Side.{Side as SpelledSide}
 use Rattle.path_segments.specs.declared.spelling.Spelling.{Spelling}
-use Rattle.path_segments.specs.Heard.{place_heard, heard_mapping, heard_option, heard_options, heard_in, heard_segment, known_or, known_in}
-use Rattle.path_segments.specs.Spelling.{addresses_from, peer_of}
+use Rattle.path_segments.specs.Heard.{place_heard, heard_mapping, heard_option, heard_options, heard_in, heard_segment, known_or, known_in, HeardSegment}
 use Rattle.path_agenda.specs.declared.heard.Heard.{Heard}
 use Rattle.path_core.specs.Arriving.{HeardOption, ack_items, mapping_items, map_items, key_items, join_items, address_items, item_removed, items_in, SaysFew}
-use Rattle.path_core.specs.Codec.{HeardSegment}
 use Rattle.path_core.specs.FewThings.{is_priority, CopiesSayFew, CopiesHaveFewPriorities}
 
 -- ---- octets
@@ -124,7 +123,7 @@ join_long (Third hmac) = omega arith
 abbrev FewOf : ℕ → ℕ → Type 0
 FewOf things octets = (4 * things ≤ 3 * octets) ⊎ (things + 3 ≤ octets)
 
-module _ (joined : Bool) (s : Side) (window : ℕ) (spelling : Spelling) (from : SpelledSide) (expected : Expected) where
+module _ (joined : Bool) (s : Side) (window : ℕ) (spelling : Spelling) (from : Side) (expected : Expected) where
   abbrev things : HeardOption → ℕ
   things option = length (items_in joined s window option)
 
@@ -188,7 +187,7 @@ module _ (joined : Bool) (s : Side) (window : ℕ) (spelling : Spelling) (from :
   value_few (wire.Dss ack mapping fin) =
       inl (omega (
         arith,
-        dss_few (option_map (place_heard spelling (peer_of from) expected.told) ack)
+        dss_few (option_map (place_heard spelling (peer from) expected.told) ack)
             (option_map (λ (map : DssMap). heard_mapping spelling from expected map fin) mapping),
       ))
   value_few (wire.AddAddr echo id address port hmac) = inl (omega (arith, address_few echo id address port hmac))
@@ -280,7 +279,7 @@ options_short octets are =
     let offset : slice_index octets 12 < 256 = each_octet octets are 12 in
     omega (arith, offset, length-take (header_len octets - 20) (drop 20 octets))
 
-segment_few : (spelling : Spelling) (from : SpelledSide) (expected : Expected) (octets : List ℕ) → AreOctets octets
+segment_few : (spelling : Spelling) (from : Side) (expected : Expected) (octets : List ℕ) → AreOctets octets
     → SaysFew (heard_options spelling from expected (option_octets (options_in octets)))
 segment_few spelling from expected octets are = record {
   few = λ joined s window.
@@ -290,7 +289,7 @@ segment_few spelling from expected octets are = record {
       (after_octets 0 0 (options_in octets) (AreOctets-take (header_len octets - 20) (drop 20 octets) (AreOctets-drop 20 octets are))));
 }
 
-segment_priorities : (spelling : Spelling) (from : SpelledSide) (expected : Expected) (octets : List ℕ) → AreOctets octets
+segment_priorities : (spelling : Spelling) (from : Side) (expected : Expected) (octets : List ℕ) → AreOctets octets
     → length (filter is_priority (heard_options spelling from expected (option_octets (options_in octets)))) ≤ 13
 segment_priorities spelling from expected octets are =
     omega (
@@ -339,7 +338,7 @@ room_left says items left option rest all so is few =
     omega (arith, few, ap length here, length-append items (says option ++ flat_map says rest), length-append (says option) (flat_map says rest))
 
 -- what is heard of octets, and lent
-pub lent_few : (spelling : Spelling) (from : SpelledSide) (expected : Expected) (octets : List ℕ) → AreOctets octets
+pub lent_few : (spelling : Spelling) (from : Side) (expected : Expected) (octets : List ℕ) → AreOctets octets
     → (o : Option (PathSegment HeardPosition HeardOptions (Bor (List ℕ)))) → option_map heard_value o ≡ heard_in spelling from expected octets
     → IfSome o (λ heard. SaysFew (heard_value heard).options)
 lent_few spelling from expected octets are None same = tt

@@ -1,6 +1,7 @@
 -- Events: ticks pass, or one event less is due.
 use Rattle.std.proofs.Common.{◌≡◌, refl, ℕ, ◌+◌, ◌<◌, ◌≤◌, ◌⊎◌, inl, inr, ⊎_elim, max, nat_le, nat_lt, Bool, true, false, if◌then◌else◌, List, [], ◌∷◌, length, Option, Some, None, is_some, option_and_then, position, subst, arith}
 use Rattle.std.proofs.lemmas.Bool.{cases_lt, ltb-true, leb-false, eq-eqb, lt-ltb}
+use Rattle.path_segments.specs.Heard.{HeardSegment}
 use Rattle.outside_kit.specs.declared.side.Side.{Side}
 use Rattle.outside_kit.specs.declared.side.Side.TheVariants.{A, B}
 use Rattle.link_script.specs.Places.{same_side}
@@ -15,7 +16,7 @@ use Rattle.path_core.specs.Joins.{is_joined}
 use Rattle.path_core.proofs.Joined.{never_rests, opened_rests}
 use Rattle.actor_desk.specs.declared.ask.Reply.{Reply}
 use Rattle.path_agenda.specs.Agenda.{emission, announces, withdraws, leaves}
-use Rattle.path_core.specs.Codec.{Codec, HeardSegment}
+use Rattle.path_core.specs.Codec.{Codec}
 use Rattle.path_core.specs.Ends.{PathEnd}
 use Rattle.path_core.specs.Events.{tick_of, next_join, next_line, next_copy, next_fire, earlier, earliest, before, next_event, died, never_joined, died_unless_dead, with_priority, after_line, line_taken, at_tick, joins_at_tick, told_at, copy_heard, heard_in, copy_taken, timer_fired, happens, happens_if, CanHappen}
 use Rattle.path_core.specs.declared.event.Event.{Event}

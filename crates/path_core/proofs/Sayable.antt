@@ -5,6 +5,7 @@ use Rattle.std.proofs.lemmas.List.Elements.{All-nil, All-cons}
 use Rattle.std.specs.Prelude.{All, IfSome}
 use Rattle.outside_kit.specs.declared.side.Side.{Side}
 use Rattle.outside_kit.specs.declared.side.Side.TheVariants.{A, B}
+use Rattle.outside_kit.specs.Side.{peer}
 use Rattle.mptcp_options.specs.declared.capable.CapableKeys.{CapableKeys}
 use Rattle.mptcp_options.specs.declared.capable.CapableKeys.TheVariants.{NoKey, Sender, Both, WithData}
 use Rattle.mptcp_options.specs.declared.join.JoinForm.TheVariants.{Answer, Third}
@@ -22,10 +23,9 @@ use Rattle.mptcp_options.specs.Octets.{optional}
 use Rattle.path_segments.specs.declared.segment.PathOption.TheVariants.{Capable, Dss, FastClose}
 use Rattle.path_segments.specs.declared.segment.PathMapping.TheVariants.{Infinite}
 use Rattle.path_segments.specs.declared.spelling.Spelling.{Spelling}
-use Rattle.path_segments.specs.declared.spelling.Side.{Side as SpelledSide}
 use Rattle.path_segments.specs.Options.{PlainOption, said_option, relative_number}
 use Rattle.path_segments.specs.Spelled.{syn_text, options_text, CanSayOption}
-use Rattle.path_segments.specs.Spelling.{peer_of, data_number}
+use Rattle.path_segments.specs.Spelling.{data_number}
 use Rattle.subflow_send.specs.declared.record.RecordKind.{RecordKind}
 use Rattle.subflow_send.specs.declared.record.RecordKind.TheVariants.{Syn, Data, Fin}
 use Rattle.subflow_send.specs.Records.{Record, record_of}
@@ -40,7 +40,7 @@ use Rattle.path_core.specs.Joins.{is_joined, peer_key_of, join_options, third_op
 use Rattle.path_core.specs.declared.modes.Modes.{Modes}
 use Rattle.path_core.specs.declared.infinite_mapping.InfiniteMapping.{InfiniteMapping}
 use Rattle.path_core.specs.Infinite.{receives_infinite}
-use Rattle.path_core.specs.OptionsOut.{fail_options, fail_beside, infinite_options, infinite_or, mapped_options, broken_options, spelled_by, checksum_told, capable_options, syn_options, key_options, opening_options, data_fin_mapping, ack_options, is_first_piece, first_piece_options, piece_options, owes_mapping, own_reset, plain_options, fin_options, record_options, reset_options, segment_of, piece_mapping, ack_said, noted_said, carried_said, record_or_ack, syn_ack_said, notice_option, dss_and, HasAddress}
+use Rattle.path_core.specs.OptionsOut.{fail_options, fail_beside, infinite_options, infinite_or, mapped_options, broken_options, checksum_told, capable_options, syn_options, key_options, opening_options, data_fin_mapping, ack_options, is_first_piece, first_piece_options, piece_options, owes_mapping, own_reset, plain_options, fin_options, record_options, reset_options, segment_of, piece_mapping, ack_said, noted_said, carried_said, record_or_ack, syn_ack_said, notice_option, dss_and, HasAddress}
 use Rattle.path_core.specs.declared.segment_kind.SegmentKind.{SegmentKind}
 use Rattle.path_core.specs.declared.segment_kind.SegmentKind.TheVariants as to_say
 use Rattle.subflow_tcp.specs.Emitting.{ack_at, record_segment, syn_ack_segment, fin_position, fin_segment, reset_segment}
@@ -105,7 +105,7 @@ third_length key_a key_b nonce_a nonce_b = omega (arith, length-join_a160_of key
 
 -- a notice behind a DSS has room
 notice_length : (notice : OwnNotice) (m : Modes) → HasAddress notice
-    → (spelling : Spelling) (from : SpelledSide) → length (option_text (said_option spelling from (notice_option notice m))) ≤ 28
+    → (spelling : Spelling) (from : Side) → length (option_text (said_option spelling from (notice_option notice m))) ≤ 28
 unfolding option_text
 notice_length (notes.AddAddr id) m has spelling from = omega arith
 notice_length (notes.AddEcho id address None) m has spelling from =
@@ -140,20 +140,20 @@ told_form false checksum = refl
 -- ---- options
 
 -- two of these are short
-pub record ArePair (spelling : Spelling) (from : SpelledSide) (first second : PlainOption) : Type 0 where
+pub record ArePair (spelling : Spelling) (from : Side) (first second : PlainOption) : Type 0 where
   pub can_first : CanSayOption spelling from first
   pub can_second : CanSayOption spelling from second
   pub few : length (option_text (said_option spelling from first)) ≤ 12
   pub less : length (option_text (said_option spelling from second)) ≤ 12
 
 -- one option of 28 octets at most, or two of 12 each
-abbrev AreShort : Spelling → SpelledSide → List PlainOption → Type 0
+abbrev AreShort : Spelling → Side → List PlainOption → Type 0
 AreShort spelling from [] = Unit {0}
 AreShort spelling from (o ∷ []) = CanSayOption spelling from o × (length (option_text (said_option spelling from o)) ≤ 28)
 AreShort spelling from (o ∷ other ∷ []) = ArePair spelling from o other
 AreShort spelling from (o ∷ other ∷ another ∷ others) = ⊥
 
-each_of : (spelling : Spelling) (from : SpelledSide) (options : List PlainOption) → AreShort spelling from options → All (CanSayOption spelling from) options
+each_of : (spelling : Spelling) (from : Side) (options : List PlainOption) → AreShort spelling from options → All (CanSayOption spelling from) options
 each_of spelling from [] short = All-nil (CanSayOption spelling from)
 each_of spelling from (o ∷ []) short = All-cons (CanSayOption spelling from) o [] short.0 (All-nil (CanSayOption spelling from))
 each_of spelling from (o ∷ other ∷ []) short =
@@ -161,12 +161,12 @@ each_of spelling from (o ∷ other ∷ []) short =
     (All-cons (CanSayOption spelling from) other [] short.can_second (All-nil (CanSayOption spelling from)))
 each_of spelling from (o ∷ other ∷ another ∷ others) short = absurd short
 
-pair_length : (spelling : Spelling) (from : SpelledSide) (first second : PlainOption) → ArePair spelling from first second
+pair_length : (spelling : Spelling) (from : Side) (first second : PlainOption) → ArePair spelling from first second
     → length (options_text spelling from (first ∷ second ∷ [])) ≤ 24
 pair_length spelling from first second pair =
     omega (arith, pair.few, pair.less, ap length (append-nil (option_text (said_option spelling from second))), length-append (option_text (said_option spelling from first)) (option_text (said_option spelling from second) ++ []))
 
-room_of : (syn : Bool) (mss : ℕ) (spelling : Spelling) (from : SpelledSide) (options : List PlainOption) → AreShort spelling from options
+room_of : (syn : Bool) (mss : ℕ) (spelling : Spelling) (from : Side) (options : List PlainOption) → AreShort spelling from options
     → length (syn_text (if syn then Some mss else None) ++ options_text spelling from options) ≤ 40
 room_of true mss spelling from [] short = omega arith
 room_of false mss spelling from [] short = omega arith
@@ -176,86 +176,86 @@ room_of true mss spelling from (o ∷ other ∷ []) short = omega (arith, pair_l
 room_of false mss spelling from (o ∷ other ∷ []) short = omega (arith, pair_length spelling from o other short)
 room_of syn mss spelling from (o ∷ other ∷ another ∷ others) short = absurd short
 
-join_short : (c : Profile) (s : Side) (m : Modes) → AreShort c.spelling (spelled_by s) (join_options c s m)
+join_short : (c : Profile) (s : Side) (m : Modes) → AreShort c.spelling s (join_options c s m)
 join_short c A m = (record { form = tt }, join_syn_length c.backup c.spelling.path (token_of (peer_key_of m)) m.own_nonce)
 join_short c B m = (
   record { form = tt },
   join_answer_length c.backup c.spelling.path (join_b64_of (peer_key_of m) m.own_key m.peer_nonce m.own_nonce) m.own_nonce,
 )
 
-third_short : (c : Profile) (s : Side) (m : Modes) → AreShort c.spelling (spelled_by s) (third_options m)
+third_short : (c : Profile) (s : Side) (m : Modes) → AreShort c.spelling s (third_options m)
 third_short c s m = (record { form = tt }, third_length m.own_key (peer_key_of m) m.own_nonce m.peer_nonce)
 
-capable_short : (c : Profile) (s : Side) (e : PathEnd) → AreShort c.spelling (spelled_by s) (capable_options c s e)
+capable_short : (c : Profile) (s : Side) (e : PathEnd) → AreShort c.spelling s (capable_options c s e)
 capable_short c A e = (record { form = tt }, capable_length c.spelling.checksums false NoKey)
 capable_short c B e = by (e.modes.capable_asked && not e.modes.identity)
   where
-    by : (asked : Bool) → AreShort c.spelling (spelled_by B) (if asked then Capable c.spelling.checksums false (Sender e.modes.own_key) ∷ [] else [])
+    by : (asked : Bool) → AreShort c.spelling B (if asked then Capable c.spelling.checksums false (Sender e.modes.own_key) ∷ [] else [])
     by true = (record { form = tt }, capable_length c.spelling.checksums false (Sender e.modes.own_key))
     by false = tt
 
-syn_short : (c : Profile) (s : Side) (e : PathEnd) → AreShort c.spelling (spelled_by s) (syn_options c s e)
+syn_short : (c : Profile) (s : Side) (e : PathEnd) → AreShort c.spelling s (syn_options c s e)
 syn_short c s e = by (is_joined c)
   where
-    by : (joined : Bool) → AreShort c.spelling (spelled_by s) (if joined then join_options c s e.modes else capable_options c s e)
+    by : (joined : Bool) → AreShort c.spelling s (if joined then join_options c s e.modes else capable_options c s e)
     by true = join_short c s e.modes
     by false = capable_short c s e
 
-key_short : (c : Profile) (s : Side) (peer : Option ℕ) (e : PathEnd) → AreShort c.spelling (spelled_by s) (key_options c s peer e)
+key_short : (c : Profile) (s : Side) (peer : Option ℕ) (e : PathEnd) → AreShort c.spelling s (key_options c s peer e)
 key_short c A None e = tt
 key_short c A (Some peer) e = (record { form = tt }, capable_length c.spelling.checksums false (Both e.modes.own_key peer))
 key_short c B peer e = tt
 
-opening_short : (c : Profile) (s : Side) (e : PathEnd) → AreShort c.spelling (spelled_by s) (opening_options c s e)
+opening_short : (c : Profile) (s : Side) (e : PathEnd) → AreShort c.spelling s (opening_options c s e)
 opening_short c s e = by e.modes.owes_third
   where
-    by : (owes : Bool) → AreShort c.spelling (spelled_by s) (if owes then third_options e.modes else key_options c s e.modes.peer_key e)
+    by : (owes : Bool) → AreShort c.spelling s (if owes then third_options e.modes else key_options c s e.modes.peer_key e)
     by true = third_short c s e.modes
     by false = key_short c s e.modes.peer_key e
 
-end_short : (c : Profile) (s : Side) (fin : Option ℕ) (next : ℕ) → AreShort c.spelling (spelled_by s) (Dss (Some next) (data_fin_mapping c s fin) ∷ [])
-end_short c s None next = (record { form = (tt, refl) }, ack_length (data_number c.spelling (peer_of (spelled_by s)) next) false)
+end_short : (c : Profile) (s : Side) (fin : Option ℕ) (next : ℕ) → AreShort c.spelling s (Dss (Some next) (data_fin_mapping c s fin) ∷ [])
+end_short c s None next = (record { form = (tt, refl) }, ack_length (data_number c.spelling (peer s) next) false)
 end_short c s (Some place) next = (
   record { form = (told_form c.spelling.checksums _, tt) },
-  dss_length (data_number c.spelling (peer_of (spelled_by s)) next) (data_number c.spelling (spelled_by s) place) 0 1 _ true,
+  dss_length (data_number c.spelling (peer s) next) (data_number c.spelling s place) 0 1 _ true,
 )
 
 -- MP_FAIL stands behind a DSS without a mapping
-beside_short : (c : Profile) (s : Side) (failed : Option ℕ) (next : ℕ) → AreShort c.spelling (spelled_by s) (Dss (Some next) None ∷ fail_options failed)
+beside_short : (c : Profile) (s : Side) (failed : Option ℕ) (next : ℕ) → AreShort c.spelling s (Dss (Some next) None ∷ fail_options failed)
 beside_short c s None next = end_short c s None next
 beside_short c s (Some place) next = record {
   can_first = record { form = (tt, refl) };
   can_second = record { form = tt };
-  few = short_ack (data_number c.spelling (peer_of (spelled_by s)) next);
+  few = short_ack (data_number c.spelling (peer s) next);
   less = fail_length _;
 }
 
 clear_short : (c : Profile) (s : Side) (fin : Option ℕ) (next : ℕ) (m : Modes)
-    → AreShort c.spelling (spelled_by s) (Dss (Some next) (data_fin_mapping c s fin) ∷ fail_beside fin m)
+    → AreShort c.spelling s (Dss (Some next) (data_fin_mapping c s fin) ∷ fail_beside fin m)
 clear_short c s (Some place) next m = end_short c s (Some place) next
 clear_short c s None next m = beside_short c s (if receives_infinite m.mode then None else m.failed_mapping) next
 
-ack_short : (c : Profile) (s : Side) (fin : Option ℕ) (e : PathEnd) → AreShort c.spelling (spelled_by s) (ack_options c s fin e)
+ack_short : (c : Profile) (s : Side) (fin : Option ℕ) (e : PathEnd) → AreShort c.spelling s (ack_options c s fin e)
 ack_short c s fin e = by e.modes.identity e.modes.clear
   where
-    by : (identity clear : Bool) → AreShort c.spelling (spelled_by s)
+    by : (identity clear : Bool) → AreShort c.spelling s
         (if identity then [] else (if clear then Dss (Some e.receiving.next) (data_fin_mapping c s fin) ∷ fail_beside fin e.modes else opening_options c s e))
     by true clear = tt
     by false true = clear_short c s fin e.receiving.next e.modes
     by false false = opening_short c s e
 
 -- after a fallback
-plain_short : (c : Profile) (s : Side) (position : ℕ) (e : PathEnd) → AreShort c.spelling (spelled_by s) (plain_options position e)
+plain_short : (c : Profile) (s : Side) (position : ℕ) (e : PathEnd) → AreShort c.spelling s (plain_options position e)
 plain_short c s position e = by (owes_mapping e)
   where
-    by : (owes : Bool) → AreShort c.spelling (spelled_by s) (if owes then Dss None (Some (Infinite (position - 1) position)) ∷ [] else [])
+    by : (owes : Bool) → AreShort c.spelling s (if owes then Dss None (Some (Infinite (position - 1) position)) ∷ [] else [])
     by true = (
       record { form = (told_form c.spelling.checksums 0, tt) },
-      infinite_length (data_number c.spelling (spelled_by s) (position - 1)) (relative_number position) (if c.spelling.checksums then Some 0 else None),
+      infinite_length (data_number c.spelling s (position - 1)) (relative_number position) (if c.spelling.checksums then Some 0 else None),
     )
     by false = tt
 
-first_short : (c : Profile) (s : Side) (peer : Option ℕ) (r : Record) (e : PathEnd) → AreShort c.spelling (spelled_by s) (first_piece_options c peer r e)
+first_short : (c : Profile) (s : Side) (peer : Option ℕ) (r : Record) (e : PathEnd) → AreShort c.spelling s (first_piece_options c peer r e)
 first_short c s None r e = tt
 first_short c s (Some peer) r e = (
   record { form = told_form c.spelling.checksums r.mapping.checksum },
@@ -263,65 +263,65 @@ first_short c s (Some peer) r e = (
 )
 
 -- after the peer's MP_FAIL
-infinite_short : (c : Profile) (s : Side) (mapping : InfiniteMapping) (e : PathEnd) → AreShort c.spelling (spelled_by s) (infinite_options mapping e)
+infinite_short : (c : Profile) (s : Side) (mapping : InfiniteMapping) (e : PathEnd) → AreShort c.spelling s (infinite_options mapping e)
 infinite_short c s mapping e = by (owes_mapping e)
   where
-    by : (owes : Bool) → AreShort c.spelling (spelled_by s)
+    by : (owes : Bool) → AreShort c.spelling s
         (Dss (Some e.receiving.next) (if owes then Some (Infinite mapping.place mapping.position) else None) ∷ [])
     by true = (
       record { form = (told_form c.spelling.checksums 0, tt) },
-      dss_length (data_number c.spelling (peer_of (spelled_by s)) e.receiving.next) (data_number c.spelling (spelled_by s) mapping.place)
+      dss_length (data_number c.spelling (peer s) e.receiving.next) (data_number c.spelling s mapping.place)
           (relative_number mapping.position) 0 (if c.spelling.checksums then Some 0 else None) false,
     )
-    by false = (record { form = (tt, refl) }, ack_length (data_number c.spelling (peer_of (spelled_by s)) e.receiving.next) false)
+    by false = (record { form = (tt, refl) }, ack_length (data_number c.spelling (peer s) e.receiving.next) false)
 
 either_short : (c : Profile) (s : Side) (mapping : Option InfiniteMapping) (options : List PlainOption) (e : PathEnd)
-    → AreShort c.spelling (spelled_by s) options → AreShort c.spelling (spelled_by s) (infinite_or mapping options e)
+    → AreShort c.spelling s options → AreShort c.spelling s (infinite_or mapping options e)
 either_short c s None options e short = short
 either_short c s (Some mapping) options e short = infinite_short c s mapping e
 
-mapped_short : (c : Profile) (s : Side) (r : Record) (e : PathEnd) → AreShort c.spelling (spelled_by s) (mapped_options c s r e)
+mapped_short : (c : Profile) (s : Side) (r : Record) (e : PathEnd) → AreShort c.spelling s (mapped_options c s r e)
 mapped_short c s r e = by (is_first_piece s r e)
   where
-    by : (first : Bool) → AreShort c.spelling (spelled_by s)
+    by : (first : Bool) → AreShort c.spelling s
         (if first then first_piece_options c e.modes.peer_key r e else Dss (Some e.receiving.next) (Some (piece_mapping c s r)) ∷ [])
     by true = first_short c s e.modes.peer_key r e
     by false = (
       record { form = (told_form c.spelling.checksums r.mapping.checksum, tt) },
-      dss_length (data_number c.spelling (peer_of (spelled_by s)) e.receiving.next) _ (relative_number r.pos) r.mapping.length
+      dss_length (data_number c.spelling (peer s) e.receiving.next) _ (relative_number r.pos) r.mapping.length
           (checksum_told c r.mapping.checksum) false,
     )
 
-piece_short : (c : Profile) (s : Side) (r : Record) (e : PathEnd) → AreShort c.spelling (spelled_by s) (piece_options c s r e)
+piece_short : (c : Profile) (s : Side) (r : Record) (e : PathEnd) → AreShort c.spelling s (piece_options c s r e)
 piece_short c s r e = by e.modes.identity
   where
-    by : (identity : Bool) → AreShort c.spelling (spelled_by s)
+    by : (identity : Bool) → AreShort c.spelling s
         (if identity then plain_options r.pos e else infinite_or e.modes.own_infinite (mapped_options c s r e) e)
     by true = plain_short c s r.pos e
     by false = either_short c s e.modes.own_infinite (mapped_options c s r e) e (mapped_short c s r e)
 
-fin_short : (c : Profile) (s : Side) (position : ℕ) (e : PathEnd) → AreShort c.spelling (spelled_by s) (fin_options position e)
+fin_short : (c : Profile) (s : Side) (position : ℕ) (e : PathEnd) → AreShort c.spelling s (fin_options position e)
 fin_short c s position e = by e.modes.identity
   where
-    by : (identity : Bool) → AreShort c.spelling (spelled_by s)
+    by : (identity : Bool) → AreShort c.spelling s
         (if identity then plain_options position e else infinite_or e.modes.own_infinite (Dss (Some e.receiving.next) None ∷ []) e)
     by true = plain_short c s position e
     by false = either_short c s e.modes.own_infinite (Dss (Some e.receiving.next) None ∷ []) e plain
       where
-        plain : AreShort c.spelling (spelled_by s) (Dss (Some e.receiving.next) None ∷ [])
-        plain = (record { form = (tt, refl) }, ack_length (data_number c.spelling (peer_of (spelled_by s)) e.receiving.next) false)
+        plain : AreShort c.spelling s (Dss (Some e.receiving.next) None ∷ [])
+        plain = (record { form = (tt, refl) }, ack_length (data_number c.spelling (peer s) e.receiving.next) false)
 
 record_short : (kind : RecordKind) (c : Profile) (s : Side) (r : Record) (e : PathEnd)
-    → AreShort c.spelling (spelled_by s) (record_options kind c s r e)
+    → AreShort c.spelling s (record_options kind c s r e)
 record_short Syn c s r e = syn_short c s e
 record_short Data c s r e = piece_short c s r e
 record_short Fin c s r e = fin_short c s r.pos e
 
-reset_short : (c : Profile) (s : Side) (reason : Option ℕ) → AreShort c.spelling (spelled_by s) (reset_options reason)
+reset_short : (c : Profile) (s : Side) (reason : Option ℕ) → AreShort c.spelling s (reset_options reason)
 reset_short c s None = tt
 reset_short c s (Some reason) = (record { form = tt }, reset_length false reason)
 
-broken_short : (c : Profile) (s : Side) (failed reason : Option ℕ) → AreShort c.spelling (spelled_by s) (broken_options failed reason)
+broken_short : (c : Profile) (s : Side) (failed reason : Option ℕ) → AreShort c.spelling s (broken_options failed reason)
 broken_short c s failed None = tt
 broken_short c s None (Some reason) = reset_short c s (Some reason)
 broken_short c s (Some place) (Some reason) = record {
@@ -332,12 +332,12 @@ broken_short c s (Some place) (Some reason) = record {
 }
 
 own_reset_short : (c : Profile) (s : Side) (failed reason : Option ℕ) (identity : Bool)
-    → AreShort c.spelling (spelled_by s) (if identity then [] else broken_options failed reason)
+    → AreShort c.spelling s (if identity then [] else broken_options failed reason)
 own_reset_short c s failed reason true = tt
 own_reset_short c s failed reason false = broken_short c s failed reason
 
 -- two options, of 12 and of 28 octets at most, have room where there is no SYN
-two_room : (spelling : Spelling) (from : SpelledSide) (first second : PlainOption) → length (option_text (said_option spelling from first)) ≤ 12
+two_room : (spelling : Spelling) (from : Side) (first second : PlainOption) → length (option_text (said_option spelling from first)) ≤ 12
     → length (option_text (said_option spelling from second)) ≤ 28 → length (options_text spelling from (first ∷ second ∷ [])) ≤ 40
 two_room spelling from first second few less =
     omega (arith, few, less, ap length (append-nil (option_text (said_option spelling from second))), length-append (option_text (said_option spelling from first)) (option_text (said_option spelling from second) ++ []))
@@ -350,13 +350,13 @@ fits_of None r is few = subst (λ r. IfSome r (λ r. length r.piece ≤ 65475)) 
 fits_of (Some lent) r is few = subst (λ r. IfSome r (λ r. length r.piece ≤ 65475)) is few
 
 module _ (c : Profile) (s : Side) (e : PathEnd) (path : c.spelling.path ≤ 15) (window : e.receiving.window ≤ 2 ^ 20) where
-  says : (o : Outgoing) (options : List PlainOption) (payload : List ℕ) → AreShort c.spelling (spelled_by s) options → length payload ≤ 65475
+  says : (o : Outgoing) (options : List PlainOption) (payload : List ℕ) → AreShort c.spelling s options → length payload ≤ 65475
       → CanBeSaid c.spelling s (segment_of c o options payload e)
   says o options payload short few = record {
     path = path;
     window = window;
-    options = each_of c.spelling (spelled_by s) options short;
-    room = room_of o.syn c.mss c.spelling (spelled_by s) options short;
+    options = each_of c.spelling s options short;
+    room = room_of o.syn c.mss c.spelling s options short;
     fits = few;
   }
 
@@ -367,26 +367,26 @@ module _ (c : Profile) (s : Side) (e : PathEnd) (path : c.spelling.path ≤ 15) 
   record_can None few = ack_can e.tcp.send.nxt None
   record_can (Some r) few = says (record_segment e.tcp r) (record_options r.kind c s r e) r.piece (record_short r.kind c s r e) few
 
-  says_two : (o : Outgoing) (first second : PlainOption) → o.syn ≡ false → CanSayOption c.spelling (spelled_by s) first
-      → CanSayOption c.spelling (spelled_by s) second → length (options_text c.spelling (spelled_by s) (first ∷ second ∷ [])) ≤ 40
+  says_two : (o : Outgoing) (first second : PlainOption) → o.syn ≡ false → CanSayOption c.spelling s first
+      → CanSayOption c.spelling s second → length (options_text c.spelling s (first ∷ second ∷ [])) ≤ 40
       → CanBeSaid c.spelling s (segment_of c o (first ∷ second ∷ []) [] e)
   says_two o first second plain can_first can_second room = record {
     path = path;
     window = window;
     options =
-        All-cons (CanSayOption c.spelling (spelled_by s)) first (second ∷ []) can_first
-        (All-cons (CanSayOption c.spelling (spelled_by s)) second [] can_second (All-nil (CanSayOption c.spelling (spelled_by s))));
+        All-cons (CanSayOption c.spelling s) first (second ∷ []) can_first
+        (All-cons (CanSayOption c.spelling s) second [] can_second (All-nil (CanSayOption c.spelling s)));
     room = rw plain room;
     fits = omega arith;
   }
 
-  dss_and_can : (option : PlainOption) → CanSayOption c.spelling (spelled_by s) option
-      → length (option_text (said_option c.spelling (spelled_by s) option)) ≤ 28 → CanBeSaid c.spelling s (dss_and c option e)
+  dss_and_can : (option : PlainOption) → CanSayOption c.spelling s option
+      → length (option_text (said_option c.spelling s option)) ≤ 28 → CanBeSaid c.spelling s (dss_and c option e)
   dss_and_can option can short =
       says_two (ack_at e.tcp.send.nxt e.tcp) (Dss (Some e.receiving.next) None) option refl (record { form = (tt, refl) }) can
-      (two_room c.spelling (spelled_by s) (Dss (Some e.receiving.next) None) option (short_ack (data_number c.spelling (peer_of (spelled_by s)) e.receiving.next)) short)
+      (two_room c.spelling s (Dss (Some e.receiving.next) None) option (short_ack (data_number c.spelling (peer s) e.receiving.next)) short)
 
-  notice_form : (notice : OwnNotice) → CanSayOption c.spelling (spelled_by s) (notice_option notice e.modes)
+  notice_form : (notice : OwnNotice) → CanSayOption c.spelling s (notice_option notice e.modes)
   notice_form (notes.AddAddr id) = record { form = refl }
   notice_form (notes.AddEcho id address port) = record { form = refl }
   notice_form (notes.Removes id) = record { form = (omega arith, omega arith) }
@@ -401,7 +401,7 @@ module _ (c : Profile) (s : Side) (e : PathEnd) (path : c.spelling.path ≤ 15) 
 
   pub noted_can : (notice : Option OwnNotice) → IfSome notice HasAddress → CanBeSaid c.spelling s (noted_said c s notice e)
   noted_can (Some notice) has =
-      dss_and_can (notice_option notice e.modes) (notice_form notice) (notice_length notice e.modes has c.spelling (spelled_by s))
+      dss_and_can (notice_option notice e.modes) (notice_form notice) (notice_length notice e.modes has c.spelling s)
   noted_can None has = ack_can e.tcp.send.nxt None
 
   pub carried_can : (carrier : Option ℕ) → CanBeSaid c.spelling s (carried_said c s carrier e)

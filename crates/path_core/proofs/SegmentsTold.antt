@@ -6,17 +6,16 @@ use Rattle.std.proofs.lemmas.List.{drop_at, drop-drop, length-replicate}
 use Rattle.std.proofs.lemmas.Nat.{from_be_bytes-to_be_bytes_2}
 use Rattle.pipe_model.specs.Octets.{number_at}
 use Rattle.link_model.specs.declared.flight.Flight.{Flight}
-use Rattle.link_model.specs.Octets.{addresses_from}
-use Rattle.link_model.specs.Steps.{next_number, peer}
+use Rattle.link_model.specs.Steps.{next_number}
 use Rattle.segment_wire.specs.Reading.{header_len, segment_meaning}
 use Rattle.segment_wire.proofs.Again.{segment_meaning-written}
 use Rattle.segment_wire.specs.Segment.{Segment, fixed_header, octets_with, segment_text}
+use Rattle.segment_wire.specs.Paths.{addresses_from}
 use Rattle.path_segments.specs.declared.spelling.Spelling.{Spelling}
-use Rattle.path_segments.specs.Spelling.{peer_of, addresses_from as spelled_addresses}
 use Rattle.path_segments.proofs.SegmentsAgain.{four, written}
 use Rattle.path_segments.specs.Spelled.{PlainSegment, padding, padded, unpadded_options, spelled}
 use Rattle.outside_kit.specs.declared.side.Side.{Side}
-use Rattle.outside_kit.specs.declared.side.Side.TheVariants.{A, B}
+use Rattle.outside_kit.specs.Side.{peer}
 use Rattle.send_book.specs.declared.call.SendCall.TheVariants as send_calls
 use Rattle.subflow_send.specs.Records.{Record}
 use Rattle.loss_recovery.specs.declared.windows.Pending.{Pending}
@@ -28,6 +27,7 @@ use Rattle.actor_desk.specs.declared.ask.Reply.{Reply}
 use Rattle.path_agenda.specs.declared.duty.Duty.{Duty}
 use Rattle.path_agenda.specs.declared.duty.Duty.TheVariants as duties
 use Rattle.path_agenda.specs.declared.duty.AskDuty.TheVariants as ask_duties
+use Rattle.path_agenda.specs.declared.duty.SendDuty.{SendDuty}
 use Rattle.path_agenda.specs.declared.duty.SendDuty.TheVariants as send_duties
 use Rattle.path_agenda.specs.declared.duty.SilentDuty.TheVariants as silent_duties
 use Rattle.path_agenda.specs.declared.duty.StepDuty.TheVariants as step_duties
@@ -52,10 +52,9 @@ use Rattle.path_core.specs.Fallback.{after_fell, fell_ask, fell_duties}
 use Rattle.path_core.specs.Handover.{sends, handed}
 use Rattle.path_core.specs.InfiniteSending.{may_go_infinite}
 use Rattle.path_core.specs.Joining.{join_heard_ask, asked_at}
-use Rattle.path_core.specs.Looking.{Arrived, arrived_as, to_send, broken_by, heard_sends, unsent_sends, duty_sends, first_sends, departing, departing_as, step_told, tells_a_segment, segment_sent, HandsOrTellsNone, EachSegmentIsTold, IsTold}
+use Rattle.path_core.specs.Looking.{Arrived, arrived_as, to_send, broken_by, heard_sends, send_of, unsent_sends, duty_sends, first_sends, departing, departing_as, step_told, tells_a_segment, segment_sent, HandsOrTellsNone, EachSegmentIsTold, IsTold}
 use Rattle.path_core.specs.Octets.{made, octets, sum_of}
 use Rattle.path_core.specs.Opening.{peer_key_ask, opened_ask}
-use Rattle.path_core.specs.OptionsOut.{spelled_by}
 use Rattle.path_core.specs.Passing.{piece_of, piece_ask, data_fin_of, fin_ask, plain_fin, rate_ask}
 use Rattle.path_core.specs.Standing.{ack_out_ask, answered_ack_out}
 use Rattle.path_core.specs.Said.{CanBeSaid}
@@ -261,6 +260,13 @@ module _ {C : Type 0} where
     told_so (duties.Silent d) p = refl
     told_so duties.End p = refl
 
+    -- the step of a duty that sends a segment
+    pub step_sent : (d : SendDuty) (t : ToSend) (p : PathState C) → Some t ≡ send_of d
+        → sends k t.from (segment_sent p t) p ≡ ask_for k (duties.Send d) p
+    step_sent d t p is =
+        sym (subst (λ (sent : Option ToSend). Told sent (ask_for k (duties.Send d) p) (λ r. answered k (duties.Send d) r p) p) (sym is)
+        (told_so (duties.Send d) p)).0
+
     -- ---- a step
 
     abbrev TellsAt : Option ToSend → List Duty → PathState C → Type 0
@@ -315,12 +321,12 @@ sum_is checksum segment fits = from_be_bytes-to_be_bytes_2 checksum fits
 made_payload : (spelling : Spelling) (s : Side) (segment : PlainSegment)
     → drop (header_len (made spelling s segment)) (made spelling s segment) ≡ segment.payload
 unfolding segment_text spelled
-made_payload spelling s segment = payload_is (sum_of spelling s segment) (spelled spelling (spelled_by s) segment)
-    (padded_len (unpadded_options spelling (spelled_by s) segment))
+made_payload spelling s segment = payload_is (sum_of spelling s segment) (spelled spelling s segment)
+    (padded_len (unpadded_options spelling s segment))
 
 made_sum : (spelling : Spelling) (s : Side) (segment : PlainSegment) → number_at w16 (made spelling s segment) 16 ≡ sum_of spelling s segment
 unfolding segment_text
-made_sum spelling s segment = sum_is (sum_of spelling s segment) (spelled spelling (spelled_by s) segment) (omega arith)
+made_sum spelling s segment = sum_is (sum_of spelling s segment) (spelled spelling s segment) (omega arith)
 
 step_is : (p : PathState (List ℕ)) (t : ToSend) → sends octets t.from (segment_sent p t) p ≡ step_told (departing_as p t)
 step_is p t =
@@ -354,15 +360,11 @@ arrived_is path to carried None there is = cc
 
 -- ---- octets that are made are a segment
 
-same_addresses : (path : ℕ) (s : Side) → spelled_addresses path (spelled_by s) ≡ addresses_from path s
-same_addresses path A = refl
-same_addresses path B = refl
-
 pub made_whole : (spelling : Spelling) (path : ℕ) (s : Side) (segment : PlainSegment) → spelling.path ≡ path → CanBeSaid spelling s segment
     → IsOk (segment_meaning (addresses_from path s) (made spelling s segment))
 made_whole spelling path s segment same can =
-    let addresses = spelled_addresses spelling.path (spelled_by s) in
-    let reads : segment_meaning addresses (made spelling s segment) ≡ Ok (spelled spelling (spelled_by s) segment) =
-    segment_meaning-written addresses (spelled spelling (spelled_by s) segment) (four spelling.path (spelled_by s)) (four spelling.path (peer_of (spelled_by s))) (written spelling (spelled_by s) segment can) in
-    subst (λ a. IsOk (segment_meaning a (made spelling s segment))) (same_addresses spelling.path s ∙ ap (λ n. addresses_from n s) same)
+    let addresses = addresses_from spelling.path s in
+    let reads : segment_meaning addresses (made spelling s segment) ≡ Ok (spelled spelling s segment) =
+    segment_meaning-written addresses (spelled spelling s segment) (four spelling.path s) (four spelling.path (peer s)) (written spelling s segment can) in
+    subst (λ a. IsOk (segment_meaning a (made spelling s segment))) (ap (λ n. addresses_from n s) same)
     (subst (λ r. IsOk r) (sym reads) refl)

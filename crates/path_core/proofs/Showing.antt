@@ -11,7 +11,8 @@ use Rattle.link_model.specs.Fate.{fate_of, is_stripped, is_altered}
 use Rattle.link_model.specs.Laws.{with_copies_shown, shown_flight}
 use Rattle.link_model.specs.State.{LinkState}
 use Rattle.outside_kit.specs.Memory.{one_more as counted}
-use Rattle.link_model.specs.Steps.{segments_sent, next_number, peer, is_due, next_due, arriving, after_delivery, without, after_send, changed, arrivals, with_flights, one_more}
+use Rattle.outside_kit.specs.Side.{peer}
+use Rattle.link_model.specs.Steps.{segments_sent, next_number, is_due, next_due, arriving, after_delivery, without, after_send, changed, arrivals, with_flights, one_more}
 use Rattle.link_model.proofs.Shown.{sent_shown}
 use Rattle.path_segments.specs.declared.position.HeardPosition.TheVariants.{At}
 use Rattle.path_segments.specs.declared.spelling.Spelling.{Spelling}
@@ -28,12 +29,11 @@ use Rattle.path_agenda.specs.declared.duty.StepDuty.TheVariants as step_duties
 use Rattle.path_core.specs.Duties.{stands, ask_for, passed, answered}
 use Rattle.path_segments.specs.declared.expected.Expected.{Expected}
 use Rattle.path_segments.specs.Laws.{IsFresh, meant}
+use Rattle.path_segments.specs.Heard.{HeardSegment}
 use Rattle.path_core.proofs.ChangedCopies.{octets_changed}
 use Rattle.path_core.proofs.CopiesRead.{near_read, far_read}
 use Rattle.path_core.proofs.FarResets.{far_treated}
 use Rattle.path_core.specs.Arriving.{expected_by}
-use Rattle.path_core.specs.Codec.{HeardSegment}
-use Rattle.path_core.specs.OptionsOut.{spelled_by}
 use Rattle.actor_desk.specs.Words.{tail_of}
 use Rattle.subflow_tcp.specs.declared.segments.Occasion.TheVariants as to_send
 use Rattle.path_core.specs.Events.{never_joined, after_line, at_tick, copy_heard, heard_in, copy_taken, happens_if, died, step_for, next_event}
@@ -566,12 +566,12 @@ same_read s (Some flight) p q same fresh = by (fresh flight refl).fresh
     expected : Expected
     expected = expected_by (end_at s p)
 
-    by : IsFresh p.profile.spelling (spelled_by (peer s)) expected flight.carried.segment ⊎ IsFarReset p.profile.spelling (spelled_by (peer s)) expected flight.carried.segment
+    by : IsFresh p.profile.spelling (peer s) expected flight.carried.segment ⊎ IsFarReset p.profile.spelling (peer s) expected flight.carried.segment
         → copy_heard s (octets.reads p.profile.spelling (peer s) expected (octets_of p.profile.spelling flight.carried)) q ≡ copy_heard s (Some (meant segment)) q
     by (inl near) = ap (λ h. copy_heard s h q) (near_read p.profile.spelling (peer s) expected flight.carried is.from is.sayable is.expected near)
     by (inr far) =
         ap (λ h. copy_heard s h q) (far_read p.profile.spelling (peer s) expected flight.carried is.from is.sayable is.expected far)
-        ∙ far_treated (subflow_number p.profile.spelling (spelled_by (peer s)) segment.position) (meant segment) segment.position far.reset refl s q (heard_ack segment.acknowledged far.acknowledging) (subst (λ e. e.tcp.recv.edge + 2 ^ 31 ≤ segment.position) (sym same) far.ahead)
+        ∙ far_treated (subflow_number p.profile.spelling (peer s) segment.position) (meant segment) segment.position far.reset refl s q (heard_ack segment.acknowledged far.acknowledging) (subst (λ e. e.tcp.recv.edge + 2 ^ 31 ≤ segment.position) (sym same) far.ahead)
 
 same_copy : (due : Due) (p : PathState Carried)
     → ((flight : Flight Carried) → arriving due p.link ≡ Some flight → IsFreshCopy p due.to flight.carried)

@@ -31,6 +31,7 @@ use Rattle.path_core.specs.State.{PathState, end_at, goes_on, left, path_of}
 abbrev pub is_note_due : PathEnd → Bool
 is_note_due e = may_note e && not (is_nil e.notices.queue)
 
+-- the first of what is to be noted
 abbrev pub note_of : {C : Type 0} → Side → PathState C → PlainSegment
 note_of s p = noted_said p.profile s (first_of (end_at s p).notices.queue) (end_at s p)
 

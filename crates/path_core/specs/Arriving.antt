@@ -2,9 +2,9 @@
 use Rattle.std.specs.Prelude.{ℕ, ◌≡◌, ◌⊎◌, ◌+◌, ◌-◌, ◌%◌, ◌^◌, ◌≤◌, ◌&&◌, ◌||◌, not, Bool, true, false, nat_lt, nat_le, if◌then◌else◌, unwrap_or, is_some, is_none, option_map, Option, Some, None, List, [], ◌∷◌, ◌++◌, length, map}
 use Rattle.std.specs.List.{flat_map, list_any}
 use Rattle.key_material.specs.declared.address.Address.{Address}
-use Rattle.link_model.specs.Steps.{peer}
 use Rattle.outside_kit.specs.declared.side.Side.{Side}
 use Rattle.outside_kit.specs.declared.side.Side.TheVariants.{A, B}
+use Rattle.outside_kit.specs.Side.{peer}
 use Rattle.dss_mapping.specs.declared.kept.KeptMapping.{KeptMapping}
 use Rattle.dss_mapping.specs.Learning.{after_hold}
 use Rattle.dss_mapping.specs.Mappings.{octets_in}
@@ -21,6 +21,7 @@ use Rattle.path_segments.specs.declared.segment.PathOption.TheVariants.{Capable,
 use Rattle.path_segments.specs.declared.segment.PathMapping.{PathMapping}
 use Rattle.path_segments.specs.declared.segment.PathMapping.TheVariants.{Bytes, End, Infinite}
 use Rattle.path_segments.specs.Spelling.{numbers_of}
+use Rattle.path_segments.specs.Heard.{HeardSegment}
 use Rattle.subflow_send.specs.declared.record.AckKind.TheVariants.{New}
 use Rattle.subflow_tcp.specs.declared.segments.Hint.{Hint}
 use Rattle.subflow_tcp.specs.declared.segments.Outgoing.{Outgoing}
@@ -42,14 +43,12 @@ use Rattle.path_agenda.specs.declared.heard.Heard.TheVariants as says
 use Rattle.path_agenda.specs.declared.notice.PeerNotice.TheVariants as notes
 use Rattle.path_agenda.specs.Items.{place_in_first, wants_ack}
 use Rattle.path_agenda.specs.Agenda.{emission, syn_came, syn_ack_came, join_came, refuses, join_answered, copy_came, syn_again, answers, answers_dead, leaves, resets}
-use Rattle.path_core.specs.Codec.{HeardSegment}
 use Rattle.path_core.specs.declared.judged.Judged.{Judged}
 use Rattle.path_core.specs.declared.judged.Judged.TheVariants as judged
 use Rattle.path_core.specs.declared.modes.Modes.{Modes}
 use Rattle.path_core.specs.Ends.{PathEnd, Treated, nothing_treated}
 use Rattle.path_core.specs.Joins.{is_joined, join_asked, join_answer, third_in, is_third_right}
 use Rattle.path_core.specs.Deliver.{kept_of}
-use Rattle.path_core.specs.OptionsOut.{spelled_by}
 use Rattle.path_core.specs.State.{Profile}
 use Rattle.actor_desk.specs.Words.{is_nil}
 
@@ -64,14 +63,17 @@ expected_by e = record {
 
 -- ---- the header
 
+-- the position that was heard, where its number means one
 abbrev pub position_in : HeardPosition → Option ℕ
 position_in (At position) = Some position
 position_in (Nowhere number) = None
 
+-- the acknowledged position; 0 where its number means none
 abbrev pub acknowledged_in : Option HeardPosition → Option ℕ
 acknowledged_in None = None
 acknowledged_in (Some heard) = Some (unwrap_or (position_in heard) 0)
 
+-- the segment as the subflow takes it, by positions and without its options
 abbrev pub copy_of : HeardSegment → Copy
 copy_of h = record {
   position = position_in h.position;
@@ -85,6 +87,7 @@ copy_of h = record {
 
 -- ---- the options
 
+-- an option as it is heard: a number may mean no position or place
 abbrev pub HeardOption : Type 0
 HeardOption = PathOption (Option ℕ) (List ℕ)
 
@@ -93,6 +96,7 @@ abbrev pub ack_items : Option (Option ℕ) → ℕ → List Heard
 ack_items (Some (Some next)) window = if nat_lt next (2 ^ 62) then says.DataAck next window ∷ [] else []
 ack_items _ window = []
 
+-- without a checksum 0 counts
 abbrev pub checksum_heard : Option ℕ → ℕ
 checksum_heard checksum = unwrap_or checksum 0
 
@@ -100,6 +104,7 @@ checksum_heard checksum = unwrap_or checksum 0
 abbrev pub is_mapping : ℕ → ℕ → ℕ → Bool
 is_mapping place position count = nat_lt 0 position && nat_le (place + count) (2 ^ 62)
 
+-- such a mapping says that it is there, and whether a DATA_FIN stands behind its bytes; any other says nothing
 abbrev pub mapping_items : ℕ → ℕ → ℕ → Bool → List Heard
 mapping_items place position count fin = if is_mapping place position count then says.Mapping fin ∷ [] else []
 
@@ -168,23 +173,28 @@ options_heard e h = record h { options = (if e.modes.identity then [] else h.opt
 
 -- ---- the mappings among them, which the end holds
 
+-- a mapping that says something, as the end keeps it; any other isn't held
 abbrev pub held_if : Profile → Side → ℕ → ℕ → ℕ → Bool → Option ℕ → List KeptMapping
 held_if c s place position len fin checksum =
     if is_mapping place position (octets_in len fin) then kept_of c s place position len fin (checksum_heard checksum) ∷ [] else []
 
+-- the mapping of a DSS, where it has bytes and its numbers mean a position and a place
 abbrev pub map_held : Profile → Side → Option (PathMapping (Option ℕ)) → List KeptMapping
 map_held c s (Some (Bytes (Some place) (Some position) len fin checksum)) = held_if c s place position len fin checksum
 map_held c s _ = []
 
+-- MP_CAPABLE with the first piece, which B hears, maps place 0 at position 1
 abbrev pub key_held : Profile → Side → CapableKeys → List KeptMapping
 key_held c B (WithData sender receiver len checksum) = held_if c B 0 1 len false checksum
 key_held c _ _ = []
 
+-- of one option; MP_CAPABLE maps nothing on a path that joins
 abbrev pub held_in : Profile → Side → HeardOption → List KeptMapping
 held_in c s (Capable flag_a flag_c keys) = if is_joined c then [] else key_held c s keys
 held_in c s (Dss next mapping) = map_held c s mapping
 held_in c s _ = []
 
+-- of all options, in their order
 abbrev pub held_of : Profile → Side → HeardSegment → List KeptMapping
 held_of c s h = flat_map (held_in c s) h.options
 
@@ -192,7 +202,7 @@ held_of c s h = flat_map (held_in c s) h.options
 
 -- the position below 2^32 at which a side's subflow has a number
 abbrev pub position_numbered : Profile → Side → ℕ → ℕ
-position_numbered c s number = (number + (2 ^ 32 - (numbers_of c.spelling (spelled_by s)).initial.0 % 2 ^ 32)) % 2 ^ 32
+position_numbered c s number = (number + (2 ^ 32 - (numbers_of c.spelling s).initial.0 % 2 ^ 32)) % 2 ^ 32
 
 -- a position with the number that was heard, whether that names one or not
 abbrev pub position_meant : Profile → Side → HeardPosition → ℕ
@@ -204,11 +214,14 @@ abbrev pub outgoing_reset : ResetNumbers ℕ → Outgoing
 outgoing_reset reset =
     record { position = reset.at; acknowledged = reset.acknowledged; syn = false; fin = false; rst = true; length = 0 }
 
+-- it stands at what the copy acknowledges; without that at number 0, and acknowledges all that the copy occupies
+-- (RFC 9293, section 3.10.7.1)
 abbrev pub reset_by : Profile → Side → Option HeardPosition → HeardPosition → ℕ → Outgoing
 reset_by c s acknowledged position occupied =
     outgoing_reset (reset_numbers (position_numbered c s 0) (λ first n. first + n) (option_map (position_meant c s) acknowledged)
     (position_meant c (peer s) position) occupied)
 
+-- the reset that answers this copy at a dead end of this side
 abbrev pub reset_for : Profile → Side → HeardSegment → Outgoing
 reset_for c s h = reset_by c s h.acknowledged h.position (occupied (copy_of h))
 
@@ -228,9 +241,11 @@ abbrev pub octets_acked : Arrival → ℕ
 octets_acked (Took (New octets) new fin) = octets
 octets_acked _ = 0
 
+-- the copy acknowledges data for the first time, and none of its options has a Data ACK
 abbrev pub is_plain_ack : Arrival → HeardSegment → Bool
 is_plain_ack arrival h = nat_lt 0 (octets_acked arrival) && not (list_any has_data_ack h.options)
 
+-- where one is owed, an acknowledgement is due at SND.NXT
 abbrev pub owing_if : Bool → EndState → EndState
 owing_if owing tcp = if owing then after_owing false tcp else tcp
 
@@ -250,6 +265,7 @@ abbrev pub asks_capable : HeardOption → Bool
 asks_capable (Capable flag_a flag_c NoKey) = true
 asks_capable _ = false
 
+-- the SYN that opens the end tells it whether the peer asks for Multipath TCP
 abbrev pub asked_in : Meaning → List HeardOption → Modes → Modes
 asked_in means.Opens options m = record m { capable_asked = list_any asks_capable options }
 asked_in _ options m = m
@@ -307,6 +323,7 @@ is_passed_over rst items e = is_half_open e.tcp.state && (not rst && is_none (th
 abbrev pub is_forged : List Heard → PathEnd → Bool
 is_forged items e = is_half_open e.tcp.state && not (is_third_right items e.modes)
 
+-- it is what it means to the subflow, or ignored
 abbrev pub unless_passed_over : Bool → List Heard → Meaning → PathEnd → Judged
 unless_passed_over rst items meaning e = if is_passed_over rst items e then judged.As means.Ignored else judged.As meaning
 
@@ -345,6 +362,7 @@ abbrev pub with_answer : Option JoinAnswer → Modes → Modes
 with_answer None m = m
 with_answer (Some answer) m = record m { peer_nonce = answer.nonce; backup_heard = answer.backup; owes_third = true }
 
+-- where A's end accepts the SYN/ACK, it takes what its MP_JOIN says
 abbrev pub answered_in : Meaning → List Heard → Modes → Modes
 answered_in (means.Accepts acknowledged) items m = with_answer (join_answer items m) m
 answered_in _ items m = m
@@ -354,6 +372,7 @@ abbrev pub cleared_in : Meaning → EndPhase → Modes → Modes
 cleared_in (means.Taken position acknowledged) state m = record m { clear = m.clear || is_half_open state }
 cleared_in _ state m = m
 
+-- both, on a path that joins; path 0 stays as it is
 abbrev pub after_join : Bool → List Heard → Meaning → PathEnd → PathEnd
 after_join joined items meaning e =
     record e { modes = (if joined then cleared_in meaning e.tcp.state (answered_in meaning items e.modes) else e.modes) }
@@ -366,13 +385,16 @@ copy_judged joined told answer s now h meaning e =
     let items = items_of joined s h in
     after_copy items answer now h meaning (after_join joined items meaning (with_held told h meaning e))
 
+-- what a copy that arrives is to the end of this side
 abbrev pub judged_in : Bool → Side → HeardSegment → PathEnd → Judged
 judged_in joined s h e = judged_of joined h.rst (items_of joined s h) (meaning_of (copy_of h) e.tcp) e
 
+-- the end after a copy that was judged so, with the mappings and the answer of that copy
 abbrev pub after_judged : Profile → Side → ℕ → HeardSegment → Judged → PathEnd → PathEnd
 after_judged c s now h verdict e =
     copy_judged (is_joined c) (held_of c s h) (reset_for c s h) s now h (taken_as verdict) e
 
+-- the same, where the end itself judges the copy
 abbrev pub segment_heard : Bool → List KeptMapping → Outgoing → Side → ℕ → HeardSegment → PathEnd → PathEnd
 segment_heard joined told answer s now h e = copy_judged joined told answer s now h (taken_as (judged_in joined s h e)) e
 
@@ -390,6 +412,8 @@ template_by joined s count means.Unacknowledging = emission s
 template_by joined s count means.Ahead = answers s
 template_by joined s count (means.Taken position acknowledged) = copy_came s count
 
+-- A SYN that asks to join is told to the control book, and one that doesn't is refused. Without the peer's HMAC the end is reset,
+-- for reason 1, an error of Multipath TCP (RFC 8684, section 3.6).
 abbrev pub template_judged : Bool → Side → ℕ → Judged → List Duty
 template_judged joined s count (judged.As meaning) = template_by joined s count meaning
 template_judged joined s count judged.Asks = join_came s

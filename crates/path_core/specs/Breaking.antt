@@ -18,6 +18,7 @@ use Rattle.path_core.specs.State.{PathState, end_at, path_of}
 
 -- ---- the reset
 
+-- for this reason, where there is one
 abbrev pub reset_of : {C : Type 0} → Side → Option ℕ → PathState C → PlainSegment
 reset_of s reason p = reset_said p.profile reason (end_at s p)
 
@@ -31,6 +32,7 @@ reset_on k s reason ds p = sent_on k s (reset_of s reason p) (died (end_at s p))
 abbrev pub break_ask : {C : Type 0} → Codec C → Side → ℕ → PathState C → Ask
 break_ask k s reason p = if (end_at s p).treated.asked then ack_out_ask s else sends k s (reset_of s (Some reason) p) p
 
+-- then the end is reset; where nothing was told, it was reset at once and gives back what it holds
 abbrev pub answered_break : {C : Type 0} → Codec C → Side → ℕ → Reply → PathState C → PathState C
 answered_break k s reason r p =
     if (end_at s p).treated.asked then answered_ack_out s r (resets s reason) p
@@ -42,5 +44,6 @@ answered_break k s reason r p =
 abbrev pub return_ask : {C : Type 0} → Side → PathState C → Ask
 return_ask s p = asks.Send s (send_calls.Return (path_of p))
 
+-- the control book is told that the path neither lives nor opens at its side
 abbrev pub dead_ask : {C : Type 0} → Side → PathState C → Ask
 dead_ask s p = asks.Control s (control_calls.Dead (path_of p))

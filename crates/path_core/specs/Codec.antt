@@ -1,17 +1,11 @@
 -- What a copy on a link carries, as far as the rules need it: how a segment is put into it, what a hearer reads in it, the
 -- checksum field of a segment, and what the link's two changes make of it.
-use Rattle.std.specs.Prelude.{ℕ, Option, List}
+use Rattle.std.specs.Prelude.{ℕ, Option}
 use Rattle.outside_kit.specs.declared.side.Side.{Side}
 use Rattle.path_segments.specs.declared.expected.Expected.{Expected}
-use Rattle.path_segments.specs.declared.position.HeardPosition.{HeardPosition}
-use Rattle.path_segments.specs.declared.segment.PathSegment.{PathSegment}
-use Rattle.path_segments.specs.declared.segment.PathOption.{PathOption}
 use Rattle.path_segments.specs.declared.spelling.Spelling.{Spelling}
+use Rattle.path_segments.specs.Heard.{HeardSegment}
 use Rattle.path_segments.specs.Spelled.{PlainSegment}
-
--- a segment as it is heard: a number may mean no position or place
-abbrev pub HeardSegment : Type 0
-HeardSegment = PathSegment HeardPosition (List (PathOption (Option ℕ) (List ℕ))) (List ℕ)
 
 -- The side is that of the end which sends.
 pub record Codec (C : Type 0) : Type 0 where

@@ -4,8 +4,8 @@ use Rattle.dss_checksum.specs.Checksum.{dss_checksum}
 use Rattle.dss_mapping.specs.declared.kept.KeptMapping.{KeptMapping}
 use Rattle.dss_mapping.specs.Learning.{first_held, after_learn_held, after_skip_held}
 use Rattle.dss_mapping.specs.Mappings.{octets_of, run_of, mapping_at, after_forget}
-use Rattle.link_model.specs.Steps.{peer}
 use Rattle.outside_kit.specs.declared.side.Side.{Side}
+use Rattle.outside_kit.specs.Side.{peer}
 use Rattle.subflow_recv.specs.Receiving.{filled, after_advance, after_forget_from}
 use Rattle.subflow_tcp.specs.State.{EndState}
 use Rattle.subflow_tcp.specs.Judging.{is_at}
@@ -36,7 +36,7 @@ data_fin_behind None other = other
 data_fin_behind (Some kept) other =
     if kept.fin then Some (record { position = (run_of kept).to; place = kept.place + octets_of kept }) else other
 
--- the first mapping that is held is learned, or passed over
+-- the first mapping that is held is learned, and a DATA_FIN behind its bytes waits for the edge
 abbrev pub with_learned : PathEnd → PathEnd
 with_learned e = record e {
   receiving = record e.receiving {
@@ -45,6 +45,7 @@ with_learned e = record e {
   };
 }
 
+-- the first mapping that is held is dropped without being learned
 abbrev pub with_skipped : PathEnd → PathEnd
 with_skipped e = record e { receiving = record e.receiving { mappings = after_skip_held e.receiving.mappings } }
 
@@ -59,6 +60,7 @@ pub record Piece : Type 0 where
 abbrev pub count_in : ℕ → KeptMapping → ℕ
 count_in edge kept = min (kept.pos + octets_of kept - edge) (2 ^ 62 - (kept.place + (edge - kept.pos)))
 
+-- the bytes in order at the edge that this mapping names
 abbrev pub piece_in : KeptMapping → EndState → Piece
 piece_in kept s = record {
   place = kept.place + (s.recv.edge - kept.pos);
@@ -79,14 +81,17 @@ is_whole kept s =
 abbrev pub is_right : KeptMapping → EndState → Bool
 is_right kept s = dss_checksum kept.mapping (take (octets_of kept) (filled s.recv.places)) == kept.mapping.checksum
 
+-- a piece without bytes is none
 abbrev pub some_piece : Piece → Option Piece
 some_piece piece = if nat_lt 0 (length piece.octets) then Some piece else None
 
+-- the bytes that this mapping lets pass: with checksums all of its own, once they are there and right, or none
 abbrev pub checked_piece : Bool → KeptMapping → EndState → Option Piece
 checked_piece checksums kept s =
     if checksums then (if is_whole kept s && is_right kept s then some_piece (piece_in kept s) else None)
     else some_piece (piece_in kept s)
 
+-- by the mapping that is there, if one is
 abbrev pub piece_by : Bool → Option KeptMapping → EndState → Option Piece
 piece_by checksums None s = None
 piece_by checksums (Some kept) s = checked_piece checksums kept s
@@ -100,6 +105,7 @@ abbrev pub piece_at : Option ℕ → EndState → Option Piece
 piece_at None s = None
 piece_at (Some place) s = some_piece (record { place = place; octets = take (2 ^ 62 - place) (filled s.recv.places) })
 
+-- from the edge on, by that mapping
 abbrev pub infinite_piece : Option InfiniteMapping → EndState → Option Piece
 infinite_piece None s = None
 infinite_piece (Some mapping) s = piece_at (place_under mapping s.recv.edge) s
@@ -131,6 +137,7 @@ after_piece piece e = passed_to (e.tcp.recv.edge + length piece.octets) e
 
 -- ---- a wrong checksum
 
+-- with checksums: all octets of the mapping are there, and their checksum is another one
 abbrev pub is_wrong : Bool → KeptMapping → EndState → Bool
 is_wrong checksums kept s = checksums && (is_whole kept s && not (is_right kept s))
 
@@ -139,6 +146,7 @@ abbrev pub failing_by : Bool → Option KeptMapping → EndState → Option Kept
 failing_by checksums None s = None
 failing_by checksums (Some kept) s = if is_wrong checksums kept s then Some kept else None
 
+-- the same, of what the end has at its edge
 abbrev pub failing_mapping : Profile → PathEnd → Option KeptMapping
 failing_mapping c e = failing_by c.spelling.checksums (mapping_here e) e.tcp
 
@@ -148,6 +156,7 @@ forgotten_by checksums None e = e
 forgotten_by checksums (Some kept) e =
     if is_wrong checksums kept e.tcp then record e { tcp = record e.tcp { recv = after_forget_from kept.pos e.tcp.recv } } else e
 
+-- so it is where the check fails at the edge; else nothing changes
 abbrev pub after_check : Profile → PathEnd → PathEnd
 after_check c e = forgotten_by c.spelling.checksums (mapping_here e) e
 
@@ -166,6 +175,7 @@ times_unmapped e = if e.receiving.unmapped_at == e.tcp.recv.edge then one_more e
 abbrev pub breaks_by_unmapped : PathEnd → Bool
 breaks_by_unmapped e = is_unmapped e && (is_sure e.modes.mode && nat_le 3 (times_unmapped e))
 
+-- a copy whose byte at the edge has no mapping is counted
 abbrev pub after_unmapped : PathEnd → PathEnd
 after_unmapped e = record e {
   receiving = record e.receiving {

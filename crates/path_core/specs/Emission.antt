@@ -35,6 +35,7 @@ use Rattle.path_core.specs.Words.{is_side_a}
 abbrev pub first_unsent : PathEnd → Option Record
 first_unsent e = find is_unsent e.tcp.send.records
 
+-- that record's segment; an acknowledgement where there is none
 abbrev pub unsent_segment : {C : Type 0} → Side → PathState C → PlainSegment
 unsent_segment s p = record_or_ack p.profile s (first_unsent (end_at s p)) (end_at s p)
 
@@ -59,18 +60,21 @@ payload_size c = c.mss - 28
 abbrev pub may_send_data : Profile → Side → PathEnd → Bool
 may_send_data c s e = e.modes.clear || (e.modes.identity || (is_side_a s && not (is_joined c)))
 
--- both SYNs are acknowledged, no FIN was sent, there is room for a full segment, and positions are left
+-- both SYNs are acknowledged, no FIN was sent, there is room for a full segment, positions are left, and data may be sent
 abbrev pub may_ask : Profile → Side → PathEnd → Bool
 may_ask c s e =
     may_finish e.tcp.state && (nat_le (payload_size c) (room e.tcp) && (not (is_at_limit e.tcp) && may_send_data c s e))
 
+-- the first unsent record is to fit; without one the end is to be one that may ask for bytes
 abbrev pub data_stands : Profile → Side → PathEnd → Option Record → Bool
 data_stands c s e (Some r) = not (is_closed_to_segments e.tcp.state) && fits e.tcp r
 data_stands c s e None = may_ask c s e
 
+-- the send book is asked for a full segment's payload at most, and told whether the path is a standby
 abbrev pub grant_ask : {C : Type 0} → Side → PathState C → Ask
 grant_ask s p = asks.Send s (send_calls.Grant (path_of p) (payload_size p.profile) (end_at s p).modes.standby)
 
+-- an unsent record goes out before more bytes are asked for
 abbrev pub data_ask : {C : Type 0} → Codec C → Side → Option Record → PathState C → Ask
 data_ask k s (Some r) p = sends k s (unsent_segment s p) p
 data_ask k s None p = grant_ask s p
@@ -99,6 +103,7 @@ abbrev pub grant_in : Reply → Option Grant
 grant_in (replies.Send (send_replies.Granted span piece)) = Some (record { span = span; piece = piece })
 grant_in _ = None
 
+-- what a refusal tells of the own stream
 abbrev pub refused_in : Reply → Sending → Sending
 refused_in (replies.Send (send_replies.NoGrant why known)) v = after_refusal why known v
 refused_in _ v = v
@@ -125,6 +130,7 @@ answered_syn k s p = sent_on k s (unsent_segment s p) (having_sent_unsent s p) (
 abbrev pub data_fin_segment : {C : Type 0} → Side → PathState C → PlainSegment
 data_fin_segment s p = ack_said p.profile s (end_at s p).tcp.send.nxt (end_at s p).sending.known_end (end_at s p)
 
+-- and from now on DATA_FIN counts as sent
 abbrev pub having_sent_data_fin : {C : Type 0} → Side → PathState C → PathEnd
 having_sent_data_fin s p =
     let e = having_sent to_send.Ack p.clock (data_fin_segment s p) (end_at s p) in record e { sending = with_data_fin_sent e.sending }

@@ -103,6 +103,7 @@ pub record PathEnd : Type 0 where
   pub treated : Treated
   pub notices : Notices
 
+-- nothing was granted, sent or acknowledged yet
 abbrev pub no_sending : Sending
 no_sending = record {
   known_end = None;
@@ -114,6 +115,7 @@ no_sending = record {
   news = false;
 }
 
+-- nothing was mapped, passed or told yet
 abbrev pub no_receiving : Receiving
 no_receiving =
     record { next = 0; window = 0; told_edge = 0; mappings = no_mappings; unmapped = 0; unmapped_at = 0; fin_told = false; mapped_data_fin = None }
@@ -140,6 +142,7 @@ nothing_treated = record {
 abbrev pub no_notices : Notices
 no_notices = record { queue = []; carrier = None; fast_closed = false; reset = false }
 
+-- the own key and nonce are there, and nothing was heard of the peer
 abbrev pub first_modes : ℕ → ℕ → Modes
 first_modes own_key own_nonce = record {
   mode = Starting;

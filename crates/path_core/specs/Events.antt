@@ -1,11 +1,13 @@
 -- What happens on a path by itself: its join, lines of the script, copies that arrive, timers that run out.
 use Rattle.std.specs.Prelude.{ℕ, max, ◌<◌, ◌&&◌, IsSome, Bool, true, false, nat_lt, nat_le, if◌then◌else◌, Option, Some, None, List, [], ◌∷◌, ◌++◌}
 use Rattle.std.specs.Option.{option_and_then}
+use Rattle.path_segments.specs.Heard.{HeardSegment}
 use Rattle.outside_kit.specs.declared.side.Side.{Side}
 use Rattle.outside_kit.specs.declared.side.Side.TheVariants.{A, B}
+use Rattle.outside_kit.specs.Side.{peer}
 use Rattle.link_model.specs.declared.flight.Due.{Due}
 use Rattle.link_model.specs.declared.flight.Flight.{Flight}
-use Rattle.link_model.specs.Steps.{next_due, arriving, after_delivery, after_cut, peer}
+use Rattle.link_model.specs.Steps.{next_due, arriving, after_delivery, after_cut}
 use Rattle.subflow_tcp.specs.declared.handshake.State.{State as EndPhase}
 use Rattle.subflow_tcp.specs.declared.handshake.State.TheVariants as phase
 use Rattle.subflow_tcp.specs.States.{is_dead, is_waiting}
@@ -24,7 +26,7 @@ use Rattle.path_agenda.specs.Agenda.{rest_of_turn, emission, expired, expired_fo
 use Rattle.path_agenda.specs.declared.notice.OwnNotice.TheVariants as notes
 use Rattle.path_agenda.specs.Words.{replaced}
 use Rattle.path_core.specs.Arriving.{expected_by, items_of, options_heard, judged_in, after_judged, template_of}
-use Rattle.path_core.specs.Codec.{Codec, HeardSegment}
+use Rattle.path_core.specs.Codec.{Codec}
 use Rattle.path_core.specs.Ends.{PathEnd, nothing_treated, no_notices}
 use Rattle.path_core.specs.Joining.{join_begin_ask, keys_begun, is_never, with_mode_refused, opened_by}
 use Rattle.path_core.specs.Joins.{is_joined}
@@ -47,6 +49,7 @@ abbrev pub next_join : EndPhase → Option ℕ → Option Event
 next_join state None = None
 next_join state (Some tick) = if is_waiting state then Some (happenings.Joins tick) else None
 
+-- the first line that isn't taken yet
 abbrev pub next_line : List LineLeft → Option Event
 next_line [] = None
 next_line (line ∷ lines) = Some (happenings.Takes line)
@@ -55,6 +58,7 @@ abbrev pub next_copy : Option Due → Option Event
 next_copy None = None
 next_copy (Some due) = Some (happenings.Arrives due)
 
+-- the timer of this side's end, where it runs
 abbrev pub next_fire : Side → Option ℕ → Option Event
 next_fire s None = None
 next_fire s (Some tick) = Some (happenings.Fires s tick)
@@ -120,6 +124,7 @@ abbrev pub join_begun : {C : Type 0} → Reply → List Duty → List Duty → P
 join_begun r dead living p =
     if is_never r then goes_on A (never_joined r (end_at A p)) dead p else goes_on A (opened_by (keys_begun r) (end_at A p)) living p
 
+-- asked in a later turn: what else is to be done stays
 abbrev pub answered_join_again : {C : Type 0} → Reply → PathState C → PathState C
 answered_join_again r p = join_begun r (replaced (duties.Ask (ask_duties.Leave A)) p.agenda) (left p) p
 
@@ -163,6 +168,7 @@ after_line (actions.Prio s backup) p = goes_on s (with_priority backup (end_at s
 after_line (actions.Announce s id) p = with_agenda (announces s id) p
 after_line (actions.Withdraw s id) p = with_agenda (withdraws s id) p
 
+-- at the line's tick, and the line is taken no second time
 abbrev pub line_taken : {C : Type 0} → LineLeft → PathState C → PathState C
 line_taken line p = after_line line.action (record (at_tick line.tick p) { lines = tail_of p.lines })
 
@@ -177,13 +183,16 @@ abbrev pub heard_at : {C : Type 0} → ℕ → Side → Option HeardSegment → 
 heard_at now s None p = with_agenda (emission s) p
 heard_at now s (Some h) p = told_at now s (options_heard (end_at s p) h) p
 
+-- at the path's own tick
 abbrev pub copy_heard : {C : Type 0} → Side → Option HeardSegment → PathState C → PathState C
 copy_heard s heard p = heard_at p.clock s heard p
 
+-- what the end reads in a copy, by the positions that it expects, where a copy is there and can be read
 abbrev pub heard_in : {C : Type 0} → Codec C → Side → Option (Flight C) → PathState C → Option HeardSegment
 heard_in k s None p = None
 heard_in k s (Some flight) p = k.reads p.profile.spelling (peer s) (expected_by (end_at s p)) flight.carried
 
+-- the copy is taken from the link at its tick, and the end hears it
 abbrev pub copy_taken : {C : Type 0} → Codec C → Due → PathState C → PathState C
 copy_taken k due p =
     copy_heard due.to (heard_in k due.to (arriving due p.link) p) (record (at_tick due.tick p) { link = after_delivery due p.link })
@@ -195,15 +204,18 @@ template_fired sixth s = if sixth then expired_for_ever s else expired s
 abbrev pub after_firing : ℕ → PathEnd → PathEnd
 after_firing now e = record e { tcp = after_fire now e.tcp }
 
+-- the end after the expiry of its timer, and what is to be done then
 abbrev pub timer_fired : {C : Type 0} → Side → PathState C → PathState C
 timer_fired s p = goes_on s (after_firing p.clock (end_at s p)) (template_fired (is_sixth (end_at s p).tcp) s) p
 
+-- what an event makes of the path; only a join depends on the reply
 abbrev pub happens : {C : Type 0} → Codec C → Event → Reply → PathState C → PathState C
 happens k (happenings.Joins tick) r p = joins_at_tick r (at_tick tick p)
 happens k (happenings.Takes line) r p = line_taken line p
 happens k (happenings.Arrives due) r p = copy_taken k due p
 happens k (happenings.Fires s tick) r p = timer_fired s (at_tick tick p)
 
+-- an event that may be there; without one the turn goes on
 abbrev pub happens_if : {C : Type 0} → Codec C → Option Event → Reply → PathState C → PathState C
 happens_if k None r p = with_agenda rest_of_turn p
 happens_if k (Some event) r p = happens k event r p

@@ -55,10 +55,12 @@ pub record PathRun (C : Type 0) : Type 0 where
   pub path : PathState C
   pub books : SixBooks
 
+-- the books answer what the path asks, and both are changed by it
 abbrev pub path_step : {C : Type 0} → Codec C → Option Ask → PathRun C → PathRun C
 path_step k None w = w
 path_step k (Some ask) w = record { path = takes k (reply_of w.books ask) w.path; books = after_ask ask w.books }
 
+-- the path and the books after so many of its steps
 abbrev pub after_steps : {C : Type 0} → Codec C → ℕ → PathRun C → PathRun C
 after_steps k zero w = w
 after_steps k (suc n) w = after_steps k n (path_step k (asks_of k w.path) w)
@@ -77,5 +79,6 @@ books_at_first =
     (after_ask (asks.Reassembly side.A (reassembly_calls.Read 65536)) (after_ask (asks.Send side.A send_calls.Close)
     (after_ask (asks.Send side.A (send_calls.Write hello)) (opened_books 65536 drawn.key_a drawn.key_b)))))
 
+-- path 0 at the start of its first turn, with those books
 abbrev pub path_at_first : {C : Type 0} → PathRun C
 path_at_first = record { path = first_turn start []; books = books_at_first }

@@ -22,6 +22,7 @@ use Rattle.path_core.specs.declared.modes.Modes.{Modes}
 use Rattle.path_core.specs.Ends.{PathEnd}
 use Rattle.path_core.specs.State.{PathState, end_at, goes_on, left, path_of}
 
+-- the control book is told what happened on the path, and answers its verdict
 abbrev pub fell_ask : {C : Type 0} → Side → Event → PathState C → Ask
 fell_ask s event p = asks.Control s (control_calls.Fell (path_of p) event)
 
@@ -46,6 +47,7 @@ fell_in events.PlainData r m = record (mode_in r m) { owes_mapping = m.owes_mapp
 fell_in events.PlainAck r m = record (mode_in r m) { owes_mapping = m.owes_mapping || is_fall r }
 fell_in _ r m = mode_in r m
 
+-- the end knows the mode of the verdict, and whether it owes an infinite mapping
 abbrev pub after_fell : Event → Reply → PathEnd → PathEnd
 after_fell event r e = record e { modes = fell_in event r e.modes }
 
@@ -62,11 +64,13 @@ fell_duties s (replies.Control (control_replies.Verdict (verdicts.Went Identity)
 fell_duties s (replies.Control (control_replies.Verdict (verdicts.BreakPath reason))) p = breaks_by (end_at s p).treated.asked s reason
 fell_duties s _ p = left p
 
+-- the verdict on an event, and what follows from it
 abbrev pub answered_fell : {C : Type 0} → Side → Event → Reply → PathState C → PathState C
 answered_fell s event r p = goes_on s (after_fell event r (end_at s p)) (fell_duties s r p) p
 
 -- ---- the fall
 
+-- the send book is told that the side fell back to plain TCP
 abbrev pub identity_ask : Side → Ask
 identity_ask s = asks.Send s send_calls.GoIdentity
 

@@ -44,6 +44,7 @@ leaves_silently e = is_silent e.tcp.state && e.notices.reset
 abbrev pub resets_noted : PathEnd → Bool
 resets_noted e = not (is_closed_to_segments e.tcp.state) && e.notices.reset
 
+-- what it holds was given back, and the control book is told next
 abbrev pub answered_leave_noted : {C : Type 0} → Side → PathState C → PathState C
 answered_leave_noted s p = goes_on s (died (end_at s p)) (replaced (duties.Ask (ask_duties.Dead s)) p.agenda) p
 
@@ -53,6 +54,7 @@ answered_leave_noted s p = goes_on s (died (end_at s p)) (replaced (duties.Ask (
 abbrev pub is_fast_close_due : PathEnd → Bool
 is_fast_close_due e = is_connected e.tcp.state && (is_carried e.notices && (e.modes.clear || e.modes.identity))
 
+-- with the key that the end carries
 abbrev pub fast_close_of : {C : Type 0} → Side → PathState C → PlainSegment
 fast_close_of s p = carried_said p.profile s (end_at s p).notices.carrier (end_at s p)
 
@@ -67,6 +69,7 @@ answered_fast_close k s p = sent_on k s (fast_close_of s p) (having_fast_closed 
 
 -- ---- the peer's is heard
 
+-- the control book is told the key of the peer's MP_FASTCLOSE
 abbrev pub fast_heard_ask : Side → ℕ → Ask
 fast_heard_ask s key = asks.Control s (control_calls.FastHeard key)
 
@@ -79,8 +82,10 @@ is_stopped_by _ = false
 abbrev pub answered_fast_heard : {C : Type 0} → Side → Reply → PathState C → PathState C
 answered_fast_heard s r p = with_agenda (if is_stopped_by r then stops s else left p) p
 
+-- the send book is told that the connection is aborted
 abbrev pub abort_send_ask : Side → Ask
 abort_send_ask s = asks.Send s send_calls.Abort
 
+-- the reassembly book is told that the peer ended the connection at once
 abbrev pub abort_receive_ask : Side → Ask
 abort_receive_ask s = asks.Reassembly s (reassembly_calls.Abort true)

@@ -1,13 +1,12 @@
 -- What the options of a segment say at most: they have forty octets (RFC 9293, section 3.1).
 use Rattle.std.specs.Prelude.{◌≡◌, ℕ, ◌≤◌, Bool, true, false, Some, List, length, filter}
+use Rattle.outside_kit.specs.declared.side.Side.{Side}
 use Rattle.key_material.specs.Octets.{AreOctets}
 use Rattle.path_segments.specs.declared.expected.Expected.{Expected}
 use Rattle.path_segments.specs.declared.segment.PathOption.TheVariants.{Prio}
-use Rattle.path_segments.specs.declared.spelling.Side.{Side}
 use Rattle.path_segments.specs.declared.spelling.Spelling.{Spelling}
-use Rattle.path_segments.specs.Heard.{heard_in}
+use Rattle.path_segments.specs.Heard.{heard_in, HeardSegment}
 use Rattle.path_core.specs.Arriving.{HeardOption, SaysFew}
-use Rattle.path_core.specs.Codec.{HeardSegment}
 
 -- octets that are a segment say 37 things at most, as many as one REMOVE_ADDR has room for
 abbrev pub CopiesSayFew : Type 0

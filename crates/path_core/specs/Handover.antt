@@ -43,10 +43,12 @@ has_mapping segment e = sends_plainly e.modes && (owes_mapping e && (segment.fin
 abbrev pub end_of : PlainSegment → ℕ
 end_of segment = min (segment.position + (length segment.payload + (if segment.fin then 1 else 0))) (2 ^ 64 - 1)
 
+-- the lesser one, where there are two
 abbrev pub least : Option ℕ → ℕ → Option ℕ
 least None n = Some n
 least (Some m) n = Some (min m n)
 
+-- of the segments that had the owed mapping, the least end is kept
 abbrev pub with_mapping_told : PlainSegment → PathEnd → PathEnd
 with_mapping_told segment e = record e {
   modes = record e.modes {

@@ -1,9 +1,9 @@
 -- The options of a path are those of the handshakes and of the ends that crates below state by themselves (RFC 8684, sections
 -- 3.1, 3.3.3 and 3.6).
 use Rattle.std.specs.Prelude.{ℕ, ◌≡◌, ◌≢◌, Bool, true, false, is_some, Some, option_map, List, [], ◌∷◌, map}
-use Rattle.link_model.specs.Steps.{peer}
 use Rattle.outside_kit.specs.declared.side.Side.{Side}
 use Rattle.outside_kit.specs.declared.side.Side.TheVariants.{A, B}
+use Rattle.outside_kit.specs.Side.{peer}
 use Rattle.capable_handshake.specs.Said.{syn_option, syn_ack_option, ack_option, first_data_option}
 use Rattle.capable_handshake.specs.Heard.{flag_on_syn, key_and_flag_on_syn_ack, keys_on_ack, checksums_used}
 use Rattle.control_book.specs.Control.{Control}
@@ -21,12 +21,12 @@ use Rattle.subflow_send.specs.Records.{Record}
 use Rattle.path_agenda.specs.Items.{key_heard, keys_heard}
 use Rattle.path_core.specs.Arriving.{asks_capable, key_items}
 use Rattle.path_core.specs.Ends.{PathEnd}
-use Rattle.path_core.specs.OptionsOut.{spelled_by, bare_mapping, checksum_in, checksum_told, capable_options, key_options, first_piece_options, data_fin_mapping, reset_options}
+use Rattle.path_core.specs.OptionsOut.{bare_mapping, checksum_in, checksum_told, capable_options, key_options, first_piece_options, data_fin_mapping, reset_options}
 use Rattle.path_core.specs.State.{Profile}
 
 -- options as the octets of a side have them
 abbrev pub in_octets : Profile → Side → List PlainOption → List OptionValue
-in_octets c s options = map (said_option c.spelling (spelled_by s)) options
+in_octets c s options = map (said_option c.spelling s) options
 
 -- ---- MP_CAPABLE
 
@@ -68,6 +68,7 @@ pub record KeysAreConfirmed (keys : CapableKeys) (book : Control) : Type 0 where
       → option_map (λ pair. reply_to book (control_calls.Keys pair.own pair.peer)) (keys_heard (key_items B keys))
       ≡ Some (control_replies.KeysDiffer book.keys.own)
 
+-- what path 0 says, hears and tells its books by MP_CAPABLE is that of the handshake, at every end and with all keys
 pub record CapableIsTheHandshake : Type 0 where
   pub said : (c : Profile) (e : PathEnd) → CapableIsSaid c e
   pub heard : (flag_a flag_c : Bool) (keys : CapableKeys) → CapableIsHeard flag_a flag_c keys
@@ -78,16 +79,17 @@ pub record CapableIsTheHandshake : Type 0 where
 
 -- the number of a place of a side's stream
 abbrev pub number_at : Profile → Side → ℕ → ℕ
-number_at c s place = data_number (numbers_of c.spelling (spelled_by s)).idsn.0 place
+number_at c s place = data_number (numbers_of c.spelling s).idsn.0 place
 
 -- with data numbers of eight octets a DATA_FIN alone is that of `data_close`; so is the reason of a reset, and a fast close in
 -- a path's segments
 pub record EndsAreSaid (c : Profile) (s : Side) : Type 0 where
   pub data_fin : c.spelling.short ≡ false → (next place : ℕ)
-      → said_option c.spelling (spelled_by s) (Dss (Some next) (data_fin_mapping c s (Some place)))
+      → said_option c.spelling s (Dss (Some next) (data_fin_mapping c s (Some place)))
       ≡ value_of (data_fin_option (number_at c (peer s) next) (number_at c s place) (checksum_told c (checksum_in c (bare_mapping c s place 0 1) [])))
   pub reset : (reason : ℕ) → in_octets c s (reset_options (Some reason)) ≡ value_of (reset_option reason) ∷ []
   pub fast_close : (key : ℕ) → in_octets c s (FastClose key ∷ []) ≡ value_of (fast_close_option key) ∷ []
 
+-- so it is on every path, at both sides
 abbrev pub EndsAreThose : Type 0
 EndsAreThose = (c : Profile) (s : Side) → EndsAreSaid c s

@@ -43,6 +43,7 @@ abbrev pub acknowledged_under : Option InfiniteMapping → ℕ → Option ℕ
 acknowledged_under None position = None
 acknowledged_under (Some mapping) position = place_under mapping position
 
+-- by how the side sends: in plain TCP the place of a position is one less, and with mappings of pieces it stands for nothing
 abbrev pub bytes_acknowledged : Modes → ℕ → Option ℕ
 bytes_acknowledged m position = if m.identity then Some (position - 1) else acknowledged_under m.own_infinite position
 
@@ -60,5 +61,6 @@ abbrev pub fin_under : Option InfiniteMapping → ℕ → Option ℕ
 fin_under None position = None
 fin_under (Some mapping) position = if nat_le mapping.position position then place_under mapping position else None
 
+-- by how the side receives: in plain TCP the place of a position is one less, and with mappings of pieces a FIN stands for nothing
 abbrev pub fin_place : Modes → ℕ → Option ℕ
 fin_place m position = if m.identity then Some (position - 1) else fin_under m.peer_infinite position

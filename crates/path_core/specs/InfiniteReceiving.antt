@@ -24,6 +24,7 @@ receiving_infinite place (Some position) true e =
 receiving_infinite place (Some position) false e = e
 receiving_infinite place None infinite e = e
 
+-- the verdict on the peer's infinite mapping, and that mapping where it counts from now on
 abbrev pub after_infinite : ℕ → Option ℕ → Reply → PathEnd → PathEnd
 after_infinite place position r e = receiving_infinite place position (is_infinite_receive r) (after_fell events.InfiniteHeard r e)
 

@@ -60,6 +60,7 @@ position_of next place pieces = position_in next place (find (has_place place) p
 abbrev pub may_go_infinite : PathEnd → Bool
 may_go_infinite e = e.modes.sole && is_tail e.sending.granted e.tcp.send.nxt
 
+-- the send book is asked to give itself to the path alone; where that can't be, the control book is told that no infinite mapping can be
 abbrev pub fail_ask : {C : Type 0} → Side → PathState C → Ask
 fail_ask s p =
     if may_go_infinite (end_at s p) then asks.Send s (send_calls.GoInfinite (path_of p)) else fell_ask s (events.FailHeard false) p
@@ -73,6 +74,7 @@ abbrev pub infinite_in : Reply → PathEnd → Option InfiniteMapping
 infinite_in (replies.Send (send_replies.Infinite from)) e = Some (infinite_from from e)
 infinite_in _ e = None
 
+-- it is kept until the verdict comes
 abbrev pub with_infinite : Reply → PathEnd → PathEnd
 with_infinite r e = record e { treated = record e.treated { infinite_mapping = infinite_in r e } }
 
@@ -80,11 +82,13 @@ with_infinite r e = record e { treated = record e.treated { infinite_mapping = i
 abbrev pub book_answered : {C : Type 0} → Side → Reply → PathState C → PathState C
 book_answered s r p = goes_on s (with_infinite r (end_at s p)) (replaced (duties.Ask (ask_duties.FailHeard s)) p.agenda) p
 
+-- by the send book, or by the verdict where that book wasn't asked
 abbrev pub answered_fail : {C : Type 0} → Side → Reply → PathState C → PathState C
 answered_fail s r p = if may_go_infinite (end_at s p) then book_answered s r p else answered_fell s (events.FailHeard false) r p
 
 -- ---- the verdict
 
+-- the control book is told of the MP_FAIL, and whether an infinite mapping can be sent
 abbrev pub fail_heard_ask : {C : Type 0} → Side → PathState C → Ask
 fail_heard_ask s p = fell_ask s (events.FailHeard (is_some (end_at s p).treated.infinite_mapping)) p
 
@@ -97,6 +101,7 @@ is_infinite_send _ = false
 abbrev pub with_own_infinite : InfiniteMapping → PathEnd → PathEnd
 with_own_infinite mapping e = record e { modes = record e.modes { own_infinite = Some mapping; owes_mapping = true } }
 
+-- by the mapping that is there, where the verdict is so
 abbrev pub sending_infinite : Option InfiniteMapping → Bool → PathEnd → PathEnd
 sending_infinite (Some mapping) true e = with_own_infinite mapping e
 sending_infinite (Some mapping) false e = e

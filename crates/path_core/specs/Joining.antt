@@ -52,6 +52,7 @@ with_mode_refused r e = record e { modes = record e.modes { mode = mode_refused 
 
 -- ---- A begins
 
+-- A's control book is asked whether the path may be joined now
 abbrev pub join_begin_ask : ℕ → Ask
 join_begin_ask path = asks.Control A (control_calls.JoinBegin path)
 
@@ -73,6 +74,7 @@ opened_by (Some keys) e = record e {
 
 -- ---- B answers
 
+-- B's control book is asked, by the token of the SYN
 abbrev pub join_heard_ask : {C : Type 0} → Side → Option JoinSyn → PathState C → Ask
 join_heard_ask s None p = asks.Local steps.End
 join_heard_ask s (Some asked) p = asks.Control s (control_calls.JoinHeard (path_of p) asked.token)
@@ -86,6 +88,7 @@ abbrev pub is_listening : EndPhase → Bool
 is_listening phase.Listen = true
 is_listening _ = false
 
+-- an end that doesn't listen stays as it is
 abbrev pub after_joining_syn : ℕ → EndState → EndState
 after_joining_syn window tcp = if is_listening tcp.state then after_syn (unkept None) (syn_alone window) tcp else tcp
 
@@ -104,6 +107,7 @@ join_taken s None (Some asked) r p =
     goes_on s (with_mode_refused r (end_at s p)) (replaced (duties.Send (send_duties.Refuse s)) p.agenda) p
 join_taken s keys None r p = with_agenda (replaced (duties.Send (send_duties.Refuse s)) p.agenda) p
 
+-- the MP_JOIN with which the copy that is treated asks to join
 abbrev pub asked_at : {C : Type 0} → Side → PathState C → Option JoinSyn
 asked_at s p = join_asked (end_at s p).treated.items
 
@@ -115,5 +119,6 @@ abbrev pub refusal_of : {C : Type 0} → Side → PathState C → PlainSegment
 refusal_of s p =
     let e = end_at s p in segment_of p.profile (outgoing_or e.treated.answer (reset_segment e.tcp)) (reset_options (Some 1)) [] e
 
+-- the end itself doesn't change
 abbrev pub answered_refusal : {C : Type 0} → Codec C → Side → PathState C → PathState C
 answered_refusal k s p = sent_on k s (refusal_of s p) (end_at s p) (left p) p

@@ -33,6 +33,7 @@ peer_key_of m = unwrap_or m.peer_key 0
 
 -- ---- what is said
 
+-- an option of the handshake, where it is an MP_JOIN
 abbrev pub said_join : MpOption → List PlainOption
 said_join (said.Join form) = Join form ∷ []
 said_join _ = []
@@ -48,6 +49,7 @@ third_options m = said_join (third_option m.own_key (peer_key_of m) m.own_nonce 
 
 -- ---- what is heard
 
+-- the option that has this form, where one was heard
 abbrev pub join_value : Option JoinForm → Option wire.OptionValue
 join_value form = option_map (λ form. wire.Join form) form
 
@@ -69,5 +71,6 @@ abbrev pub is_hmac_right : Option (List ℕ) → Modes → Bool
 is_hmac_right None m = false
 is_hmac_right (Some hmac) m = pointwise ◌==◌ hmac (join_a160_of (peer_key_of m) m.own_key m.peer_nonce m.own_nonce)
 
+-- a third MP_JOIN is among these things, and the HMAC of the first one is A's
 abbrev pub is_third_right : List Heard → Modes → Bool
 is_third_right items m = is_hmac_right (third_in items) m

@@ -2,14 +2,15 @@
 use Rattle.std.specs.Prelude.{◌≡◌, ℕ, if◌then◌else◌, Bool, true, false, IfSome, IsOk, Option, Some, None, option_map, List, [], ◌∷◌, length, drop}
 use Rattle.std.specs.Int.{w16}
 use Rattle.outside_kit.specs.declared.side.Side.{Side}
+use Rattle.outside_kit.specs.Side.{peer}
 use Rattle.pipe_model.specs.Octets.{number_at}
 use Rattle.link_model.specs.declared.flight.Due.{Due}
 use Rattle.link_model.specs.declared.flight.Flight.{Flight}
 use Rattle.link_model.specs.Fate.{segment_fate}
-use Rattle.link_model.specs.Octets.{addresses_from}
-use Rattle.link_model.specs.Steps.{peer, next_number, arriving}
+use Rattle.link_model.specs.Steps.{next_number, arriving}
 use Rattle.segment_wire.specs.declared.head.Addresses.{Addresses}
 use Rattle.segment_wire.specs.Reading.{header_len, segment_meaning}
+use Rattle.segment_wire.specs.Paths.{addresses_from}
 use Rattle.rtt_timer.specs.Estimates.{srtt_of}
 use Rattle.subflow_send.specs.Records.{Record}
 use Rattle.path_segments.specs.Spelled.{PlainSegment}
@@ -90,6 +91,7 @@ module _ {C : Type 0} where
   abbrev pub mapping_sends : Side → PathState C → Option ToSend
   mapping_sends s p = if is_clash (end_at s p) then broken_by s 1 p else None
 
+  -- of all that is heard only a mapping does
   abbrev pub heard_sends : Side → Option Heard → PathState C → Option ToSend
   heard_sends s (Some (says.Mapping fin)) p = mapping_sends s p
   heard_sends s _ p = None
@@ -156,6 +158,7 @@ module _ {C : Type 0} where
     pub told : asks_of k p ≡ Some (sends k t.from (segment_sent p t) p)
     pub taken : (r : Reply) → (takes k r p).link ≡ handed k t.from (segment_sent p t) p
 
+  -- the next step hands over this segment, or, where there is none, tells of none
   abbrev pub HandsOrTellsNone : Codec C → PathState C → Option ToSend → Type 0
   HandsOrTellsNone k p None = tells_a_segment (asks_of k p) ≡ false
   HandsOrTellsNone k p (Some t) = Hands k p t
@@ -186,6 +189,7 @@ abbrev pub copy_arriving : Option Event → PathState (List ℕ) → Option Arri
 copy_arriving (Some (happenings.Arrives due)) p = arrived due p
 copy_arriving _ p = None
 
+-- only where the duty of events stands first
 abbrev pub first_arrival : List Duty → PathState (List ℕ) → Option Arrived
 first_arrival (duties.Step steps_of.Events ∷ ds) p = copy_arriving (next_event p) p
 first_arrival _ p = None

@@ -15,7 +15,7 @@ queued notice n = record n { queue = n.queue ++ notice ∷ [] }
 abbrev pub without_first : Notices → Notices
 without_first n = record n { queue = tail_of n.queue }
 
--- An announcement that the end can't send now is told again in the next round. The key is kept until MP_FASTCLOSE is sent.
+-- An announcement that the end can't send now is told again in the next round. The key is the last one told before MP_FASTCLOSE is sent.
 abbrev pub after_notice : Notice → Bool → Notices → Notices
 after_notice told.Nothing may n = n
 after_notice (told.Announce id) may n = if may then queued (notes.AddAddr id) n else n

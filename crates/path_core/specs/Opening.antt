@@ -51,6 +51,7 @@ is_plain_syn e = not e.modes.capable_asked && is_starting e.modes.mode
 abbrev pub peer_key_stands : PathEnd → Bool
 peer_key_stands e = is_some (key_heard e.treated.items) || is_starting e.modes.mode
 
+-- the control book is told the key, or that there is none
 abbrev pub peer_key_ask : {C : Type 0} → Side → Option ℕ → PathState C → Ask
 peer_key_ask s None p = fell_ask s events.PlainHandshake p
 peer_key_ask s (Some key) p = asks.Control s (control_calls.PeerKey key)
@@ -58,10 +59,12 @@ peer_key_ask s (Some key) p = asks.Control s (control_calls.PeerKey key)
 abbrev pub with_peer_key : Option ℕ → PathEnd → PathEnd
 with_peer_key key e = record e { modes = record e.modes { peer_key = key } }
 
+-- the key is kept; without one the verdict counts
 abbrev pub answered_peer_key : {C : Type 0} → Side → Option ℕ → Reply → PathState C → PathState C
 answered_peer_key s None r p = answered_fell s events.PlainHandshake r p
 answered_peer_key s (Some key) r p = goes_on s (with_peer_key (Some key) (end_at s p)) (left p) p
 
+-- the control book is told both keys
 abbrev pub keys_ask : Side → Option KeyPair → Ask
 keys_ask s None = asks.Local steps.End
 keys_ask s (Some keys) = asks.Control s (control_calls.Keys keys.own keys.peer)
@@ -71,6 +74,7 @@ abbrev pub keys_in : Reply → Option KeyPair → Modes → Modes
 keys_in (replies.Control control_replies.Noted) (Some keys) m = record m { peer_key = Some keys.peer; clear = true }
 keys_in _ keys m = m
 
+-- whatever the book answers, the keys of the copy count as told
 abbrev pub after_keys : Reply → Option KeyPair → PathEnd → PathEnd
 after_keys r keys e = record e { modes = keys_in r keys e.modes; treated = record e.treated { keys_told = true } }
 
@@ -78,13 +82,16 @@ after_keys r keys e = record e { modes = keys_in r keys e.modes; treated = recor
 abbrev pub is_opened_by_keys : PathEnd → Bool
 is_opened_by_keys e = e.treated.opened && is_some (keys_heard e.treated.items)
 
+-- by one without any option, as long as neither Multipath TCP nor plain TCP is settled
 abbrev pub is_opened_plainly : PathEnd → Bool
 is_opened_plainly e = e.treated.opened && (not e.treated.has_option && is_starting e.modes.mode)
 
+-- the control book is told both keys, or that the handshake has none
 abbrev pub opened_ask : {C : Type 0} → Side → Option KeyPair → PathState C → Ask
 opened_ask s None p = fell_ask s events.PlainHandshake p
 opened_ask s (Some keys) p = keys_ask s (Some keys)
 
+-- the keys count where the book noted them; without keys the verdict counts
 abbrev pub answered_opened : {C : Type 0} → Side → Option KeyPair → Reply → PathState C → PathState C
 answered_opened s None r p = answered_fell s events.PlainHandshake r p
 answered_opened s (Some keys) r p = goes_on s (after_keys r (Some keys) (end_at s p)) (left p) p

@@ -8,8 +8,6 @@ use Rattle.key_material.specs.Address.{octets_of}
 use Rattle.key_material.specs.AddressHmac.{add_addr64_of}
 use Rattle.mptcp_options.specs.declared.capable.CapableKeys.TheVariants.{NoKey, Sender, Both, WithData}
 use Rattle.dss_checksum.specs.Checksum.{dss_checksum}
-use Rattle.path_segments.specs.declared.spelling.Side.TheVariants as spelled_side
-use Rattle.path_segments.specs.declared.spelling.Side.{Side as SpelledSide}
 use Rattle.path_segments.specs.declared.segment.PathOption.TheVariants.{Capable, Dss, AddAddr, Remove, Prio, Fail, FastClose, Reset}
 use Rattle.path_segments.specs.declared.segment.PathMapping.{PathMapping}
 use Rattle.path_segments.specs.declared.segment.PathMapping.TheVariants.{Bytes, End, Infinite}
@@ -33,17 +31,12 @@ use Rattle.path_core.specs.Joins.{is_joined, peer_key_of, join_options, third_op
 use Rattle.path_core.specs.State.{Profile}
 use Rattle.path_core.specs.Words.{is_side_a}
 
--- the same side, as the segments of a path have it
-abbrev pub spelled_by : Side → SpelledSide
-spelled_by A = spelled_side.A
-spelled_by B = spelled_side.B
-
 -- ---- mappings
 
 -- of these bytes, from this place and this position on, before there is a checksum
 abbrev pub bare_mapping : Profile → Side → ℕ → ℕ → ℕ → Mapping
 bare_mapping c s place position len = record {
-  number = whole_number c.spelling (spelled_by s) place;
+  number = whole_number c.spelling s place;
   relative = relative_number position;
   length = len;
   checksum = 0;
@@ -62,7 +55,7 @@ mapping_of c s place position octets =
 
 -- the place that the first number of a mapping stands for
 abbrev pub place_numbered : Profile → Side → ℕ → ℕ
-place_numbered c s number = (number + (2 ^ 64 - whole_number c.spelling (spelled_by s) 0)) % 2 ^ 64
+place_numbered c s number = (number + (2 ^ 64 - whole_number c.spelling s 0)) % 2 ^ 64
 
 -- a checksum stands in an option exactly where checksums are used
 abbrev pub checksum_told : Profile → ℕ → Option ℕ
@@ -75,6 +68,7 @@ abbrev pub is_reached : Option ℕ → ℕ → Bool
 is_reached None una = false
 is_reached (Some to) una = nat_le to una
 
+-- the end owes its infinite mapping until a segment that has it is acknowledged
 abbrev pub owes_mapping : PathEnd → Bool
 owes_mapping e = e.modes.owes_mapping && not (is_reached e.modes.mapped_to e.tcp.send.una)
 
@@ -102,6 +96,7 @@ capable_options c A e = Capable c.spelling.checksums false NoKey ∷ []
 capable_options c B e =
     if e.modes.capable_asked && not e.modes.identity then Capable c.spelling.checksums false (Sender e.modes.own_key) ∷ [] else []
 
+-- on a SYN and a SYN/ACK, of a path that joins or of the one that opens the connection
 abbrev pub syn_options : Profile → Side → PathEnd → List PlainOption
 syn_options c s e = if is_joined c then join_options c s e.modes else capable_options c s e
 
@@ -145,16 +140,19 @@ piece_mapping c s r =
 abbrev pub is_first_piece : Side → Record → PathEnd → Bool
 is_first_piece s r e = is_side_a s && (not e.modes.clear && r.pos == 1)
 
+-- MP_CAPABLE with both keys, and the data's length and checksum (RFC 8684, section 3.1); nothing without the peer's key
 abbrev pub first_piece_options : Profile → Option ℕ → Record → PathEnd → List PlainOption
 first_piece_options c (Some peer) r e =
     Capable c.spelling.checksums false (WithData e.modes.own_key peer r.mapping.length (checksum_told c r.mapping.checksum)) ∷ []
 first_piece_options c None r e = []
 
+-- on a piece with a mapping of its own: MP_CAPABLE on A's first one, else a DSS with the Data ACK and the mapping
 abbrev pub mapped_options : Profile → Side → Record → PathEnd → List PlainOption
 mapped_options c s r e =
     if is_first_piece s r e then first_piece_options c e.modes.peer_key r e
     else Dss (Some e.receiving.next) (Some (piece_mapping c s r)) ∷ []
 
+-- on a piece, by how the end sends: in plain TCP, by its infinite mapping, or with the piece's own mapping
 abbrev pub piece_options : Profile → Side → Record → PathEnd → List PlainOption
 piece_options c s r e =
     if e.modes.identity then plain_options r.pos e else infinite_or e.modes.own_infinite (mapped_options c s r e) e
@@ -246,6 +244,7 @@ reset_said c reason e =
 abbrev pub dss_and : Profile → PlainOption → PathEnd → PlainSegment
 dss_and c option e = segment_of c (ack_at e.tcp.send.nxt e.tcp) (Dss (Some e.receiving.next) None ∷ option ∷ []) [] e
 
+-- an acknowledgement with a DSS, and the notice behind it
 abbrev pub notice_said : Profile → OwnNotice → PathEnd → PlainSegment
 notice_said c notice e = dss_and c (notice_option notice e.modes) e
 

@@ -37,9 +37,11 @@ use Rattle.path_core.specs.Words.{item_at}
 
 -- ---- the edge
 
+-- bytes or an end were told, so that what is to be acknowledged is to be asked
 abbrev pub having_asked : PathEnd → PathEnd
 having_asked e = record e { treated = record e.treated { asked = true } }
 
+-- the reassembly book is to place the bytes
 abbrev pub piece_ask : Side → Option Piece → Ask
 piece_ask s None = asks.Local steps.End
 piece_ask s (Some piece) = asks.Reassembly s (reassembly_calls.Place piece.place piece.octets)
@@ -52,6 +54,7 @@ is_placed _ = false
 abbrev pub refused : {C : Type 0} → Side → PathState C → PathState C
 refused s p = goes_on s (having_asked (end_at s p)) (breaks s 1) p
 
+-- the edge is behind them, and the duty stays where it is
 abbrev pub placed : {C : Type 0} → Side → Piece → PathState C → PathState C
 placed s piece p = goes_on s (having_asked (after_piece piece (end_at s p))) p.agenda p
 
@@ -65,9 +68,11 @@ piece_of s p = next_piece p.profile (end_at s p)
 
 -- ---- the end of the stream
 
+-- the end of the stream that has this number among those to be told
 abbrev pub data_fin_of : ℕ → PathEnd → Option ℕ
 data_fin_of index e = item_at index e.treated.fins
 
+-- the reassembly book is told where the peer's stream ends
 abbrev pub fin_ask : Side → Option ℕ → Ask
 fin_ask s None = asks.Local steps.End
 fin_ask s (Some place) = asks.Reassembly s (reassembly_calls.Fin place)
@@ -79,9 +84,11 @@ abbrev pub is_fin_set : Reply → Bool
 is_fin_set (replies.Reassembly reassembly_replies.FinSet) = true
 is_fin_set _ = false
 
+-- the book has the end, and the peer's DATA_FIN came
 abbrev pub fin_set : {C : Type 0} → Side → PathState C → PathState C
 fin_set s p = goes_on s (having_asked (with_peer_data_fin (end_at s p))) (left p) p
 
+-- an end that the book refuses breaks the path
 abbrev pub answered_fin_heard : {C : Type 0} → Side → Bool → PathState C → PathState C
 answered_fin_heard s set p = if set then fin_set s p else refused s p
 
@@ -101,6 +108,7 @@ plain_fin e = if e.receiving.fin_told then None else place_passed e.modes e.tcp.
 abbrev pub with_fin_told : PathEnd → PathEnd
 with_fin_told e = record e { receiving = record e.receiving { fin_told = true } }
 
+-- a FIN that the book took as the end counts as the peer's DATA_FIN, and is told no second time
 abbrev pub answered_plain_fin : {C : Type 0} → Side → Bool → PathState C → PathState C
 answered_plain_fin s set p =
     if set then goes_on s (having_asked (with_peer_data_fin (with_fin_told (end_at s p)))) (left p) p else refused s p
@@ -121,6 +129,7 @@ abbrev pub growth_by : Option Row → List Row → ℕ → ℕ → ℕ
 growth_by None rows mss acked = 0
 growth_by (Some row) rows mss acked = growth_of row rows mss acked
 
+-- the linked increase of the congestion window in octets (RFC 6356, section 3); 0 where the book told no rows
 abbrev pub growth_in : ℕ → ℕ → Reply → Option Pending → ℕ
 growth_in path mss (replies.Control (control_replies.Rows rows)) (Some pending) =
     growth_by (find (is_row_of path) rows) rows mss (min 1048576 pending.acked)
@@ -139,6 +148,7 @@ answered_rate s r p = goes_on s (after_rate (path_of p) p.profile.mss r (end_at 
 abbrev pub first_record : PathEnd → Option Record
 first_record e = slice_get e.tcp.send.records 0
 
+-- that record's segment; an acknowledgement where there is none
 abbrev pub first_segment : {C : Type 0} → Side → PathState C → PlainSegment
 first_segment s p = record_or_ack p.profile s (first_record (end_at s p)) (end_at s p)
 
@@ -150,6 +160,7 @@ answered_again k s p =
 abbrev pub answer_occasion : PathEnd → Occasion
 answer_occasion e = if e.tcp.due.syn_ack then to_send.SynAck else to_send.Ack
 
+-- the SYN/ACK, or an acknowledgement at SND.NXT
 abbrev pub answer_said : Profile → Side → PathEnd → PlainSegment
 answer_said c s e = if e.tcp.due.syn_ack then syn_ack_said c s e else ack_said c s e.tcp.send.nxt None e
 
@@ -165,9 +176,11 @@ abbrev pub outgoing_or : Option Outgoing → Outgoing → Outgoing
 outgoing_or (Some outgoing) other = outgoing
 outgoing_or None other = other
 
+-- it has no option
 abbrev pub dead_answer : {C : Type 0} → Side → PathState C → PlainSegment
 dead_answer s p = let e = end_at s p in segment_of p.profile (outgoing_or e.treated.answer (reset_segment e.tcp)) [] [] e
 
+-- the end itself doesn't change
 abbrev pub answered_dead : {C : Type 0} → Codec C → Side → PathState C → PathState C
 answered_dead k s p = sent_on k s (dead_answer s p) (end_at s p) (left p) p
 
@@ -180,6 +193,7 @@ resend_occasion e =
     if has_records e.tcp then to_send.First
     else (if e.modes.owes_third || (e.notices.fast_closed || is_data_fin_owed e) then to_send.Ack else to_send.Probe)
 
+-- an acknowledgement with what isn't answered; where nothing is open, the probe, one position before SND.UNA
 abbrev pub ack_resent : Profile → Side → PathEnd → PlainSegment
 ack_resent c s e =
     if e.modes.owes_third then ack_said c s e.tcp.send.nxt None e
@@ -187,6 +201,7 @@ ack_resent c s e =
     else (if is_data_fin_owed e then ack_said c s e.tcp.send.nxt e.sending.known_end e
     else ack_said c s (e.tcp.send.una - 1) None e))
 
+-- the first record, or such an acknowledgement
 abbrev pub resend_said : Profile → Side → PathEnd → PlainSegment
 resend_said c s e = if has_records e.tcp then record_or_ack c s (first_record e) e else ack_resent c s e
 

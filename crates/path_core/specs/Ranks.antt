@@ -30,6 +30,7 @@ abbrev pub due_timer : ℕ → Option ℕ → ℕ
 due_timer clock None = 0
 due_timer clock (Some tick) = one_if_due clock tick
 
+-- how many there are of copies, lines, the join and timers whose tick has come
 abbrev pub due_by_now : {C : Type 0} → PathState C → ℕ
 due_by_now p =
     due_copies p.clock p.link.under_way + (due_lines p.clock p.lines + (due_timer p.clock p.joined_at
@@ -37,9 +38,11 @@ due_by_now p =
 
 -- ---- octets
 
+-- octets in order from the edge on, which it hasn't passed yet
 abbrev pub held : PathEnd → ℕ
 held e = length (filled e.tcp.recv.places)
 
+-- at both ends
 abbrev pub bytes_left : {C : Type 0} → PathState C → ℕ
 bytes_left p = held p.a + held p.b
 
@@ -64,5 +67,6 @@ abbrev pub work : PathEnd → ℕ
 work e =
     2 * (e.tcp.congestion.reno.window - outstanding e.tcp.send.records) + unsent_count e.tcp.send.records + notes_left e.notices
 
+-- at both ends
 abbrev pub sendings_left : {C : Type 0} → PathState C → ℕ
 sendings_left p = work p.a + work p.b

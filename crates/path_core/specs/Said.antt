@@ -14,7 +14,7 @@ use Rattle.path_core.specs.declared.segment_kind.SegmentKind.TheVariants as to_s
 use Rattle.path_core.specs.Emission.{first_unsent}
 use Rattle.path_core.specs.Ends.{PathEnd}
 use Rattle.path_core.specs.Passing.{outgoing_or, first_record, answer_said, resend_said}
-use Rattle.path_core.specs.OptionsOut.{spelled_by, reset_options, segment_of, ack_said, noted_said, carried_said, fin_said, syn_ack_said, reset_said, record_or_ack}
+use Rattle.path_core.specs.OptionsOut.{reset_options, segment_of, ack_said, noted_said, carried_said, fin_said, syn_ack_said, reset_said, record_or_ack}
 use Rattle.path_core.specs.Octets.{octets}
 use Rattle.path_core.specs.Handover.{having_sent, sent_on}
 use Rattle.path_core.specs.State.{PathState, Profile, end_at}
@@ -47,7 +47,7 @@ plain_said s = record {
 
 -- a segment of a side can be said
 abbrev pub CanBeSaid : Spelling → Side → PlainSegment → Type 0
-CanBeSaid spelling s segment = CanSay spelling (spelled_by s) segment
+CanBeSaid spelling s segment = CanSay spelling s segment
 
 -- the segment of each kind
 abbrev pub said_by : SegmentKind → Profile → Side → PathEnd → PlainSegment

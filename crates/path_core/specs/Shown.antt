@@ -1,15 +1,15 @@
 -- A path over segments as values, shown over octets.
 use Rattle.std.specs.Prelude.{ℕ, ◌≡◌, ◌+◌, ◌^◌, ◌<◌, ◌≤◌, ◌⊎◌, true, false, if◌then◌else◌, IfSome, IsSome, Some, List}
 use Rattle.outside_kit.specs.declared.side.Side.{Side}
+use Rattle.outside_kit.specs.Side.{peer}
 use Rattle.link_script.specs.declared.script.ScriptLine.{ScriptLine}
 use Rattle.link_model.specs.declared.flight.Due.{Due}
 use Rattle.link_model.specs.declared.flight.Flight.{Flight}
 use Rattle.link_model.specs.Fate.{is_altered}
 use Rattle.link_model.specs.Laws.{with_copies_shown}
 use Rattle.link_model.specs.Octets.{octets_stripped}
-use Rattle.link_model.specs.Steps.{next_number, peer, arriving}
+use Rattle.link_model.specs.Steps.{next_number, arriving}
 use Rattle.path_segments.specs.declared.expected.Expected.{Expected}
-use Rattle.path_segments.specs.declared.spelling.Side.{Side as SpelledSide}
 use Rattle.path_segments.specs.declared.spelling.Spelling.{Spelling}
 use Rattle.path_segments.specs.HeardLent.{IsExpected}
 use Rattle.path_segments.specs.Laws.{IsFresh}
@@ -21,7 +21,6 @@ use Rattle.path_core.specs.declared.event.Event.TheVariants as happenings
 use Rattle.path_core.specs.declared.looking.ToSend.{ToSend}
 use Rattle.path_core.specs.Looking.{first_sends, segment_sent}
 use Rattle.path_core.specs.Octets.{made, octets}
-use Rattle.path_core.specs.OptionsOut.{spelled_by}
 use Rattle.path_core.specs.Said.{CanBeSaid}
 use Rattle.path_core.specs.State.{PathState, end_at}
 use Rattle.path_core.specs.Steps.{asks_of, takes, next_round}
@@ -33,6 +32,7 @@ octets_of spelling carried =
     let whole = made spelling carried.from carried.segment in
     if carried.stripped then octets_stripped spelling.path carried.from whole else whole
 
+-- the same path, the copies on its link as octets
 abbrev pub shown_path : PathState Carried → PathState (List ℕ)
 shown_path p = record {
   profile = p.profile;
@@ -53,7 +53,7 @@ pub record AltersNothing (lines : List ScriptLine) : Type 0 where
 -- A reset 2^31 positions or more ahead of what the end expects, below position 2^32; all its other numbers are near. The
 -- nearest position that its number means would be before the first, so that octets tell none. A dead end sends such resets,
 -- since it answers a segment without an acknowledgement at number 0, wherever that lies (RFC 9293, section 3.10.7.1).
-pub record IsFarReset (spelling : Spelling) (from : SpelledSide) (expected : Expected) (s : PlainSegment) : Type 0 where
+pub record IsFarReset (spelling : Spelling) (from : Side) (expected : Expected) (s : PlainSegment) : Type 0 where
   pub reset : s.rst ≡ true
   pub acknowledging : IsSome s.acknowledged
   pub ahead : expected.edge + 2 ^ 31 ≤ s.position
@@ -64,10 +64,10 @@ pub record IsFarReset (spelling : Spelling) (from : SpelledSide) (expected : Exp
 -- far reset. That is said of the segment with all its options, also where these were taken away.
 pub record IsFreshCopy (p : PathState Carried) (to : Side) (carried : Carried) : Type 0 where
   pub from : carried.from ≡ peer to
-  pub sayable : CanSay p.profile.spelling (spelled_by (peer to)) carried.segment
+  pub sayable : CanSay p.profile.spelling (peer to) carried.segment
   pub expected : IsExpected (expected_by (end_at to p))
-  pub fresh : IsFresh p.profile.spelling (spelled_by (peer to)) (expected_by (end_at to p)) carried.segment
-      ⊎ IsFarReset p.profile.spelling (spelled_by (peer to)) (expected_by (end_at to p)) carried.segment
+  pub fresh : IsFresh p.profile.spelling (peer to) (expected_by (end_at to p)) carried.segment
+      ⊎ IsFarReset p.profile.spelling (peer to) (expected_by (end_at to p)) carried.segment
 
 -- the copy that is due next is fresh, where one is
 abbrev pub NextIsFresh : PathState Carried → Type 0
@@ -92,5 +92,6 @@ abbrev pub TakesTheSame : Type 0
 TakesTheSame = (r : Reply) (p : PathState Carried) → SentCanBeAltered p → NextIsFresh p
     → takes octets r (shown_path p) ≡ shown_path (takes values r p)
 
+-- and a round begins with both alike
 abbrev pub BeginsTheSame : Type 0
 BeginsTheSame = (p : PathState Carried) → next_round (shown_path p) ≡ shown_path (next_round p)

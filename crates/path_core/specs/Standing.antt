@@ -35,6 +35,7 @@ is_connected phase.SynReceived = false
 is_connected phase.Dead = false
 is_connected _ = true
 
+-- the control book is asked how the side and the path stand
 abbrev pub look_ask : {C : Type 0} → Side → PathState C → Ask
 look_ask s p = asks.Control s (control_calls.Look (path_of p))
 
@@ -59,6 +60,7 @@ abbrev pub queues_in : Reply → PathEnd → Bool
 queues_in (replies.Control (control_replies.Standing mode standby sole notice)) e = not (is_dead e.tcp.state) && queues notice (may_note e)
 queues_in _ e = false
 
+-- the mode, the standing and the notice are the end's from now on
 abbrev pub after_look : Reply → PathEnd → PathEnd
 after_look r e = record e { modes = modes_told r e.modes; notices = notices_told r e }
 
@@ -67,9 +69,11 @@ answered_look s r p = goes_on s (after_look r (end_at s p)) (left p) p
 
 -- ---- what is to be acknowledged
 
+-- the reassembly book is asked
 abbrev pub ack_out_ask : Side → Ask
 ack_out_ask s = asks.Reassembly s reassembly_calls.AckOut
 
+-- the next place that is wanted, and how many bytes are taken from there on
 abbrev pub window_in : Reply → Receiving → Receiving
 window_in (replies.Reassembly (reassembly_replies.Ack next window)) v = record v { next = next; window = window }
 window_in _ v = v
@@ -78,6 +82,7 @@ window_in _ v = v
 abbrev pub after_ack_out : Reply → PathEnd → PathEnd
 after_ack_out r e = record e { receiving = window_in r e.receiving; treated = record e.treated { asked = false } }
 
+-- and then these are to be done
 abbrev pub answered_ack_out : {C : Type 0} → Side → Reply → List Duty → PathState C → PathState C
 answered_ack_out s r ds p = goes_on s (after_ack_out r (end_at s p)) ds p
 
@@ -91,6 +96,7 @@ tellable_edge e = e.receiving.next + window_told false e.receiving.window
 abbrev pub has_grown : Profile → PathEnd → Bool
 has_grown c e = nat_le (min c.buffer (4 * c.mss)) (2 * (tellable_edge e - e.receiving.told_edge))
 
+-- a connected end tells a window that has grown so
 abbrev pub is_update_due : Profile → PathEnd → Bool
 is_update_due c e = is_connected e.tcp.state && has_grown c e
 

@@ -19,6 +19,7 @@ pub record Profile : Type 0 where
   -- how its segments are said
   pub spelling : Spelling
 
+-- a path whose link's copies carry a C
 pub record PathState (C : Type 0) : Type 0 where
   pub profile : Profile
   pub link : LinkState C

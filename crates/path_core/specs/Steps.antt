@@ -40,6 +40,7 @@ answers k (d ∷ ds) r p = answered k d r p
 abbrev pub takes : {C : Type 0} → Codec C → Reply → PathState C → PathState C
 takes k r p = settles_down (answers k p.agenda r p)
 
+-- the duties of a whole turn are laid out, and settled
 abbrev pub begins_turn : {C : Type 0} → PathState C → PathState C
 begins_turn p = settles_down (with_agenda start_of_turn p)
 

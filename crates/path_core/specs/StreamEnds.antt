@@ -21,6 +21,7 @@ is_newly_heard before next piece = nat_lt (max piece.from before) next
 abbrev pub is_data_fin_news : Bool → Sending → Bool
 is_data_fin_news fin v = fin && (v.fin_sent && not v.close.own_acked)
 
+-- an acknowledgement of so many bytes, with the DATA_FIN or without, covers something that this end sent for the first time
 abbrev pub is_news : ℕ → Bool → Sending → Bool
 is_news next fin v = list_any (is_newly_heard v.heard next) v.granted || is_data_fin_news fin v
 
@@ -43,15 +44,18 @@ after_peer_data_fin v = record v { close = record v.close { peer_came = true } }
 
 -- ---- grants
 
+-- a piece more was granted, and the window isn't shut
 abbrev pub after_granted : GrantedPiece → Sending → Sending
 after_granted piece v = record v { shut = false; granted = v.granted ++ piece ∷ [] }
 
+-- bytes are refused since the peer's window is shut
 abbrev pub is_shut : Why → Bool
 is_shut WindowShut = true
 is_shut Ended = false
 is_shut Backup = false
 is_shut NothingFree = false
 
+-- a refusal tells whether the window is shut, and perhaps where the stream ends
 abbrev pub after_refusal : Why → Option ℕ → Sending → Sending
 after_refusal why known v = record v { shut = is_shut why; known_end = told_last known v.known_end }
 

@@ -52,6 +52,7 @@ is_clash e = held_clashes e.receiving.mappings
 abbrev pub mapping_stands : PathEnd → Bool
 mapping_stands e = counts e && (is_clash e || is_starting e.modes.mode)
 
+-- whether the thing that was heard is told to a book or breaks the path, as the end stands
 abbrev pub heard_stands : Heard → PathEnd → Bool
 heard_stands says.Dss e = false
 heard_stands (says.DataAck next window) e = is_none e.modes.own_infinite
@@ -65,9 +66,11 @@ heard_stands (says.Notice notice) e = true
 heard_stands says.Fail e = writes_mappings e.modes.mode
 heard_stands (says.FastClose key) e = true
 
+-- a mapping that gives a position another place breaks the path for reason 1, and of any other the control book is told
 abbrev pub mapping_ask : {C : Type 0} → Codec C → Side → PathState C → Ask
 mapping_ask k s p = if is_clash (end_at s p) then break_ask k s 1 p else fell_ask s events.MappingHeard p
 
+-- what is asked for the thing, where it stands
 abbrev pub heard_ask : {C : Type 0} → Codec C → Side → Heard → PathState C → Ask
 heard_ask k s (says.DataAck next window) p = asks.Send s (send_calls.AckIn next window)
 heard_ask k s (says.Mapping fin) p = mapping_ask k s p
@@ -84,9 +87,11 @@ abbrev pub is_acked : Reply → Bool
 is_acked (replies.Send (send_replies.Acked bytes fin)) = true
 is_acked _ = false
 
+-- the control book is told next, where it covers something; else the duty is done
 abbrev pub told_next : {C : Type 0} → Side → Bool → PathState C → List Duty
 told_next s covers p = if covers then replaced (duties.Ask (ask_duties.AckHeard s)) p.agenda else left p
 
+-- what the end makes of a Data ACK by the send book's answer
 abbrev pub acked_in : ℕ → Reply → Sending → Sending
 acked_in next (replies.Send (send_replies.Acked bytes fin)) v = after_acked next fin v
 acked_in next _ v = v
@@ -95,6 +100,7 @@ acked_in next _ v = v
 abbrev pub covered_by : ℕ → Modes → Modes
 covered_by next m = record m { covered = m.covered || nat_lt 0 next; plain_acks = 0 }
 
+-- the Data ACK was told to the send book
 abbrev pub with_acked : ℕ → Reply → PathEnd → PathEnd
 with_acked next r e = record e {
   sending = acked_in next r e.sending;
@@ -105,6 +111,7 @@ with_acked next r e = record e {
 abbrev pub answered_ack : {C : Type 0} → Side → ℕ → Reply → PathState C → PathState C
 answered_ack s next r p = goes_on s (with_acked next r (end_at s p)) (told_next s (is_acked r && nat_lt 0 next) p) p
 
+-- a mapping that doesn't break the path is learned, whatever the verdict
 abbrev pub answered_mapping : {C : Type 0} → Codec C → Side → Reply → PathState C → PathState C
 answered_mapping k s r p =
     if is_clash (end_at s p) then answered_break k s 1 r p
@@ -115,6 +122,7 @@ abbrev pub with_data_fin : ℕ → PathEnd → PathEnd
 with_data_fin place e =
     record e { treated = record e.treated { fins = fins_and (Some place) e.treated.fins } }
 
+-- what the reply makes of the path, by the thing that was told
 abbrev pub answered_heard : {C : Type 0} → Codec C → Side → Heard → Reply → PathState C → PathState C
 answered_heard k s (says.DataAck next window) r p = answered_ack s next r p
 answered_heard k s (says.Mapping fin) r p = answered_mapping k s r p
@@ -149,6 +157,7 @@ heard_passed s _ e = e
 
 -- ---- by the number of the thing
 
+-- where there is no such thing, nothing comes of it
 abbrev pub item_stands : Option Heard → PathEnd → Bool
 item_stands None e = false
 item_stands (Some item) e = heard_stands item e
@@ -171,6 +180,7 @@ item_of index e = if e.modes.identity then None else item_at index e.treated.ite
 
 -- ---- an acknowledgement without a Data ACK
 
+-- it acknowledges data for the first time and has no Data ACK, though the side sends with mappings of pieces
 abbrev pub lacks_data_ack : PathEnd → Bool
 lacks_data_ack e = e.treated.plain_ack && not (sends_plainly e.modes)
 
@@ -184,6 +194,7 @@ breaks_by_ack c e =
 abbrev pub plain_ack_stands : Profile → PathEnd → Bool
 plain_ack_stands c e = breaks_by_ack c e || (lacks_data_ack e && is_starting e.modes.mode)
 
+-- the path is broken for reason 6, middlebox interference (RFC 8684, section 3.6), or the control book is told
 abbrev pub plain_ack_ask : {C : Type 0} → Codec C → Side → PathState C → Ask
 plain_ack_ask k s p = if breaks_by_ack p.profile (end_at s p) then break_ask k s 6 p else fell_ask s events.PlainAck p
 
@@ -203,9 +214,11 @@ answered_plain_ack k s r p =
 abbrev pub plain_next : PathEnd → Option ℕ
 plain_next e = bytes_acknowledged e.modes e.treated.acknowledged
 
+-- it is told, unless a Data ACK of the same copy was
 abbrev pub subflow_ack_stands : PathEnd → Bool
 subflow_ack_stands e = is_some (plain_next e) && not e.treated.data_ack_taken
 
+-- the send book is told that so many bytes are acknowledged, with the copy's window
 abbrev pub plain_ack_in : Side → Option ℕ → ℕ → Ask
 plain_ack_in s None window = asks.Local steps.End
 plain_ack_in s (Some next) window = asks.Send s (send_calls.AckIn next window)

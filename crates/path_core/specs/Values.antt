@@ -1,5 +1,5 @@
--- A copy carries the segment itself as it was made, which side sent it, and whether its options were taken away on the way. It is
--- heard as it was meant: the machine that theorems speak of.
+-- A copy carries the segment as a value, with its payload as the link left it, which side sent it, and whether its options were taken
+-- away on the way. It is heard as it was meant: the machine that theorems speak of.
 use Rattle.std.specs.Prelude.{Bool, true, false, if◌then◌else◌, Option, Some, []}
 use Rattle.outside_kit.specs.declared.side.Side.{Side}
 use Rattle.segment_wire.specs.Changes.{with_turned_bit}
@@ -7,7 +7,8 @@ use Rattle.path_segments.specs.declared.expected.Expected.{Expected}
 use Rattle.path_segments.specs.declared.spelling.Spelling.{Spelling}
 use Rattle.path_segments.specs.Spelled.{PlainSegment}
 use Rattle.path_segments.specs.Laws.{meant}
-use Rattle.path_core.specs.Codec.{Codec, HeardSegment}
+use Rattle.path_segments.specs.Heard.{HeardSegment}
+use Rattle.path_core.specs.Codec.{Codec}
 use Rattle.path_core.specs.Octets.{sum_of}
 
 pub record Carried : Type 0 where
@@ -15,6 +16,7 @@ pub record Carried : Type 0 where
   pub segment : PlainSegment
   pub stripped : Bool
 
+-- as it leaves the side
 abbrev pub carried_by : Spelling → Side → PlainSegment → Carried
 carried_by spelling s segment = record { from = s; segment = segment; stripped = false }
 
@@ -22,6 +24,7 @@ carried_by spelling s segment = record { from = s; segment = segment; stripped =
 abbrev pub as_arrived : Carried → PlainSegment
 as_arrived carried = record carried.segment { options = (if carried.stripped then [] else carried.segment.options) }
 
+-- every number is heard as it was meant
 abbrev pub read : Spelling → Side → Expected → Carried → Option HeardSegment
 read spelling s expected carried = Some (meant (as_arrived carried))
 
@@ -29,6 +32,7 @@ read spelling s expected carried = Some (meant (as_arrived carried))
 abbrev pub stripped : Carried → Carried
 stripped carried = record carried { stripped = true }
 
+-- one bit of its payload is turned
 abbrev pub altered : Carried → Carried
 altered carried = record carried { segment = record carried.segment { payload = with_turned_bit carried.segment.payload } }
 

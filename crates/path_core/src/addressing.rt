@@ -4,7 +4,7 @@
 ghost use Rattle.std.specs.Prelude.{◌≡◌, ◌<◌, OnOk, OnErr};
 ghost use Rattle.actor_desk.specs.Kinds.{CanBeAsked};
 ghost use Rattle.control_book.specs.Calls.{can_ask};
-ghost use Rattle.path_core.specs.Addressing.{is_note_due, with_noted, answered_note, notice_call, notice_ask, is_kept, with_echo, after_peer_notice, answered_notice, announce_ask, withdraw_ask};
+ghost use Rattle.path_core.specs.Addressing.{is_note_due, answered_note, notice_call, notice_ask, is_kept, with_echo, answered_notice, announce_ask, withdraw_ask};
 ghost use Rattle.path_core.specs.Octets.{octets};
 
 use crate::end::PathEnd;
@@ -71,7 +71,7 @@ pub(crate) fn withdraw_ask(side: Side, id: u8) -> Ask
 impl Notices {
     /// An announcement that the side keeps is to be echoed, with the id, the address and the port of the copy. At an error all is as it
     /// was.
-    fn echo(&mut self, notice: PeerNotice, reply: &Reply) -> Result<(), AllocError>
+    pub fn echo(&mut self, notice: PeerNotice, reply: &Reply) -> Result<(), AllocError>
         ensures ok { OnOk result (self.new ≡
             record self.old { queue = with_echo notice reply.now self.old.queue }) }
         ensures err { OnErr result (self.new ≡ self.old) }
@@ -98,21 +98,6 @@ impl PathEnd {
     {
         self.may_note() && self.notices.first().is_some()
     }
-
-    /// The first of what is to be noted was sent.
-    fn have_noted(&mut self)
-        ensures { self.new ≡ with_noted self.old }
-    {
-        self.notices.drop_first();
-    }
-
-    /// What the peer noted was told to the side. At an error all is as it was.
-    fn take_peer_notice(&mut self, notice: PeerNotice, reply: &Reply) -> Result<(), AllocError>
-        ensures ok { OnOk result (self.new ≡ after_peer_notice notice reply.now self.old) }
-        ensures err { OnErr result (self.new ≡ self.old) }
-    {
-        self.notices.echo(notice, reply)
-    }
 }
 
 impl Machine {
@@ -122,7 +107,7 @@ impl Machine {
         ensures err { OnErr result (self.new ≡ self.old) }
     {
         self.send(side, SegmentKind::Notice, Occasion::Ack)?;
-        self.end_mut(side).have_noted();
+        self.end_mut(side).notices.drop_first();
         Ok(())
     }
 
@@ -144,7 +129,7 @@ impl Machine {
         ensures ok { OnOk result (self.new ≡ answered_notice side notice reply.now self.old) }
         ensures err { OnErr result (self.new ≡ self.old) }
     {
-        self.end_mut(side).take_peer_notice(notice, reply)?;
+        self.end_mut(side).notices.echo(notice, reply)?;
         self.done();
         Ok(())
     }

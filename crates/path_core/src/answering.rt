@@ -6,7 +6,7 @@ ghost use Rattle.path_segments.specs.HeardLent.{IsLow};
 ghost use Rattle.path_segments.specs.HeardSegments.{heard_value, IsHeardShort};
 ghost use Rattle.path_core.specs.Arriving.{copy_of, position_numbered, position_meant, reset_for};
 
-use crate::profile::{Profile, peer};
+use crate::profile::Profile;
 use outside_kit::Side;
 use path_segments::{HeardPosition, HeardSegment};
 use seq_units::Pos;
@@ -54,7 +54,7 @@ impl Profile {
         let (position, acknowledged) = match heard.acknowledged {
             Some(acknowledged) => (self.position_meant(side, acknowledged), None),
             None => {
-                let first = self.position_meant(peer(side), heard.position);
+                let first = self.position_meant(side.peer(), heard.position);
                 (
                     self.position_numbered(side, 0),
                     Some(first + occupied(heard)),

@@ -1,8 +1,8 @@
 //! A copy that arrives, and what it makes of the end at once. The rest is treated duty by duty.
 
 ghost use Rattle.std.specs.Prelude.{◌≡◌, ◌≤◌, ◌^◌, false, not, if◌then◌else◌, length, unwrap_or, option_map, All, Some, IfOk, IfSome, OnOk, OnErr};
+ghost use Rattle.outside_kit.specs.Side.{peer};
 ghost use Rattle.dss_mapping.specs.Learning.{IsWithin};
-ghost use Rattle.link_model.specs.Steps.{peer};
 ghost use Rattle.path_segments.specs.HeardLent.{IsExpected};
 ghost use Rattle.path_segments.specs.Heard.{heard_in};
 ghost use Rattle.path_segments.specs.HeardSegments.{heard_value, IsHeardShort};
@@ -25,7 +25,6 @@ use crate::modes::Modes;
 use crate::options_in::{
     asks_capable, edge_held, fill_items, has_option, is_plain_ack, opens_by, options_heard, owes_by,
 };
-use crate::profile::{peer, spelled_by};
 use crate::treated::Treated;
 use dss_mapping::KeptMapping;
 use link_model::Due;
@@ -42,7 +41,7 @@ const FORGED: u8 = 1;
 /// What octets say, where they are a segment: 37 things at most.
 fn heard_of<'a>(
     spelling: &Spelling,
-    from: path_segments::Side,
+    from: Side,
     expected: &Expected,
     octets: &'a [u8],
 ) -> Option<HeardSegment<'a>>
@@ -198,7 +197,7 @@ fn treat(
     } }
 {
     treated.begin(items, opened, has_option(heard), answer, heard.window);
-    treated.note_plain_ack(is_plain_ack(arrival, heard));
+    treated.plain_ack = is_plain_ack(arrival, heard);
 }
 
 /// What B's end knows of a SYN that opens it: whether that asks for Multipath TCP.
@@ -426,7 +425,7 @@ impl Machine {
     {
         let expected = self.end(side).expected();
         let spelling = *self.profile.spelling();
-        match heard_of(&spelling, spelled_by(peer(side)), &expected, octets) {
+        match heard_of(&spelling, side.peer(), &expected, octets) {
             Some(heard) => self.take_told_segment(side, now, &heard),
             None => {
                 self.sets_about(Agenda::emission(side));

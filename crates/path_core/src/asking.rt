@@ -17,6 +17,7 @@ use actor_desk::{Ask, Reply};
 use fallback_state::{Event, Mode};
 use outside_kit::Side;
 use path_agenda::{AskDuty, Duty};
+use send_book::SendCall;
 use std::alloc::AllocError;
 
 impl Machine {
@@ -30,7 +31,7 @@ impl Machine {
             AskDuty::PeerKey(side) => self.end(side).peer_key_stands(),
             AskDuty::JoinHeard(side) => self.asked_at(side).is_some(),
             AskDuty::Opened(side) => self.opened_stands(side),
-            AskDuty::Live(side) => self.end(side).treated.is_opened(),
+            AskDuty::Live(side) => self.end(side).treated.opened,
             AskDuty::AckHeard(side) => self.end(side).modes.mode == Mode::Starting,
             AskDuty::SubflowAck(side) => self.end(side).subflow_ack_stands(),
             AskDuty::PlainData(side) => self.end(side).plain_data_stands(),
@@ -38,9 +39,9 @@ impl Machine {
             AskDuty::CheckFailed(side) => self.end(side).check_failed_stands(&self.profile),
             AskDuty::HeardFin { side, index } => self.end(side).treated.fin(index).is_some(),
             AskDuty::SubflowFin(side) => self.end(side).plain_fin().is_some(),
-            AskDuty::AckOut(side) => self.end(side).treated.is_asked(),
+            AskDuty::AckOut(side) => self.end(side).treated.asked,
             AskDuty::Rate(side) => self.end(side).tcp.pending().is_some(),
-            AskDuty::Return(side) => !self.end(side).sending.is_idle(),
+            AskDuty::Return(side) => !self.end(side).sending.granted.is_empty(),
             AskDuty::LeaveNoted(side) => self.end(side).leaves_silently(),
             AskDuty::Window(_)
             | AskDuty::SynHeard(_)
@@ -85,8 +86,8 @@ impl Machine {
             AskDuty::FailHeard(side) => Ok(self.fail_heard_ask(side)),
             AskDuty::SubflowAck(side) => Ok(self.subflow_ack_ask(side)),
             AskDuty::PlainData(side) => Ok(self.fell_ask(side, Event::PlainData)),
-            AskDuty::GoIdentity(side) => Ok(self.identity_ask(side)),
-            AskDuty::CheckFailed(side) => Ok(self.check_failed_ask(side)),
+            AskDuty::GoIdentity(side) => Ok(Ask::Send(side, SendCall::GoIdentity)),
+            AskDuty::CheckFailed(side) => Ok(self.fell_ask(side, Event::CheckFailed)),
             AskDuty::HeardFin { side, index } => Ok(self.fin_ask(side, index)),
             AskDuty::SubflowFin(side) => Ok(self.plain_fin_ask(side)),
             AskDuty::AckOut(side) => Ok(ack_out_ask(side)),

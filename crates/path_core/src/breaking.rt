@@ -92,7 +92,7 @@ impl Machine {
         ensures value { result ≡ break_ask octets side reason self.now }
         ensures able { CanBeAsked result }
     {
-        if self.end(side).treated.is_asked() {
+        if self.end(side).treated.asked {
             return ack_out_ask(side);
         }
         self.sent_step(
@@ -114,7 +114,7 @@ impl Machine {
         ensures ok { OnOk result (self.new ≡ answered_break octets side reason reply.now self.old) }
         ensures err { OnErr result (self.new ≡ self.old) }
     {
-        if self.end(side).treated.is_asked() {
+        if self.end(side).treated.asked {
             self.ack_out_breaking(side, reply, reason);
             return Ok(());
         }

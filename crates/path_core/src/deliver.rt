@@ -14,6 +14,7 @@ use crate::end::PathEnd;
 use crate::in_order::InOrder;
 use crate::infinite_mapping::{covers, place_under};
 use crate::machine::Machine;
+use crate::places::PLACE_LIMIT;
 use crate::profile::Profile;
 use actor_desk::{Ask, LocalStep, Reply};
 use dss_checksum::DssSum;
@@ -24,9 +25,6 @@ use reassembly_book::{ReassemblyCall, ReassemblyReply};
 use seq_units::{Mapping, Pos};
 use std::alloc::{AllocError, Global};
 use subflow_tcp::Parts;
-
-/// The first place that no byte has.
-const LAST_PLACE: u64 = 1 << 62;
 
 /// So many octets of these parts, in order, as a text that is shared. Takes memory for them.
 fn text_of(alloc: Global, parts: Parts<'_>, count: u64) -> Result<Text, AllocError>
@@ -73,7 +71,7 @@ fn count_in(edge: Pos, kept: KeptMapping) -> u64
 {
     let offset = edge - kept.pos;
     let left = u64::from(kept.octets()).saturating_sub(offset);
-    left.min(LAST_PLACE.saturating_sub(kept.place.saturating_add(offset)))
+    left.min(PLACE_LIMIT.saturating_sub(kept.place.saturating_add(offset)))
 }
 
 /// The bytes were placed.
@@ -112,7 +110,7 @@ impl PathEnd {
         kept.pos == self.tcp.edge()
             && 0 < octets
             && octets <= self.in_order()
-            && kept.place.saturating_add(octets) <= LAST_PLACE
+            && kept.place.saturating_add(octets) <= PLACE_LIMIT
     }
 
     /// The checksum is that of its bytes, with its whole length.
@@ -176,7 +174,7 @@ impl PathEnd {
     {
         let mapping = self.modes.peer_infinite?;
         let place = place_under(mapping, self.tcp.edge())?;
-        let count = LAST_PLACE - place;
+        let count = PLACE_LIMIT - place;
         if 0 < count.min(self.in_order()) {
             Some(InOrder { place, count })
         } else {

@@ -8,7 +8,7 @@ ghost use Rattle.subflow_tcp.specs.States.{may_finish};
 ghost use Rattle.subflow_tcp.specs.Closing.{after_finishing};
 ghost use Rattle.subflow_tcp.specs.Emitting.{after_sending};
 ghost use Rattle.path_core.specs.Octets.{octets};
-ghost use Rattle.path_core.specs.Emission.{first_unsent, is_syn_due, fits, may_send_data, may_ask, data_stands, grant_ask, data_ask, grant_in, with_piece, granted, refused, answered_grant, answered_data, answered_syn, answered_data_fin_sent, answered_fin, after_timer};
+ghost use Rattle.path_core.specs.Emission.{first_unsent, is_syn_due, fits, may_send_data, may_ask, data_stands, grant_ask, data_ask, grant_in, with_piece, granted, refused, answered_grant, answered_data, answered_data_fin_sent, answered_fin, after_timer};
 ghost use Rattle.path_agenda.specs.declared.duty.Duty.TheVariants as duties;
 ghost use Rattle.path_agenda.specs.declared.duty.SendDuty.TheVariants as send_duties;
 ghost use Rattle.path_agenda.specs.declared.duty.StepDuty.TheVariants as step_duties;
@@ -86,12 +86,12 @@ impl PathEnd {
             from: span.from,
             to: span.to,
         };
-        self.sending.push_granted(granted)?;
+        self.sending.granted.push(granted)?;
         if let Err(error) = self.tcp.push(piece, mapping) {
-            self.sending.pop_granted();
+            self.sending.granted.pop();
             return Err(error);
         }
-        self.sending.open_window();
+        self.sending.shut = false;
         Ok(())
     }
 
@@ -109,9 +109,9 @@ impl PathEnd {
         requires { now < 2 ^ 64 - 2 ^ 20 }
         ensures { self.new ≡ after_timer now self.old }
     {
-        let waiting = self.is_waiting() || self.modes.owes_third || self.notices.is_fast_closed();
-        self.tcp.hold_timer(waiting, self.sending.has_news(), now);
-        self.sending.clear_news();
+        let waiting = self.is_waiting() || self.modes.owes_third || self.notices.fast_closed;
+        self.tcp.hold_timer(waiting, self.sending.news, now);
+        self.sending.news = false;
     }
 
     /// The FIN was pushed and sent at once, and told this edge of the window.
@@ -167,14 +167,6 @@ impl Machine {
             Some(_) => self.sent_step(side, SegmentKind::Unsent),
             None => self.grant_ask(side),
         }
-    }
-
-    /// The SYN is sent.
-    pub(crate) fn send_syn(&mut self, side: Side) -> Result<(), AllocError>
-        ensures ok { OnOk result (self.new ≡ answered_syn octets side self.old) }
-        ensures err { OnErr result (self.new ≡ self.old) }
-    {
-        self.send_and_leave(side, SegmentKind::Unsent, Occasion::Unsent)
     }
 
     /// The granted piece is to be sent; the duty stays. At an error all is as it was.
@@ -246,7 +238,7 @@ impl Machine {
         ensures err { OnErr result (self.new ≡ self.old) }
     {
         self.send_and_leave(side, SegmentKind::DataFin, Occasion::Ack)?;
-        self.end_mut(side).sending.data_fin_is_sent();
+        self.end_mut(side).sending.fin_sent = true;
         Ok(())
     }
 

@@ -1,14 +1,13 @@
 //! A mapping whose checksum isn't that of its octets: the side is told of it, and tells the peer by MP_FAIL (RFC 8684, section 3.7).
 
 ghost use Rattle.std.specs.Prelude.{◌≡◌, Some};
-ghost use Rattle.actor_desk.specs.Kinds.{CanBeAsked};
 ghost use Rattle.path_core.specs.Deliver.{mapping_here, failing_by};
-ghost use Rattle.path_core.specs.FailedChecks.{check_failed_stands, check_failed_ask, with_failure, after_check_failed, answered_check_failed};
+ghost use Rattle.path_core.specs.FailedChecks.{check_failed_stands, with_failure, after_check_failed, answered_check_failed};
 
 use crate::end::PathEnd;
 use crate::machine::Machine;
 use crate::profile::Profile;
-use actor_desk::{Ask, Reply};
+use actor_desk::Reply;
 use control_book::ControlReply;
 use dss_mapping::KeptMapping;
 use fallback_state::{Event, Verdict};
@@ -43,7 +42,7 @@ impl PathEnd {
                 self.modes.failed_mapping = Some(kept.place);
             }
             Reply::Control(ControlReply::Verdict(Verdict::BreakPath(_))) => {
-                self.treated.note_failed_mapping(kept.place);
+                self.treated.failed_mapping = Some(kept.place);
             }
             _ => {}
         }
@@ -70,14 +69,6 @@ impl PathEnd {
 }
 
 impl Machine {
-    /// The failed check is told.
-    pub(crate) fn check_failed_ask(&self, side: Side) -> Ask
-        ensures value { result ≡ check_failed_ask side self.now }
-        ensures able { CanBeAsked result }
-    {
-        self.fell_ask(side, Event::CheckFailed)
-    }
-
     /// It was told.
     pub(crate) fn answer_check_failed(&mut self, side: Side, reply: &Reply)
         ensures { self.new ≡ answered_check_failed side reply.now self.old }

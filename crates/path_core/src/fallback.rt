@@ -4,7 +4,7 @@
 ghost use Rattle.std.specs.Prelude.{◌≡◌};
 ghost use Rattle.actor_desk.specs.Kinds.{CanBeAsked};
 ghost use Rattle.actor_desk.specs.declared.ask.Reply.TheVariants as replies;
-ghost use Rattle.path_core.specs.Fallback.{fell_ask, mode_in, after_verdict, is_fall, fell_in, after_fell, breaks_by, fell_duties, answered_fell, identity_ask, in_identity, answered_identity};
+ghost use Rattle.path_core.specs.Fallback.{fell_ask, mode_in, after_verdict, is_fall, fell_in, after_fell, breaks_by, fell_duties, answered_fell, answered_identity};
 ghost use Rattle.path_core.specs.State.{end_at, with_agenda};
 
 use crate::end::PathEnd;
@@ -15,7 +15,6 @@ use control_book::{ControlCall, ControlReply};
 use fallback_state::{Event, Mode, Verdict};
 use outside_kit::Side;
 use path_agenda::{Agenda, AskDuty, Duty};
-use send_book::SendCall;
 
 /// The side fell back to plain TCP.
 fn is_fall(reply: &Reply) -> bool
@@ -77,13 +76,6 @@ impl PathEnd {
     {
         self.modes.take_fell_reply(event, reply);
     }
-
-    /// From now on the positions of the subflow are the places of both streams.
-    fn go_to_identity(&mut self)
-        ensures { self.new ≡ in_identity self.old }
-    {
-        self.modes.identity = true;
-    }
 }
 
 impl Machine {
@@ -106,7 +98,7 @@ impl Machine {
         ensures { self.new ≡
             with_agenda (breaks_by (end_at side self.old).treated.asked side reason) self.old }
     {
-        let asked = self.end(side).treated.is_asked();
+        let asked = self.end(side).treated.asked;
         self.sets_about(breaks_by(asked, side, reason));
     }
 
@@ -133,19 +125,11 @@ impl Machine {
         self.go_by_verdict(side, reply);
     }
 
-    /// The send book is told of the fall.
-    pub(crate) fn identity_ask(&self, side: Side) -> Ask
-        ensures value { result ≡ identity_ask side }
-        ensures able { CanBeAsked result }
-    {
-        Ask::Send(side, SendCall::GoIdentity)
-    }
-
     /// It was told.
     pub(crate) fn answer_identity(&mut self, side: Side)
         ensures { self.new ≡ answered_identity side self.old }
     {
-        self.end_mut(side).go_to_identity();
+        self.end_mut(side).modes.identity = true;
         self.done();
     }
 }

@@ -3,7 +3,7 @@
 
 ghost use Rattle.std.specs.Prelude.{◌≡◌, OnOk, OnErr};
 ghost use Rattle.actor_desk.specs.Kinds.{CanBeAsked};
-ghost use Rattle.path_core.specs.FastClosing.{is_silent, leaves_silently, resets_noted, answered_leave_noted, is_fast_close_due, with_fast_closed, answered_fast_close, fast_heard_ask, is_stopped_by, answered_fast_heard, abort_send_ask, abort_receive_ask};
+ghost use Rattle.path_core.specs.FastClosing.{is_silent, leaves_silently, resets_noted, answered_leave_noted, is_fast_close_due, answered_fast_close, is_stopped_by, answered_fast_heard, abort_send_ask, abort_receive_ask};
 ghost use Rattle.path_core.specs.Octets.{octets};
 
 use crate::end::PathEnd;
@@ -11,7 +11,7 @@ use crate::machine::Machine;
 use crate::segment_kind::SegmentKind;
 use crate::standing::is_connected;
 use actor_desk::{Ask, Reply};
-use control_book::{ControlCall, ControlReply};
+use control_book::ControlReply;
 use outside_kit::Side;
 use path_agenda::{Agenda, AskDuty, Duty};
 use reassembly_book::ReassemblyCall;
@@ -31,14 +31,6 @@ fn is_stopped_by(reply: &Reply) -> bool
     ensures { result ≡ is_stopped_by reply.now }
 {
     matches!(reply, Reply::Control(ControlReply::Stopped))
-}
-
-/// The peer's fast close is told, with the key that it showed.
-pub(crate) fn fast_heard_ask(side: Side, key: u64) -> Ask
-    ensures value { result ≡ fast_heard_ask side key }
-    ensures able { CanBeAsked result }
-{
-    Ask::Control(side, ControlCall::FastHeard { key })
 }
 
 /// The send book is told that the peer closed the connection at once.
@@ -62,14 +54,14 @@ impl PathEnd {
     pub fn leaves_silently(&self) -> bool
         ensures { result ≡ leaves_silently self.now }
     {
-        is_silent(self.tcp.state()) && self.notices.is_reset_noted()
+        is_silent(self.tcp.state()) && self.notices.reset
     }
 
     /// The side told that the end is to be reset, and it sent a segment.
     pub fn resets_noted(&self) -> bool
         ensures { result ≡ resets_noted self.now }
     {
-        !self.tcp.state().is_closed_to_segments() && self.notices.is_reset_noted()
+        !self.tcp.state().is_closed_to_segments() && self.notices.reset
     }
 
     /// MP_FASTCLOSE is due: it was never sent, both SYNs are acknowledged, and the end may send a DSS, or fell back.
@@ -79,13 +71,6 @@ impl PathEnd {
         is_connected(self.tcp.state())
             && self.notices.is_carried()
             && (self.modes.clear || self.modes.identity)
-    }
-
-    /// MP_FASTCLOSE was sent.
-    fn have_fast_closed(&mut self)
-        ensures { self.new ≡ with_fast_closed self.old }
-    {
-        self.notices.have_fast_closed();
     }
 }
 
@@ -104,7 +89,7 @@ impl Machine {
         ensures err { OnErr result (self.new ≡ self.old) }
     {
         self.send_and_leave(side, SegmentKind::FastClose, Occasion::Ack)?;
-        self.end_mut(side).have_fast_closed();
+        self.end_mut(side).notices.fast_closed = true;
         Ok(())
     }
 

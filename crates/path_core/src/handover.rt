@@ -2,8 +2,9 @@
 
 ghost use Rattle.std.specs.Prelude.{◌≡◌, ◌≤◌, ◌+◌, ◌^◌, true, is_none, IfOk, IsOk, OnOk, OnErr};
 ghost use Rattle.actor_desk.specs.Kinds.{CanBeAsked};
-ghost use Rattle.link_model.specs.Octets.{addresses_from, after_octets};
+ghost use Rattle.link_model.specs.Octets.{after_octets};
 ghost use Rattle.segment_wire.specs.Reading.{segment_meaning};
+ghost use Rattle.segment_wire.specs.Paths.{addresses_from};
 ghost use Rattle.path_core.specs.Octets.{octets, made};
 ghost use Rattle.path_segments.specs.Laws.{window_told};
 ghost use Rattle.subflow_tcp.specs.Emitting.{after_sending};

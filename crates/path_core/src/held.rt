@@ -3,13 +3,13 @@
 ghost use Rattle.std.specs.Prelude.{◌≡◌, All, IfOk};
 ghost use Rattle.std.specs.Option.{option_to_list};
 ghost use Rattle.dss_mapping.specs.Learning.{IsWithin};
-ghost use Rattle.path_segments.specs.HeardLent.{heard_plain};
 ghost use Rattle.path_segments.specs.HeardSegments.{heard_value};
+ghost use Rattle.path_segments.specs.Options.{plain_option};
 ghost use Rattle.path_core.specs.Arriving.{checksum_heard, held_if, map_held, key_held, held_in, held_of};
 ghost use Rattle.path_core.specs.Deliver.{kept_of};
 
 use crate::options_in::{is_mapping, octets_in};
-use crate::profile::{Profile, peer};
+use crate::profile::Profile;
 use dss_mapping::KeptMapping;
 use mptcp_options::CapableKeys;
 use outside_kit::Side;
@@ -31,7 +31,7 @@ impl Profile {
         ensures { result ≡
             kept_of self.now side place position length fin (checksum_heard checksum) }
     {
-        let bare = self.bare_mapping(peer(side), place, position, length);
+        let bare = self.bare_mapping(side.peer(), place, position, length);
         KeptMapping {
             pos: position,
             place,
@@ -99,7 +99,7 @@ impl Profile {
 
     /// The mapping that an option says; MP_CAPABLE says none on a path that joins.
     fn held_in(&self, side: Side, option: &HeardOption<'_>) -> Option<KeptMapping>
-        ensures { option_to_list result ≡ held_in self.now side (heard_plain option.now) }
+        ensures { option_to_list result ≡ held_in self.now side (plain_option option.now) }
     {
         match *option {
             PathOption::Capable { keys, .. } if !self.is_joined() => self.key_held(side, keys),

@@ -3,10 +3,8 @@
 ghost use Rattle.std.specs.Prelude.{◌≡◌, ◌<◌, ◌^◌, IfSome};
 ghost use Rattle.path_core.specs.Infinite.{covers, place_under};
 
+use crate::places::PLACE_LIMIT;
 use seq_units::Pos;
-
-/// The first place that no byte has.
-const LAST_PLACE: u64 = 1 << 62;
 
 /// An infinite mapping (RFC 8684, section 3.7): the byte at this position has this place, and each byte behind it the next one.
 #[derive(Clone, Copy)]
@@ -32,7 +30,7 @@ pub(crate) fn place_under(mapping: InfiniteMapping, position: Pos) -> Option<u64
 {
     let behind = position.saturating_sub(mapping.position);
     let place = mapping.place.saturating_add(behind);
-    if place < LAST_PLACE {
+    if place < PLACE_LIMIT {
         Some(place)
     } else {
         None

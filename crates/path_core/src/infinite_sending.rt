@@ -32,14 +32,14 @@ impl PathEnd {
     fn may_go_infinite(&self) -> bool
         ensures { result ≡ may_go_infinite self.now }
     {
-        self.modes.sole && self.sending.is_tail(self.tcp.nxt())
+        self.modes.sole && self.sending.granted.is_tail(self.tcp.nxt())
     }
 
     /// The infinite mapping from this place on, which the first byte has that isn't acknowledged.
     fn infinite_from(&self, place: u64) -> InfiniteMapping
         ensures { result ≡ infinite_from place self.now }
     {
-        let position = self.sending.position_of(self.tcp.nxt(), place);
+        let position = self.sending.granted.position_of(self.tcp.nxt(), place);
         InfiniteMapping { position, place }
     }
 
@@ -57,8 +57,7 @@ impl PathEnd {
     fn take_book_reply(&mut self, reply: &Reply)
         ensures { self.new ≡ with_infinite reply.now self.old }
     {
-        let mapping = self.infinite_in(reply);
-        self.treated.note_infinite_mapping(mapping);
+        self.treated.infinite_mapping = self.infinite_in(reply);
     }
 
     /// The side sends by this infinite mapping.
@@ -73,7 +72,7 @@ impl PathEnd {
     fn take_fail_reply(&mut self, reply: &Reply)
         ensures { self.new ≡ after_fail_heard reply.now self.old }
     {
-        let mapping = self.treated.infinite_mapping();
+        let mapping = self.treated.infinite_mapping;
         let contiguous = mapping.is_some();
         self.take_fell_reply(Event::FailHeard { contiguous }, reply);
         if let Some(mapping) = mapping {
@@ -115,7 +114,7 @@ impl Machine {
         ensures value { result ≡ fail_heard_ask side self.now }
         ensures able { CanBeAsked result }
     {
-        let contiguous = self.end(side).treated.infinite_mapping().is_some();
+        let contiguous = self.end(side).treated.infinite_mapping.is_some();
         self.fell_ask(side, Event::FailHeard { contiguous })
     }
 

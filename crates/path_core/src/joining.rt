@@ -122,7 +122,7 @@ impl PathEnd {
     fn join(&mut self, keys: KeyPair, asked: JoinSyn, now: u64)
         ensures { self.new ≡ joined_by keys asked self.old }
     {
-        take_joining_syn(&mut self.tcp, self.treated.window(), now);
+        take_joining_syn(&mut self.tcp, self.treated.window, now);
         self.modes.begin(keys);
         self.modes.peer_nonce = asked.nonce;
         self.modes.backup_heard = asked.backup;

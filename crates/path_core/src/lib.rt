@@ -47,6 +47,7 @@ mod options_in;
 mod options_out;
 mod passing;
 mod path;
+mod places;
 mod profile;
 mod receiving;
 mod said;

@@ -11,17 +11,16 @@ ghost use Rattle.path_core.specs.Treating.{item_of};
 
 use crate::event::Event;
 use crate::machine::Machine;
-use crate::profile::peer;
 use crate::segment_kind::SegmentKind;
-use link_model::{Due, SegmentFate, addresses_from};
+use link_model::{Due, SegmentFate};
 use outside_kit::Side;
 use path_agenda::{Duty, Heard, SendDuty, StepDuty};
 use pipe_model::Text;
-use segment_wire::Addresses;
+use segment_wire::{Addresses, addresses_from};
 use std::alloc::AllocError;
 
 /// A segment that the next step of a path hands to its link.
-#[derive(Debug, Drop, PartialEq)]
+#[derive(Drop)]
 pub struct Departing {
     /// The side that sends it.
     pub from: Side,
@@ -34,7 +33,7 @@ pub struct Departing {
 }
 
 /// A copy that arrives by the next step of a path.
-#[derive(Clone, Copy, Debug)]
+#[derive(Clone, Copy)]
 pub struct Arriving<'a> {
     /// The side that it goes to.
     pub to: Side,
@@ -51,38 +50,84 @@ pub(crate) struct ToSend {
     pub kind: SegmentKind,
 }
 
-fn to_send(from: Side, kind: SegmentKind) -> Option<ToSend>
-    ensures { result ≡ Some (record { from = from; kind = kind }) }
+/// The segment of this kind, which this side sends.
+fn to_send(from: Side, kind: SegmentKind) -> ToSend
+    ensures { result ≡ record { from = from; kind = kind } }
 {
-    Some(ToSend { from, kind })
+    ToSend { from, kind }
 }
 
 /// The segment of a duty that sends one.
-fn send_of(duty: SendDuty) -> Option<ToSend>
-    ensures { result ≡ send_of duty }
+pub(crate) fn send_of(duty: SendDuty) -> ToSend
+    ensures { Some result ≡ send_of duty }
 {
     match duty {
-        SendDuty::Update(side) => to_send(side, SegmentKind::Ack),
-        SendDuty::Acknowledge(side) => to_send(side, SegmentKind::Ack),
-        SendDuty::Syn(side) => to_send(side, SegmentKind::Unsent),
-        SendDuty::FastClose(side) => to_send(side, SegmentKind::FastClose),
-        SendDuty::Notice(side) => to_send(side, SegmentKind::Notice),
-        SendDuty::DataFin(side) => to_send(side, SegmentKind::DataFin),
-        SendDuty::Fin(side) => to_send(side, SegmentKind::Fin),
-        SendDuty::SynAck(side) => to_send(side, SegmentKind::SynAck),
-        SendDuty::Refuse(side) => to_send(side, SegmentKind::Refusal),
-        SendDuty::Again(side) => to_send(side, SegmentKind::First),
-        SendDuty::Answer(side) => to_send(side, SegmentKind::Answer),
-        SendDuty::ResetAnswer(side) => to_send(side, SegmentKind::DeadAnswer),
-        SendDuty::Resend(side) => to_send(side, SegmentKind::Resend),
-        SendDuty::BreakReset { side, reason } => to_send(
-            side,
-            SegmentKind::Reset {
+        SendDuty::Update(from) => ToSend {
+            from,
+            kind: SegmentKind::Ack,
+        },
+        SendDuty::Acknowledge(from) => ToSend {
+            from,
+            kind: SegmentKind::Ack,
+        },
+        SendDuty::Syn(from) => ToSend {
+            from,
+            kind: SegmentKind::Unsent,
+        },
+        SendDuty::FastClose(from) => ToSend {
+            from,
+            kind: SegmentKind::FastClose,
+        },
+        SendDuty::Notice(from) => ToSend {
+            from,
+            kind: SegmentKind::Notice,
+        },
+        SendDuty::DataFin(from) => ToSend {
+            from,
+            kind: SegmentKind::DataFin,
+        },
+        SendDuty::Fin(from) => ToSend {
+            from,
+            kind: SegmentKind::Fin,
+        },
+        SendDuty::SynAck(from) => ToSend {
+            from,
+            kind: SegmentKind::SynAck,
+        },
+        SendDuty::Refuse(from) => ToSend {
+            from,
+            kind: SegmentKind::Refusal,
+        },
+        SendDuty::Again(from) => ToSend {
+            from,
+            kind: SegmentKind::First,
+        },
+        SendDuty::Answer(from) => ToSend {
+            from,
+            kind: SegmentKind::Answer,
+        },
+        SendDuty::ResetAnswer(from) => ToSend {
+            from,
+            kind: SegmentKind::DeadAnswer,
+        },
+        SendDuty::Resend(from) => ToSend {
+            from,
+            kind: SegmentKind::Resend,
+        },
+        SendDuty::BreakReset { side: from, reason } => ToSend {
+            from,
+            kind: SegmentKind::Reset {
                 reason: Some(reason),
             },
-        ),
-        SendDuty::Reset(side) => to_send(side, SegmentKind::Reset { reason: None }),
-        SendDuty::ResetNoted(side) => to_send(side, SegmentKind::Reset { reason: None }),
+        },
+        SendDuty::Reset(from) => ToSend {
+            from,
+            kind: SegmentKind::Reset { reason: None },
+        },
+        SendDuty::ResetNoted(from) => ToSend {
+            from,
+            kind: SegmentKind::Reset { reason: None },
+        },
     }
 }
 
@@ -91,15 +136,15 @@ impl Machine {
     fn broken_by(&self, side: Side, reason: u8) -> Option<ToSend>
         ensures { result ≡ broken_by side reason self.now }
     {
-        if self.end(side).treated.is_asked() {
+        if self.end(side).treated.asked {
             return None;
         }
-        to_send(
+        Some(to_send(
             side,
             SegmentKind::Reset {
                 reason: Some(reason),
             },
-        )
+        ))
     }
 
     /// What a mapping that was heard sends: it breaks the path where it clashes.
@@ -128,7 +173,7 @@ impl Machine {
         ensures { result ≡ unsent_sends side (first_unsent (end_at side self.now)) }
     {
         match self.end(side).tcp.first_unsent() {
-            Some(_) => to_send(side, SegmentKind::Unsent),
+            Some(_) => Some(to_send(side, SegmentKind::Unsent)),
             None => None,
         }
     }
@@ -162,7 +207,7 @@ impl Machine {
         ensures { result ≡ duty_sends duty self.now }
     {
         match duty {
-            Duty::Send(duty) => send_of(duty),
+            Duty::Send(duty) => Some(send_of(duty)),
             Duty::Step(duty) => self.step_sends(duty),
             _ => None,
         }
@@ -236,7 +281,7 @@ impl Machine {
         Arriving {
             to: due.to,
             octets,
-            addresses: addresses_from(self.number(), peer(due.to)),
+            addresses: addresses_from(self.number(), due.to.peer()),
         }
     }
 

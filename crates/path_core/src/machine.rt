@@ -61,28 +61,7 @@ impl Model for Machine {
 
 impl Machine {
     ghost use Rattle.path_core.specs.Lending.{LendsEnd};
-    ghost use Rattle.path_core.specs.State.{end_at, with_agenda, path_of, has_ended};
-
-    /// Whether its turn has ended.
-    pub(crate) fn has_ended(&self) -> bool
-        ensures { result ≡ has_ended self.now }
-    {
-        self.agenda.first().is_none()
-    }
-
-    /// The first tick after its round, in ticks of a millisecond. The first round ends at 100.
-    pub(crate) fn round_end(&self) -> u64
-        ensures { result ≡ self.now.until }
-    {
-        self.clock.until()
-    }
-
-    /// The tick at which it is.
-    pub(crate) fn tick(&self) -> u64
-        ensures { result ≡ self.now.clock }
-    {
-        self.clock.now()
-    }
+    ghost use Rattle.path_core.specs.State.{end_at, with_agenda, path_of};
 
     /// The end of a side.
     pub(crate) fn end(&self, side: Side) -> &PathEnd

@@ -14,11 +14,11 @@ pub(crate) struct Notices {
     /// What is to be noted to the peer, in its order.
     queue: VecDeque<OwnNotice>,
     /// The peer's key, where this end carries the fast close (section 3.5).
-    carrier: Option<u64>,
+    pub carrier: Option<u64>,
     /// MP_FASTCLOSE was sent.
-    fast_closed: bool,
+    pub fast_closed: bool,
     /// The end is to be reset.
-    reset: bool,
+    pub reset: bool,
 }
 
 impl Model for Notices {
@@ -61,39 +61,11 @@ impl Notices {
         self.reset = false;
     }
 
-    /// The key of MP_FASTCLOSE, where this end carries it.
-    pub fn carrier(&self) -> Option<u64>
-        ensures { result ≡ self.now.carrier }
-    {
-        self.carrier
-    }
-
-    /// MP_FASTCLOSE was sent.
-    pub fn is_fast_closed(&self) -> bool
-        ensures { result ≡ self.now.fast_closed }
-    {
-        self.fast_closed
-    }
-
     /// MP_FASTCLOSE is to be sent, and never was.
     pub fn is_carried(&self) -> bool
         ensures { result ≡ is_carried self.now }
     {
         self.carrier.is_some() && !self.fast_closed
-    }
-
-    /// The end is to be reset.
-    pub fn is_reset_noted(&self) -> bool
-        ensures { result ≡ self.now.reset }
-    {
-        self.reset
-    }
-
-    /// MP_FASTCLOSE was sent now.
-    pub fn have_fast_closed(&mut self)
-        ensures { self.new ≡ record self.old { fast_closed = true } }
-    {
-        self.fast_closed = true;
     }
 
     /// What is to be noted first.

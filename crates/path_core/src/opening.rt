@@ -1,16 +1,14 @@
 //! How path 0 opens: SYN, SYN/ACK, and the keys of both sides (RFC 8684, section 3.1).
 
-ghost use Rattle.std.specs.Prelude.{◌≡◌, Some, OnOk, OnErr};
+ghost use Rattle.std.specs.Prelude.{◌≡◌, Some};
 ghost use Rattle.actor_desk.specs.Kinds.{CanBeAsked};
 ghost use Rattle.path_agenda.specs.Items.{key_heard, keys_heard};
-ghost use Rattle.path_core.specs.Octets.{octets};
-ghost use Rattle.path_core.specs.Opening.{keys_in, is_plain_syn, is_opened_by_keys, is_opened_plainly, syn_window_ask, peer_key_stands, peer_key_ask, with_peer_key, answered_peer_key, keys_ask, after_keys, opened_ask, answered_opened, answered_syn_ack, live_ask};
+ghost use Rattle.path_core.specs.Opening.{keys_in, is_plain_syn, is_opened_by_keys, is_opened_plainly, syn_window_ask, peer_key_stands, peer_key_ask, answered_peer_key, keys_ask, after_keys, opened_ask, answered_opened, live_ask};
 ghost use Rattle.path_core.specs.State.{end_at, goes_on, left};
 
 use crate::end::PathEnd;
 use crate::machine::Machine;
 use crate::modes::Modes;
-use crate::segment_kind::SegmentKind;
 use crate::treated::Treated;
 use actor_desk::{Ask, LocalStep, Reply};
 use control_book::{ControlCall, ControlReply};
@@ -18,8 +16,6 @@ use fallback_state::{Event, Mode};
 use outside_kit::Side;
 use path_agenda::{KeyPair, key_heard, keys_heard};
 use send_book::SendCall;
-use std::alloc::AllocError;
-use subflow_tcp::Occasion;
 
 /// These keys are told to the control book.
 pub(crate) fn keys_ask(side: Side, keys: Option<KeyPair>) -> Ask
@@ -65,7 +61,7 @@ impl PathEnd {
     pub fn is_opened_by_keys(&self) -> bool
         ensures { result ≡ is_opened_by_keys self.now }
     {
-        self.treated.is_opened() && self.treated.keys_heard().is_some()
+        self.treated.opened && self.treated.keys_heard().is_some()
     }
 
     /// The keys of the copy were told.
@@ -73,14 +69,14 @@ impl PathEnd {
         ensures { self.new ≡ after_keys reply.now keys self.old }
     {
         self.modes.take_keys_reply(reply, keys);
-        self.treated.keys_were_told();
+        self.treated.keys_told = true;
     }
 
     /// The end left SynReceived by a copy without any option, and the side isn't sure.
     pub fn is_opened_plainly(&self) -> bool
         ensures { result ≡ is_opened_plainly self.now }
     {
-        self.treated.is_opened() && !self.treated.has_option() && self.modes.mode == Mode::Starting
+        self.treated.opened && !self.treated.has_option && self.modes.mode == Mode::Starting
     }
 
     /// The SYN doesn't ask for Multipath TCP.
@@ -95,13 +91,6 @@ impl PathEnd {
         ensures { result ≡ peer_key_stands self.now }
     {
         self.treated.key_heard().is_some() || self.modes.mode == Mode::Starting
-    }
-
-    /// The peer's key was told.
-    fn take_peer_key(&mut self, key: u64)
-        ensures { self.new ≡ with_peer_key (Some key) self.old }
-    {
-        self.modes.peer_key = Some(key);
     }
 }
 
@@ -140,7 +129,7 @@ impl Machine {
     {
         match self.end(side).treated.key_heard() {
             Some(key) => {
-                self.end_mut(side).take_peer_key(key);
+                self.end_mut(side).modes.peer_key = Some(key);
                 self.done();
             }
             None => self.answer_fell(side, Event::PlainHandshake, reply),
@@ -172,14 +161,6 @@ impl Machine {
             }
             None => self.answer_fell(side, Event::PlainHandshake, reply),
         }
-    }
-
-    /// The SYN/ACK is sent: while the SYN isn't acknowledged this is another sending of its record.
-    pub(crate) fn send_syn_ack(&mut self, side: Side) -> Result<(), AllocError>
-        ensures ok { OnOk result (self.new ≡ answered_syn_ack octets side self.old) }
-        ensures err { OnErr result (self.new ≡ self.old) }
-    {
-        self.send_and_leave(side, SegmentKind::SynAck, Occasion::SynAck)
     }
 
     /// It is told that the path lives, as a backup where the peer's SYN said so.

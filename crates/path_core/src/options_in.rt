@@ -4,12 +4,13 @@ ghost use Rattle.std.specs.Prelude.{◌≡◌, ◌≤◌, ◌<◌, ◌+◌, ◌+
 ghost use Rattle.std.specs.List.{list_any};
 ghost use Rattle.actor_desk.specs.Words.{is_nil};
 ghost use Rattle.dss_mapping.specs.Mappings.{octets_in};
-ghost use Rattle.path_segments.specs.HeardLent.{heard_plain};
 ghost use Rattle.path_segments.specs.HeardSegments.{heard_value};
+ghost use Rattle.path_segments.specs.Options.{plain_option};
 ghost use Rattle.path_agenda.specs.declared.heard.Heard.TheVariants as says;
 ghost use Rattle.path_agenda.specs.Items.{IsFair};
 ghost use Rattle.path_core.specs.Arriving.{ack_items, is_mapping, mapping_items, infinite_items, map_items, data_fin_items, key_items, join_items, address_items, item_removed, items_in, items_of, SaysFew, owes_by, opens_by, asks_capable, edge_held, has_data_ack, octets_acked, is_plain_ack};
 
+use crate::places::PLACE_LIMIT;
 use key_material::Address;
 use mptcp_options::{CapableKeys, JoinForm};
 use outside_kit::Side;
@@ -17,9 +18,6 @@ use path_agenda::{Heard, Items, PeerNotice, one_wants_ack};
 use path_segments::{HeardMapping, HeardOption, HeardSegment, PathMapping, PathOption};
 use seq_units::Pos;
 use subflow_tcp::{AckKind, Arrival, Meaning, State};
-
-/// Places end at this one.
-const LIMIT: u64 = 1 << 62;
 
 /// One thing more.
 fn put(items: &mut Items, item: Heard)
@@ -44,7 +42,7 @@ pub(crate) fn octets_in(length: u16, fin: bool) -> u16
 pub(crate) fn is_mapping(place: u64, position: Pos, count: u16) -> bool
     ensures { result ≡ is_mapping place position count }
 {
-    0 < position && place.saturating_add(u64::from(count)) <= LIMIT
+    0 < position && place.saturating_add(u64::from(count)) <= PLACE_LIMIT
 }
 
 /// What MP_CAPABLE says by its keys.
@@ -97,7 +95,7 @@ fn put_ack(items: &mut Items, next: Option<Option<u64>>, window: u32)
     ensures { items.new.items ≡ items.old.items ++ ack_items next window }
 {
     match next {
-        Some(Some(next)) if next < LIMIT => put(items, Heard::DataAck { next, window }),
+        Some(Some(next)) if next < PLACE_LIMIT => put(items, Heard::DataAck { next, window }),
         _ => {}
     }
 }
@@ -107,7 +105,7 @@ fn put_data_fin(items: &mut Items, place: u64)
     requires { length items.old.items + length (data_fin_items place) ≤ 37 }
     ensures { items.new.items ≡ items.old.items ++ data_fin_items place }
 {
-    if place <= LIMIT {
+    if place <= PLACE_LIMIT {
         put(items, Heard::DataFin { place });
     }
 }
@@ -117,7 +115,7 @@ fn put_infinite(items: &mut Items, place: u64, position: Option<Pos>)
     requires { length items.old.items + length (infinite_items place position) ≤ 37 }
     ensures { items.new.items ≡ items.old.items ++ infinite_items place position }
 {
-    if place < LIMIT {
+    if place < PLACE_LIMIT {
         put(items, Heard::InfiniteMapping { place, position });
     }
 }
@@ -228,9 +226,9 @@ fn put_dss(items: &mut Items, next: Option<Option<u64>>, window: u32, mapping: O
 /// What one option says; MP_CAPABLE says nothing on a path that joins.
 fn put_option(items: &mut Items, joined: bool, side: Side, window: u32, option: &HeardOption<'_>)
     requires { length items.old.items + length
-        (items_in joined side window (heard_plain option.now)) ≤ 37 }
+        (items_in joined side window (plain_option option.now)) ≤ 37 }
     ensures { items.new.items ≡
-        items.old.items ++ items_in joined side window (heard_plain option.now) }
+        items.old.items ++ items_in joined side window (plain_option option.now) }
 {
     match *option {
         PathOption::Capable { keys, .. } => {
@@ -291,7 +289,7 @@ pub(crate) fn options_heard<'a>(identity: bool, heard: &HeardSegment<'a>) -> Hea
 
 /// An option asks for Multipath TCP: an MP_CAPABLE without a key.
 fn is_capable(option: &HeardOption<'_>) -> bool
-    ensures { result ≡ asks_capable (heard_plain option.now) }
+    ensures { result ≡ asks_capable (plain_option option.now) }
 {
     matches!(
         *option,
@@ -356,7 +354,7 @@ pub(crate) fn has_option(heard: &HeardSegment<'_>) -> bool
 
 /// A DSS with a Data ACK, whatever that names.
 fn is_data_ack(option: &HeardOption<'_>) -> bool
-    ensures { result ≡ has_data_ack (heard_plain option.now) }
+    ensures { result ≡ has_data_ack (plain_option option.now) }
 {
     matches!(*option, PathOption::Dss { next: Some(_), .. })
 }

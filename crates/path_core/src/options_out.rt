@@ -15,7 +15,7 @@ ghost use Rattle.path_core.specs.Said.{options_by, said_options, plain_said, sai
 use crate::end::PathEnd;
 use crate::infinite_mapping::InfiniteMapping;
 use crate::modes::Modes;
-use crate::profile::{Profile, spelled_by};
+use crate::profile::Profile;
 use crate::said::{Said, SaidOptions, Saying};
 use crate::segment_kind::SegmentKind;
 use dss_checksum::DssSum;
@@ -34,7 +34,7 @@ impl Profile {
         ensures { result ≡ bare_mapping self.now side place position length }
     {
         Mapping {
-            number: self.spelling().whole_number(spelled_by(side), place),
+            number: self.spelling().whole_number(side, place),
             relative: relative_number(position),
             length,
             checksum: 0,
@@ -69,7 +69,7 @@ impl Profile {
     fn place_numbered(&self, side: Side, number: u64) -> u64
         ensures { result ≡ place_numbered self.now side number }
     {
-        number.wrapping_sub(self.spelling().whole_number(spelled_by(side), 0))
+        number.wrapping_sub(self.spelling().whole_number(side, 0))
     }
 
     /// A checksum stands in an option exactly where checksums are used.
@@ -479,7 +479,7 @@ impl PathEnd {
         let options = if self.modes.identity {
             SaidOptions::Nothing
         } else {
-            broken_options(self.treated.failed_mapping(), reason)
+            broken_options(self.treated.failed_mapping, reason)
         };
         self.segment_of(profile, self.own_reset(), options, &[])
     }
@@ -512,7 +512,7 @@ impl PathEnd {
         ensures { plain_said result ≡
             carried_said profile.now side self.now.notices.carrier self.now }
     {
-        match self.notices.carrier() {
+        match self.notices.carrier {
             Some(key) => self.dss_and(profile, PathOption::FastClose { key }),
             None => self.ack_said(profile, side, self.tcp.nxt(), None),
         }
@@ -533,7 +533,7 @@ impl PathEnd {
     fn dead_answer_said(&self, profile: &Profile) -> Said<'_>
         ensures { plain_said result ≡ said_by DeadAnswer profile.now A self.now }
     {
-        let outgoing = match self.treated.answer() {
+        let outgoing = match self.treated.answer {
             Some(outgoing) => outgoing,
             None => self.tcp.reset_segment(),
         };
@@ -544,7 +544,7 @@ impl PathEnd {
     fn refusal_said(&self, profile: &Profile) -> Said<'_>
         ensures { plain_said result ≡ said_by Refusal profile.now A self.now }
     {
-        let outgoing = match self.treated.answer() {
+        let outgoing = match self.treated.answer {
             Some(outgoing) => outgoing,
             None => self.tcp.reset_segment(),
         };
@@ -560,11 +560,11 @@ impl PathEnd {
         if self.modes.owes_third {
             return self.ack_said(profile, side, self.tcp.nxt(), None);
         }
-        if self.notices.is_fast_closed() {
+        if self.notices.fast_closed {
             return self.carried_said(profile, side);
         }
         if self.is_data_fin_owed() {
-            return self.ack_said(profile, side, self.tcp.nxt(), self.sending.known_end());
+            return self.ack_said(profile, side, self.tcp.nxt(), self.sending.known_end);
         }
         let probe = self.tcp.una().saturating_sub(1);
         self.ack_said(profile, side, probe, None)
@@ -588,7 +588,7 @@ impl PathEnd {
         match kind {
             SegmentKind::Ack => self.ack_said(profile, side, self.tcp.nxt(), None),
             SegmentKind::DataFin => {
-                self.ack_said(profile, side, self.tcp.nxt(), self.sending.known_end())
+                self.ack_said(profile, side, self.tcp.nxt(), self.sending.known_end)
             }
             SegmentKind::Fin => self.fin_said(profile),
             SegmentKind::Unsent => self.record_or_ack(profile, side, self.tcp.first_unsent()),

@@ -6,9 +6,9 @@ ghost use Rattle.actor_desk.specs.Kinds.{CanBeAsked};
 ghost use Rattle.linked_increase.specs.Paths.{IsInRange};
 ghost use Rattle.subflow_tcp.specs.State.{has_records};
 ghost use Rattle.path_core.specs.Octets.{octets};
-ghost use Rattle.path_core.specs.Passing.{having_asked, refused, data_fin_of, fin_ask, with_peer_data_fin, is_fin_set, fin_set, answered_fin_heard, after_pass_fin, rate_ask, is_row_of, growth_by, growth_in, after_rate, answered_rate, answered_again, answer_occasion, answered_answer, dead_answer, answered_dead, resend_occasion, answered_resend};
+ghost use Rattle.path_core.specs.Passing.{having_asked, refused, data_fin_of, fin_ask, with_peer_data_fin, is_fin_set, fin_set, answered_fin_heard, after_pass_fin, rate_ask, is_row_of, growth_by, growth_in, after_rate, answered_rate, answer_occasion, answered_answer, dead_answer, answered_dead, resend_occasion, answered_resend};
 ghost use Rattle.path_core.specs.Replies.{AreRowsInRange};
-ghost use Rattle.path_core.specs.State.{end_at, goes_on, left, path_of, with_end};
+ghost use Rattle.path_core.specs.State.{end_at, goes_on, left, path_of};
 
 use crate::end::PathEnd;
 use crate::machine::Machine;
@@ -71,19 +71,19 @@ impl PathEnd {
     pub fn have_asked(&mut self)
         ensures { self.new ≡ having_asked self.old }
     {
-        self.treated.set_asked(true);
+        self.treated.asked = true;
     }
 
     /// The end of the peer's stream was told.
     pub fn take_peer_data_fin(&mut self)
         ensures { self.new ≡ having_asked (with_peer_data_fin self.old) }
     {
-        self.sending.peer_data_fin_came();
+        self.sending.close.heard_fin();
         self.have_asked();
     }
 
     /// The edge moves over the subflow's FIN, which ends no stream by itself.
-    fn pass_fin(&mut self)
+    pub fn pass_fin(&mut self)
         ensures { self.new ≡ after_pass_fin self.old }
     {
         if self.tcp.is_fin_next() {
@@ -126,10 +126,7 @@ impl PathEnd {
     {
         if self.tcp.has_records() {
             Occasion::First
-        } else if self.modes.owes_third
-            || self.notices.is_fast_closed()
-            || self.is_data_fin_owed()
-        {
+        } else if self.modes.owes_third || self.notices.fast_closed || self.is_data_fin_owed() {
             Occasion::Ack
         } else {
             Occasion::Probe
@@ -169,13 +166,6 @@ impl Machine {
         }
     }
 
-    /// The edge moves over the peer's FIN.
-    pub(crate) fn pass_fin(&mut self, side: Side)
-        ensures { self.new ≡ with_end side (after_pass_fin (end_at side self.old)) self.old }
-    {
-        self.end_mut(side).pass_fin();
-    }
-
     /// The window before the growth and the round-trip time are told.
     pub(crate) fn rate_ask(&self, side: Side) -> Ask
         ensures value { result ≡
@@ -201,14 +191,6 @@ impl Machine {
         let (path, mss) = (self.number(), self.profile.mss());
         self.end_mut(side).take_rate_reply(path, mss, reply);
         self.done();
-    }
-
-    /// The first record is sent again.
-    pub(crate) fn send_again(&mut self, side: Side) -> Result<(), AllocError>
-        ensures ok { OnOk result (self.new ≡ answered_again octets side self.old) }
-        ensures err { OnErr result (self.new ≡ self.old) }
-    {
-        self.send_and_leave(side, SegmentKind::First, Occasion::First)
     }
 
     /// The answer to a segment that is passed over is sent.

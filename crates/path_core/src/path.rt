@@ -83,21 +83,21 @@ impl Path {
     pub fn has_ended(&self) -> bool
         ensures { result ≡ has_ended self.now }
     {
-        self.machine.has_ended()
+        self.machine.agenda.first().is_none()
     }
 
     /// The first tick after its round, in ticks of a millisecond. The first round ends at 100.
     pub fn round_end(&self) -> u64
         ensures { result ≡ self.now.until }
     {
-        self.machine.round_end()
+        self.machine.clock.until()
     }
 
     /// The tick at which it is, in ticks of a millisecond from the run's beginning.
     pub fn tick(&self) -> u64
         ensures { result ≡ self.now.clock }
     {
-        self.machine.tick()
+        self.machine.clock.now()
     }
 
     /// SRTT of a side's end, the smoothed round-trip time, in whole ticks of a millisecond, rounded down: at most a minute, and

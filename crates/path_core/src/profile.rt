@@ -1,10 +1,7 @@
 //! What never changes at a path.
 
 ghost use Rattle.std.specs.Prelude.{◌≡◌, ◌≤◌};
-ghost use Rattle.link_model.specs.Steps.{peer};
-ghost use Rattle.path_core.specs.OptionsOut.{spelled_by};
 
-use outside_kit::Side;
 use path_segments::Spelling;
 use std::marker::Model;
 
@@ -93,25 +90,5 @@ impl Profile {
         ensures bound { result ≤ 1432 }
     {
         u32::from(self.mss - 28)
-    }
-}
-
-/// The same side, as the segments of a path have it.
-pub(crate) fn spelled_by(side: Side) -> path_segments::Side
-    ensures { result ≡ spelled_by side }
-{
-    match side {
-        Side::A => path_segments::Side::A,
-        Side::B => path_segments::Side::B,
-    }
-}
-
-/// The side at the other end.
-pub(crate) fn peer(side: Side) -> Side
-    ensures { result ≡ peer side }
-{
-    match side {
-        Side::A => Side::B,
-        Side::B => Side::A,
     }
 }

@@ -1,6 +1,6 @@
 //! What an end keeps of the peer's stream (RFC 8684, section 3.3.1).
 
-ghost use Rattle.std.specs.Prelude.{◌≡◌, ◌≤◌, ◌+◌, ◌^◌, ◌==◌, if◌then◌else◌, true, is_some, None, IfSome};
+ghost use Rattle.std.specs.Prelude.{◌≡◌, ◌≤◌, ◌+◌, ◌^◌, ◌==◌, if◌then◌else◌, is_some, None, IfSome};
 ghost use Rattle.path_core.specs.Words.{one_more};
 
 use crate::counts::one_more;
@@ -26,7 +26,7 @@ pub(crate) struct Receiving {
     /// That position.
     unmapped_at: Pos,
     /// The peer's FIN was told as the end of its stream.
-    fin_told: bool,
+    pub fin_told: bool,
     /// A DATA_FIN behind bytes that the edge hasn't passed yet. Its place is at most 2^62.
     mapped_data_fin: Option<MappedDataFin>,
 }
@@ -126,21 +126,6 @@ impl Receiving {
     {
         self.unmapped = times;
         self.unmapped_at = edge;
-    }
-
-    /// Whether the peer's FIN was told as the end of its stream.
-    pub fn is_fin_told(&self) -> bool
-        ensures { result ≡ self.now.receiving.fin_told }
-    {
-        self.fin_told
-    }
-
-    /// It was.
-    pub fn fin_is_told(&mut self)
-        ensures { self.new ≡
-            record self.old { receiving = record self.old.receiving { fin_told = true } } }
-    {
-        self.fin_told = true;
     }
 
     /// The first mapping that is held is learned; a DATA_FIN behind its bytes waits for the edge. Takes no memory.

@@ -4,7 +4,6 @@ ghost use Rattle.std.specs.Prelude.{◌≡◌, ◌∷◌, IfOk};
 ghost use Rattle.path_segments.specs.Options.{plain_option};
 ghost use Rattle.path_core.specs.Said.{options_by, said_options};
 
-use crate::profile::spelled_by;
 use outside_kit::Side;
 use path_segments::{PathOption, SaidSegment, Spelling, sum, write};
 use std::alloc::{AllocError, Global};
@@ -104,20 +103,19 @@ impl<'a> Said<'a> {
         ensures { IfOk result (λ octets. octets.items ≡
             made spelling.now side (plain_said self.now)) }
     {
-        let from = spelled_by(side);
         match &self.options {
             SaidOptions::Nothing => {
-                write(alloc, spelling, from, &self.with_options(&[], self.payload))
+                write(alloc, spelling, side, &self.with_options(&[], self.payload))
             }
             SaidOptions::One(option) => {
                 let options = [lent(option)];
                 let segment = self.with_options(&options, self.payload);
-                write(alloc, spelling, from, &segment)
+                write(alloc, spelling, side, &segment)
             }
             SaidOptions::Two(first, second) => {
                 let options = [lent(first), lent(second)];
                 let segment = self.with_options(&options, self.payload);
-                write(alloc, spelling, from, &segment)
+                write(alloc, spelling, side, &segment)
             }
         }
     }
@@ -127,18 +125,17 @@ impl<'a> Said<'a> {
         requires { CanBeSaid spelling.now side (plain_said self.now) }
         ensures { result ≡ sum_of spelling.now side (plain_said self.now) }
     {
-        let from = spelled_by(side);
         match &self.options {
-            SaidOptions::Nothing => sum(spelling, from, &self.with_options(&[], self.payload)),
+            SaidOptions::Nothing => sum(spelling, side, &self.with_options(&[], self.payload)),
             SaidOptions::One(option) => {
                 let options = [lent(option)];
                 let segment = self.with_options(&options, self.payload);
-                sum(spelling, from, &segment)
+                sum(spelling, side, &segment)
             }
             SaidOptions::Two(first, second) => {
                 let options = [lent(first), lent(second)];
                 let segment = self.with_options(&options, self.payload);
-                sum(spelling, from, &segment)
+                sum(spelling, side, &segment)
             }
         }
     }

@@ -3,9 +3,8 @@
 ghost use Rattle.std.specs.Prelude.{◌≡◌, ◌≤◌, ◌+◌, ◌^◌, false, IsOk, OnOk, OnErr};
 ghost use Rattle.actor_desk.specs.Kinds.{CanBeAsked};
 ghost use Rattle.path_agenda.specs.Agenda.{resets};
-ghost use Rattle.path_core.specs.Octets.{octets};
 ghost use Rattle.path_core.specs.Replies.{IsAckBounded};
-ghost use Rattle.path_core.specs.Standing.{look_ask, modes_told, may_note, notices_told, queues_in, after_look, answered_look, ack_out_ask, after_ack_out, answered_ack_out, is_connected, tellable_edge, has_grown, is_update_due, acknowledges};
+ghost use Rattle.path_core.specs.Standing.{look_ask, modes_told, may_note, notices_told, queues_in, after_look, answered_look, ack_out_ask, after_ack_out, answered_ack_out, is_connected, tellable_edge, has_grown, is_update_due};
 ghost use Rattle.path_core.specs.State.{left, end_at};
 
 use crate::end::PathEnd;
@@ -13,14 +12,13 @@ use crate::handover::window_told;
 use crate::machine::Machine;
 use crate::modes::Modes;
 use crate::profile::Profile;
-use crate::segment_kind::SegmentKind;
 use actor_desk::{Ask, Reply};
 use control_book::{ControlCall, ControlReply};
 use outside_kit::Side;
 use path_agenda::Agenda;
 use reassembly_book::{ReassemblyCall, ReassemblyReply};
 use std::alloc::AllocError;
-use subflow_tcp::{Occasion, State};
+use subflow_tcp::State;
 
 /// Both SYNs are acknowledged, and the end isn't dead.
 pub(crate) fn is_connected(state: State) -> bool
@@ -129,7 +127,7 @@ impl PathEnd {
         if let Reply::Reassembly(ReassemblyReply::Ack { next, window }) = *reply {
             self.receiving.tell_window(next, window as u32);
         }
-        self.treated.set_asked(false);
+        self.treated.asked = false;
     }
 }
 
@@ -169,14 +167,6 @@ impl Machine {
     {
         self.end_mut(side).take_ack_out_reply(reply);
         self.done();
-    }
-
-    /// The acknowledgement is sent.
-    pub(crate) fn acknowledge(&mut self, side: Side) -> Result<(), AllocError>
-        ensures ok { OnOk result (self.new ≡ acknowledges octets side self.old) }
-        ensures err { OnErr result (self.new ≡ self.old) }
-    {
-        self.send_and_leave(side, SegmentKind::Ack, Occasion::Ack)
     }
 
     /// It was told what is to be acknowledged, and the break goes on.

@@ -8,6 +8,7 @@ ghost use Rattle.path_core.specs.Duties.{stands, ask_for, passed, answered};
 ghost use Rattle.path_core.specs.Replies.{IsAckBounded, IsGrantFit, needs_memory};
 
 use crate::machine::Machine;
+use crate::stripped::STRIPPED;
 use actor_desk::{Ask, Reply};
 use path_agenda::{SilentDuty, StepDuty};
 use std::alloc::AllocError;
@@ -38,7 +39,7 @@ impl Machine {
             StepDuty::Events => self.event_ask(),
             StepDuty::Heard { side, index } => self.item_ask(side, index),
             StepDuty::PlainAck(side) => self.plain_ack_ask(side),
-            StepDuty::Unmapped(side) => self.unmapped_ask(side),
+            StepDuty::Unmapped(side) => self.break_ask(side, STRIPPED),
         }
     }
 
@@ -47,9 +48,9 @@ impl Machine {
         ensures { self.new ≡ passed (duties.Step duty) self.old }
     {
         match duty {
-            StepDuty::Heard { side, index } => self.pass_item(side, index),
-            StepDuty::PlainAck(side) => self.pass_plain_ack(side),
-            StepDuty::Unmapped(side) => self.pass_pieces(side),
+            StepDuty::Heard { side, index } => self.end_mut(side).pass_item(side, index),
+            StepDuty::PlainAck(side) => self.end_mut(side).count_plain_ack(),
+            StepDuty::Unmapped(side) => self.end_mut(side).pass_pieces(),
             StepDuty::Look(_) => {}
             StepDuty::Data(_) => {}
             StepDuty::Events => {}
@@ -72,7 +73,7 @@ impl Machine {
             StepDuty::Events => self.answer_event(reply),
             StepDuty::Heard { side, index } => self.answer_item(side, index, reply),
             StepDuty::PlainAck(side) => self.answer_plain_ack(side, reply),
-            StepDuty::Unmapped(side) => self.answer_unmapped(side, reply),
+            StepDuty::Unmapped(side) => self.answer_break(side, STRIPPED, reply),
         }
     }
 
@@ -82,8 +83,8 @@ impl Machine {
     {
         match duty {
             SilentDuty::Timer(side) => self.settle_timer(side),
-            SilentDuty::Keep(side) => self.keep(side),
-            SilentDuty::PassFin(side) => self.pass_fin(side),
+            SilentDuty::Keep(side) => self.end_mut(side).keep(side),
+            SilentDuty::PassFin(side) => self.end_mut(side).pass_fin(),
         }
     }
 }

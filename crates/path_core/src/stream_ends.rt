@@ -17,7 +17,7 @@ impl PathEnd {
     pub fn is_waiting(&self) -> bool
         ensures { result ≡ is_waiting self.now }
     {
-        self.is_data_fin_owed() || !self.sending.is_idle() || self.sending.is_shut()
+        self.is_data_fin_owed() || !self.sending.granted.is_empty() || self.sending.shut
     }
 
     /// The DATA_FIN is to be sent: the end is known, and it was neither sent nor acknowledged; never without mappings.
@@ -40,7 +40,7 @@ impl PathEnd {
         if self.modes.sends_plainly() {
             self.sending.is_all_granted()
         } else {
-            self.sending.may_finish()
+            self.sending.close.may_finish()
         }
     }
 }

@@ -4,13 +4,12 @@
 ghost use Rattle.std.specs.Prelude.{◌≡◌, ◌-◌, ◌≤◌, ◌<◌, ◌^◌, is_some, IfSome, OnOk, OnErr};
 ghost use Rattle.actor_desk.specs.Kinds.{CanBeAsked};
 ghost use Rattle.fallback_state.specs.declared.fall.Event.TheVariants as events;
-ghost use Rattle.path_core.specs.Breaking.{break_ask, answered_break};
 ghost use Rattle.path_core.specs.Fallback.{after_fell};
 ghost use Rattle.path_core.specs.Octets.{octets};
 ghost use Rattle.path_core.specs.Passing.{is_fin_set, fin_ask, having_asked, with_peer_data_fin, plain_fin, with_fin_told, answered_plain_fin};
 ghost use Rattle.path_core.specs.Deliver.{is_unmapped, times_unmapped, breaks_by_unmapped, after_unmapped, with_data_fin_reached, after_pieces};
 ghost use Rattle.path_core.specs.Replies.{IsAckBounded};
-ghost use Rattle.path_core.specs.State.{end_at, with_end};
+ghost use Rattle.path_core.specs.State.{end_at};
 ghost use Rattle.path_core.specs.Treating.{lacks_data_ack, breaks_by_ack, plain_ack_stands, plain_ack_ask, with_plain_ack, answered_plain_ack, plain_next, subflow_ack_stands, subflow_ack_ask, with_plain_acked, answered_subflow_ack, plain_data_stands};
 
 use crate::counts::one_more;
@@ -26,14 +25,14 @@ use send_book::SendCall;
 use std::alloc::AllocError;
 
 /// A path on which options are lost is broken with this reason: a middlebox interferes (RFC 8684, section 3.6).
-const STRIPPED: u8 = 6;
+pub(crate) const STRIPPED: u8 = 6;
 
 impl PathEnd {
     /// The copy acknowledges data without a Data ACK, which the side wants.
     fn lacks_data_ack(&self) -> bool
         ensures { result ≡ lacks_data_ack self.now }
     {
-        self.treated.is_plain_ack() && !self.modes.sends_plainly()
+        self.treated.plain_ack && !self.modes.sends_plainly()
     }
 
     /// It breaks a path that joined, as long as no Data ACK covered something on it; and the third without a Data ACK between
@@ -54,7 +53,7 @@ impl PathEnd {
     }
 
     /// One more acknowledgement without a Data ACK, where the copy is one.
-    fn count_plain_ack(&mut self)
+    pub fn count_plain_ack(&mut self)
         ensures { self.new ≡ with_plain_ack self.old }
     {
         if self.lacks_data_ack() {
@@ -74,7 +73,7 @@ impl PathEnd {
     pub fn subflow_ack_stands(&self) -> bool
         ensures { result ≡ subflow_ack_stands self.now }
     {
-        self.plain_next().is_some() && !self.treated.is_data_ack_taken()
+        self.plain_next().is_some() && !self.treated.data_ack_taken
     }
 
     /// It acknowledges so many bytes.
@@ -98,8 +97,8 @@ impl PathEnd {
     pub fn plain_data_stands(&self) -> bool
         ensures { result ≡ plain_data_stands self.now }
     {
-        self.treated.held_edge().is_some()
-            && !self.treated.has_option()
+        self.treated.held_edge.is_some()
+            && !self.treated.has_option
             && self.modes.mode == Mode::Starting
     }
 
@@ -107,7 +106,7 @@ impl PathEnd {
     fn is_unmapped(&self) -> bool
         ensures { result ≡ is_unmapped self.now }
     {
-        self.treated.held_edge() == Some(self.tcp.edge())
+        self.treated.held_edge == Some(self.tcp.edge())
             && !self.modes.receives_plainly(self.tcp.edge())
             && self.mapping_at_edge().is_none()
     }
@@ -146,7 +145,7 @@ impl PathEnd {
     }
 
     /// No more bytes can be placed.
-    fn pass_pieces(&mut self)
+    pub fn pass_pieces(&mut self)
         ensures { self.new ≡ after_pieces self.old }
     {
         self.count_unmapped();
@@ -158,7 +157,7 @@ impl PathEnd {
         ensures value { result ≡ plain_fin self.now }
         ensures bound { IfSome result (λ place. place < 2 ^ 62) }
     {
-        if self.receiving.is_fin_told() {
+        if self.receiving.fin_told {
             return None;
         }
         match self.tcp.fin_at() {
@@ -171,7 +170,7 @@ impl PathEnd {
     fn take_plain_fin_reply(&mut self)
         ensures { self.new ≡ having_asked (with_peer_data_fin (with_fin_told self.old)) }
     {
-        self.receiving.fin_is_told();
+        self.receiving.fin_told = true;
         self.take_peer_data_fin();
     }
 }
@@ -203,20 +202,13 @@ impl Machine {
         Ok(())
     }
 
-    /// It is counted.
-    pub(crate) fn pass_plain_ack(&mut self, side: Side)
-        ensures { self.new ≡ with_end side (with_plain_ack (end_at side self.old)) self.old }
-    {
-        self.end_mut(side).count_plain_ack();
-    }
-
     /// The acknowledgement of the subflow is told.
     pub(crate) fn subflow_ack_ask(&self, side: Side) -> Ask
         ensures value { result ≡ subflow_ack_ask side (end_at side self.now) }
         ensures able { CanBeAsked result }
     {
         let end = self.end(side);
-        let window = u64::from(end.treated.window());
+        let window = u64::from(end.treated.window);
         match end.plain_next() {
             Some(next) => Ask::Send(side, SendCall::AckIn { next, window }),
             None => Ask::Local(LocalStep::End),
@@ -229,30 +221,6 @@ impl Machine {
     {
         self.end_mut(side).take_subflow_ack_reply(reply);
         self.done();
-    }
-
-    /// The first step of the break by bytes without a mapping.
-    pub(crate) fn unmapped_ask(&self, side: Side) -> Ask
-        ensures value { result ≡ break_ask octets side 6 self.now }
-        ensures able { CanBeAsked result }
-    {
-        self.break_ask(side, STRIPPED)
-    }
-
-    /// That step is made. At an error all is as it was.
-    pub(crate) fn answer_unmapped(&mut self, side: Side, reply: &Reply) -> Result<(), AllocError>
-        requires { IsAckBounded reply.now }
-        ensures ok { OnOk result (self.new ≡ answered_break octets side 6 reply.now self.old) }
-        ensures err { OnErr result (self.new ≡ self.old) }
-    {
-        self.answer_break(side, STRIPPED, reply)
-    }
-
-    /// No more bytes can be placed: the next one is counted where it has no mapping, and an end that the edge reached is told next.
-    pub(crate) fn pass_pieces(&mut self, side: Side)
-        ensures { self.new ≡ with_end side (after_pieces (end_at side self.old)) self.old }
-    {
-        self.end_mut(side).pass_pieces();
     }
 
     /// The peer's FIN is told as the end of its stream.

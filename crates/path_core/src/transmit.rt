@@ -6,11 +6,13 @@ ghost use Rattle.path_agenda.specs.declared.duty.Duty.TheVariants as duties;
 ghost use Rattle.path_core.specs.Octets.{octets};
 ghost use Rattle.path_core.specs.Duties.{stands, ask_for, sent_for};
 
+use crate::looking::{ToSend, send_of};
 use crate::machine::Machine;
 use crate::segment_kind::SegmentKind;
 use actor_desk::Ask;
 use path_agenda::SendDuty;
 use std::alloc::AllocError;
+use subflow_tcp::Occasion;
 
 impl Machine {
     /// Whether its segment is due.
@@ -38,35 +40,13 @@ impl Machine {
     }
 
     /// The step of its segment.
+    #[tactic(auto, using(crate::proofs::SegmentsTold::step_sent))]
     pub(crate) fn send_step(&self, duty: SendDuty) -> Ask
         ensures value { result ≡ ask_for octets (duties.Send duty) self.now }
         ensures able { CanBeAsked result }
     {
-        match duty {
-            SendDuty::Update(side) => self.sent_step(side, SegmentKind::Ack),
-            SendDuty::Acknowledge(side) => self.sent_step(side, SegmentKind::Ack),
-            SendDuty::Syn(side) => self.sent_step(side, SegmentKind::Unsent),
-            SendDuty::FastClose(side) => self.sent_step(side, SegmentKind::FastClose),
-            SendDuty::Notice(side) => self.sent_step(side, SegmentKind::Notice),
-            SendDuty::DataFin(side) => self.sent_step(side, SegmentKind::DataFin),
-            SendDuty::Fin(side) => self.sent_step(side, SegmentKind::Fin),
-            SendDuty::SynAck(side) => self.sent_step(side, SegmentKind::SynAck),
-            SendDuty::Refuse(side) => self.sent_step(side, SegmentKind::Refusal),
-            SendDuty::Again(side) => self.sent_step(side, SegmentKind::First),
-            SendDuty::Answer(side) => self.sent_step(side, SegmentKind::Answer),
-            SendDuty::ResetAnswer(side) => self.sent_step(side, SegmentKind::DeadAnswer),
-            SendDuty::Resend(side) => self.sent_step(side, SegmentKind::Resend),
-            SendDuty::BreakReset { side, reason } => self.sent_step(
-                side,
-                SegmentKind::Reset {
-                    reason: Some(reason),
-                },
-            ),
-            SendDuty::Reset(side) => self.sent_step(side, SegmentKind::Reset { reason: None }),
-            SendDuty::ResetNoted(side) => {
-                self.sent_step(side, SegmentKind::Reset { reason: None })
-            }
-        }
+        let ToSend { from, kind } = send_of(duty);
+        self.sent_step(from, kind)
     }
 
     /// The segment is sent. At an error all is as it was.
@@ -76,16 +56,24 @@ impl Machine {
         ensures err { OnErr result (self.new ≡ self.old) }
     {
         match duty {
-            SendDuty::Update(side) => self.acknowledge(side),
-            SendDuty::Acknowledge(side) => self.acknowledge(side),
-            SendDuty::Syn(side) => self.send_syn(side),
+            SendDuty::Update(side) => self.send_and_leave(side, SegmentKind::Ack, Occasion::Ack),
+            SendDuty::Acknowledge(side) => {
+                self.send_and_leave(side, SegmentKind::Ack, Occasion::Ack)
+            }
+            SendDuty::Syn(side) => {
+                self.send_and_leave(side, SegmentKind::Unsent, Occasion::Unsent)
+            }
             SendDuty::FastClose(side) => self.send_fast_close(side),
             SendDuty::Notice(side) => self.send_note(side),
             SendDuty::DataFin(side) => self.send_data_fin(side),
             SendDuty::Fin(side) => self.send_fin(side),
-            SendDuty::SynAck(side) => self.send_syn_ack(side),
+            SendDuty::SynAck(side) => {
+                self.send_and_leave(side, SegmentKind::SynAck, Occasion::SynAck)
+            }
             SendDuty::Refuse(side) => self.send_refusal(side),
-            SendDuty::Again(side) => self.send_again(side),
+            SendDuty::Again(side) => {
+                self.send_and_leave(side, SegmentKind::First, Occasion::First)
+            }
             SendDuty::Answer(side) => self.send_answer(side),
             SendDuty::ResetAnswer(side) => self.send_dead_answer(side),
             SendDuty::Resend(side) => self.resend(side),

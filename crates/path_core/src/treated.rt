@@ -1,6 +1,6 @@
 //! What the last copy said, as far as it is still to be treated.
 
-ghost use Rattle.std.specs.Prelude.{◌≡◌, true, false, ◌≤◌, ◌^◌, All, IfSome, Some, None};
+ghost use Rattle.std.specs.Prelude.{◌≡◌, false, ◌≤◌, ◌^◌, All, IfSome, Some, None};
 ghost use Rattle.path_agenda.specs.Items.{IsFair};
 ghost use Rattle.path_core.specs.Words.{item_at};
 
@@ -18,31 +18,31 @@ pub(crate) struct Treated {
     /// What its options say, in their order.
     items: Items,
     /// The end became established by it.
-    opened: bool,
+    pub opened: bool,
     /// Its keys were told already.
-    keys_told: bool,
+    pub keys_told: bool,
     /// It has an option of Multipath TCP.
-    has_option: bool,
+    pub has_option: bool,
     /// The ends of the stream that are to be told, in their order: those of its DATA_FINs, and of one that the edge reached.
     fins: ArrayVec<u64, 3>,
     /// Bytes or an end were told since the book was asked last what is to be acknowledged.
-    asked: bool,
+    pub asked: bool,
     /// The reset that answers it at a dead end, and at an end that refuses it.
-    answer: Option<Outgoing>,
+    pub answer: Option<Outgoing>,
     /// The window that it told, in octets.
-    window: u32,
+    pub window: u32,
     /// It acknowledges data for the first time, and has no Data ACK.
-    plain_ack: bool,
+    pub plain_ack: bool,
     /// The position that it acknowledges.
     acknowledged: Pos,
     /// Its Data ACK was told to the send book.
-    data_ack_taken: bool,
+    pub data_ack_taken: bool,
     /// The receive edge at its arrival, where its payload has the octet there and isn't dropped.
-    held_edge: Option<Pos>,
+    pub held_edge: Option<Pos>,
     /// The place of the mapping whose failed check broke the path.
-    failed_mapping: Option<u64>,
+    pub failed_mapping: Option<u64>,
     /// The infinite mapping by which the side may send, where the send book gave its bytes to this path alone as an MP_FAIL came.
-    infinite_mapping: Option<InfiniteMapping>,
+    pub infinite_mapping: Option<InfiniteMapping>,
 }
 
 impl Model for Treated {
@@ -136,20 +136,6 @@ impl Treated {
         self.infinite_mapping = None;
     }
 
-    /// Whether it acknowledges data for the first time without a Data ACK.
-    pub fn note_plain_ack(&mut self, plain_ack: bool)
-        ensures { self.new ≡ record self.old { plain_ack = plain_ack } }
-    {
-        self.plain_ack = plain_ack;
-    }
-
-    /// Whether it acknowledges data for the first time without a Data ACK.
-    pub fn is_plain_ack(&self) -> bool
-        ensures { result ≡ self.now.plain_ack }
-    {
-        self.plain_ack
-    }
-
     /// It acknowledges this position, at most 2^62, and has the octet at this receive edge, or not.
     pub fn note_positions(&mut self, acknowledged: Pos, held_edge: Option<Pos>)
         requires { acknowledged ≤ 2 ^ 62 }
@@ -168,69 +154,6 @@ impl Treated {
         self.acknowledged
     }
 
-    /// Whether its Data ACK was told to the send book.
-    pub fn is_data_ack_taken(&self) -> bool
-        ensures { result ≡ self.now.data_ack_taken }
-    {
-        self.data_ack_taken
-    }
-
-    /// It was.
-    pub fn data_ack_is_taken(&mut self)
-        ensures { self.new ≡ record self.old { data_ack_taken = true } }
-    {
-        self.data_ack_taken = true;
-    }
-
-    /// The receive edge at its arrival, where its payload has the octet there.
-    pub fn held_edge(&self) -> Option<Pos>
-        ensures { result ≡ self.now.held_edge }
-    {
-        self.held_edge
-    }
-
-    /// Its payload isn't kept.
-    pub fn drop_held_edge(&mut self)
-        ensures { self.new ≡ record self.old { held_edge = None } }
-    {
-        self.held_edge = None;
-    }
-
-    /// The place of the mapping whose failed check broke the path.
-    pub fn failed_mapping(&self) -> Option<u64>
-        ensures { result ≡ self.now.failed_mapping }
-    {
-        self.failed_mapping
-    }
-
-    /// The failed check of the mapping at this place broke the path.
-    pub fn note_failed_mapping(&mut self, place: u64)
-        ensures { self.new ≡ record self.old { failed_mapping = Some place } }
-    {
-        self.failed_mapping = Some(place);
-    }
-
-    /// The infinite mapping by which the side may send, where the send book gave its bytes to this path alone.
-    pub fn infinite_mapping(&self) -> Option<InfiniteMapping>
-        ensures { result ≡ self.now.infinite_mapping }
-    {
-        self.infinite_mapping
-    }
-
-    /// It gave them so, or it didn't.
-    pub fn note_infinite_mapping(&mut self, mapping: Option<InfiniteMapping>)
-        ensures { self.new ≡ record self.old { infinite_mapping = mapping } }
-    {
-        self.infinite_mapping = mapping;
-    }
-
-    /// The window that it told, in octets.
-    pub fn window(&self) -> u32
-        ensures { result ≡ self.now.window }
-    {
-        self.window
-    }
-
     /// The thing of this number that it said, the first being 0.
     pub fn item(&self, index: u8) -> Option<Heard>
         ensures value { result ≡ item_at index self.now.items }
@@ -244,20 +167,6 @@ impl Treated {
         ensures { result.now ≡ self.now.items }
     {
         self.items.as_slice()
-    }
-
-    /// Whether it has an option of Multipath TCP.
-    pub fn has_option(&self) -> bool
-        ensures { result ≡ self.now.has_option }
-    {
-        self.has_option
-    }
-
-    /// Whether its keys were told already.
-    pub fn are_keys_told(&self) -> bool
-        ensures { result ≡ self.now.keys_told }
-    {
-        self.keys_told
     }
 
     /// The end of the stream of this number that is to be told, the first being 0.
@@ -276,40 +185,5 @@ impl Treated {
         if self.fins.len() < 3 {
             self.fins.push(place);
         }
-    }
-
-    /// Its keys are told.
-    pub fn keys_were_told(&mut self)
-        ensures { self.new ≡ record self.old { keys_told = true } }
-    {
-        self.keys_told = true;
-    }
-
-    /// Whether bytes or an end were told since the book was asked last what is to be acknowledged.
-    pub fn is_asked(&self) -> bool
-        ensures { result ≡ self.now.asked }
-    {
-        self.asked
-    }
-
-    /// So it is, or not.
-    pub fn set_asked(&mut self, asked: bool)
-        ensures { self.new ≡ record self.old { asked = asked } }
-    {
-        self.asked = asked;
-    }
-
-    /// Whether the end became established by the copy.
-    pub fn is_opened(&self) -> bool
-        ensures { result ≡ self.now.opened }
-    {
-        self.opened
-    }
-
-    /// The reset that answers the copy at a dead end.
-    pub fn answer(&self) -> Option<Outgoing>
-        ensures { result ≡ self.now.answer }
-    {
-        self.answer
     }
 }

@@ -9,16 +9,16 @@ ghost use Rattle.path_core.specs.Octets.{octets};
 ghost use Rattle.path_core.specs.Opening.{after_keys};
 ghost use Rattle.path_core.specs.Deliver.{with_learned, with_skipped};
 ghost use Rattle.path_core.specs.Replies.{IsAckBounded};
-ghost use Rattle.path_core.specs.State.{end_at, goes_on, left, with_agenda, with_end};
+ghost use Rattle.path_core.specs.State.{end_at, goes_on, left, with_agenda};
 ghost use Rattle.path_core.specs.Fallback.{after_fell, fell_duties};
 ghost use Rattle.path_core.specs.Treating.{counts, is_clash, mapping_stands, heard_stands, mapping_ask, heard_ask, is_acked, told_next, acked_in, with_acked, with_data_ack, answered_ack, answered_mapping, with_data_fin, answered_heard, after_dss, heard_passed, item_stands, item_ask, answered_item, item_passed, item_of, is_dropped, is_not_kept, after_keep};
 
 use crate::end::PathEnd;
-use crate::fast_closing::fast_heard_ask;
 use crate::machine::Machine;
 use crate::opening::keys_ask;
 use crate::sending::Sending;
 use actor_desk::{Ask, LocalStep, Reply};
+use control_book::ControlCall;
 use fallback_state::{Event, Mode};
 use outside_kit::Side;
 use path_agenda::{AskDuty, Duty, Heard, KeyPair};
@@ -77,7 +77,7 @@ impl PathEnd {
             Heard::Mapping { .. } => self.counts() && (self.is_clash() || starting),
             Heard::DataFin { .. } => self.counts() && starting,
             Heard::InfiniteMapping { .. } => self.counts() && self.reads_mappings(),
-            Heard::Keys { .. } => !self.treated.are_keys_told(),
+            Heard::Keys { .. } => !self.treated.keys_told,
         }
     }
 
@@ -123,13 +123,6 @@ impl PathEnd {
         }
     }
 
-    /// The first mapping that is held is learned.
-    fn learn(&mut self)
-        ensures { self.new ≡ with_learned self.old }
-    {
-        self.receiving.learn_held();
-    }
-
     /// The first mapping that is held is learned where it counts, and is held no longer.
     fn pass_mapping(&mut self)
         ensures { self.new ≡
@@ -142,14 +135,6 @@ impl PathEnd {
         }
     }
 
-    /// The end of the stream is told later.
-    fn note_data_fin(&mut self, place: u64)
-        requires { place ≤ 2 ^ 62 }
-        ensures { self.new ≡ with_data_fin place self.old }
-    {
-        self.treated.note_data_fin(place);
-    }
-
     /// So many bytes of the stream are acknowledged, where the Data ACK was taken.
     fn take_ack_reply(&mut self, next: u64, reply: &Reply)
         requires { next < 2 ^ 62 }
@@ -157,7 +142,7 @@ impl PathEnd {
     {
         self.sending.take_ack_reply(next, reply);
         self.hear_data_ack(next);
-        self.treated.data_ack_is_taken();
+        self.treated.data_ack_taken = true;
     }
 
     /// A Data ACK was heard, which covers something or doesn't.
@@ -172,7 +157,7 @@ impl PathEnd {
     fn pass_dss(&mut self, side: Side)
         ensures { self.new ≡ after_dss side self.old }
     {
-        self.sending.note_news(self.modes.owes_third);
+        self.sending.news |= self.modes.owes_third;
         self.modes.clear |= side == Side::A;
         self.modes.owes_third = false;
     }
@@ -188,7 +173,7 @@ impl PathEnd {
             Heard::Mapping { .. } => self.pass_mapping(),
             Heard::DataFin { place } => {
                 if self.counts() {
-                    self.note_data_fin(place);
+                    self.treated.note_data_fin(place);
                 }
             }
             Heard::InfiniteMapping { .. }
@@ -202,7 +187,7 @@ impl PathEnd {
     }
 
     /// The thing of this number is passed in silence.
-    fn pass_item(&mut self, side: Side, index: u8)
+    pub fn pass_item(&mut self, side: Side, index: u8)
         ensures { self.new ≡ item_passed side (item_of index self.old) self.old }
     {
         if let Some(item) = self.item(index) {
@@ -215,7 +200,7 @@ impl PathEnd {
         ensures { result ≡ is_dropped side self.now }
     {
         let open = self.modes.clear || self.modes.identity;
-        side == Side::B && !open && self.treated.has_option()
+        side == Side::B && !open && self.treated.has_option
     }
 
     /// The payload isn't kept: it is dropped, or the peer's FIN was passed.
@@ -226,12 +211,12 @@ impl PathEnd {
     }
 
     /// The payload that is held is kept or dropped.
-    fn keep(&mut self, side: Side)
+    pub fn keep(&mut self, side: Side)
         ensures { self.new ≡ after_keep side self.old }
     {
         let dropped = self.is_dropped(side);
         if self.is_not_kept(side) {
-            self.treated.drop_held_edge();
+            self.treated.held_edge = None;
         }
         if dropped {
             self.tcp.drop_held();
@@ -272,7 +257,7 @@ impl Machine {
             Heard::Dss | Heard::PeerKey { .. } | Heard::Join { .. } => Ask::Local(LocalStep::End),
             Heard::Fail => self.fail_ask(side),
             Heard::Notice { notice } => self.notice_ask(side, notice),
-            Heard::FastClose { key } => fast_heard_ask(side, key),
+            Heard::FastClose { key } => Ask::Control(side, ControlCall::FastHeard { key }),
         }
     }
 
@@ -312,7 +297,7 @@ impl Machine {
         }
         self.end_mut(side)
             .take_fell_reply(Event::MappingHeard, reply);
-        self.end_mut(side).learn();
+        self.end_mut(side).receiving.learn_held();
         self.go_by_verdict(side, reply);
         Ok(())
     }
@@ -327,7 +312,7 @@ impl Machine {
     {
         self.end_mut(side)
             .take_fell_reply(Event::MappingHeard, reply);
-        self.end_mut(side).note_data_fin(place);
+        self.end_mut(side).treated.note_data_fin(place);
         self.go_by_verdict(side, reply);
     }
 
@@ -401,22 +386,5 @@ impl Machine {
                 Ok(())
             }
         }
-    }
-
-    /// The thing of this number is passed in silence.
-    pub(crate) fn pass_item(&mut self, side: Side, index: u8)
-        ensures { self.new ≡
-            with_end side
-            (item_passed side (item_of index (end_at side self.old)) (end_at side self.old))
-            self.old }
-    {
-        self.end_mut(side).pass_item(side, index);
-    }
-
-    /// The payload that is held is kept or dropped.
-    pub(crate) fn keep(&mut self, side: Side)
-        ensures { self.new ≡ with_end side (after_keep side (end_at side self.old)) self.old }
-    {
-        self.end_mut(side).keep(side);
     }
 }

@@ -1,8 +1,8 @@
 use Rattle.std.proofs.Common.{◌≡◌, ◌∙◌, sym, ap, subst}
 use Rattle.std.specs.Result.{OnOk}
 use Rattle.path_segments.specs.HeardSegments.{heard_value, IsHeardShort}
+use Rattle.path_segments.specs.Heard.{HeardSegment}
 use Rattle.path_core.specs.Arriving.{options_heard}
-use Rattle.path_core.specs.Codec.{HeardSegment}
 use Rattle.path_core.specs.Ends.{PathEnd}
 use Rattle.path_core.specs.Events.{told_at}
 use Rattle.path_core.proofs.machine.Machine.take_told_segment.Goals as goal
