@@ -2,7 +2,7 @@
 use Rattle.std.proofs.Common.{◌≡◌, refl, sym, subst, ap, ◌∙◌, ℕ, ◌+◌, ◌<◌, ◌≤◌, min, max, nat_lt, ◌||◌, Bool, true, false, if◌then◌else◌, ◌⊎◌, inl, inr, ⊎_elim, Option, None, List, ◌∷◌, ◌++◌, length, map, drop, replicate, arith}
 use Rattle.std.proofs.lemmas.Bool.{both_ways, cases_lt, le-ltb, ltb-false}
 use Rattle.outside_kit.specs.declared.side.Side.{Side}
-use Rattle.link_model.specs.Steps.{peer}
+use Rattle.outside_kit.specs.Side.{peer}
 use Rattle.send_book.specs.State.{Sending as SendBook}
 use Rattle.send_book.specs.declared.mark.ByteMark.TheVariants.{Acked}
 use Rattle.send_book.specs.Steps.{is_future, fin_after, after_ack}

@@ -6,6 +6,7 @@ use Rattle.link_model.specs.declared.flight.Flight.{Flight}
 use Rattle.link_model.specs.Laws.{going_to}
 use Rattle.link_model.specs.Steps.{due_of}
 use Rattle.path_segments.specs.Laws.{meant}
+use Rattle.path_segments.specs.Heard.{HeardSegment}
 use Rattle.subflow_tcp.specs.declared.handshake.State.{State}
 use Rattle.subflow_tcp.specs.declared.handshake.State.TheVariants.{SynSent}
 use Rattle.subflow_tcp.specs.declared.verdicts.Meaning.TheVariants as means
@@ -18,7 +19,6 @@ use Rattle.path_agenda.specs.declared.duty.Duty.TheVariants as duties
 use Rattle.path_agenda.specs.declared.duty.StepDuty.TheVariants as step_duties
 use Rattle.path_agenda.specs.Agenda.{syn_ack_came}
 use Rattle.path_core.specs.Arriving.{copy_of, held_of, reset_for}
-use Rattle.path_core.specs.Codec.{HeardSegment}
 use Rattle.path_core.specs.Ends.{PathEnd}
 use Rattle.path_core.specs.Events.{copy_taken}
 use Rattle.path_core.specs.Standing.{is_connected}

@@ -6,6 +6,7 @@ use Rattle.outside_kit.specs.declared.side.Side.TheVariants.{A, B}
 use Rattle.dss_mapping.specs.declared.kept.KeptMapping.{KeptMapping}
 use Rattle.loss_recovery.specs.Timers.{heard as timing_heard, measured, rtt_told}
 use Rattle.path_segments.specs.Laws.{meant}
+use Rattle.path_segments.specs.Heard.{HeardSegment}
 use Rattle.subflow_send.specs.Rules.{newly_acknowledged, sample_of}
 use Rattle.subflow_tcp.specs.declared.dues.Due.{Due}
 use Rattle.subflow_tcp.specs.declared.handshake.State.TheVariants.{Established}
@@ -17,7 +18,6 @@ use Rattle.subflow_tcp.specs.Taking.{after_hearing, after_payload, after_new_ack
 use Rattle.subflow_tcp.proofs.WindowGrowth.{acknowledged_grows}
 use Rattle.path_agenda.specs.declared.duty.Duty.{Duty}
 use Rattle.path_core.specs.Arriving.{copy_of, copy_judged, items_of, hint_of, treated_of, with_held}
-use Rattle.path_core.specs.Codec.{HeardSegment}
 use Rattle.path_core.specs.Ends.{PathEnd}
 use Rattle.path_core.specs.State.{Profile}
 use Rattle.pace.specs.Lane.{Setting, Lane}

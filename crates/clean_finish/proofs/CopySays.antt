@@ -4,8 +4,8 @@ use Rattle.std.specs.List.{list_any}
 use Rattle.std.proofs.lemmas.Bool.{both_ways, lt-ltb, le-leb}
 use Rattle.outside_kit.specs.declared.side.Side.{Side}
 use Rattle.outside_kit.specs.declared.side.Side.TheVariants.{A, B}
+use Rattle.outside_kit.specs.Side.{peer}
 use Rattle.dss_mapping.specs.declared.kept.KeptMapping.{KeptMapping}
-use Rattle.link_model.specs.Steps.{peer}
 use Rattle.path_segments.specs.Laws.{meant, window_told}
 use Rattle.subflow_recv.specs.Receiving.{by_place}
 use Rattle.subflow_tcp.specs.Segments.{occupied}

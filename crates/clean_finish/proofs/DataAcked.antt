@@ -3,6 +3,7 @@ use Rattle.std.proofs.Common.{◌≡◌, refl, sym, subst, ap, ◌∙◌, ℕ, �
 use Rattle.std.specs.List.{list_any}
 use Rattle.std.proofs.lemmas.Bool.{cases_lt, lt-ltb, le-ltb, ltb-false}
 use Rattle.std.proofs.lemmas.List.Elements.{All-nil, All-cons, All-head, All-tail}
+use Rattle.subflow_tcp.specs.Segments.{one_if}
 use Rattle.outside_kit.specs.declared.side.Side.{Side}
 use Rattle.send_book.specs.Steps.{is_future, fin_after, after_ack}
 use Rattle.subflow_send.specs.Records.{Record}
@@ -19,7 +20,6 @@ use Rattle.clean_finish.specs.Machine.{seen_timer}
 use Rattle.clean_finish.specs.Segments.{Sent, Keys, AcknowledgesAs, copy_in}
 use Rattle.clean_finish.specs.Shows.{Hand, AreSpans, EndIs, HeardIs, IsGranted, Waits, brings_still, last_told, row_seen, tells_in}
 use Rattle.clean_finish.specs.Shows.Waits.{WaitsSyn, WaitsNone, WaitsBytes}
-use Rattle.clean_finish.specs.Writing.{count_of}
 use Rattle.clean_finish.specs.Running.{Half, Facing, IsSetting}
 use Rattle.clean_finish.proofs.Acknowledged.{out_after as out_heard, hears_on}
 use Rattle.clean_finish.proofs.Dropping.{is_waited}
@@ -36,7 +36,7 @@ or_false : (b : Bool) → (b || false) ≡ b
 or_false true = refl
 or_false false = refl
 
-is_sent : (b : Bool) → 1 ≤ count_of b → b ≡ true
+is_sent : (b : Bool) → 1 ≤ one_if b → b ≡ true
 is_sent true e = refl
 is_sent false e = absurd (omega (arith, e))
 
@@ -103,7 +103,7 @@ module _ {s : Side} {keys : Keys} {k j : Setting} {c : Profile} {begun begun_bac
         by true e = subst (λ (b : Bool). x.telling.next ≤ length m.send.written + (if b then 1 else 0)) (sym e)
             (shut h.out.data_fin_came k.total covers.0 lane.numbers.received lane.numbers.granted h.apps.writes.numbers.bytes lane.numbers.written)
         by false e = subst (λ (b : Bool). x.telling.next ≤ length m.send.written + (if b then 1 else 0)) (sym e)
-            (open_yet k.total covers.0 lane.numbers.data_fin_came lane.numbers.data_fin_sent lane.numbers.known (h.apps.writes.numbers.shut ∙ ap count_of e)
+            (open_yet k.total covers.0 lane.numbers.data_fin_came lane.numbers.data_fin_sent lane.numbers.known (h.apps.writes.numbers.shut ∙ ap one_if e)
             lane.numbers.received lane.numbers.granted h.apps.writes.numbers.bytes)
 
     pub few : min x.telling.next (length m.send.marks) ≤ h.out.granted + h.waiting

@@ -18,6 +18,7 @@ use Rattle.subflow_send.specs.Sendings.{never_sent}
 use Rattle.subflow_tcp.specs.declared.handshake.State.{State}
 use Rattle.subflow_tcp.specs.declared.segments.Occasion.TheVariants as to_send
 use Rattle.subflow_tcp.specs.States.{is_opening, is_closed_to_segments}
+use Rattle.subflow_tcp.specs.Segments.{one_if}
 use Rattle.actor_desk.specs.declared.ask.Ask.TheVariants as asks
 use Rattle.actor_desk.specs.declared.ask.Reply.TheVariants as replies
 use Rattle.actor_desk.specs.Desk.{SixBooks, reply_of, after_ask}
@@ -38,7 +39,6 @@ use Rattle.clean_finish.specs.Segments.{Keys, said, FliesAs}
 use Rattle.clean_finish.specs.Shows.{brings_still, IsPhase, Waits}
 use Rattle.clean_finish.specs.Shows.IsPhase.{Opening, Listening, HalfOpen, Open}
 use Rattle.clean_finish.specs.Shows.Waits.{WaitsSyn, WaitsNone, WaitsBytes}
-use Rattle.clean_finish.specs.Writing.{count_of}
 use Rattle.clean_finish.specs.Running.{FacesOfA, FacesOfB, own_bench, other_bench, IsSetting, Runs, keys_in}
 use Rattle.clean_finish.proofs.BytesSent.{piece_is, piece, piece_goes}
 use Rattle.clean_finish.proofs.Dropping.{differ}
@@ -94,8 +94,8 @@ goes_for false true fits e = refl
 goes_for true una fits e = absurd (both_ways _ refl e)
 goes_for false false fits e = absurd (both_ways _ refl e)
 
-clear_or : (b : Bool) → b ≡ false → count_of b ≡ 0
-clear_or b is = ap count_of is
+clear_or : (b : Bool) → b ≡ false → one_if b ≡ 0
+clear_or b is = ap one_if is
 
 -- A's first bytes, before a DSS came
 first_parts : (a clear pos : Bool) → (a && (not clear && pos)) ≡ true → clear ≡ false

@@ -9,6 +9,7 @@ use Rattle.subflow_send.specs.Rules.{is_unsent, flight}
 use Rattle.subflow_tcp.specs.Sizes.{room}
 use Rattle.subflow_tcp.specs.State.{is_at_limit}
 use Rattle.subflow_tcp.specs.States.{may_finish}
+use Rattle.subflow_tcp.specs.Segments.{one_if}
 use Rattle.path_agenda.specs.declared.duty.Duty.{Duty}
 use Rattle.path_core.specs.Emission.{first_unsent, data_stands, may_send_data, payload_size}
 use Rattle.path_core.specs.State.{Profile}
@@ -18,7 +19,6 @@ use Rattle.pace.specs.Moves.{HasEmitted}
 use Rattle.clean_finish.specs.Segments.{Keys}
 use Rattle.clean_finish.specs.Shows.{IsOpen, Waits}
 use Rattle.clean_finish.specs.Shows.Waits.{WaitsSyn, WaitsNone, WaitsBytes}
-use Rattle.clean_finish.specs.Writing.{count_of}
 use Rattle.clean_finish.specs.Running.{Half, Facing, IsSetting}
 use Rattle.clean_finish.proofs.Machine.{flights_are_small}
 use Rattle.clean_finish.proofs.Quiet.{now_out, now_back, open_when_ready, not_false}
@@ -41,7 +41,7 @@ either_true : (a b : Bool) → (a || b) ≡ true → (a ≡ true) ⊎ (b ≡ tru
 either_true true b e = inl refl
 either_true false b e = inr e
 
-pub is_clear : (b : Bool) → 1 ≤ count_of b → b ≡ true
+pub is_clear : (b : Bool) → 1 ≤ one_if b → b ≡ true
 is_clear true one = refl
 is_clear false one = absurd (omega (arith, one))
 

@@ -3,12 +3,13 @@ use Rattle.std.proofs.Common.{◌≡◌, refl, sym, subst, ap, ◌∙◌, ℕ, z
 use Rattle.std.proofs.lemmas.Bool.{both_ways}
 use Rattle.outside_kit.specs.declared.side.Side.{Side}
 use Rattle.outside_kit.specs.declared.side.Side.TheVariants.{A, B}
+use Rattle.outside_kit.specs.Side.{peer}
 use Rattle.link_model.specs.declared.flight.Flight.{Flight}
-use Rattle.link_model.specs.Steps.{peer}
 use Rattle.path_segments.specs.Laws.{window_told}
 use Rattle.subflow_tcp.specs.declared.handshake.State.{State}
 use Rattle.subflow_tcp.specs.declared.handshake.State.TheVariants as states
 use Rattle.subflow_tcp.specs.States.{may_finish}
+use Rattle.subflow_tcp.specs.Segments.{one_if}
 use Rattle.path_agenda.specs.declared.duty.Duty.{Duty}
 use Rattle.path_agenda.specs.declared.duty.Duty.TheVariants as duties
 use Rattle.path_agenda.specs.declared.duty.SendDuty.TheVariants as send_duties
@@ -28,10 +29,9 @@ use Rattle.pace.specs.Moves.{MaySay, MaySend}
 use Rattle.pace.specs.Moves.Move.{sends_none}
 use Rattle.clean_finish.specs.Segments.{Sent, Keys, copy_in, dss_from, said, FliesAs, AcknowledgesAs}
 use Rattle.clean_finish.specs.Segments.Brings.{EndsStream}
-use Rattle.clean_finish.specs.Shows.{Hand, brings_still, known_by, HeardIs, IsPhase, last_told, row_seen}
+use Rattle.clean_finish.specs.Shows.{Hand, brings_still, HeardIs, IsPhase, last_told, row_seen}
 use Rattle.clean_finish.specs.Shows.IsPhase.{Opening, Listening, HalfOpen, Open}
 use Rattle.clean_finish.specs.Shows.IsToldEdge.{Same}
-use Rattle.clean_finish.specs.Writing.{count_of}
 use Rattle.clean_finish.specs.Running.{Has, Half, Facing, IsSetting, StageIs}
 use Rattle.clean_finish.proofs.Hands.{way_none}
 use Rattle.clean_finish.proofs.Opened.{waiting_on}
@@ -40,6 +40,7 @@ use Rattle.clean_finish.proofs.Quiet.{now_out, now_back, phase_is}
 use Rattle.clean_finish.proofs.Ending.{end_after, own_ended}
 use Rattle.clean_finish.proofs.Sendings.{same_bytes, sent_off}
 use Rattle.clean_finish.proofs.TakenMeant.{acknowledges_some}
+use Rattle.clean_finish.specs.Reading.{end_known}
 
 -- an acknowledgement with the DATA_FIN
 pub end_is : (c : Profile) (keys : Keys) (s : Side) (place : ℕ) (x : Sent) (e : PathEnd) → x.brings ≡ EndsStream place → e.modes.identity ≡ false
@@ -80,7 +81,7 @@ due_parts true false true false s a e = absurd (both_ways _ refl e)
 due_parts true false true true true a e = absurd (both_ways _ refl e)
 due_parts true false true true false true e = absurd (both_ways _ refl e)
 
-known_some : (n total : ℕ) → is_some (known_by n total) ≡ true → (1 ≤ n) × (known_by n total ≡ Some total)
+known_some : (n total : ℕ) → is_some (end_known n total) ≡ true → (1 ≤ n) × (end_known n total ≡ Some total)
 known_some zero total e = absurd (both_ways _ refl e)
 known_some (suc n) total e = (omega arith, refl)
 
@@ -148,10 +149,10 @@ module _ {s : Side} {keys : Keys} {k j : Setting} {c : Profile} {begun begun_bac
         known = let is = known_some h.out.known k.total (sym (ap is_some h.own.sending.known) ∙ parts.known) in (is.0, h.own.sending.known ∙ is.1)
 
         pub unsent : h.out.data_fin_sent ≡ 0
-        unsent = h.own.sending.data_fin ∙ ap count_of parts.unsent
+        unsent = h.own.sending.data_fin ∙ ap one_if parts.unsent
 
         pub clear_one : 1 ≤ h.out.clear
-        clear_one = one (h.own.modes.clear ∙ ap count_of clear)
+        clear_one = one (h.own.modes.clear ∙ ap one_if clear)
           where
             one : {x : ℕ} → x ≡ 1 → 1 ≤ x
             one is = omega (arith, is)

@@ -7,6 +7,7 @@ use Rattle.send_book.specs.declared.call.Why.{Why}
 use Rattle.subflow_tcp.specs.Sizes.{room}
 use Rattle.subflow_tcp.specs.State.{is_at_limit}
 use Rattle.subflow_tcp.specs.States.{may_finish}
+use Rattle.subflow_tcp.specs.Segments.{one_if}
 use Rattle.path_agenda.specs.declared.duty.Duty.{Duty}
 use Rattle.path_agenda.specs.declared.duty.Duty.TheVariants as duties
 use Rattle.path_agenda.specs.declared.duty.StepDuty.TheVariants as step_duties
@@ -18,7 +19,6 @@ use Rattle.pace.specs.Going.{Going}
 use Rattle.pace.specs.Moves.{MayRefuse}
 use Rattle.clean_finish.specs.Segments.{Keys}
 use Rattle.clean_finish.specs.Shows.{brings_still, AreTaken, IsOpen}
-use Rattle.clean_finish.specs.Writing.{count_of}
 use Rattle.clean_finish.specs.Running.{Half, Facing, IsSetting}
 use Rattle.clean_finish.proofs.EndSent.{finishes_open}
 use Rattle.clean_finish.proofs.GrantDecided.{GrantIs, decided}
@@ -77,7 +77,7 @@ module _ {s : Side} {keys : Keys} {k j : Setting} {c : Profile} {begun begun_bac
 
         by : (q : Side) → s ≡ q → 1 ≤ h.out.ready
         by A is = up (came ticks t u k_is j_is going going_back h still is_open.0 answered) (ready_a is)
-        by B is = one_clear (h.own.modes.both is).0 (h.own.modes.clear ∙ ap count_of (clear_b m.end.modes.clear m.end.modes.identity h.own.modes.mapping.0
+        by B is = one_clear (h.own.modes.both is).0 (h.own.modes.clear ∙ ap one_if (clear_b m.end.modes.clear m.end.modes.identity h.own.modes.mapping.0
             (subst (λ (q : Side). may_send_data c q m.end ≡ true) is may_data)))
 
     pub unacked : h.out.control_acked ≤ 1

@@ -2,7 +2,7 @@
 use Rattle.std.proofs.Common.{◌≡◌, refl, ap, ◌∙◌, ℕ, zero, suc, ◌+◌, ◌-◌, ◌≤◌, if◌then◌else◌, Bool, true, false, inr, Option, Some, None, List, [], arith}
 use Rattle.std.proofs.lemmas.Bool.{both_ways}
 use Rattle.outside_kit.specs.declared.side.Side.{Side}
-use Rattle.link_model.specs.Steps.{peer}
+use Rattle.outside_kit.specs.Side.{peer}
 use Rattle.dss_mapping.specs.Mappings.{Mappings}
 use Rattle.actor_desk.specs.Words.{pick}
 use Rattle.path_agenda.specs.Agenda.{emission, heard_and, payload_came}

@@ -9,6 +9,7 @@ use Rattle.subflow_recv.specs.Receiving.{Receiving, after_keep_held, without_hel
 use Rattle.subflow_tcp.specs.Judging.{is_at}
 use Rattle.subflow_tcp.specs.State.{is_behind, is_fin_passed}
 use Rattle.subflow_tcp.specs.Taking.{after_dropping_held, after_keeping_held}
+use Rattle.subflow_tcp.specs.Segments.{one_if}
 use Rattle.actor_desk.specs.Desk.{SixBooks}
 use Rattle.actor_desk.specs.Words.{is_nil}
 use Rattle.stream_apps.specs.Apps.{AppState}
@@ -31,7 +32,6 @@ use Rattle.pace.specs.Going.{Going}
 use Rattle.clean_finish.specs.Segments.{Keys, Brings, is_news, is_subflow_end, octets_of, shows_keys}
 use Rattle.clean_finish.specs.Segments.Brings.{OpensSubflow, ShowsKeys, FirstPiece, Piece, Acknowledges, EndsStream, EndsSubflow}
 use Rattle.clean_finish.specs.Shows.{IsMapping, NoneMapped}
-use Rattle.clean_finish.specs.Writing.{count_of}
 use Rattle.clean_finish.specs.Running.{Bench, TreatsCopy, TreatsBytes, TreatsLast, TreatsEnd, IsLanded, place_duties, kept_in, own_bench, other_bench, IsSetting, Runs, keys_in}
 use Rattle.clean_finish.specs.Running.Treatment.{AfterAll, AfterKeeping}
 use Rattle.clean_finish.proofs.EndPassing.{sent_some}
@@ -282,7 +282,7 @@ of_news (EndsStream place) some = refl
 of_news EndsSubflow some = refl
 
 -- an end that may use the DSS says so
-pub clear_is : (n : ℕ) (b : Bool) → n ≡ count_of b → 1 ≤ n → b ≡ true
+pub clear_is : (n : ℕ) (b : Bool) → n ≡ one_if b → 1 ≤ n → b ≡ true
 clear_is n true is some = refl
 clear_is n false is some = absurd (omega (arith, is, some))
 

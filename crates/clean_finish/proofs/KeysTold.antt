@@ -1,6 +1,7 @@
 -- B hears the first bytes, which show A's keys: they are told to the control book, and what the copy acknowledges is heard.
 use Rattle.std.proofs.Common.{◌≡◌, refl, sym, subst, ap, ℕ, ◌+◌, ◌==◌, ◌<◌, ◌≤◌, min, max, nat_lt, eq-eqb, Bool, true, false, if◌then◌else◌, Option, Some, None, List, ◌∷◌, ◌++◌, le_refl, arith}
 use Rattle.std.proofs.lemmas.Bool.{both_ways, le-ltb, lt-ltb}
+use Rattle.subflow_tcp.specs.Segments.{one_if}
 use Rattle.outside_kit.specs.declared.side.Side.TheVariants.{A, B}
 use Rattle.control_book.specs.Steps.{after_keys as keys_in_book}
 use Rattle.control_book.specs.declared.call.ControlCall.TheVariants as control_calls
@@ -29,7 +30,6 @@ use Rattle.pace.specs.Going.{Going}
 use Rattle.clean_finish.specs.Segments.{Sent, Keys, Brings, Follow, TellsAs}
 use Rattle.clean_finish.specs.Segments.Brings.{FirstPiece}
 use Rattle.clean_finish.specs.Shows.{Hand, ModesAre, brings_in}
-use Rattle.clean_finish.specs.Writing.{count_of}
 use Rattle.clean_finish.specs.Running.{Bench, Beside, FacesOfA, FacesOfB, Treats, TreatsCopy, own_bench, other_bench, IsSetting, Runs, keys_in}
 use Rattle.clean_finish.specs.Running.Treatment.{AtFirst, AfterOne}
 use Rattle.clean_finish.proofs.Acknowledged.{hears_on}
@@ -68,7 +68,7 @@ not_a e = cc
 
 -- ---- the keys were known
 
-clear_is : {x : ℕ} (b : Bool) → x ≡ count_of b → 1 ≤ x → x ≡ 1
+clear_is : {x : ℕ} (b : Bool) → x ≡ one_if b → 1 ≤ x → x ≡ 1
 clear_is true is some = is
 clear_is false is some = absurd (omega (arith, is, some))
 

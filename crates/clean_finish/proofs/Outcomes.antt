@@ -6,6 +6,7 @@ use Rattle.outside_kit.specs.declared.side.Side.TheVariants.{A}
 use Rattle.subflow_tcp.specs.declared.handshake.State.{State}
 use Rattle.subflow_tcp.specs.declared.handshake.State.TheVariants.{Dead}
 use Rattle.subflow_tcp.specs.States.{is_closed_to_segments, is_dead}
+use Rattle.subflow_tcp.specs.Segments.{one_if}
 use Rattle.path_core.specs.Events.{is_dead_or_listening}
 use Rattle.path_core.specs.Values.{Carried}
 use Rattle.world_laws.specs.declared.outcome.Outcome.TheVariants.{Going, Delivered}
@@ -16,7 +17,6 @@ use Rattle.pace.specs.Lane.{Setting, Lane}
 use Rattle.clean_finish.specs.Shows.{IsPhase}
 use Rattle.clean_finish.specs.Shows.IsPhase.{Opening, Listening, HalfOpen, Open}
 use Rattle.clean_finish.specs.Running.{Running}
-use Rattle.clean_finish.specs.Writing.{count_of}
 use Rattle.clean_finish.proofs.ReadersTold.{TellsAs}
 
 open_alive : (state : State) → is_closed_to_segments state ≡ false → is_dead state ≡ false
@@ -37,7 +37,7 @@ outcome_is : (aborted_a aborted_b told dead : Bool) → aborted_a ≡ false → 
     → outcome_by aborted_a aborted_b told dead ≡ (if told then Delivered else Going)
 outcome_is aborted_a aborted_b told dead is_a is_b is = rw (is_a, is_b, is) refl
 
-pub told_by : (told : ℕ) (b : Bool) → told ≡ count_of b → 1 ≤ told → b ≡ true
+pub told_by : (told : ℕ) (b : Bool) → told ≡ one_if b → 1 ≤ told → b ≡ true
 told_by told true is some = refl
 told_by told false is some = absurd (omega (arith, is, some))
 

@@ -2,11 +2,11 @@
 use Rattle.std.proofs.Common.{◌≡◌, refl, sym, ap, ◌∙◌, ℕ, ◌+◌, ◌-◌, ◌^◌, ◌<◌, ◌≤◌, min, nat_lt, Bool, true, false, ◌&&◌, if◌then◌else◌, Option, Some, None, List, [], ◌∷◌, length, take, drop, find, filter, map, arith}
 use Rattle.std.proofs.lemmas.Bool.{lt-ltb, le-ltb, le-leb, eq-eqb}
 use Rattle.outside_kit.specs.declared.side.Side.{Side}
+use Rattle.outside_kit.specs.Side.{peer}
 use Rattle.dss_mapping.specs.declared.kept.KeptMapping.{KeptMapping}
 use Rattle.dss_mapping.specs.Mappings.{Mappings, run_of, mapping_at, after_forget}
 use Rattle.dss_mapping.specs.Runs.{covers}
 use Rattle.dss_checksum.specs.Checksum.{dss_checksum}
-use Rattle.link_model.specs.Steps.{peer}
 use Rattle.subflow_recv.specs.Receiving.{filled}
 use Rattle.subflow_tcp.specs.State.{EndState}
 use Rattle.actor_desk.specs.Words.{is_nil}

@@ -7,6 +7,7 @@ use Rattle.link_script.specs.Places.{same_side}
 use Rattle.path_segments.specs.Laws.{window_told}
 use Rattle.subflow_tcp.specs.declared.handshake.State.{State}
 use Rattle.subflow_tcp.specs.States.{may_finish}
+use Rattle.subflow_tcp.specs.Segments.{one_if}
 use Rattle.path_agenda.specs.declared.duty.Duty.{Duty}
 use Rattle.path_agenda.specs.declared.duty.Duty.TheVariants as duties
 use Rattle.path_agenda.specs.declared.duty.AskDuty.TheVariants as ask_duties
@@ -17,13 +18,13 @@ use Rattle.path_core.specs.State.{Profile}
 use Rattle.pace.specs.Lane.{Setting, Lane, all_left}
 use Rattle.pace.specs.Going.{Going}
 use Rattle.clean_finish.specs.Segments.{Keys}
-use Rattle.clean_finish.specs.Shows.{IsOpen, IsPhase, IsToldEdge, known_by}
+use Rattle.clean_finish.specs.Shows.{IsOpen, IsPhase, IsToldEdge}
 use Rattle.clean_finish.specs.Shows.IsPhase.{Opening, Listening, HalfOpen, Open}
 use Rattle.clean_finish.specs.Shows.IsToldEdge.{Same, Before}
-use Rattle.clean_finish.specs.Writing.{count_of}
 use Rattle.clean_finish.specs.Running.{Has, Half, Facing, IsSetting, is_window, any_duty}
 use Rattle.clean_finish.proofs.Mapped.{sends_mappings}
 use Rattle.clean_finish.proofs.Passing.{still_going}
+use Rattle.clean_finish.specs.Reading.{end_known}
 
 -- ---- words
 
@@ -70,7 +71,7 @@ pub not_false : (b : Bool) → not b ≡ false → b ≡ true
 not_false true e = refl
 not_false false e = absurd (both_ways _ e refl)
 
-unknown : (n total : ℕ) → is_some (known_by n total) ≡ false → n ≡ 0
+unknown : (n total : ℕ) → is_some (end_known n total) ≡ false → n ≡ 0
 unknown zero total e = refl
 unknown (suc n) total e = absurd (both_ways _ e refl)
 
@@ -149,9 +150,9 @@ module _ {s : Side} {keys : Keys} {k j : Setting} {c : Profile} {begun begun_bac
               let two = ltb-true 1 h.out.control_sent (sym h.own.subflow.records.finished ∙ not_false _ (sym is.finish ∙ over)) in
               told (h.own.sending.finish (omega (arith, two)))
           by (inr (inl unclear)) =
-              let zero_is = h.own.modes.clear ∙ ap count_of unclear in absurd (omega (arith, clear, zero_is))
+              let zero_is = h.own.modes.clear ∙ ap one_if unclear in absurd (omega (arith, clear, zero_is))
           by (inr (inr (inl none_known))) =
               let none = unknown h.out.known k.total (sym (ap is_some h.own.sending.known) ∙ none_known) in omega (arith, none)
           by (inr (inr (inr (inl sent)))) =
-              let one = h.own.sending.data_fin ∙ ap count_of sent in omega (arith, one, now_out.numbers.known, now_out.numbers.closed)
+              let one = h.own.sending.data_fin ∙ ap one_if sent in omega (arith, one, now_out.numbers.known, now_out.numbers.closed)
           by (inr (inr (inr (inr acked)))) = told (ltb-true k.total h.out.acked (sym h.own.sending.acked ∙ acked))

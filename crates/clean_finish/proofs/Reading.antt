@@ -1,6 +1,7 @@
 -- An application that reads is moves of the lane that comes to it.
 use Rattle.std.proofs.Common.{◌≡◌, refl, sym, subst, ap, ◌∙◌, ℕ, zero, suc, ◌+◌, ◌≤◌, min, Bool, true, false, not, nat_lt, if◌then◌else◌, ◌⊎◌, inl, inr, ⊎_elim, List, [], ◌∷◌, length, take, drop, Option, None, Some, length-take, le_refl, arith}
 use Rattle.std.proofs.lemmas.Bool.{both_ways, cases_lt, ltb-false, eqb-true, eqb-false}
+use Rattle.subflow_tcp.specs.Segments.{one_if}
 use Rattle.reassembly_book.specs.declared.call.ReassemblyReply.TheVariants.{NoneYet}
 use Rattle.reassembly_book.specs.declared.call.ReassemblyReply.TheVariants.{End as TheEnd}
 use Rattle.reassembly_book.specs.State.{Arriving, received, filled}
@@ -15,7 +16,6 @@ use Rattle.pace.specs.Rules.{has_read}
 use Rattle.pace.specs.Going.{Going}
 use Rattle.pace.specs.Moves.{MayEndReading}
 use Rattle.pace.specs.Moves.Move.{reads, ends_reading}
-use Rattle.clean_finish.specs.Writing.{count_of}
 use Rattle.clean_finish.specs.Reading.{is_reading, end_known, ReaderIs, ReaderShows, ReaderGoes}
 
 filled_left : (n : ℕ) (places : List (Option ℕ)) → n ≤ length (filled places)
@@ -84,7 +84,7 @@ module _ (k : Setting) (s : Lane) (t : ℕ) (p : Stage) (w : Lane) where
         by zero e = inl (le_refl _)
         by (suc c) e = inr (λ same. eqb-false _ _ e (sym same))
 
-    numbers : (m told : ℕ) (t' : Bool) (ds : List AppDuty) → m ≡ n → told ≡ count_of t' → (t' ≡ true → b.read + n ≡ k.total)
+    numbers : (m told : ℕ) (t' : Bool) (ds : List AppDuty) → m ≡ n → told ≡ one_if t' → (t' ≡ true → b.read + n ≡ k.total)
         → ReaderIs k (w.read + n) w.data_fin_came (w.got + n) told
         (record a { told = t'; count = a.count + m; agenda = ds }) (after_reading max b)
     numbers m told t' ds size end whole = record {
@@ -199,7 +199,7 @@ module _ (k : Setting) (s : Lane) (t : ℕ) (p : Stage) (w : Lane) where
       }
       by false e =
           let all = is.whole (only e) in
-          let one : w.told_end ≡ 1 = is.end ∙ ap count_of (only e) in
+          let one : w.told_end ≡ 1 = is.end ∙ ap one_if (only e) in
           record {
             reader = record w.reader { reader_over = true };
             count = 1;

@@ -2,8 +2,9 @@
 use Rattle.std.proofs.Common.{◌≡◌, refl, sym, ap, ◌∙◌, ℕ, ◌+◌, ◌≤◌, Bool, true, false, not, ◌&&◌, if◌then◌else◌, inl, inr, Option, Some, None, List, ◌∷◌, length, arith}
 use Rattle.std.proofs.lemmas.Bool.{both_ways}
 use Rattle.std.proofs.lemmas.List.Elements.{All-weaker}
+use Rattle.subflow_tcp.specs.Segments.{one_if}
 use Rattle.outside_kit.specs.declared.side.Side.{Side}
-use Rattle.link_model.specs.Steps.{peer}
+use Rattle.outside_kit.specs.Side.{peer}
 use Rattle.subflow_send.specs.Records.{Record}
 use Rattle.send_book.specs.declared.call.Why.{Why}
 use Rattle.send_book.specs.Steps.{end_of}
@@ -20,12 +21,12 @@ use Rattle.pace.specs.Rules.{refused_by}
 use Rattle.pace.specs.Moves.{MayRefuse, IsBefore}
 use Rattle.pace.specs.Moves.Move.{goes_back, is_refused}
 use Rattle.clean_finish.specs.Segments.{Keys}
-use Rattle.clean_finish.specs.Shows.{EndIs, IsGranted, Waits, known_by}
+use Rattle.clean_finish.specs.Shows.{EndIs, IsGranted, Waits}
 use Rattle.clean_finish.specs.Shows.Waits.{WaitsSyn, WaitsNone, WaitsBytes}
-use Rattle.clean_finish.specs.Writing.{count_of}
 use Rattle.clean_finish.specs.Running.{Has, StageIs, Half, Facing}
 use Rattle.clean_finish.proofs.Dropping.{differ, IsApart, stage_drops, emit_drops, settles_drop, begun_drops}
 use Rattle.clean_finish.proofs.Passing.{stands_then, peer_is_other, same_data}
+use Rattle.clean_finish.specs.Reading.{end_known}
 
 pub before_finishing : (p : Stage) → IsBefore (record p { finish = true }) p
 before_finishing p = record {
@@ -73,7 +74,7 @@ module _ {s : Side} {keys : Keys} {k j : Setting} {c : Profile} {begun begun_bac
           not_both p q = absurd (omega (arith, p, q))
 
           -- the end is told where the stream is closed
-          pub known_now : told_last (end_of m.send) m.end.sending.known_end ≡ known_by h.out.closed k.total
+          pub known_now : told_last (end_of m.send) m.end.sending.known_end ≡ end_known h.out.closed k.total
           known_now = by m.send.closed refl
             where
               whole : {l r t : ℕ} → l + r ≡ t → r ≡ 0 → l ≡ t
@@ -85,20 +86,20 @@ module _ {s : Side} {keys : Keys} {k j : Setting} {c : Profile} {begun begun_bac
               open_is : end_of m.send ≡ (if m.send.closed && true then Some (length m.send.written) else None)
               open_is = ap (λ (b : Bool). if m.send.closed && not b then Some (length m.send.written) else None) h.apps.writes.numbers.unaborted
 
-              closed_is : h.out.closed ≡ count_of m.send.closed
+              closed_is : h.out.closed ≡ one_if m.send.closed
               closed_is = h.apps.writes.numbers.shut
 
-              by : (b : Bool) → m.send.closed ≡ b → told_last (end_of m.send) m.end.sending.known_end ≡ known_by h.out.closed k.total
+              by : (b : Bool) → m.send.closed ≡ b → told_last (end_of m.send) m.end.sending.known_end ≡ end_known h.out.closed k.total
               by true is =
                   ap (λ (o : Option ℕ). told_last o m.end.sending.known_end)
                   (open_is ∙ ap (λ (b : Bool). if b && true then Some (length m.send.written) else None) is)
                   ∙ (ap (λ (x : ℕ). Some x) (whole h.apps.writes.numbers.file (ap (λ (xs : List ℕ). length xs) (h.apps.writes.numbers.whole is)))
-                  ∙ ap (λ (x : ℕ). known_by x k.total) (sym (closed_is ∙ ap count_of is)))
+                  ∙ ap (λ (x : ℕ). end_known x k.total) (sym (closed_is ∙ ap one_if is)))
               by false is =
                   ap (λ (o : Option ℕ). told_last o m.end.sending.known_end)
                   (open_is ∙ ap (λ (b : Bool). if b && true then Some (length m.send.written) else None) is)
                   ∙ (h.own.sending.known
-                  ∙ ap (λ (x : ℕ). known_by x k.total) (none more (closed_is ∙ ap count_of is) ∙ sym (closed_is ∙ ap count_of is)))
+                  ∙ ap (λ (x : ℕ). end_known x k.total) (none more (closed_is ∙ ap one_if is) ∙ sym (closed_is ∙ ap one_if is)))
 
           pub own_after : EndIs s keys k j out_after.sender h.back.receiver h.hand h.owes h.waiting end_after
           own_after = record {

@@ -4,14 +4,15 @@ use Rattle.std.proofs.lemmas.Bool.{both_ways, cases_lt, and_parts, ltb-false}
 use Rattle.std.proofs.lemmas.List.Elements.{All-head, All-weaker}
 use Rattle.outside_kit.specs.declared.side.Side.{Side}
 use Rattle.outside_kit.specs.declared.side.Side.TheVariants.{A, B}
+use Rattle.outside_kit.specs.Side.{peer}
 use Rattle.link_script.specs.Places.{same_side}
-use Rattle.link_model.specs.Steps.{peer}
 use Rattle.subflow_send.specs.Records.{Record, Tile, Follow, span_of}
 use Rattle.loss_recovery.specs.Timers.{timer_settled}
 use Rattle.subflow_tcp.specs.declared.handshake.State.{State}
 use Rattle.subflow_tcp.specs.Expiring.{is_timed}
 use Rattle.subflow_tcp.specs.State.{has_records, is_some_record}
 use Rattle.subflow_tcp.specs.States.{is_closed_to_segments}
+use Rattle.subflow_tcp.specs.Segments.{one_if}
 use Rattle.actor_desk.specs.Words.{is_nil}
 use Rattle.path_agenda.specs.declared.duty.Duty.{Duty}
 use Rattle.path_agenda.specs.declared.duty.Duty.TheVariants as duties
@@ -32,7 +33,6 @@ use Rattle.clean_finish.specs.Segments.{Keys}
 use Rattle.clean_finish.specs.Shows.{EndIs, IsPhase, IsGranted, Waits}
 use Rattle.clean_finish.specs.Shows.IsPhase.{Opening, Listening, HalfOpen, Open}
 use Rattle.clean_finish.specs.Shows.Waits.{WaitsSyn, WaitsNone, WaitsBytes}
-use Rattle.clean_finish.specs.Writing.{count_of}
 use Rattle.clean_finish.specs.Running.{Half, Facing, IsSetting, HasNotBegun, is_syn, any_duty}
 use Rattle.clean_finish.proofs.Dropping.{differ, IsApart, stage_drops, settles_drop, begun_drops}
 use Rattle.clean_finish.proofs.Machine.{settles_as_a_lane}
@@ -145,7 +145,7 @@ module _ {s : Side} {keys : Keys} {k j : Setting} {c : Profile} {begun begun_bac
             let parts = and_parts (not (sends_plainly m.end.modes)) (m.end.sending.fin_sent && not m.end.sending.close.own_acked) owed in
             let both = and_parts m.end.sending.fin_sent (not m.end.sending.close.own_acked) parts.1 in
             let few = ltb-false k.total h.out.acked (sym h.own.sending.acked ∙ not_true m.end.sending.close.own_acked both.1) in
-            let sent = h.own.sending.data_fin ∙ ap count_of both.0 in
+            let sent = h.own.sending.data_fin ∙ ap one_if both.0 in
             end_reason few sent h.own.sending.end h.own.modes.cleared
           where
             end_reason : h.out.acked ≤ k.total → h.out.data_fin_sent ≡ 1 → h.out.data_fin_sent ≤ h.out.clear → h.out.clear ≤ h.out.ready

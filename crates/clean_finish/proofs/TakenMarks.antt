@@ -3,6 +3,7 @@ use Rattle.std.proofs.Common.{◌≡◌, refl, sym, ap, ◌∙◌, ℕ, zero, su
 use Rattle.std.specs.List.{position_or_len, prefix_len}
 use Rattle.std.proofs.lemmas.Bool.{both_ways}
 use Rattle.std.proofs.lemmas.List.Elements.{All-nil, All-cons, All-head, All-tail}
+use Rattle.subflow_tcp.specs.Segments.{one_if}
 use Rattle.send_book.specs.declared.mark.ByteMark.{ByteMark}
 use Rattle.send_book.specs.declared.mark.ByteMark.TheVariants.{Acked, Held, Free}
 use Rattle.send_book.specs.Marks.{is_acked, is_free_for, given}
@@ -10,7 +11,6 @@ use Rattle.send_book.specs.State.{acked_len}
 use Rattle.send_book.specs.Tried.{no_paths}
 use Rattle.send_book.proofs.RunMarks.{count_by-cons}
 use Rattle.clean_finish.specs.Shows.{IsFree, AreTaken}
-use Rattle.clean_finish.specs.Writing.{count_of}
 
 -- ---- more is written
 
@@ -81,7 +81,7 @@ free_behind (suc taken) (m ∷ marks) h = free_behind taken marks h.1 ∙ same (
 none_acked : (marks : List ByteMark) → All IsFree marks → acked_len marks ≡ 0
 none_acked [] h = refl
 none_acked (m ∷ marks) h =
-    sum (count_by-cons is_acked m marks) (ap count_of (not_acked m (All-head IsFree m marks h))) (none_acked marks (All-tail IsFree m marks h))
+    sum (count_by-cons is_acked m marks) (ap one_if (not_acked m (All-head IsFree m marks h))) (none_acked marks (All-tail IsFree m marks h))
   where
     sum : {x y z : ℕ} → x ≡ y + z → y ≡ 0 → z ≡ 0 → x ≡ 0
     sum is a b = omega (arith, is, a, b)

@@ -1,11 +1,12 @@
 -- The end once its lane has taken what a copy brings: keys, bytes or a DATA_FIN.
 use Rattle.std.proofs.Common.{◌≡◌, sym, subst, ap, ◌∙◌, ℕ, ◌+◌, ◌-◌, ◌≤◌, min, max, true, false, inr, Option, List, ◌∷◌, ◌++◌, length, arith}
 use Rattle.std.proofs.lemmas.Bool.{both_ways}
+use Rattle.subflow_tcp.specs.Segments.{one_if}
 use Rattle.outside_kit.specs.declared.side.Side.{Side}
 use Rattle.outside_kit.specs.declared.side.Side.TheVariants.{B}
+use Rattle.outside_kit.specs.Side.{peer}
 use Rattle.data_close.specs.declared.close_state.CloseState.{CloseState}
 use Rattle.dss_mapping.specs.Mappings.{Mappings}
-use Rattle.link_model.specs.Steps.{peer}
 use Rattle.subflow_recv.specs.Receiving.{Receiving as SubflowReceiving}
 use Rattle.path_agenda.specs.declared.duty.Duty.{Duty}
 use Rattle.path_core.specs.declared.mapped_data_fin.MappedDataFin.{MappedDataFin}
@@ -18,7 +19,6 @@ use Rattle.clean_finish.specs.Segments.{Sent, Keys, Follow, is_opening, octets_o
 use Rattle.clean_finish.specs.Shows.{Hand, brings_in, EndIs, HeardIs, IsOpen, IsToldEdge, last_told, row_seen}
 use Rattle.clean_finish.specs.Shows.IsPhase.{Open}
 use Rattle.clean_finish.specs.Shows.IsToldEdge.{Same, Before}
-use Rattle.clean_finish.specs.Writing.{count_of}
 use Rattle.clean_finish.specs.Running.{Half, Facing}
 use Rattle.clean_finish.proofs.Brought.{back_after}
 use Rattle.clean_finish.proofs.Dropping.{is_waited}
@@ -42,7 +42,7 @@ module _ {s : Side} {keys : Keys} {k j : Setting} {c : Profile} {begun begun_bac
         (clear : 1 ≤ h.out.clear) (control : x.control ≡ h.back.control_came) (keys_low : s ≡ B → max h.back.keys_came x.keys ≤ h.out.ready)
         (r : SubflowReceiving) (edge : r.edge ≡ m.end.tcp.recv.edge + length (octets_of x.brings)) (window : r.window ≡ m.end.tcp.recv.window)
         (cl : CloseState) (own_acked : cl.own_acked ≡ m.end.sending.close.own_acked)
-        (fin_came : max h.back.data_fin_came (data_fin_of x.brings) ≡ count_of cl.peer_came)
+        (fin_came : max h.back.data_fin_came (data_fin_of x.brings) ≡ one_if cl.peer_came)
         (v : Mappings) (fin : Option MappedDataFin) (tr : Treated)
       where
         abbrev pub end_now : PathEnd

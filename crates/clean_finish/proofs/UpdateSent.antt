@@ -3,10 +3,11 @@ use Rattle.std.proofs.Common.{◌≡◌, refl, sym, subst, ap, ◌∙◌, ℕ, �
 use Rattle.std.proofs.lemmas.Bool.{both_ways, and_parts, leb-true}
 use Rattle.outside_kit.specs.declared.side.Side.{Side}
 use Rattle.outside_kit.specs.declared.side.Side.TheVariants.{A, B}
+use Rattle.outside_kit.specs.Side.{peer}
 use Rattle.link_model.specs.declared.flight.Flight.{Flight}
-use Rattle.link_model.specs.Steps.{peer}
 use Rattle.path_segments.specs.Laws.{window_told}
 use Rattle.subflow_tcp.specs.declared.handshake.State.{State}
+use Rattle.subflow_tcp.specs.Segments.{one_if}
 use Rattle.path_agenda.specs.declared.duty.Duty.{Duty}
 use Rattle.path_agenda.specs.declared.duty.Duty.TheVariants as duties
 use Rattle.path_agenda.specs.declared.duty.SendDuty.TheVariants as send_duties
@@ -26,7 +27,6 @@ use Rattle.clean_finish.specs.Segments.Brings.{Acknowledges}
 use Rattle.clean_finish.specs.Shows.{Hand, brings_still, HeardIs, IsMapping, IsPhase, IsToldEdge, last_told, row_seen}
 use Rattle.clean_finish.specs.Shows.IsPhase.{Opening, Listening, HalfOpen, Open}
 use Rattle.clean_finish.specs.Shows.IsToldEdge.{Same, Before}
-use Rattle.clean_finish.specs.Writing.{count_of}
 use Rattle.clean_finish.specs.Running.{Has, Half, Facing, IsSetting, StageIs}
 use Rattle.clean_finish.proofs.Dropping.{differ, behind, behind_or, IsApart, stage_drops, settles_drop, begun_drops}
 use Rattle.clean_finish.proofs.Hands.{way_none}
@@ -153,7 +153,7 @@ module _ {s : Side} {keys : Keys} {k j : Setting} {c : Profile} {begun begun_bac
 
             by : (b : Bool) → m.end.modes.clear ≡ b → m.end.modes.clear ≡ true
             by true is = is
-            by false is = absurd (at_side s refl (h.own.modes.clear ∙ ap count_of is))
+            by false is = absurd (at_side s refl (h.own.modes.clear ∙ ap one_if is))
 
         pub keys_told : h.back.keys_came ≤ dss_from s
         keys_told = by s refl
@@ -327,7 +327,7 @@ module _ {s : Side} {keys : Keys} {k j : Setting} {c : Profile} {begun begun_bac
             up p q r = omega (arith, p, q, r)
 
         pub clear_some : h.out.clear ≡ 0 → ⊥
-        clear_some zero_is = no (h.own.modes.clear ∙ ap count_of clear) zero_is
+        clear_some zero_is = no (h.own.modes.clear ∙ ap one_if clear) zero_is
           where
             no : {x : ℕ} → x ≡ 1 → x ≡ 0 → ⊥
             no p q = absurd (omega (arith, p, q))

@@ -1,6 +1,7 @@
 -- An application that writes and closes is moves of its lane.
 use Rattle.std.proofs.Common.{◌≡◌, refl, sym, subst, ap, ◌∙◌, ℕ, suc, ◌+◌, ◌-◌, ◌≤◌, min, Bool, true, false, not, Option, None, Some, List, [], ◌∷◌, ◌++◌, length, take, drop, replicate, fold, cond, le_refl, length-append, length-take, length-drop, arith}
 use Rattle.std.proofs.lemmas.Bool.{both_ways}
+use Rattle.subflow_tcp.specs.Segments.{one_if}
 use Rattle.send_book.specs.declared.call.SendReply.TheVariants.{Closed}
 use Rattle.send_book.specs.State.{Sending, acked_len}
 use Rattle.send_book.specs.declared.mark.ByteMark.{ByteMark}
@@ -18,7 +19,7 @@ use Rattle.pace.specs.Going.{Going}
 use Rattle.pace.specs.Moves.{MayEndWriting}
 use Rattle.pace.specs.Rounds.{Moves}
 use Rattle.pace.specs.Moves.Move.{writes, closes, ends_writing}
-use Rattle.clean_finish.specs.Writing.{count_of, is_writing, WriterIs, WriterShows, WriterGoes}
+use Rattle.clean_finish.specs.Writing.{is_writing, WriterIs, WriterShows, WriterGoes}
 
 -- more marks count no fewer acknowledged bytes
 marks_more : (n : ℕ) (xs ys : List ByteMark)
@@ -270,7 +271,7 @@ module _ (k : Setting) (s : Lane) (t : ℕ) (p : Stage) (w : Lane) where
           → WriterIs k w.written w.closed w.acked (record a { stops_in = o; rest = []; closed = true; told = b' }) b
           → MayEndWriting k s (with_writer w.written w.closed)
       may now =
-          let shut : w.closed ≡ 1 = now.shut ∙ ap count_of (sym now.told) in
+          let shut : w.closed ≡ 1 = now.shut ∙ ap one_if (sym now.told) in
           record { wrote = omega (arith, now.file, now.bytes); closed = omega (arith, now.file, now.bytes, shut) }
 
       stays : (a' : AppState) → WriterIs k w.written w.closed w.acked a' b → is_writing a'.agenda ≡ true

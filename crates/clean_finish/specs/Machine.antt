@@ -1,11 +1,12 @@
 -- What a lane knows of the machine: facts about single parts of it.
 use Rattle.std.specs.Prelude.{ℕ, ◌≡◌, ◌+◌, ◌<◌, ◌≤◌, Bool, cond, ◌||◌, if◌then◌else◌, Option, Some, None, List, length, map, All, false, [], ◌∷◌}
 use Rattle.outside_kit.specs.declared.side.Side.{Side}
+use Rattle.outside_kit.specs.Side.{peer}
 use Rattle.link_script.specs.Places.{same_side}
 use Rattle.link_model.specs.declared.flight.Flight.{Flight}
 use Rattle.link_model.specs.State.{LinkState}
 use Rattle.link_model.specs.Laws.{going_to}
-use Rattle.link_model.specs.Steps.{peer, due_of, arriving, after_delivery, with_flight, next_number, after_send}
+use Rattle.link_model.specs.Steps.{due_of, arriving, after_delivery, with_flight, next_number, after_send}
 use Rattle.loss_recovery.specs.declared.timers.Timing.{Timing}
 use Rattle.loss_recovery.specs.Timers.{opening, heard, measured, timer_settled, settled, stopped}
 use Rattle.subflow_send.specs.Records.{Record, SendState, occupied, span_of, Tile}
@@ -60,6 +61,7 @@ abbrev pub copy_of : {C : Type 0} → Side → C → ℕ → LinkState C → Fli
 copy_of from carried now link =
     record { tick = now + link.delay; to = peer from; number = next_number from link; carried = carried }
 
+-- so it is with each copy that stands first on a link
 abbrev pub HeadsArrive : Type 0
 HeadsArrive = (f : Flight (List ℕ)) (rest : List (Flight (List ℕ))) (link : LinkState (List ℕ))
     → HeadArrives f rest (record link { under_way = f ∷ rest })

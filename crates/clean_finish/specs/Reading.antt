@@ -1,12 +1,12 @@
 -- How the reader of a lane shows in an application and its reassembly book.
 use Rattle.std.specs.Prelude.{ℕ, zero, suc, ◌≡◌, Bool, true, false, not, Option, None, Some, List, ◌∷◌}
+use Rattle.subflow_tcp.specs.Segments.{one_if}
 use Rattle.reassembly_book.specs.State.{Arriving, received}
 use Rattle.stream_apps.specs.declared.duty.AppDuty.{AppDuty}
 use Rattle.stream_apps.specs.declared.duty.AppDuty.TheVariants.{Write, Close, Read}
 use Rattle.stream_apps.specs.Apps.{AppState}
 use Rattle.pace.specs.Lane.{Setting, Lane, Reader, Stage}
 use Rattle.pace.specs.Rounds.{Moves}
-use Rattle.clean_finish.specs.Writing.{count_of}
 
 -- the application has still to write, to close or to read
 abbrev pub is_reading : List AppDuty → Bool
@@ -25,13 +25,14 @@ pub record ReaderIs (k : Setting) (read came got told : ℕ) (a : AppState) (b :
   pub bytes : read ≡ b.read
   pub count : got ≡ a.count
   pub known : b.known_end ≡ end_known came k.total
-  pub end : told ≡ count_of a.told
+  pub end : told ≡ one_if a.told
   pub whole : a.told ≡ true → b.read ≡ k.total
   pub buffer : a.buffer ≡ k.buffer
   pub unaborted : b.aborted ≡ None
   -- it never stops the connection
   pub stays : a.stops_in ≡ None
 
+-- These are the lane's numbers; its reader's turn is over where the application has nothing more to write, to close or to read.
 pub record ReaderShows (k : Setting) (w : Lane) (a : AppState) (b : Arriving) : Type 0 where
   pub numbers : ReaderIs k w.read w.data_fin_came w.got w.told_end a b
   pub received : w.received ≡ received b

@@ -6,6 +6,7 @@ use Rattle.dss_mapping.specs.declared.kept.KeptMapping.{KeptMapping}
 use Rattle.dss_mapping.specs.Mappings.{Mappings}
 use Rattle.outside_kit.specs.declared.side.Side.{Side}
 use Rattle.outside_kit.specs.declared.side.Side.TheVariants.{A, B}
+use Rattle.outside_kit.specs.Side.{peer}
 use Rattle.link_script.specs.Places.{same_side}
 use Rattle.path_segments.specs.Laws.{window_told}
 use Rattle.send_book.specs.State.{Sending as SendBook}
@@ -16,7 +17,7 @@ use Rattle.link_model.specs.declared.flight.Flight.{Flight}
 use Rattle.link_model.specs.Laws.{going_to, WereSentBefore}
 use Rattle.link_model.specs.Order.{AreInOrder}
 use Rattle.link_model.specs.State.{LinkState}
-use Rattle.link_model.specs.Steps.{peer, next_number}
+use Rattle.link_model.specs.Steps.{next_number}
 use Rattle.control_book.specs.Control.{Control}
 use Rattle.actor_desk.specs.Books.{books_in}
 use Rattle.actor_desk.specs.Desk.{SixBooks, send_of, reassembly_of, control_of}
@@ -83,10 +84,12 @@ pub record StageIs (s r : Side) (ds : List Duty) (asked owes : Bool) (p : Stage)
 
 -- ---- a lane, with its books and applications
 
+-- so many moves lead from the lane as the round began, with everything still to be done, to this lane and stage
 pub record LaneStands (k : Setting) (begun : Lane) (stage : Stage) (lane : Lane) : Type 0 where
   pub count : ℕ
   pub moves : Moves k begun count all_left begun stage lane
 
+-- the lane shows in its writer and that side's send book, and in its reader and that side's reassembly book
 pub record AppsShow (k : Setting) (lane : Lane) (waiting : ℕ) (writer : AppState) (send : SendBook) (reader : AppState) (arrived : ArrivingBook) : Type 0 where
   pub writes : WriterShows k lane writer send
   pub reads : ReaderShows k lane reader arrived
@@ -224,11 +227,13 @@ pub record Bench : Type 0 where
   pub waiting : ℕ
   pub end : PathEnd
 
+-- the end of this side
 abbrev pub own_bench : {s : Side} {keys : Keys} {k j : Setting} {c : Profile} {begun begun_back : Lane} {m n : Half} {clock until : ℕ}
     {ds : List Duty} → Facing s keys k j c begun begun_back m n clock until ds → Bench
 own_bench {s} {keys} {k} {j} {c} {begun} {begun_back} {m} h =
     record { profile = c; out = h.out.sender; back = h.back.receiver; hand = h.hand; owes = h.owes; waiting = h.waiting; end = m.end }
 
+-- the end of the other side
 abbrev pub other_bench : {s : Side} {keys : Keys} {k j : Setting} {c : Profile} {begun begun_back : Lane} {m n : Half} {clock until : ℕ}
     {ds : List Duty} → Facing s keys k j c begun begun_back m n clock until ds → Bench
 other_bench {s} {keys} {k} {j} {c} {begun} {begun_back} {m} {n} h =
@@ -294,6 +299,7 @@ pub data Treatment : Type 0 where
   AfterAll : Treatment
   AfterKeeping : Treatment
 
+-- one thing at least was heard
 abbrev pub is_begun : Treatment → Bool
 is_begun AtFirst = false
 is_begun AfterOne = true
@@ -339,6 +345,7 @@ abbrev pub fin_in : Brings → List ℕ
 fin_in (EndsStream place) = place ∷ []
 fin_in _ = []
 
+-- they are known once all that the copy says was heard
 abbrev pub fins_at : Treatment → Brings → List ℕ
 fins_at AtFirst b = []
 fins_at AfterOne b = []
@@ -346,7 +353,7 @@ fins_at AfterTwo b = []
 fins_at AfterAll b = fin_in b
 fins_at AfterKeeping b = fin_in b
 
--- the payload, where it is held and where it is kept
+-- the payload, where it is kept and where it is held
 abbrev pub places_at : Treatment → List ℕ → List (Option ℕ)
 places_at AfterKeeping octets = map Some octets
 places_at _ octets = []
@@ -360,6 +367,7 @@ abbrev pub kept_piece : Profile → Side → Sent → List ℕ → KeptMapping
 kept_piece c q x octets = kept_of c q x.low (x.low + x.control) (length octets) false
     (checksum_in c (bare_mapping c (peer q) x.low (x.low + x.control) (length octets)) octets)
 
+-- none without bytes
 abbrev pub kept_in : Profile → Side → Sent → List ℕ → List KeptMapping
 kept_in c q x octets = if is_nil octets then [] else kept_piece c q x octets ∷ []
 
@@ -523,6 +531,7 @@ ArePlain (d ∷ ds) = (is_plain d ≡ true) × IsBefore d ds × ArePlain ds
 abbrev pub IsMapped : Side → Bench → Type 0
 IsMapped q x = 1 ≤ x.waiting → (r : Record) → first_unsent x.end ≡ Some r → r.mapping ≡ mapping_of x.profile q x.out.granted r.pos r.piece
 
+-- at both ends
 abbrev pub AreBetween : Bench → Bench → Type 0
 AreBetween a b = IsBetween A a × IsBetween B b
 
@@ -655,6 +664,7 @@ abbrev pub FacesOfA : Keys → Setting → Setting → Lane → Lane → AppStat
 FacesOfA keys k j s v a b books p =
     Facing A keys k j p.profile s v (half A a books p) (half B b books p) p.clock p.until p.agenda
 
+-- and as B sees it
 abbrev pub FacesOfB : Keys → Setting → Setting → Lane → Lane → AppState → AppState → SixBooks → PathState Carried → Type 0
 FacesOfB keys k j s v a b books p =
     Facing B keys j k p.profile v s (half B b books p) (half A a books p) p.clock p.until p.agenda
@@ -667,6 +677,7 @@ pub record Runs (start : Start) (plan : PathPlan) (k j : Setting) (s v : Lane) (
   pub open faces use *
   pub treats : Treats (keys_in start) (own_bench faces) (other_bench faces) p.agenda
 
+-- the same of a world whose paths are just this one
 pub record Running (start : Start) (plan : PathPlan) (k j : Setting) (s v : Lane) (t : Cast Carried) : Type 0 where
   pub walker : Walker Carried
   pub alone : t.paths ≡ walker ∷ []

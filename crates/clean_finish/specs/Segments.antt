@@ -2,8 +2,8 @@
 use Rattle.std.specs.Prelude.{ℕ, ◌≡◌, ◌+◌, ◌-◌, ◌≤◌, min, Bool, true, false, not, Option, Some, None, List, [], ◌∷◌, length}
 use Rattle.outside_kit.specs.declared.side.Side.{Side}
 use Rattle.outside_kit.specs.declared.side.Side.TheVariants.{A, B}
+use Rattle.outside_kit.specs.Side.{peer}
 use Rattle.link_model.specs.declared.flight.Flight.{Flight}
-use Rattle.link_model.specs.Steps.{peer}
 use Rattle.mptcp_options.specs.declared.capable.CapableKeys.TheVariants.{NoKey, Sender, Both, WithData}
 use Rattle.path_segments.specs.declared.segment.PathOption.TheVariants.{Capable, Dss}
 use Rattle.path_segments.specs.declared.segment.PathMapping.TheVariants as mapping
@@ -27,6 +27,7 @@ pub data Brings : Type 0 where
   EndsStream : ℕ → Brings
   EndsSubflow : Brings
 
+-- a segment in the numbers of the lanes
 pub record Sent : Type 0 where
   -- the tick of its arrival
   pub at : ℕ
@@ -84,10 +85,12 @@ abbrev pub is_owed : Brings → Bool
 is_owed Acknowledges = false
 is_owed _ = true
 
+-- 1 for a DATA_FIN
 abbrev pub data_fin_of : Brings → ℕ
 data_fin_of (EndsStream place) = 1
 data_fin_of _ = 0
 
+-- it brings bytes or a FIN
 abbrev pub is_solid : Brings → Bool
 is_solid (FirstPiece octets) = not (is_nil octets)
 is_solid (Piece octets) = not (is_nil octets)
@@ -128,10 +131,12 @@ pub record Keys : Type 0 where
   pub a : ℕ
   pub b : ℕ
 
+-- on a SYN A asks for Multipath TCP, and B answers with its key (RFC 8684, section 3.1)
 abbrev pub opening_options : Profile → Keys → Side → List PlainOption
 opening_options c keys A = Capable c.spelling.checksums false NoKey ∷ []
 opening_options c keys B = Capable c.spelling.checksums false (Sender keys.b) ∷ []
 
+-- of a segment at this position, behind so many octets of the stream, with this Data ACK
 abbrev pub options_by : Profile → Keys → Side → ℕ → ℕ → ℕ → Brings → List PlainOption
 options_by c keys s position low next OpensSubflow = opening_options c keys s
 options_by c keys s position low next ShowsKeys = Capable c.spelling.checksums false (Both keys.a keys.b) ∷ []
@@ -146,6 +151,7 @@ options_by c keys s position low next (EndsStream place) =
     Dss (Some next) (Some (mapping.End place (checksum_told c (checksum_in c (bare_mapping c s place 0 1) [])))) ∷ []
 options_by c keys s position low next EndsSubflow = Dss (Some next) None ∷ []
 
+-- a SYN tells the maximum segment size
 abbrev pub mss_by : Profile → Brings → Option ℕ
 mss_by c OpensSubflow = Some c.mss
 mss_by c _ = None
@@ -164,6 +170,7 @@ said c keys s x = record {
   payload = octets_of x.brings;
 }
 
+-- the copy is this segment from this side, unstripped, on its way to the other one
 pub record FliesAs (c : Profile) (keys : Keys) (from : Side) (f : Flight Carried) (x : Sent) : Type 0 where
   pub tick : f.tick ≡ x.at
   pub to : f.to ≡ peer from

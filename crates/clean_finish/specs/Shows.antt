@@ -3,8 +3,8 @@
 use Rattle.std.specs.Prelude.{ℕ, zero, suc, ◌≡◌, ◌+◌, ◌-◌, ◌<◌, ◌≤◌, ◌⊎◌, min, Bool, true, false, not, ◌||◌, nat_lt, if◌then◌else◌, Option, Some, None, IfSome, List, [], ◌∷◌, ◌++◌, length, map, All}
 use Rattle.outside_kit.specs.declared.side.Side.{Side}
 use Rattle.outside_kit.specs.declared.side.Side.TheVariants.{A, B}
+use Rattle.outside_kit.specs.Side.{peer}
 use Rattle.link_model.specs.declared.flight.Flight.{Flight}
-use Rattle.link_model.specs.Steps.{peer}
 use Rattle.control_book.specs.declared.registry.PathState.{PathState as RegistryPath}
 use Rattle.address_manager.specs.IdSet.{lowest}
 use Rattle.control_book.specs.Control.{Control, withdrawals_on}
@@ -27,6 +27,7 @@ use Rattle.subflow_tcp.specs.Dues.{nothing_due}
 use Rattle.subflow_tcp.specs.Sizes.{room}
 use Rattle.subflow_tcp.specs.State.{EndState}
 use Rattle.subflow_tcp.specs.States.{may_finish, is_closed_to_segments, is_half_open, is_opening}
+use Rattle.subflow_tcp.specs.Segments.{one_if}
 use Rattle.actor_desk.specs.Words.{pick, tail_of}
 use Rattle.path_core.specs.declared.granted_piece.GrantedPiece.{GrantedPiece}
 use Rattle.path_core.specs.declared.mapped_data_fin.MappedDataFin.{MappedDataFin}
@@ -38,8 +39,8 @@ use Rattle.path_core.specs.Values.{Carried}
 use Rattle.pace.specs.Lane.{Setting, Telling, Copy, Sender, Receiver}
 use Rattle.pace.specs.Rules.{repeats, next_row}
 use Rattle.clean_finish.specs.Machine.{IsLong, IsPiece, seen_timer}
+use Rattle.clean_finish.specs.Reading.{end_known}
 use Rattle.clean_finish.specs.Segments.{Sent, Keys, copy_in, dss_from, FlyAs, Follow, Rise, edge_after, low_after, control_after, keys_after}
-use Rattle.clean_finish.specs.Writing.{count_of}
 
 -- ---- what is in hand
 
@@ -160,6 +161,7 @@ pub record HeardIs (s : Side) (total : ℕ) (t : Telling) (tcp : EndState) : Typ
   pub few : t.seen ≤ 2
   pub some : 1 ≤ tcp.send.una → 1 ≤ t.seen
 
+-- all of this, of the subflow of an end
 pub record SubflowIs (s : Side) (k : Setting) (out : Sender) (back : Receiver) (hand : Option Hand) (owes : Bool) (waiting : ℕ) (tcp : EndState) : Type 0 where
   pub phase : IsPhase s back.control_came tcp.send.una tcp.send.finished tcp.state
   pub opens : tcp.numbers.opens ≡ pick s true false
@@ -179,10 +181,6 @@ pub record SubflowIs (s : Side) (k : Setting) (out : Sender) (back : Receiver) (
 
 -- ---- the streams at an end
 
-abbrev pub known_by : ℕ → ℕ → Option ℕ
-known_by zero total = None
-known_by (suc n) total = Some total
-
 -- a span of bytes that were granted, and aren't all acknowledged
 pub record IsGranted (out : Sender) (waiting : ℕ) (span : GrantedPiece) : Type 0 where
   pub waits : out.acked < span.to
@@ -193,12 +191,13 @@ abbrev pub AreSpans : ℕ → ℕ → List GrantedPiece → Type 0
 AreSpans from to [] = to ≤ from
 AreSpans from to (span ∷ spans) = (span.from ≤ from) × AreSpans span.to to spans
 
+-- what an end knows of its own stream is what the lane on which it sends counts
 pub record SendingIs (k : Setting) (out : Sender) (back : Receiver) (waiting : ℕ) (v : Sending) : Type 0 where
   pub heard : v.heard ≡ out.acked
-  pub known : v.known_end ≡ known_by out.known k.total
-  pub data_fin : out.data_fin_sent ≡ count_of v.fin_sent
+  pub known : v.known_end ≡ end_known out.known k.total
+  pub data_fin : out.data_fin_sent ≡ one_if v.fin_sent
   pub acked : v.close.own_acked ≡ nat_lt k.total out.acked
-  pub came : back.data_fin_came ≡ count_of v.close.peer_came
+  pub came : back.data_fin_came ≡ one_if v.close.peer_came
   -- the grant of bytes that wait opened it again
   pub shut : (waiting ≡ 0 → v.shut ≡ out.shut) × (1 ≤ waiting → v.shut ≡ false)
   pub granted : All (IsGranted out waiting) v.granted
@@ -214,6 +213,7 @@ pub data IsToldEdge (s : Side) (j : Setting) (owes : Bool) (back : Receiver) (ed
   Same : back.told.edge ≡ edge → IsToldEdge s j owes back edge
   Before : s ≡ A → (back.received ≡ 0) ⊎ (owes ≡ true) → back.told.edge ≡ j.least → j.buffer ≤ edge + 31 → IsToldEdge s j owes back edge
 
+-- what an end knows of the peer's stream is what the lane on which it receives counts
 pub record ReceivingIs (s : Side) (j : Setting) (out : Sender) (owes : Bool) (back : Receiver) (v : Receiving) : Type 0 where
   pub next : v.next ≡ back.next
   pub limit : back.limit ≡ v.next + window_told false v.window
@@ -229,6 +229,7 @@ pub record ReceivingIs (s : Side) (j : Setting) (out : Sender) (owes : Bool) (ba
 
 -- ---- how an end stands to Multipath TCP
 
+-- neither fallen back nor stopped: Multipath TCP is settled, or isn't yet
 pub data IsPlainMode (mode : Mode) : Type 0 where
   Starts : mode ≡ Starting → IsPlainMode mode
   IsSure : mode ≡ Sure → IsPlainMode mode
@@ -249,7 +250,7 @@ pub record ModesAre (s : Side) (keys : Keys) (out : Sender) (back : Receiver) (m
   pub plain_acks : m.plain_acks ≡ 0
   pub own_key : m.own_key ≡ pick s keys.a keys.b
   pub peer_key : m.peer_key ≡ (if nat_lt 0 out.ready then Some (pick s keys.b keys.a) else None)
-  pub clear : out.clear ≡ count_of m.clear
+  pub clear : out.clear ≡ one_if m.clear
   pub capable : s ≡ B → 1 ≤ back.control_came → m.capable_asked ≡ true
   pub ready : out.ready ≤ min 1 back.control_came
   pub cleared : out.clear ≤ out.ready
@@ -266,6 +267,7 @@ pub record NoticesAre (n : Notices) : Type 0 where
 
 -- ---- an end, and the books of its side
 
+-- all of this, and the timer as the lane sees it
 pub record EndIs (s : Side) (keys : Keys) (k j : Setting) (out : Sender) (back : Receiver) (hand : Option Hand) (owes : Bool) (waiting : ℕ)
     (e : PathEnd) : Type 0 where
   pub subflow : SubflowIs s k out back hand owes waiting e.tcp

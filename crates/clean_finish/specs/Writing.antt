@@ -1,14 +1,12 @@
 -- How the writer of a lane shows in an application and its send book.
-use Rattle.std.specs.Prelude.{ℕ, ◌≡◌, ◌+◌, ◌≤◌, min, Bool, true, false, not, if◌then◌else◌, None, List, [], ◌∷◌, length}
+use Rattle.std.specs.Prelude.{ℕ, ◌≡◌, ◌+◌, ◌≤◌, min, Bool, true, false, not, None, List, [], ◌∷◌, length}
 use Rattle.send_book.specs.State.{Sending, acked_len}
+use Rattle.subflow_tcp.specs.Segments.{one_if}
 use Rattle.stream_apps.specs.declared.duty.AppDuty.{AppDuty}
 use Rattle.stream_apps.specs.declared.duty.AppDuty.TheVariants.{Write, Close}
 use Rattle.stream_apps.specs.Apps.{AppState}
 use Rattle.pace.specs.Lane.{Setting, Lane, Writer, Stage}
 use Rattle.pace.specs.Rounds.{Moves}
-
-abbrev pub count_of : Bool → ℕ
-count_of b = if b then 1 else 0
 
 -- the application has still to write or to close
 abbrev pub is_writing : List AppDuty → Bool
@@ -20,7 +18,7 @@ is_writing _ = false
 pub record WriterIs (k : Setting) (written closed acked : ℕ) (a : AppState) (b : Sending) : Type 0 where
   pub file : length b.written + length a.rest ≡ k.total
   pub bytes : written ≡ length b.written
-  pub shut : closed ≡ count_of b.closed
+  pub shut : closed ≡ one_if b.closed
   pub told : a.closed ≡ b.closed
   pub whole : b.closed ≡ true → a.rest ≡ []
   -- the book knows all that was heard
@@ -31,6 +29,7 @@ pub record WriterIs (k : Setting) (written closed acked : ℕ) (a : AppState) (b
   -- it never stops the connection
   pub stays : a.stops_in ≡ None
 
+-- These are the lane's numbers; its writer's turn is over where the application has nothing more to write or to close.
 pub record WriterShows (k : Setting) (w : Lane) (a : AppState) (b : Sending) : Type 0 where
   pub numbers : WriterIs k w.written w.closed w.acked a b
   pub over : w.writer_over ≡ not (is_writing a.agenda)

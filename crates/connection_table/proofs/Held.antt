@@ -14,6 +14,7 @@ use Rattle.path_core.specs.Octets.{octets}
 use Rattle.path_core.specs.State.{PathState}
 use Rattle.run_outside.specs.declared.input.Input.{Input}
 use Rattle.world_core.specs.Kept.{standing}
+use Rattle.world_core.specs.Logged.{turn_of, all_turns}
 use Rattle.world_laws.specs.declared.member.Member.TheVariants.{App, Path}
 use Rattle.world_laws.specs.Actors.{Actor, ActorCrew, is_over, member_asks, member_next, member_takes}
 use Rattle.world_laws.specs.Openings.{PathPlan, Start, paths_from, plans_from, start_of}
@@ -21,7 +22,6 @@ use Rattle.world_laws.specs.Worlds.{AreLawful, after_turn, all_over, begins, cre
 use Rattle.world_laws.proofs.Rounds.Frame.{first_stands}
 use Rattle.world_laws.proofs.Weaving.WholeRounds.{run_append, lawful_append}
 use Rattle.connection_table.specs.Tables.{Connection, Entry, IsHeld, Stands, StandsAlone, first_of, has_path, is_path, is_path_crew, key_token, opened_entry}
-use Rattle.connection_table.specs.Turns.{turn_of, turns_of}
 
 -- ---- it stands alone
 
@@ -30,19 +30,19 @@ module _ (e : Entry) (turn : noted.Turn) (stands : Stands e) (alone : StandsAlon
   abbrev more : Entry
   more = record e { turns = e.turns ++ turn ∷ []; world = standing (after_turn octets (turn_of turn) e.world.state) }
 
-  turns_are : turns_of (e.turns ++ turn ∷ []) ≡ turns_of e.turns ++ turn_of turn ∷ []
+  turns_are : all_turns (e.turns ++ turn ∷ []) ≡ all_turns e.turns ++ turn_of turn ∷ []
   turns_are = map-append turn_of e.turns (turn ∷ [])
 
-  is_run : after_turn octets (turn_of turn) e.world.state ≡ world_run octets (turns_of (e.turns ++ turn ∷ [])) (first_of e.input)
+  is_run : after_turn octets (turn_of turn) e.world.state ≡ world_run octets (all_turns (e.turns ++ turn ∷ [])) (first_of e.input)
   is_run =
       ap (after_turn octets (turn_of turn)) (alone.is stands)
-      ∙ sym (run_append octets (turns_of e.turns) (turn_of turn ∷ []) (first_of e.input))
+      ∙ sym (run_append octets (all_turns e.turns) (turn_of turn ∷ []) (first_of e.input))
       ∙ ap (λ ts. world_run octets ts (first_of e.input)) (sym turns_are)
 
-  more_lawful : AreLawful octets (turn_of turn ∷ []) e.world.state → AreLawful octets (turns_of (e.turns ++ turn ∷ [])) (first_of e.input)
+  more_lawful : AreLawful octets (turn_of turn ∷ []) e.world.state → AreLawful octets (all_turns (e.turns ++ turn ∷ [])) (first_of e.input)
   more_lawful lawful =
       subst (λ ts. AreLawful octets ts (first_of e.input)) (sym turns_are)
-      (lawful_append octets (turns_of e.turns) (turn_of turn ∷ []) (first_of e.input) (alone.lawful stands)
+      (lawful_append octets (all_turns e.turns) (turn_of turn ∷ []) (first_of e.input) (alone.lawful stands)
       (subst (AreLawful octets (turn_of turn ∷ [])) (alone.is stands) lawful))
 
   pub alone_more : AreLawful octets (turn_of turn ∷ []) e.world.state → StandsAlone more

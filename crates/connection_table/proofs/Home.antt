@@ -6,6 +6,7 @@ use Rattle.outside_kit.specs.declared.side.Side.{Side}
 use Rattle.outside_kit.specs.declared.side.Side.TheVariants.{A, B}
 use Rattle.path_core.specs.Looking.{Arrived, next_arrival}
 use Rattle.world_core.specs.Looking.{crew_path, member_path}
+use Rattle.world_core.specs.Logged.{all_turns}
 use Rattle.world_laws.specs.declared.member.Member.TheVariants.{App, Path}
 use Rattle.world_laws.specs.Actors.{Actor, ActorCrew}
 use Rattle.world_laws.specs.Openings.{start_of}
@@ -15,7 +16,6 @@ use Rattle.join_tokens.specs.JoinTokens.{AsksByTokenNext, JoinsAskByToken}
 use Rattle.join_tokens.proofs.JoinsAsked.{joins_ask}
 use Rattle.connection_table.specs.Routes.{EachIsRoutedHome, arriving_at_b, arriving_in, home_by, home_of, if_at_b, only_at_b, route_by, routed, to_holder}
 use Rattle.connection_table.specs.Tables.{Entry, IsShortEntry, IsTable, StandsAlone, entry_at, holder_of, key_token}
-use Rattle.connection_table.specs.Turns.{turns_of}
 
 -- what comes to B arrives there
 at_b : (o : Option Arrived) (a : Arrived) → option_and_then only_at_b o ≡ Some a → (o ≡ Some a) × (a.to ≡ B)
@@ -51,7 +51,7 @@ each_is_routed_home table connection actor e sound there alone short =
     asks stands =
         let starts = scripts_fit e.input.script e.input.file_a e.input.file_b short in
         let same = alone.is stands in
-        subst (JoinsAskByToken key) (sym same) (joins_ask (start_of e.input.script e.input.file_a e.input.file_b) (turns_of e.turns) starts.0 starts.1)
+        subst (JoinsAskByToken key) (sym same) (joins_ask (start_of e.input.script e.input.file_a e.input.file_b) (all_turns e.turns) starts.0 starts.1)
 
     to : (a : Arrived) (o : Option ℕ) → join_token a.addresses a.octets ≡ o → e.world.failed ≡ false → arriving_at_b actor e.world.state.crew ≡ Some a
         → home_by connection (route_by o table) ≡ connection

@@ -8,11 +8,11 @@ use Rattle.path_core.specs.Octets.{octets}
 use Rattle.run_outside.specs.declared.input.Input.{Input}
 use Rattle.stream_lanes.proofs.Lists.{in_append, in_more, in_one, in_set, set_other}
 use Rattle.world_core.specs.Kept.{standing}
+use Rattle.world_core.specs.Logged.{all_turns}
 use Rattle.world_laws.specs.Worlds.{end_round, is_going, world_run, world_step}
 use Rattle.connection_table.specs.Calls.{Call, CanAllBe, CanBe, CanCall, EachIsIsolated, Event, IsIsolated, IsShortTable, NoneFailed, after_call, after_calls, after_event, after_events, call_made, called_at, own_calls, put_call}
 use Rattle.connection_table.specs.Steps.{after_end, after_step}
 use Rattle.connection_table.specs.Tables.{Entry, IsShortEntry, Stands, StandsAlone, entry_at, first_of, opened_entry, with_entry}
-use Rattle.connection_table.specs.Turns.{turns_of}
 use Rattle.connection_table.proofs.Held.{alone_more, stopped_alone}
 use Rattle.connection_table.proofs.Holders.{table_admits, table_stays}
 use Rattle.connection_table.proofs.Home.{each_is_routed_home}
@@ -128,7 +128,7 @@ call_before : (call : Call) (calls : List Call) (e : Entry) (now : Option Entry)
 call_before call calls e now goes h = record {
   own = h.own;
   alone = λ none stands. h.alone (none_later call calls none) (call_stands call calls e none stands)
-      ∙ ap (λ (input : Input). world_run octets (turns_of (after_calls calls (after_call call e)).turns) (first_of input)) goes.1;
+      ∙ ap (λ (input : Input). world_run octets (all_turns (after_calls calls (after_call call e)).turns) (first_of input)) goes.1;
 }
 
 some_there : (o : Option Entry) (P : Entry → Type 0) → IsSomeAnd o P → (c : Entry) × (o ≡ Some c) × P c

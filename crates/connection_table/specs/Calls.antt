@@ -1,5 +1,6 @@
 -- Calls on a table of connections, one after the other, and what each connection makes of its own.
 use Rattle.std.specs.Prelude.{ℕ, ◌≡◌, ◌<◌, ◌==◌, if◌then◌else◌, List, [], ◌∷◌, ◌++◌, length, Option, Some, None, IsSomeAnd}
+use Rattle.world_core.specs.Logged.{all_turns}
 use Rattle.path_core.specs.Octets.{octets}
 use Rattle.run_outside.specs.declared.input.Input.{Input}
 use Rattle.world_laws.specs.PlainScripts.{IsShortScript}
@@ -7,7 +8,6 @@ use Rattle.world_laws.specs.Worlds.{world_run}
 use Rattle.connection_table.specs.Routes.{home_of}
 use Rattle.connection_table.specs.Steps.{IsStopped, after_end, after_step}
 use Rattle.connection_table.specs.Tables.{Entry, IsShortEntry, IsTable, Stands, StandsAlone, entry_at, first_of, holder_of, key_token, opened_entry, with_entry}
-use Rattle.connection_table.specs.Turns.{turns_of}
 
 -- a call for a connection
 pub data Call : Type 0 where
@@ -79,10 +79,12 @@ pub record CanAdmit (input : Input) (table : List Entry) : Type 0 where
   pub new : holder_of (key_token input.script) table ≡ None
   pub short : IsShortScript input.script input.file_a input.file_b
 
+-- the call can come to this table
 abbrev pub CanBe : Event → List Entry → Type 0
 CanBe (Admits input) table = CanAdmit input table
 CanBe (Calls connection call) table = IsSomeAnd (entry_at connection table) (CanCall call)
 
+-- so can each of these calls, after those before it
 abbrev pub CanAllBe : List Event → List Entry → Type 0
 CanAllBe [] table = Unit {0}
 CanAllBe (event ∷ events) table = CanBe event table × CanAllBe events (after_event event table)
@@ -106,7 +108,7 @@ pub record IsShortTable (table : List Entry) : Type 0 where
 pub record IsIsolated (calls : List Call) (before : Entry) (now : Option Entry) : Type 0 where
   pub own : now ≡ Some (after_calls calls before)
   pub alone : NoneFailed calls → Stands before
-      → (after_calls calls before).world.state ≡ world_run octets (turns_of (after_calls calls before).turns) (first_of before.input)
+      → (after_calls calls before).world.state ≡ world_run octets (all_turns (after_calls calls before).turns) (first_of before.input)
 
 -- for every list of calls
 abbrev pub EachIsIsolated : Type 0

@@ -17,6 +17,7 @@ use Rattle.connection_table.specs.Tables.{Connection, Entry, first_of, holder_of
 
 -- ---- a connection of the list
 
+-- these are the inputs of these names, one for one
 abbrev pub AreInputs : Contents → List Names → List Input → Type 0
 AreInputs content [] [] = Unit {0}
 AreInputs content [] (input ∷ inputs) = ⊥
@@ -128,6 +129,7 @@ pub record IsValidInput (content : Contents) (names : Names) (input : Input) : T
   pub file_b : content names.file_b ≡ Some input.file_b
   pub short : IsShort input
 
+-- so is each content of these connections, one for one
 abbrev pub AreValidInputs : Contents → List Names → List Input → Type 0
 AreValidInputs content [] [] = Unit {0}
 AreValidInputs content [] (input ∷ inputs) = ⊥

@@ -3,19 +3,10 @@ use Rattle.std.specs.Prelude.{ℕ, suc, List, [], ◌∷◌, ◌++◌, codes, ma
 use Rattle.std.specs.Fmt.{decimal}
 use Rattle.hex.specs.Hex.{encode_lower}
 use Rattle.outside_kit.specs.declared.side.Side.TheVariants.{A, B}
-use Rattle.run_log.specs.declared.outcome.Outcome as log_outcome
-use Rattle.run_log.specs.declared.outcome.Outcome.TheVariants as told
 use Rattle.run_log.specs.Lines.{outcome_word}
-use Rattle.world_laws.specs.declared.outcome.Outcome.{Outcome}
-use Rattle.world_laws.specs.declared.outcome.Outcome.TheVariants.{Going, Delivered, Aborted, NoPath}
+use Rattle.world_core.specs.Logged.{told_outcome}
 use Rattle.world_laws.specs.Outcomes.{outcome_of, output_of}
 use Rattle.connection_table.specs.Tables.{Connection, Entry, entry_at}
-
-abbrev pub told_outcome : Outcome → log_outcome.Outcome
-told_outcome Going = told.Rounds
-told_outcome Delivered = told.Delivered
-told_outcome (Aborted reader) = told.Aborted
-told_outcome NoPath = told.NoPath
 
 -- octets in hexadecimal digits, or '-' for none
 abbrev pub shown : List ℕ → List ℕ

@@ -15,6 +15,7 @@ abbrev pub to_holder : ℕ → Option ℕ → Route
 to_holder token None = Unknown token
 to_holder token (Some holder) = To holder
 
+-- a segment with no token doesn't ask to join
 abbrev pub route_by : Option ℕ → List Entry → Route
 route_by None table = NotJoin
 route_by (Some token) table = to_holder token (holder_of token table)
@@ -41,6 +42,7 @@ abbrev pub routed : Option Arrived → List Entry → Route
 routed None table = NotJoin
 routed (Some arrived) table = route_by (join_token arrived.addresses arrived.octets) table
 
+-- the one that the token names; else the one whose step it is
 abbrev pub home_by : ℕ → Route → ℕ
 home_by connection (To home) = home
 home_by connection (Unknown token) = connection

@@ -8,13 +8,14 @@ use Rattle.path_core.specs.Octets.{octets}
 use Rattle.path_core.specs.Starts.{key_of}
 use Rattle.run_outside.specs.declared.input.Input.{Input}
 use Rattle.world_core.specs.Kept.{Kept, standing}
+use Rattle.world_core.specs.Logged.{all_turns}
 use Rattle.world_laws.specs.declared.member.Member.TheVariants.{App, Path}
 use Rattle.world_laws.specs.Actors.{Actor, ActorCrew}
 use Rattle.world_laws.specs.Openings.{opened_world, start_of}
 use Rattle.world_laws.specs.PlainScripts.{IsShortScript}
 use Rattle.world_laws.specs.Worlds.{WorldState, AreLawful, all_over, world_run}
-use Rattle.connection_table.specs.Turns.{turns_of}
 
+-- a connection whose links carry octets
 abbrev pub Connection : Type 0
 Connection = WorldState (List ℕ)
 
@@ -45,8 +46,8 @@ Stands e = e.world.failed ≡ false
 
 -- then it is what its own input and turns come to, and each turn could be made
 pub record StandsAlone (e : Entry) : Type 0 where
-  pub is : Stands e → e.world.state ≡ world_run octets (turns_of e.turns) (first_of e.input)
-  pub lawful : Stands e → AreLawful octets (turns_of e.turns) (first_of e.input)
+  pub is : Stands e → e.world.state ≡ world_run octets (all_turns e.turns) (first_of e.input)
+  pub lawful : Stands e → AreLawful octets (all_turns e.turns) (first_of e.input)
 
 -- B's token
 abbrev pub key_token : Script → ℕ

@@ -6,7 +6,7 @@ ghost use Rattle.connection_table.specs.declared.admitting.AdmitFault.TheVariant
 use std::alloc::{AllocError, AllocFailed};
 
 /// Why a connection wasn't admitted.
-#[derive(Clone, Copy, Debug, PartialEq, Eq)]
+#[derive(Clone, Copy)]
 pub enum AdmitFault {
     /// There are 64 connections.
     Full,

@@ -1,26 +1,15 @@
 //! The line of a connection.
 
 ghost use Rattle.std.specs.Prelude.{◌≡◌, ◌<◌, length, IfOk, string_bytes};
+ghost use Rattle.world_core.specs.Logged.{told_outcome};
 ghost use Rattle.outside_kit.specs.declared.side.Side.TheVariants.{A, B};
 ghost use Rattle.run_log.specs.Lines.{outcome_word};
 ghost use Rattle.world_laws.specs.Outcomes.{outcome_of, output_of};
-ghost use Rattle.connection_table.specs.ManyLines.{connection_line, line_at, shown, told_outcome};
+ghost use Rattle.connection_table.specs.ManyLines.{connection_line, line_at, shown};
 
 use crate::table::ConnectionTable;
 use std::alloc::{AllocError, Global};
-use world_core::{Outcome, World, read_since};
-
-/// The outcome as it is told.
-fn told(outcome: Outcome) -> run_log::Outcome
-    ensures { result ≡ told_outcome outcome }
-{
-    match outcome {
-        Outcome::Going => run_log::Outcome::Rounds,
-        Outcome::Delivered => run_log::Outcome::Delivered,
-        Outcome::Aborted(_) => run_log::Outcome::Aborted,
-        Outcome::NoPath => run_log::Outcome::NoPath,
-    }
-}
+use world_core::{World, read_since, told_outcome};
 
 /// Octets in hexadecimal digits, or `-` for none.
 fn shown(alloc: Global, octets: &[u8]) -> Result<String, AllocError>
@@ -52,7 +41,7 @@ fn read_by_a(alloc: Global, world: &World) -> Result<String, AllocError>
 fn word_of(world: &World) -> &'static str
     ensures { result.now ≡ outcome_word (told_outcome (outcome_of world.now.state.crew)) }
 {
-    told(world.outcome()).word()
+    told_outcome(world.outcome()).word()
 }
 
 /// The line of a connection with this number: its outcome, what B read and what A read.

@@ -1,7 +1,7 @@
 //! Where a segment goes that comes to a listener.
 
 /// Where a segment goes that comes to a listener.
-#[derive(Clone, Copy, Debug, PartialEq, Eq)]
+#[derive(Clone, Copy)]
 pub enum Route {
     /// It asks to join the connection with this number.
     To(u8),

@@ -7,7 +7,7 @@ use std::alloc::{AllocError, Global};
 use std::marker::Model;
 
 /// A list of turns, with room for some more.
-#[derive(Debug, Drop)]
+#[derive(Drop)]
 pub(crate) struct TurnList {
     turns: Vec<Turn>,
 }

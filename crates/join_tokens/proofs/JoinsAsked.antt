@@ -2,12 +2,13 @@
 use Rattle.std.proofs.Common.{◌≡◌, refl, sym, ◌∙◌, ap, subst, ℕ, Option, Some, None, option_map, List, ◌∷◌}
 use Rattle.std.proofs.lemmas.Option.{same_Some}
 use Rattle.outside_kit.specs.declared.side.Side.TheVariants.{B}
+use Rattle.outside_kit.specs.Side.{peer}
 use Rattle.key_material.specs.KeyDigest.{token_of}
 use Rattle.segment_wire.specs.declared.head.Addresses.{Addresses}
+use Rattle.segment_wire.specs.Paths.{addresses_from}
 use Rattle.link_model.specs.declared.flight.Due.{Due}
 use Rattle.link_model.specs.declared.flight.Flight.{Flight}
-use Rattle.link_model.specs.Octets as link_octets
-use Rattle.link_model.specs.Steps.{peer, arriving}
+use Rattle.link_model.specs.Steps.{arriving}
 use Rattle.path_agenda.specs.declared.duty.Duty.{Duty}
 use Rattle.path_agenda.specs.declared.duty.Duty.TheVariants as duties
 use Rattle.path_agenda.specs.declared.duty.StepDuty.TheVariants as steps_of
@@ -17,25 +18,24 @@ use Rattle.path_core.specs.Arriving.{expected_by}
 use Rattle.path_core.specs.Events.{heard_in, next_event}
 use Rattle.path_core.specs.Looking.{Arrived, arrived, arrived_as, copy_arriving, first_arrival}
 use Rattle.path_core.specs.Octets.{octets}
-use Rattle.path_core.specs.OptionsOut.{spelled_by}
 use Rattle.path_core.specs.State.{PathState, end_at, path_of}
 use Rattle.world_laws.specs.declared.member.Member.TheVariants.{App, Path}
 use Rattle.world_laws.specs.Actors.{Actor}
 use Rattle.join_route.specs.Routing.{join_token}
 use Rattle.join_route.proofs.Heard.{token_heard}
 use Rattle.join_tokens.specs.JoinTokens.{AsksByTokenNext, JoinsAskByTheToken, NextShowsToken, ShowsTokenNext}
-use Rattle.join_tokens.proofs.PathsNamed.{HasNumber, paths_have_their_numbers, same_addresses}
+use Rattle.join_tokens.proofs.PathsNamed.{HasNumber, paths_have_their_numbers}
 use Rattle.join_tokens.proofs.TokensShown.{octets_show_the_token}
 
 -- ---- a copy that comes to B, and asks to join by a token
 
 module _ (key : ℕ) (p : PathState (List ℕ)) (shows : NextShowsToken octets key p) (numbered : path_of p ≡ p.profile.spelling.path) where
   copy_shows : (due : Due) (f : Flight (List ℕ)) (token : ℕ) → next_event p ≡ Some (happenings.Arrives due) → due.to ≡ B → arriving due p.link ≡ Some f
-      → join_token (link_octets.addresses_from (path_of p) (peer due.to)) f.carried ≡ Some token → token ≡ key
+      → join_token (addresses_from (path_of p) (peer due.to)) f.carried ≡ Some token → token ≡ key
   copy_shows due f token next at_b there asks =
-      token_heard p.profile.spelling (spelled_by (peer due.to)) (expected_by (end_at due.to p)) key f.carried token
+      token_heard p.profile.spelling (peer due.to) (expected_by (end_at due.to p)) key f.carried token
       (ap (λ (addresses : Addresses). join_token addresses f.carried)
-      (sym (ap (λ n. link_octets.addresses_from n (peer due.to)) numbered ∙ same_addresses p.profile.spelling.path (peer due.to))) ∙ asks)
+      (sym (ap (λ n. addresses_from n (peer due.to)) numbered)) ∙ asks)
       (λ heard is. shows due heard next at_b (ap (λ o. heard_in octets due.to o p) there ∙ is))
 
   arrived_shows : (due : Due) (a : Arrived) (token : ℕ) → next_event p ≡ Some (happenings.Arrives due) → arrived due p ≡ Some a → a.to ≡ B

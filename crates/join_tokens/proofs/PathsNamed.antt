@@ -1,13 +1,8 @@
 -- The link of a path has the number by which its segments are spelled: so copies arrive between the addresses by which they are heard.
-use Rattle.std.proofs.Common.{◌≡◌, refl, sym, ◌∙◌, ap, ℕ, ◌+◌, List}
-use Rattle.outside_kit.specs.declared.side.Side.{Side}
-use Rattle.outside_kit.specs.declared.side.Side.TheVariants.{A, B}
-use Rattle.link_model.specs.Octets as link_octets
-use Rattle.path_segments.specs.Spelling as spelling_words
+use Rattle.std.proofs.Common.{◌≡◌, sym, ◌∙◌, ap, ℕ, ◌+◌, List}
 use Rattle.stream_lanes.specs.Words.{Every}
 use Rattle.actor_desk.specs.declared.ask.Reply.{Reply}
 use Rattle.path_core.specs.Codec.{Codec}
-use Rattle.path_core.specs.OptionsOut.{spelled_by}
 use Rattle.path_core.specs.Starts.{waiting_path}
 use Rattle.path_core.specs.State.{PathState, path_of}
 use Rattle.world_laws.specs.declared.member.Member.TheVariants.{App, Path}
@@ -45,8 +40,3 @@ module _ {C : Type 0} (k : Codec C) where
   paths_have_their_numbers start turns =
       run_lifted k CrewHasNumber (λ books c x is h. takes_number (answer_to books x) c.member h) (λ stamp c over h. next_number c.member h) turns (opened_world start)
       (opened_lifted CrewHasNumber start tt tt (λ number plan there. new_number start number plan))
-
--- the link has the addresses of the segments
-pub same_addresses : (path : ℕ) (side : Side) → link_octets.addresses_from path side ≡ spelling_words.addresses_from path (spelled_by side)
-same_addresses path A = refl
-same_addresses path B = refl

@@ -6,12 +6,13 @@ use Rattle.std.proofs.lemmas.Option.{same_Some}
 use Rattle.std.specs.List.{slice_get}
 use Rattle.outside_kit.specs.declared.side.Side.{Side}
 use Rattle.outside_kit.specs.declared.side.Side.TheVariants.{A, B}
+use Rattle.outside_kit.specs.Side.{peer}
 use Rattle.key_material.specs.KeyDigest.{token_of}
 use Rattle.link_script.specs.Places.{same_side}
 use Rattle.link_model.specs.declared.flight.Due.{Due}
 use Rattle.link_model.specs.declared.flight.Flight.{Flight}
 use Rattle.link_model.specs.Laws.{shown_flight}
-use Rattle.link_model.specs.Steps.{peer, is_due, arriving}
+use Rattle.link_model.specs.Steps.{is_due, arriving}
 use Rattle.mptcp_options.specs.declared.join.JoinForm.{JoinForm}
 use Rattle.mptcp_options.specs.declared.join.JoinForm.TheVariants.{Syn, Answer, Third}
 use Rattle.path_segments.specs.declared.expected.Expected.{Expected}
@@ -21,16 +22,15 @@ use Rattle.path_segments.specs.Laws.{IsFresh, meant, meant_option}
 use Rattle.path_segments.specs.Options.{PlainOption}
 use Rattle.path_segments.specs.Spelled.{PlainSegment}
 use Rattle.path_segments.specs.Spelling.{subflow_number}
+use Rattle.path_segments.specs.Heard.{HeardSegment}
 use Rattle.stream_lanes.specs.Words.{Every}
 use Rattle.stream_lanes.proofs.Lists.{in_map}
 use Rattle.actor_desk.specs.Books.{books_in}
 use Rattle.path_core.specs.declared.event.Event.TheVariants.{Arrives}
 use Rattle.path_core.specs.Arriving.{expected_by}
-use Rattle.path_core.specs.Codec.{HeardSegment}
 use Rattle.path_core.specs.Events.{heard_in, next_event}
 use Rattle.path_core.specs.Joins.{is_joined}
 use Rattle.path_core.specs.Octets.{octets}
-use Rattle.path_core.specs.OptionsOut.{spelled_by}
 use Rattle.path_core.specs.Shown.{octets_of, shown_path, IsFarReset, IsFreshCopy, NextIsFresh}
 use Rattle.path_core.specs.State.{PathState, end_at}
 use Rattle.path_core.specs.Values.{Carried, as_arrived, values}
@@ -142,15 +142,15 @@ module _ (token : ℕ) (p : PathState Carried) (fresh : NextIsFresh p) (shows : 
       all : HeardShowsToken token (meant (as_arrived carried))
       all = shows due (meant (as_arrived carried)) next at_b meant_is
 
-      by_near : IsFresh p.profile.spelling (spelled_by side) expected carried.segment → HeardShowsToken token heard
+      by_near : IsFresh p.profile.spelling side expected carried.segment → HeardShowsToken token heard
       by_near near =
           subst (HeardShowsToken token)
           (same_Some (meant (as_arrived carried)) heard (sym (near_read p.profile.spelling side expected carried copy.from copy.sayable copy.expected near) ∙ reads)) all
 
-      by_far : IsFarReset p.profile.spelling (spelled_by side) expected carried.segment → HeardShowsToken token heard
+      by_far : IsFarReset p.profile.spelling side expected carried.segment → HeardShowsToken token heard
       by_far far =
           subst (HeardShowsToken token)
-          (same_Some (unplaced (subflow_number p.profile.spelling (spelled_by side) carried.segment.position) (meant (as_arrived carried))) heard
+          (same_Some (unplaced (subflow_number p.profile.spelling side carried.segment.position) (meant (as_arrived carried))) heard
           (sym (far_read p.profile.spelling side expected carried copy.from copy.sayable copy.expected far) ∙ reads)) all
 
   heard_shows : (o : Option (Flight Carried)) → arriving due p.link ≡ o → heard_in octets due.to (option_map (shown_flight (octets_of p.profile.spelling)) o) (shown_path p) ≡ Some heard

@@ -1,11 +1,12 @@
 -- Which token a copy shows that comes to B: that of B's key (RFC 8684, section 3.2).
 use Rattle.std.specs.Prelude.{ℕ, ◌≡◌, Some, List, slice_get}
+use Rattle.path_segments.specs.Heard.{HeardSegment}
 use Rattle.outside_kit.specs.declared.side.Side.TheVariants.{B}
 use Rattle.key_material.specs.KeyDigest.{token_of}
 use Rattle.link_model.specs.declared.flight.Due.{Due}
 use Rattle.link_model.specs.Steps.{arriving}
 use Rattle.path_core.specs.declared.event.Event.TheVariants.{Arrives}
-use Rattle.path_core.specs.Codec.{Codec, HeardSegment}
+use Rattle.path_core.specs.Codec.{Codec}
 use Rattle.path_core.specs.Events.{heard_in, next_event}
 use Rattle.path_core.specs.Looking.{Arrived, next_arrival}
 use Rattle.path_core.specs.Octets.{octets}
@@ -34,6 +35,7 @@ module _ {C : Type 0} (k : Codec C) (token : ℕ) where
   ShowsTokenNext (App a) = Unit {0}
   ShowsTokenNext (Path p) = NextShowsToken p
 
+  -- on every path
   pub record JoinsShowToken (w : WorldState C) : Type 0 where
     pub each : (actor : ℕ) (c : ActorCrew C) → slice_get w.crew actor ≡ Some c → ShowsTokenNext c.member
 

@@ -9,6 +9,7 @@ use stamped_book::{Book, Stamped, stamps_rise};
 fn is_journal<O: Book>(book: &Stamped<O>)
     ensures { IsJournal O.reply_to O.after book.now.opening 0 book.now.journal }
 {
+    // For the proof: its journal is one of this book.
     let _journal = book.journal();
 }
 

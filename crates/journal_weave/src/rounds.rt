@@ -77,6 +77,7 @@ pub fn woven_round<G: Gate + Sync, R: Threads + Wait + Sync>(
 {
     let stamp = known_stamp(crew);
     let (told, books) = round_at_tables(rt, alloc, crew, books, gate);
+    // For the proof: the journals are those of their books, and stay paired.
     are_journals(&books);
     gaining_alike_stays_paired();
     match told {

@@ -38,6 +38,7 @@ pub fn weave<A>(
     ensures journals { AreAllAsked (in_order after (lists_in crew.now))
         (map (above after) (journals_of books.now)) }
 {
+    // For the proof: the stamps of each journal rise.
     journals_rise(books);
     let order = order_above(alloc, crew, after)?;
     actors_of(alloc, &order)

@@ -2,6 +2,7 @@
 use Rattle.std.proofs.Common.{◌≡◌, refl, sym, ap, subst, ℕ, ◌≤◌, inl, inr, List, [], ◌++◌, Option, Some, None, Result, Ok, IfSome, IsSome, length}
 use Rattle.std.specs.Prelude.{option_and_then, option_map, map, IsOk, IsSomeAnd}
 use Rattle.std.specs.Result.{result_ok}
+use Rattle.world_core.specs.Logged.{turn_of, all_turns}
 use Rattle.outside_kit.specs.declared.port.Port.{Port}
 use Rattle.outside_kit.specs.declared.port.Port.TheVariants as port
 use Rattle.outside_kit.specs.Calls.{Call}
@@ -26,20 +27,16 @@ use Rattle.mptcp_run.specs.Logged.{HasRounds}
 use Rattle.mptcp_run.specs.Made.{Bench}
 use Rattle.run_outside.specs.Plan.{AddsAll, AddsCut, plan_of, loads_of}
 use Rattle.mptcp_run.specs.Plan.{puts_so_far, all_puts}
-use Rattle.run_outside.specs.Ports.{IsUntouched, IsPortsFault, HoldsMore, HoldsWithin}
+use Rattle.run_outside.specs.Ports.{IsUntouched, IsPortsFault, HoldsMore, HoldsWithin, Ports}
 use Rattle.mptcp_run.specs.Promised.{IsPlainTask, IsShortTask, EndsWithRound, IsAlwaysKept, HoldsPrefixOf, HoldsPrefixIfBound, NoneIsAltered, ReadersHaveAsMany, ReadersHaveFiles, ReadersHavePrefixes, ReadersHavePrefixesIfBound}
 use Rattle.mptcp_run.specs.Putting.{IsWhole, IsStopped}
 use Rattle.mptcp_run.specs.Replaying.{IsReplayFault}
 use Rattle.link_script.specs.Reading.{reading}
 use Rattle.run_outside.specs.Reading.{script_in, script_of, log_reading}
-use Rattle.mptcp_run.specs.Task.{Task, Course, rounds, threads, told, task_from, turn_of, turns_in, course_of, task_of}
-use Rattle.mptcp_run.specs.Rounds.{all_turns}
+use Rattle.mptcp_run.specs.Task.{Task, Course, rounds, threads, told, task_from, turns_in, course_of, task_of}
 use Rattle.run_outside.proofs.Calls.{Told, all_then, cut_then, short_then, short_cut}
 use Rattle.mptcp_run.proofs.Logged.{whole_runs_are_told}
 use Rattle.mptcp_run.proofs.Promised.{plain_of, short_tasks_are_kept, checked_runs_are_right, delivered_runs_give_as_many, whole_runs_give_prefixes, whole_runs_have_cause, delivered_runs_give_files, stopped_runs_give_prefixes, cut_runs_give_prefixes, lines_cut_give_prefixes}
-
-abbrev Ports : Type 0
-Ports = Port → Option (List ℕ)
 
 -- ---- the task
 

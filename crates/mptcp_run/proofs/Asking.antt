@@ -14,12 +14,10 @@ use Rattle.mptcp_run.specs.Promised.{NoneIsAltered, ReadersHaveAsMany, ReadersHa
 use Rattle.mptcp_run.specs.Task.{first_world}
 use Rattle.mptcp_run.proofs.Answering.{made_cut_answer}
 use Rattle.run_outside.proofs.Calls.{Told, adds_none, cut_none}
+use Rattle.run_outside.specs.Ports.{Ports}
 use Rattle.mptcp_run.proofs.MadeTasks.{made_is_plain, of_words}
 use Rattle.mptcp_run.proofs.Courses.{no_round}
 use Rattle.mptcp_run.proofs.Performing.{nothing_made}
-
-abbrev Ports : Type 0
-Ports = Port → Option (List ℕ)
 
 pub asked_is : (words : List (List ℕ)) (line : Line) → line_of words ≡ Some line → asked_in words ≡ if_run line
 unfolding asked_in

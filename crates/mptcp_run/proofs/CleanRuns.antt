@@ -33,9 +33,7 @@ use Rattle.mptcp_run.proofs.LogWoven.{course_lawful}
 use Rattle.mptcp_run.proofs.PlainTasks.{task_is}
 use Rattle.mptcp_run.proofs.Promised.{last_end_of_course}
 use Rattle.run_outside.proofs.Calls.{Told}
-
-abbrev Ports : Type 0
-Ports = Port → Option (List ℕ)
+use Rattle.run_outside.specs.Ports.{Ports}
 
 -- ---- how many rounds were made
 

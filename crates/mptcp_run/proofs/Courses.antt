@@ -1,6 +1,5 @@
 -- The turns of a course, from what the rounds or turns of a loop come to.
 use Rattle.std.proofs.Common.{◌≡◌, refl, sym, ◌∙◌, ap, subst, ℕ, zero, suc, Bool, true, false, inl, List, [], ◌∷◌, ◌++◌, length, Option, arith}
-use Rattle.outside_kit.specs.declared.port.Port.{Port}
 use Rattle.path_core.specs.Octets.{octets}
 use Rattle.world_laws.specs.Outcomes.{outcome_of}
 use Rattle.world_laws.specs.Serial.{goes_on, OneOf, round_and, steps_and, after_steps, after_turns, AreRounds, IsSerial}
@@ -15,11 +14,9 @@ use Rattle.mptcp_run.specs.Task.{Connection}
 use Rattle.mptcp_run.specs.Task as course
 use Rattle.mptcp_run.specs.WovenRounds.{AreWovenRounds}
 use Rattle.run_outside.proofs.Calls.{Told}
+use Rattle.run_outside.specs.Ports.{Ports}
 use Rattle.mptcp_run.proofs.Folding.{RoundsPut, RoundsCut, TurnsPut, TurnsCut, TurnsFault}
 use Rattle.mptcp_run.proofs.RoundsMade.{IsKind}
-
-abbrev Ports : Type 0
-Ports = Port → Option (List ℕ)
 
 pub one_true : (b : Bool) (this that : Type 0) → b ≡ true → this → OneOf b this that
 one_true b this that is x = subst (λ c. OneOf c this that) (sym is) x

@@ -23,10 +23,11 @@ use Rattle.world_laws.proofs.Weaving.Paired.{stays_fine}
 use Rattle.world_laws.proofs.Weaving.TheOrder.{in_order_of}
 use Rattle.world_laws.proofs.Weaving.WholeRounds.{run_append}
 use Rattle.world_core.specs.RoundEnds.{round_ends, round_steps, steps_by_round}
+use Rattle.world_core.specs.Logged.{turn_of}
 use Rattle.run_outside.specs.LogText.{log_text, RoundsFit}
 use Rattle.link_script.specs.declared.script.Script.{Script}
 use Rattle.run_outside.specs.Reading.{actors_of, width_of}
-use Rattle.mptcp_run.specs.Task.{Connection, turn_of, turns_in}
+use Rattle.mptcp_run.specs.Task.{Connection, turns_in}
 use Rattle.mptcp_run.proofs.AllTurns.{step_length}
 use Rattle.mptcp_run.specs.WovenRounds.{turns_told}
 use Rattle.mptcp_run.proofs.LogWoven.{turns_read}

@@ -12,8 +12,9 @@ use Rattle.world_laws.proofs.Weaving.Paired.{step_fine}
 use Rattle.world_laws.proofs.Rounds.SerialIsLawful.{rounds_lawful}
 use Rattle.world_laws.proofs.Weaving.WholeRounds.{run_append, lawful_append, steps_weave}
 use Rattle.world_core.specs.RoundEnds.{round_ends, last_end, round_steps, steps_by_round}
+use Rattle.world_core.specs.Logged.{turn_of}
 use Rattle.mptcp_run.specs.Rounds.{Begins}
-use Rattle.mptcp_run.specs.Task.{Connection, Course, rounds, threads, told, turn_of, AreTurnsOf}
+use Rattle.mptcp_run.specs.Task.{Connection, Course, rounds, threads, told, AreTurnsOf}
 use Rattle.mptcp_run.specs.WovenRounds.{turns_told}
 use Rattle.mptcp_run.proofs.UnderWay.{lists_at_end, next_begins}
 

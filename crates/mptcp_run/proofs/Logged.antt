@@ -20,8 +20,9 @@ use Rattle.run_outside.specs.declared.status.Status.{Status}
 use Rattle.mptcp_run.specs.Logged.{HasRounds, IsSettled, replayed, TellsTheRun, LogTellsTheRun, WholeRunsAreTold, WholeRunsAgree}
 use Rattle.mptcp_run.specs.Promised.{EndsWithRound}
 use Rattle.world_core.specs.RoundEnds.{round_ends, last_end, steps_by_round}
+use Rattle.world_core.specs.Logged.{told_outcome}
 use Rattle.run_outside.specs.LogText.{log_text, RoundsFit}
-use Rattle.mptcp_run.specs.Putting.{log_opening, opening_in, status_of, told_outcome, last_line_of, last_line, steps_so_far, read_so_far, log_so_far, world_after, IsWhole}
+use Rattle.mptcp_run.specs.Putting.{log_opening, opening_in, status_of, last_line_of, last_line, steps_so_far, read_so_far, log_so_far, world_after, IsWhole}
 use Rattle.run_outside.specs.Reading.{actors_of, width_of}
 use Rattle.mptcp_run.specs.Task.{Connection, Task, Course, rounds, threads, told, first_world, turns_in, AreTurnsOf}
 use Rattle.mptcp_run.specs.WovenRounds.{turns_told, AreAtMost}

@@ -10,9 +10,10 @@ use Rattle.outside_kit.specs.declared.port.Port.TheVariants.{ReadByA, ReadByB}
 use Rattle.outside_kit.specs.declared.outside.PutFault.{PutFault}
 use Rattle.outside_kit.specs.declared.outside.PutFault.TheVariants as fault
 use Rattle.outside_kit.specs.Outside.{HasRisen, HoldsAfter}
+use Rattle.outside_kit.specs.Lines.{text_lines}
 use Rattle.pipe_model.specs.Prefix.{IsPrefix}
 use Rattle.message_pipe.specs.Frames.{frame_of, frames}
-use Rattle.message_pipe.specs.Lines.{lines, message_lines, framed}
+use Rattle.message_pipe.specs.Lines.{message_lines, framed}
 use Rattle.message_pipe.specs.LinesShown.{ShowsFirstLines}
 use Rattle.message_pipe.specs.Showing.{Counted, ShowsPrefix, PortStands}
 use Rattle.message_pipe.specs.Lined.{lined_content, lined_holds, PortsStand}
@@ -25,15 +26,12 @@ use Rattle.mptcp_run.specs.Answers.{IsAnswer}
 use Rattle.mptcp_run.specs.Asked.{asked_in, is_run}
 use Rattle.mptcp_run.specs.Messages.{ReadersShowLines, ReadersShowFirstLines, ReadersShowPrefixes, ReadersShowNothing, ReadersShow, refused_or, with_refusals, IsRunOverFrames, IsMessagesAnswer, is_apart, takes_messages, if_messages, messages_in}
 use Rattle.run_outside.specs.Causes.{IsWordsFault}
-use Rattle.run_outside.specs.Ports.{IsUntouched}
+use Rattle.run_outside.specs.Ports.{IsUntouched, Ports}
 use Rattle.mptcp_run.specs.Promised.{HoldsPrefixOf, HoldsPrefixIfBound, NoneIsAltered, ReadersHaveFiles, ReadersHavePrefixes, ReadersHavePrefixesIfBound}
 use Rattle.run_outside.specs.Inputs.{AreWithinLimits}
 use Rattle.run_outside.specs.Reading.{script_in}
 use Rattle.world_laws.specs.PlainScripts.{AltersNone}
 use Rattle.mptcp_run.proofs.Asking.{asked_is}
-
-abbrev Ports : Type 0
-Ports = Port → Option (List ℕ)
 
 -- ---- a content is no longer than the frames of its lines
 
@@ -55,7 +53,7 @@ longer_by false octet n parts few = onto_is octet n parts few
 frames_longer : (content : List ℕ) → length content ≤ length (framed content)
 frames_longer [] = omega arith
 frames_longer (octet ∷ octets) =
-    let most = longer_by (octet == 10) octet (length octets) (lines octets) (frames_longer octets) in omega arith
+    let most = longer_by (octet == 10) octet (length octets) (text_lines octets) (frames_longer octets) in omega arith
 
 -- ---- one port
 
@@ -83,13 +81,13 @@ module _ (port : Counted) (first held : Option (List ℕ)) (faults_first faults 
       })
       stand.part
 
-  pub shows_prefix_of : (file : List ℕ) → length file < 2 ^ 32 → IsPrefix port.octets (framed file) → HoldsPrefixOf first held (message_lines (lines file))
+  pub shows_prefix_of : (file : List ℕ) → length file < 2 ^ 32 → IsPrefix port.octets (framed file) → HoldsPrefixOf first held (message_lines (text_lines file))
   shows_prefix_of file small prefix = refused_ports_show_prefixes port file first held small prefix shows_prefix
 
   pub shows_first_lines : port.refused ≡ None → (file : List ℕ) → length file < 2 ^ 32 → IsPrefix port.octets (framed file) → ShowsFirstLines file first held
   shows_first_lines none file small prefix = ports_show_first_lines port file first held small prefix (stand.shows none)
 
-  pub shows_all_lines : port.refused ≡ None → (file : List ℕ) → length file < 2 ^ 32 → port.octets ≡ framed file → HoldsAfter first held (λ _. message_lines (lines file))
+  pub shows_all_lines : port.refused ≡ None → (file : List ℕ) → length file < 2 ^ 32 → port.octets ≡ framed file → HoldsAfter first held (λ _. message_lines (text_lines file))
   shows_all_lines none file small is = whole_ports_show_all_lines port file first held small is (stand.shows none)
 
   -- where nothing was put nothing is shown
@@ -233,8 +231,8 @@ some_always (Some text) P p = p text
 
 nothing_is_cut : (file_a file_b : Option (List ℕ)) (held holds : Ports) → ReadersShowNothing file_a file_b held holds → ReadersShowPrefixes file_a file_b held holds
 nothing_is_cut file_a file_b held holds none = record {
-  read_by_b = some_always file_a _ (λ text. nothing_is_prefix (held ReadByB) (holds ReadByB) (message_lines (lines text)) none.read_by_b);
-  read_by_a = some_always file_b _ (λ text. nothing_is_prefix (held ReadByA) (holds ReadByA) (message_lines (lines text)) none.read_by_a);
+  read_by_b = some_always file_a _ (λ text. nothing_is_prefix (held ReadByB) (holds ReadByB) (message_lines (text_lines text)) none.read_by_b);
+  read_by_a = some_always file_b _ (λ text. nothing_is_prefix (held ReadByA) (holds ReadByA) (message_lines (text_lines text)) none.read_by_a);
 }
 
 -- ports that were empty, and are as they were

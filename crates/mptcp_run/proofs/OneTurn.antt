@@ -6,13 +6,14 @@ use Rattle.path_core.specs.Octets.{octets}
 use Rattle.run_log.specs.declared.turn.Turn as log_turn
 use Rattle.run_log.specs.declared.turn.Turn.TheVariants as logged
 use Rattle.world_core.specs.Kept.{Kept, standing}
+use Rattle.world_core.specs.Logged.{turn_of}
 use Rattle.world_laws.specs.Worlds.{Turn, world_step}
 use Rattle.mptcp_run.specs.declared.rounds.Run.{Run}
 use Rattle.run_outside.specs.declared.status.Status.{Status}
 use Rattle.run_outside.specs.declared.status.Status.TheVariants.{Delivered, Rounds, NoPath, Aborted, Usage, Script, Load, Put, TooLong, Memory, Log}
 use Rattle.mptcp_run.specs.Making.{TurnMade}
 use Rattle.mptcp_run.specs.Replaying.{UnderWay, StepFault, TurnStops, IsReplayFault, round_turn}
-use Rattle.mptcp_run.specs.Task.{Connection, turn_of}
+use Rattle.mptcp_run.specs.Task.{Connection}
 use Rattle.run_outside.proofs.Calls.{Told, adds_none}
 use Rattle.run_outside.proofs.Calling.{only_none}
 use Rattle.run_outside.proofs.PortsLemmas.{OnOk-holds, IfErr-map}

@@ -3,7 +3,6 @@ use Rattle.std.proofs.Common.{◌≡◌, refl, sym, ◌∙◌, ap, subst, ℕ, i
 use Rattle.std.proofs.lemmas.List.{append_assoc}
 use Rattle.outside_kit.specs.Calls.{Call}
 use Rattle.outside_kit.specs.Calls as call
-use Rattle.outside_kit.specs.declared.port.Port.{Port}
 use Rattle.outside_kit.specs.declared.port.Port.TheVariants as port
 use Rattle.outside_kit.specs.declared.side.Side.TheVariants.{A, B}
 use Rattle.outside_kit.specs.Outside.{HoldsAfter, HoldsPrefix}
@@ -18,15 +17,12 @@ use Rattle.mptcp_run.specs.Courses.{CourseMade, CourseCut}
 use Rattle.mptcp_run.specs.Ends.{HasEnded, HoldsCut, HoldsToLine, CameToEnd, IsCut}
 use Rattle.run_outside.specs.Plan.{AddsAll, AddsCut, AddsShort, binds_of}
 use Rattle.mptcp_run.specs.Plan.{puts_so_far}
-use Rattle.run_outside.specs.Ports.{HoldsMore, HoldsWithin, IsBetween}
+use Rattle.run_outside.specs.Ports.{HoldsMore, HoldsWithin, IsBetween, Ports}
 use Rattle.mptcp_run.specs.Putting.{opening_in, status_of, last_line, ends_of, read_so_far, log_so_far, HoldsRounds, HoldsRun, AreFirstOf}
 use Rattle.mptcp_run.specs.Rounds.{HoldsEnds, HoldsPart}
 use Rattle.mptcp_run.specs.Task.{Connection, Task, first_world}
 use Rattle.run_outside.proofs.Calls.{Told, adds_none, all_then, cut_then, cut_longer, cut_none, short_then}
 use Rattle.run_outside.proofs.PortsLemmas.{IsPrefix-refl, IsPrefix-append, nothing_more, all_held, part_held, all_behind, taken_part}
-
-abbrev Ports : Type 0
-Ports = Port → Option (List ℕ)
 
 -- the readers' ports were bound
 pub record AreBound (a b : Ports) : Type 0 where

@@ -2,6 +2,7 @@
 use Rattle.std.proofs.Common.{◌≡◌, refl, ◌∙◌, ap, subst, ℕ, ◌≤◌, List, [], ◌∷◌, ◌++◌, length, map, Option, Some, None, Result, Ok, Err, IfSome, arith}
 use Rattle.std.specs.Prelude.{option_and_then, option_map}
 use Rattle.std.specs.Result.{result_ok}
+use Rattle.world_core.specs.Logged.{turn_of}
 use Rattle.link_script.specs.declared.fault.ScriptFault.{ScriptFault}
 use Rattle.link_script.specs.declared.script.Script.{Script}
 use Rattle.link_script.proofs.ReadRanges.{read_has_ranges}
@@ -18,7 +19,7 @@ use Rattle.run_outside.specs.declared.status.Named.TheVariants as input
 use Rattle.mptcp_run.specs.Promised.{IsPlainTask, IsShortInput, EndsWithRound, IsPromisedTask, LoadedTasksArePromised, LoadedTasksArePlain}
 use Rattle.link_script.specs.Reading.{reading}
 use Rattle.run_outside.specs.Reading.{script_in, actors_of, width_of, log_reading, EndsInRound}
-use Rattle.mptcp_run.specs.Task.{Task, Course, told, turn_of, turns_in, course_of, task_of}
+use Rattle.mptcp_run.specs.Task.{Task, Course, told, turns_in, course_of, task_of}
 use Rattle.run_outside.proofs.LogEnds.{log_ends}
 use Rattle.mptcp_run.proofs.Promised.{plain_of}
 

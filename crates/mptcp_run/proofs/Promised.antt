@@ -11,7 +11,6 @@ use Rattle.world_laws.specs.Openings.{start_of}
 use Rattle.world_laws.specs.Outcomes.{outcome_by, outcome_of, output_of, tells_abort, tells_end, was_told, notes_of}
 use Rattle.world_laws.specs.Serial.{steps_and, round_and, spelled}
 use Rattle.world_laws.specs.Worlds.{Turn, world_step, end_round, world_run}
-use Rattle.world_laws.specs.Altered.{still_maps}
 use Rattle.world_laws.specs.PlainScripts.{AltersNone}
 use Rattle.world_laws.proofs.Promises.OfScripts.{short_of, scripts_keep_anyway, checked_scripts_keep_octets, plain_scripts_keep_all_promises, scripts_are_shown_of_values}
 use Rattle.world_laws.proofs.Rounds.DoneByTheEnd.{rounds_end_on_time, rounds_are_done}
@@ -273,12 +272,12 @@ checked_runs_are_right task status old new short ends uses whole =
     let last = last_end_of_course task.course whole.turns (first_world task) ends whole.are in
     let kept = short_tasks_are_kept task whole.turns short in
     record {
-      read_by_b = λ maps.
+      read_by_b = λ none.
           right_held status _ _ (read_so_far B task whole.turns) task.file_a whole.ports.read_by_b
-          (subst (λ w. IsPrefix (output_of B w) task.file_a) (sym last) (prefix_of_prefix _ _ task.file_a ((kept.checked uses).prefix.0 maps) kept.files.a.prefix))
+          (subst (λ w. IsPrefix (output_of B w) task.file_a) (sym last) (prefix_of_prefix _ _ task.file_a ((kept.checked uses).prefix.0 none) kept.files.a.prefix))
           (λ is. ap (λ w. length (output_of B w)) last ∙ b_read_many task short whole.turns (sym is ∙ whole.status_is));
-      read_by_a = λ maps.
+      read_by_a = λ none.
           right_held status _ _ (read_so_far A task whole.turns) task.file_b whole.ports.read_by_a
-          (subst (λ w. IsPrefix (output_of A w) task.file_b) (sym last) (prefix_of_prefix _ _ task.file_b ((kept.checked uses).prefix.1 maps) kept.files.b.prefix))
+          (subst (λ w. IsPrefix (output_of A w) task.file_b) (sym last) (prefix_of_prefix _ _ task.file_b ((kept.checked uses).prefix.1 none) kept.files.b.prefix))
           (λ is. ap (λ w. length (output_of A w)) last ∙ a_read_many task short whole.turns (sym is ∙ whole.status_is));
     }

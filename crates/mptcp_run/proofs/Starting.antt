@@ -15,7 +15,7 @@ use Rattle.run_outside.specs.declared.status.Status.TheVariants.{Delivered, Roun
 use Rattle.mptcp_run.specs.Courses.{CourseMade, CourseCut, LogStops}
 use Rattle.mptcp_run.specs.Ends.{CameToEnd, IsCut, ReplayEnds}
 use Rattle.run_outside.specs.Plan.{AddsAll, AddsShort, binds_of}
-use Rattle.run_outside.specs.Ports.{NeverFall, IsPortsFault}
+use Rattle.run_outside.specs.Ports.{NeverFall, IsPortsFault, Ports}
 use Rattle.world_core.specs.RoundEnds.{round_ends}
 use Rattle.mptcp_run.specs.Putting.{opening_of, opening_in, status_of, ends_of, world_after, last_line, last_line_of}
 use Rattle.mptcp_run.specs.Replaying.{IsReplayFault}
@@ -26,9 +26,6 @@ use Rattle.run_outside.proofs.Calls.{Told, all_then}
 use Rattle.mptcp_run.proofs.Performing.{AreBound, LogGrew, LogGrewPart, rounds_held, line_put, line_done, line_short, rounds_short}
 use Rattle.run_outside.proofs.PortsLemmas.{risen_later}
 use Rattle.mptcp_run.proofs.UnderWay.{opened_begins}
-
-abbrev Ports : Type 0
-Ports = Port → Option (List ℕ)
 
 module _ (input : Input) (kind : Report) (run : Run) (h : IsOpened input kind run) where
   -- it begins its first round

@@ -1,20 +1,18 @@
 -- A run that took no turn.
-use Rattle.std.proofs.Common.{ℕ, List, Option}
+use Rattle.std.proofs.Common.{ℕ}
+use Rattle.world_core.specs.Logged.{all_turns}
 use Rattle.outside_kit.specs.declared.port.Port.{Port}
 use Rattle.run_words.specs.Lines.{Line}
 use Rattle.run_outside.specs.declared.input.Input.{Input}
 use Rattle.run_outside.specs.declared.status.Status.TheVariants.{Memory}
 use Rattle.run_outside.proofs.Calls.{Told}
+use Rattle.run_outside.specs.Ports.{Ports}
 use Rattle.mptcp_run.specs.declared.turns.Turns.{Turns}
 use Rattle.mptcp_run.specs.declared.turns.Turns.TheVariants.{Whole, Logged}
-use Rattle.mptcp_run.specs.Rounds.{all_turns}
 use Rattle.mptcp_run.specs.Taken.{task_taken, EndsEarly, TurnsFault}
 use Rattle.mptcp_run.specs.Task.{first_world}
 use Rattle.mptcp_run.proofs.Courses.{no_round, no_turn}
 use Rattle.mptcp_run.proofs.Performing.{nothing_made}
-
-abbrev Ports : Type 0
-Ports = Port → Option (List ℕ)
 
 -- for want of memory
 pub nothing_taken : (turns : Turns) (input : Input) (line : Line) (held : Ports) (told : Told) → EndsEarly turns line (task_taken input turns) held held told told Memory

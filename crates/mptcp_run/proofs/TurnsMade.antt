@@ -11,7 +11,7 @@ use Rattle.run_outside.specs.declared.status.Status.{Status}
 use Rattle.run_outside.specs.declared.status.Status.TheVariants.{Delivered, Rounds, NoPath, Aborted, Usage, Script, Load, Put, TooLong, Memory, Log}
 use Rattle.mptcp_run.specs.Adding.{turn_puts}
 use Rattle.run_outside.specs.Plan.{AddsAll}
-use Rattle.run_outside.specs.Ports.{HoldsMore, IsBetween}
+use Rattle.run_outside.specs.Ports.{HoldsMore, IsBetween, Ports}
 use Rattle.world_core.specs.RoundEnds.{round_ends, last_end, steps_by_round}
 use Rattle.run_outside.specs.LogText.{log_text}
 use Rattle.mptcp_run.specs.Replaying.{last_after, rounds_after, TurnHolds, TurnCut, TurnStops}
@@ -22,9 +22,6 @@ use Rattle.run_outside.proofs.PortsLemmas.{IsPrefix-refl}
 use Rattle.mptcp_run.proofs.PutsMade.{puts_more, puts_cut_more, puts_cut}
 use Rattle.mptcp_run.proofs.RoundSteps.{nothing_part, nothing_ends, ends_more, part_behind}
 use Rattle.mptcp_run.proofs.Folding.{TurnsPut, TurnRefused, TurnsCut, TurnsFault}
-
-abbrev Ports : Type 0
-Ports = Port → Option (List ℕ)
 
 -- from ports that hold the same
 more_from : (a b c : Option (List ℕ)) (prefix : List ℕ) (P : List ℕ → Type 0) → b ≡ a → HoldsMore b c prefix P → HoldsMore a c prefix P

@@ -17,15 +17,12 @@ use Rattle.mptcp_run.specs.Logged.{LogTellsTheRun}
 use Rattle.mptcp_run.specs.Made.{Bench}
 use Rattle.run_outside.specs.Plan.{AddsAll, AddsCut, AddsLoadsTo, loads_of, plan_of}
 use Rattle.mptcp_run.specs.Plan.{puts_so_far, all_puts}
-use Rattle.run_outside.specs.Ports.{IsUntouched}
+use Rattle.run_outside.specs.Ports.{IsUntouched, Ports}
 use Rattle.mptcp_run.specs.Promised.{CheckedReadersAreRight, IsAbortCaused, IsAlwaysKept, NoneIsAltered, ReadersHaveAsMany, ReadersHaveFiles, ReadersHavePrefixes, ReadersHavePrefixesIfBound}
 use Rattle.mptcp_run.specs.Putting.{IsWhole, IsStopped, world_after}
 use Rattle.link_script.specs.Reading.{reading}
 use Rattle.run_outside.specs.Reading.{script_of, log_reading}
 use Rattle.mptcp_run.specs.Task.{Task, task_of}
-
-abbrev Ports : Type 0
-Ports = Port → Option (List ℕ)
 
 -- ---- what was read
 
@@ -39,7 +36,7 @@ pub record WasRead (content : List ℕ → Option (List ℕ)) (line : Line) : Ty
 
 -- A run of a task came to its own end: the ports hold the run of all its turns, these are the puts
 -- of them, the log tells them, and an abort by a reader's peer has its cause. Where mappings are
--- checked, what a reader got whose side maps still is right.
+-- checked, what a reader got whose side hasn't fallen back is right.
 pub record HasRun (task : Task) (status : Status) (puts : List Call) (held holds : Ports) : Type 0 where
   pub whole : IsWhole task status held holds
   pub puts_are : puts ≡ all_puts task whole.turns
@@ -125,6 +122,7 @@ module _ (content : List ℕ → Option (List ℕ)) (line : Line) (loads_before 
     pub files : NoneIsAltered content line
         → ReadersHaveFiles (content line.names.file_a) (content line.names.file_b) held holds
 
+  -- the row of each status
   abbrev pub IsAnswer : Status → Type 0
   IsAnswer Delivered = DeliveredRow
   IsAnswer Rounds = EndRow Rounds
@@ -142,17 +140,20 @@ module _ (content : List ℕ → Option (List ℕ)) (line : Line) (loads_before 
 
 module _ (made : Bench) (loads_before loads : ℕ) (faults_before faults : Port → ℕ)
     (held holds : Ports) (told tells : Option (List Made)) where
+  -- the run of the made task came to its own end
   pub record MadeEndRow (status : Status) : Type 0 where
     pub whole : IsWhole made.task status held holds
     pub prefixes : ReadersHavePrefixes (Some made.task.file_a) (Some made.task.file_b)
         held holds
     pub calls : AddsAll (plan_of [] made.line (all_puts made.task whole.turns)) told tells
 
+  -- it was cut off
   pub record MadeCutRow (status : Status) : Type 0 where
     pub cut : IsCut [] made.line made.task held holds told tells status
     pub prefixes : ReadersHavePrefixesIfBound (Some made.task.file_a) (Some made.task.file_b)
         held holds
 
+  -- the row of each status; where nothing is loaded, some never come
   abbrev pub MadeRow : Status → Type 0
   MadeRow Delivered =
       MadeEndRow Delivered
@@ -168,6 +169,7 @@ module _ (made : Bench) (loads_before loads : ℕ) (faults_before faults : Port 
   MadeRow (TooLong named) = ⊥
   MadeRow Usage = ⊥
 
+  -- the row of the status; nothing was loaded, and the made task keeps its promises
   pub record IsMadeAnswer (status : Status) : Type 0 where
     pub row : MadeRow status
     pub kept : IsAlwaysKept made.task
@@ -175,6 +177,7 @@ module _ (made : Bench) (loads_before loads : ℕ) (faults_before faults : Port 
 
 -- ---- words that ask for no run
 
+-- the words are refused, or memory is wanting; no call was made, and all is as it was
 pub record NothingWasRun (loads_before loads : ℕ) (faults_before faults : Port → ℕ)
     (held holds : Ports) (told tells : Option (List Made)) (status : Status) : Type 0 where
   pub answer : (status ≡ Usage) ⊎ (status ≡ Memory)

@@ -8,6 +8,7 @@ is_run (replay log) = true
 is_run (run rounds) = true
 is_run (bench rounds number) = false
 
+-- a line of one of these modes
 abbrev pub if_run : Line → Option Line
 if_run line = if is_run line.work then Some line else None
 

@@ -8,6 +8,7 @@ use Rattle.run_words.specs.Lines.{Line}
 use Rattle.run_outside.specs.declared.status.Status.{Status}
 use Rattle.run_outside.specs.declared.status.Status.TheVariants.{Delivered, Memory}
 use Rattle.run_outside.specs.Inputs.{IsValid}
+use Rattle.run_outside.specs.Ports.{Ports}
 use Rattle.mptcp_run.specs.Answers.{IsAnswer}
 use Rattle.mptcp_run.specs.Task.{Task, Course, rounds, threads, told, task_of}
 
@@ -28,9 +29,6 @@ DeliversIfClean content line loads_before loads faults_before faults status =
     IsValid content line → IsSomeAnd (task_of content line) HasEnoughRounds → (HasRisen loads_before loads → ⊥)
     → ((port : Port) → HasRisen (faults_before port) (faults port) → ⊥)
     → (status ≡ Delivered) ⊎ (status ≡ Memory)
-
-abbrev Ports : Type 0
-Ports = Port → Option (List ℕ)
 
 -- so it is of each answer
 abbrev pub CleanRunsDeliver : Type 0

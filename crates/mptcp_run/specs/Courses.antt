@@ -1,20 +1,17 @@
 -- The turns of a course, made and put from the opening on.
 use Rattle.std.specs.Prelude.{◌≡◌, ℕ, ◌+◌, ◌≤◌, List, ◌∷◌, ◌++◌, length, Option}
-use Rattle.outside_kit.specs.declared.port.Port.{Port}
 use Rattle.outside_kit.specs.Calls.{Made}
 use Rattle.path_core.specs.Octets.{octets}
 use Rattle.world_laws.specs.Worlds.{Turn, world_run, AreLawful, IsLawfulTurn}
 use Rattle.run_outside.specs.declared.status.Status.{Status}
 use Rattle.run_outside.specs.declared.status.Status.TheVariants.{Put, Memory, Log}
 use Rattle.run_outside.specs.Plan.{AddsAll, AddsCut}
+use Rattle.run_outside.specs.Ports.{Ports}
 use Rattle.mptcp_run.specs.Plan.{puts_by_round}
 use Rattle.world_core.specs.RoundEnds.{round_ends}
 use Rattle.mptcp_run.specs.Putting.{AreFirstOf}
 use Rattle.mptcp_run.specs.Rounds.{HoldsEnds, HoldsPart}
 use Rattle.mptcp_run.specs.Task.{Connection, Course, told, AreTurnsOf}
-
-abbrev Ports : Type 0
-Ports = Port → Option (List ℕ)
 
 -- All turns of a course were made, from this world to that one. With the end of each round the
 -- ports grew by what it puts, and these puts are the calls that were made.

@@ -1,7 +1,6 @@
 -- How a run ends behind its loads: at its own end, at a turn that can't be made, or cut off.
 use Rattle.std.specs.Prelude.{◌≡◌, ℕ, ◌≤◌, ◌⊎◌, List, [], ◌++◌, length, Option}
 use Rattle.outside_kit.specs.declared.side.Side.TheVariants.{A, B}
-use Rattle.outside_kit.specs.declared.port.Port.{Port}
 use Rattle.outside_kit.specs.declared.port.Port.TheVariants.{ReadByA, ReadByB, Log}
 use Rattle.outside_kit.specs.Calls.{Call, Made}
 use Rattle.outside_kit.specs.Outside.{HoldsAfter}
@@ -12,13 +11,10 @@ use Rattle.run_outside.specs.declared.status.Status.TheVariants.{Delivered, Roun
 use Rattle.run_outside.specs.declared.status.Status.TheVariants as status_is
 use Rattle.run_outside.specs.Plan.{AddsAll, AddsCut, AddsShort, plan_of}
 use Rattle.mptcp_run.specs.Plan.{puts_so_far, all_puts}
-use Rattle.run_outside.specs.Ports.{HoldsMore, HoldsWithin, IsBetween}
+use Rattle.run_outside.specs.Ports.{HoldsMore, HoldsWithin, IsBetween, Ports}
 use Rattle.world_core.specs.RoundEnds.{round_ends}
 use Rattle.mptcp_run.specs.Putting.{last_line, read_so_far, log_so_far, world_after, IsWhole, IsStopped, AreFirstOf}
 use Rattle.mptcp_run.specs.Task.{Task, first_world, AreTurnsOf}
-
-abbrev Ports : Type 0
-Ports = Port → Option (List ℕ)
 
 -- the run came to one of its own ends
 abbrev pub HasEnded : Status → Type 0
@@ -79,6 +75,7 @@ module _ (loads : List Call) (line : Line) (task : Task) (held holds : Ports)
     pub ports : HoldsToLine task turns held holds
     pub calls : AddsShort (plan_of loads line (all_puts task turns)) status told tells
 
+  -- one or the other
   abbrev pub IsCut : Status → Type 0
   IsCut status = IsCutInRounds status ⊎ IsCutAtLine status
 

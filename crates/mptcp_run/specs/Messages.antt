@@ -6,7 +6,8 @@ use Rattle.outside_kit.specs.declared.port.Port.TheVariants.{ReadByA, ReadByB}
 use Rattle.outside_kit.specs.declared.outside.PutFault.{PutFault}
 use Rattle.outside_kit.specs.declared.outside.PutFault.TheVariants as fault
 use Rattle.outside_kit.specs.Outside.{HasRisen, HoldsAfter}
-use Rattle.message_pipe.specs.Lines.{lines, message_lines}
+use Rattle.outside_kit.specs.Lines.{text_lines}
+use Rattle.message_pipe.specs.Lines.{message_lines}
 use Rattle.message_pipe.specs.LinesShown.{ShowsFirstLines}
 use Rattle.message_pipe.specs.Showing.{Counted}
 use Rattle.message_pipe.specs.Lined.{lined_content, lined_holds, PortsStand}
@@ -16,14 +17,12 @@ use Rattle.run_outside.specs.declared.status.Status.TheVariants.{Delivered, Roun
 use Rattle.mptcp_run.specs.Answers.{IsAnswer}
 use Rattle.mptcp_run.specs.Asked.{is_run}
 use Rattle.run_outside.specs.Inputs.{order_of}
-use Rattle.run_outside.specs.Ports.{IsUntouched}
+use Rattle.run_outside.specs.Ports.{IsUntouched, Ports}
 use Rattle.mptcp_run.specs.Promised.{HoldsPrefixOf}
-
-abbrev Ports : Type 0
-Ports = Port → Option (List ℕ)
 
 -- ---- what is asked
 
+-- the name is that of the log of `replay`
 abbrev pub is_order : Option (List ℕ) → List ℕ → Bool
 is_order None name = false
 is_order (Some log) name = bytes_eq name log
@@ -49,8 +48,8 @@ messages_in words = option_and_then if_messages (line_of words)
 module _ (file_a file_b : Option (List ℕ)) (old new : Ports) where
   -- exactly the lines of the other side's file
   pub record ReadersShowLines : Type 0 where
-    pub read_by_b : IfSome file_a (λ file. HoldsAfter (old ReadByB) (new ReadByB) (λ _. message_lines (lines file)))
-    pub read_by_a : IfSome file_b (λ file. HoldsAfter (old ReadByA) (new ReadByA) (λ _. message_lines (lines file)))
+    pub read_by_b : IfSome file_a (λ file. HoldsAfter (old ReadByB) (new ReadByB) (λ _. message_lines (text_lines file)))
+    pub read_by_a : IfSome file_b (λ file. HoldsAfter (old ReadByA) (new ReadByA) (λ _. message_lines (text_lines file)))
 
   -- its first lines, each whole
   pub record ReadersShowFirstLines : Type 0 where
@@ -59,8 +58,8 @@ module _ (file_a file_b : Option (List ℕ)) (old new : Ports) where
 
   -- a prefix of its lines, whose last one may be cut
   pub record ReadersShowPrefixes : Type 0 where
-    pub read_by_b : IfSome file_a (λ file. HoldsPrefixOf (old ReadByB) (new ReadByB) (message_lines (lines file)))
-    pub read_by_a : IfSome file_b (λ file. HoldsPrefixOf (old ReadByA) (new ReadByA) (message_lines (lines file)))
+    pub read_by_b : IfSome file_a (λ file. HoldsPrefixOf (old ReadByB) (new ReadByB) (message_lines (text_lines file)))
+    pub read_by_a : IfSome file_b (λ file. HoldsPrefixOf (old ReadByA) (new ReadByA) (message_lines (text_lines file)))
 
   -- nothing
   pub record ReadersShowNothing : Type 0 where

@@ -1,7 +1,7 @@
 -- What users of a run rely on: where its script alters no payload, what the readers have is what
 -- the other side writes; where it does, and mappings are checked, it is so as long as a reader's side
 -- hasn't fallen back; and their number is right in any case.
-use Rattle.std.specs.Prelude.{◌≡◌, ℕ, true, ◌⊎◌, List, [], ◌∷◌, ◌++◌, length, Option, Some, IfSome, IsSomeAnd}
+use Rattle.std.specs.Prelude.{◌≡◌, ℕ, true, false, ◌⊎◌, List, [], ◌∷◌, ◌++◌, length, Option, Some, IfSome, IsSomeAnd}
 use Rattle.outside_kit.specs.declared.side.Side.TheVariants.{A, B}
 use Rattle.run_words.specs.Lines.{Line}
 use Rattle.outside_kit.specs.declared.port.Port.{Port}
@@ -9,7 +9,7 @@ use Rattle.outside_kit.specs.declared.port.Port.TheVariants.{ReadByA, ReadByB}
 use Rattle.outside_kit.specs.Outside.{HoldsAfter}
 use Rattle.pipe_model.specs.Prefix.{IsPrefix}
 use Rattle.world_laws.specs.AbortCause.{PeerStopped}
-use Rattle.world_laws.specs.Altered.{still_maps}
+use Rattle.world_laws.specs.Altered.{fell_back}
 use Rattle.world_laws.specs.Laws.{WritesTheFiles}
 use Rattle.world_laws.specs.Openings.{start_of}
 use Rattle.world_laws.specs.PlainScripts.{AltersNone, IsPlainScript, IsShortScript, KeepsAllPromises, KeepsAnyway, KeepsChecked, IsShownOfValues}
@@ -47,6 +47,7 @@ EndsWithRound (rounds most) = Unit {0}
 EndsWithRound (threads most) = Unit {0}
 EndsWithRound (told order) = (prefix : List Turn) × (order ≡ prefix ++ Turn.Round ∷ [])
 
+-- its files are short, and its last turn is the end of a round
 pub record IsPromisedTask (task : Task) : Type 0 where
   pub short : IsShortTask task
   pub ends : EndsWithRound task.course
@@ -81,6 +82,7 @@ module _ (file_a file_b : Option (List ℕ)) (old new : Port → Option (List �
     pub read_by_b : IfSome file_a (λ file. HoldsPrefixOf (old ReadByB) (new ReadByB) file)
     pub read_by_a : IfSome file_b (λ file. HoldsPrefixOf (old ReadByA) (new ReadByA) file)
 
+  -- or what the port held, where it wasn't bound
   pub record ReadersHavePrefixesIfBound : Type 0 where
     pub read_by_b : IfSome file_a (λ file. HoldsPrefixIfBound (old ReadByB) (new ReadByB) file)
     pub read_by_a : IfSome file_b (λ file. HoldsPrefixIfBound (old ReadByA) (new ReadByA) file)
@@ -91,16 +93,16 @@ abbrev pub IsAbortCaused : Status → Connection → Type 0
 IsAbortCaused (Aborted reader) w = PeerStopped reader w
 IsAbortCaused _ w = Unit {0}
 
--- What a reader's port holds at a run's own end, where mappings are checked and the reader's side maps still: a prefix of the
--- other side's file, and at Delivered all of it.
+-- What a reader's port holds at a run's own end, where mappings are checked and the reader's side hasn't fallen back: a prefix of
+-- the other side's file, and at Delivered all of it.
 pub record HoldsWhatIsRight (status : Status) (old new : Option (List ℕ)) (file : List ℕ) : Type 0 where
   pub prefix : HoldsPrefixOf old new file
   pub whole : status ≡ Delivered → HoldsAfter old new (λ _. file)
 
--- so it is of the sides that map, after these turns
+-- so it is of the sides that haven't fallen back by these turns
 pub record CheckedReadersAreRight (task : Task) (status : Status) (w : Connection) (old new : Port → Option (List ℕ)) : Type 0 where
-  pub read_by_b : still_maps B w ≡ true → HoldsWhatIsRight status (old ReadByB) (new ReadByB) task.file_a
-  pub read_by_a : still_maps A w ≡ true → HoldsWhatIsRight status (old ReadByA) (new ReadByA) task.file_b
+  pub read_by_b : fell_back B w ≡ false → HoldsWhatIsRight status (old ReadByB) (new ReadByB) task.file_a
+  pub read_by_a : fell_back A w ≡ false → HoldsWhatIsRight status (old ReadByA) (new ReadByA) task.file_b
 
 -- The connection after these turns.
 pub record IsKept (task : Task) (turns : List Turn) : Type 0 where
@@ -137,6 +139,7 @@ abbrev pub LoadedTasksArePlain : Type 0
 LoadedTasksArePlain = (content : List ℕ → Option (List ℕ)) (line : Line) → AreWithinLimits content line
     → IfSome (task_of content line) (λ task. AltersNone task.script → IsPlainTask task)
 
+-- so each task with short files keeps its promises, after any turns
 abbrev pub ShortTasksAreKept : Type 0
 ShortTasksAreKept = (task : Task) (turns : List Turn) → IsShortTask task → IsKept task turns
 
@@ -158,6 +161,7 @@ WholeRunsGivePrefixes =
     (task : Task) (status : Status) (old new : Port → Option (List ℕ)) → IsPlainTask task
     → IsWhole task status old new → ReadersHavePrefixes (Some task.file_a) (Some task.file_b) old new
 
+-- and at Delivered the whole files
 abbrev pub DeliveredRunsGiveFiles : Type 0
 DeliveredRunsGiveFiles =
     (task : Task) (old new : Port → Option (List ℕ)) → IsPlainTask task → EndsWithRound task.course

@@ -8,7 +8,6 @@ use Rattle.outside_kit.specs.Outside.{HoldsAfter}
 use Rattle.link_script.specs.declared.script.Script.{Script}
 use Rattle.actor_desk.specs.declared.ask.Note.{Note}
 use Rattle.run_log.specs.declared.outcome.Outcome as log_outcome
-use Rattle.run_log.specs.declared.outcome.Outcome.TheVariants as told
 use Rattle.std.specs.Fmt.{decimal}
 use Rattle.std.specs.List.{sum}
 use Rattle.run_log.specs.Lines.{ended, opening_lines, outcome_text, outcome_word}
@@ -30,6 +29,7 @@ use Rattle.mptcp_run.specs.Task.{Connection, Task, Course, first_world, AreTurns
 use Rattle.mptcp_run.specs.Task as way
 use Rattle.mptcp_run.specs.WovenRounds.{AreWovenRounds}
 use Rattle.run_outside.specs.LogText.{log_text, RoundsFit}
+use Rattle.world_core.specs.Logged.{told_outcome}
 
 -- ---- the log
 
@@ -44,17 +44,12 @@ opening_of (report.Summary number) script = None
 
 -- ---- how a run ends
 
+-- by what the connection shows after all turns; where it still goes on, no more rounds were to be made
 abbrev pub status_of : Outcome → Status
 status_of outcome.Going = Rounds
 status_of outcome.Delivered = Delivered
 status_of (outcome.Aborted reader) = Aborted reader
 status_of outcome.NoPath = NoPath
-
-abbrev pub told_outcome : Outcome → log_outcome.Outcome
-told_outcome outcome.Going = told.Rounds
-told_outcome outcome.Delivered = told.Delivered
-told_outcome (outcome.Aborted reader) = told.Aborted
-told_outcome outcome.NoPath = told.NoPath
 
 -- how many steps the actors have made
 abbrev pub steps_made : Connection → ℕ
@@ -72,6 +67,7 @@ last_line_of (report.Summary number) rounds w = ended (summary_text number round
 
 -- ---- the turns of a task
 
+-- the connection at each round's end
 abbrev pub ends_of : Task → List Turn → List Connection
 ends_of task turns = round_ends turns (first_world task)
 
@@ -87,12 +83,15 @@ steps_so_far task turns = steps_by_round (first_world task) (ends_of task turns)
 abbrev pub opening_in : Task → Option (List ℕ)
 opening_in task = opening_of task.report task.script
 
+-- what the rounds that ended put to the log
 abbrev pub log_so_far : Task → List Turn → List ℕ
 log_so_far task turns = log_text (opening_in task) 0 (steps_so_far task turns)
 
+-- the connection after these turns
 abbrev pub world_after : Task → List Turn → Connection
 world_after task turns = world_run octets turns (first_world task)
 
+-- the last line, after the rounds of these turns
 abbrev pub last_line : Task → List Turn → List ℕ
 last_line task turns = last_line_of task.report (length (ends_of task turns)) (world_after task turns)
 

@@ -44,6 +44,7 @@ abbrev pub TurnHolds : Option (List ℕ) → ℕ → Turn → Connection → Con
 TurnHolds opening number (Turn.Step actor) last w old new = (port : Port) → new port ≡ old port
 TurnHolds opening number Turn.Round last w old new = HoldsRound opening number last (end_round w) old new
 
+-- each port holds what it held
 abbrev pub IsUnchanged : (Port → Option (List ℕ)) → (Port → Option (List ℕ)) → Type 0
 IsUnchanged old new = (port : Port) → new port ≡ old port
 

@@ -3,21 +3,20 @@ use Rattle.std.specs.Prelude.{◌≡◌, ℕ, false, List, [], map, length, Opti
 use Rattle.outside_kit.specs.declared.port.Port.{Port}
 use Rattle.outside_kit.specs.declared.port.Port.TheVariants as port
 use Rattle.outside_kit.specs.declared.side.Side.TheVariants.{A, B}
-use Rattle.run_log.specs.declared.turn.Turn as log_turn
 use Rattle.stream_lanes.specs.Words.{Every}
 use Rattle.world_laws.specs.Fine.{IsFine, lists_of}
 use Rattle.world_laws.specs.Openings.{start_of, opened_world}
 use Rattle.world_laws.specs.Outcomes.{output_of}
 use Rattle.run_outside.specs.declared.input.Input.{Input}
 use Rattle.world_core.specs.Kept.{standing}
-use Rattle.world_laws.specs.Worlds.{Turn, greatest}
+use Rattle.world_laws.specs.Worlds.{greatest}
 use Rattle.mptcp_run.specs.declared.report.Report.{Report}
 use Rattle.mptcp_run.specs.declared.rounds.Run.{Run}
 use Rattle.run_outside.specs.Ports.{HoldsMore, IsBetween}
 use Rattle.world_core.specs.RoundEnds.{round_steps, steps_by_round, last_end}
 use Rattle.run_outside.specs.LogText.{round_text, log_text, RoundFits, RoundsFit}
 use Rattle.mptcp_run.specs.Putting.{opening_of}
-use Rattle.mptcp_run.specs.Task.{Connection, turn_of}
+use Rattle.mptcp_run.specs.Task.{Connection}
 
 -- a round begins: each actor knows the greatest stamp so far
 pub record Begins (w : Connection) : Type 0 where
@@ -59,8 +58,3 @@ pub record HoldsPart (opening : Option (List ℕ)) (number : ℕ) (w : Connectio
   pub read_by_a : HoldsMore (old port.ReadByA) (new port.ReadByA) (output_of A w) (IsBetween (output_of A (last_end w low)) (output_of A (last_end w high)))
   pub log : HoldsMore (old port.Log) (new port.Log) []
       (IsBetween (log_text opening number (steps_by_round w low)) (log_text opening number (steps_by_round w high)))
-
--- ---- the turns of a log
-
-abbrev pub all_turns : List log_turn.Turn → List Turn
-all_turns order = map turn_of order

@@ -1,23 +1,20 @@
 -- A run by the turns that it takes: its task, and how it ends early.
 use Rattle.std.specs.Prelude.{ℕ, ◌≤◌, List, [], Option}
+use Rattle.world_core.specs.Logged.{all_turns}
 use Rattle.outside_kit.specs.declared.port.Port.{Port}
 use Rattle.outside_kit.specs.Calls.{Made}
 use Rattle.run_words.specs.Lines.{Line}
 use Rattle.run_outside.specs.declared.input.Input.{Input}
 use Rattle.run_outside.specs.declared.status.Status.{Status}
-use Rattle.run_outside.specs.Ports.{IsPortsFault}
+use Rattle.run_outside.specs.Ports.{IsPortsFault, Ports}
 use Rattle.mptcp_run.specs.declared.report.Report.{Report}
 use Rattle.mptcp_run.specs.declared.report.Report.TheVariants.{Log}
 use Rattle.mptcp_run.specs.declared.turns.Turns.{Turns}
 use Rattle.mptcp_run.specs.declared.turns.Turns.TheVariants.{Whole, Logged}
 use Rattle.mptcp_run.specs.Ends.{IsCut, ReplayEnds}
 use Rattle.mptcp_run.specs.Replaying.{IsReplayFault}
-use Rattle.mptcp_run.specs.Rounds.{all_turns}
 use Rattle.mptcp_run.specs.Task.{Task, Course, task_with}
 use Rattle.mptcp_run.specs.Task as way
-
-abbrev Ports : Type 0
-Ports = Port → Option (List ℕ)
 
 abbrev pub course_in : Turns → Course
 course_in (Whole most report) = way.rounds most

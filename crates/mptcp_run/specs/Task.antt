@@ -3,8 +3,6 @@ use Rattle.std.specs.Prelude.{◌≡◌, ℕ, List, map, Option, Some, None, opt
 use Rattle.std.specs.Result.{result_ok}
 use Rattle.link_script.specs.declared.script.Script.{Script}
 use Rattle.run_words.specs.Lines.{Line, Work, run, serial, replay, bench, ◌>>=◌}
-use Rattle.run_log.specs.declared.turn.Turn as logged_turn
-use Rattle.run_log.specs.declared.turn.Turn.TheVariants as logged
 use Rattle.path_core.specs.Octets.{octets}
 use Rattle.run_outside.specs.declared.input.Input.{Input}
 use Rattle.world_laws.specs.Openings.{start_of, opened_world}
@@ -12,6 +10,7 @@ use Rattle.world_laws.specs.Serial.{IsSerial}
 use Rattle.world_laws.specs.Worlds.{WorldState, Turn, AreLawful}
 use Rattle.mptcp_run.specs.Asked.{asked_in}
 use Rattle.run_outside.specs.Reading.{script_of, log_reading}
+use Rattle.world_core.specs.Logged.{turn_of}
 use Rattle.mptcp_run.specs.WovenRounds.{AreWovenRounds}
 use Rattle.mptcp_run.specs.declared.report.Report.{Report}
 use Rattle.mptcp_run.specs.declared.report.Report.TheVariants.{Log}
@@ -58,14 +57,11 @@ task_from input course = task_with input course Log
 
 -- ---- from the words and contents
 
-abbrev pub turn_of : logged_turn.Turn → Turn
-turn_of (logged.Step actor) = Turn.Step actor
-turn_of logged.Round = Turn.Round
-
 -- the turns that a log tells of a run of this script
 abbrev pub turns_in : Script → List ℕ → Option (List Turn)
 turns_in script log = option_map (map turn_of) (result_ok (log_reading script log))
 
+-- the course of a mode: in `replay` the turns of the log, where it is told and valid, and none in `bench`
 abbrev pub course_of : (List ℕ → Option (List ℕ)) → Script → Work → Option Course
 course_of content script (serial most) = Some (rounds most)
 course_of content script (replay log) = option_map told (option_and_then (turns_in script) (content log))

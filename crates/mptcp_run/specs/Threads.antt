@@ -34,6 +34,7 @@ abbrev pub after_orders : List (List ℕ) → Connection → Connection
 after_orders [] w = w
 after_orders (actors ∷ orders) w = after_orders orders (after_woven actors w)
 
+-- each of these is the steps of a round from the world to which those before it lead
 abbrev pub AreOrders : List (List ℕ) → Connection → Type 0
 AreOrders [] w = Unit {0}
 AreOrders (actors ∷ orders) w = IsWovenRound actors w × AreOrders orders (after_woven actors w)

@@ -9,6 +9,7 @@ use Rattle.world_laws.specs.Worlds.{WorldState, Turn, end_round, world_run, AreL
 use Rattle.journal_weave.specs.Rounds.{IsWovenRound}
 use Rattle.world_core.specs.RoundEnds.{round_ends, steps_by_round}
 
+-- a connection whose links carry octets
 abbrev Connection : Type 0
 Connection = WorldState (List ℕ)
 

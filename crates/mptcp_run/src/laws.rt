@@ -5,8 +5,8 @@ ghost use Rattle.mptcp_run.specs.Clean.{CleanRunsDeliver};
 ghost use Rattle.mptcp_run.specs.Promised.{CheckedRunsAreRight, CutRunsGivePrefixes, DeliveredRunsGiveAsMany, DeliveredRunsGiveFiles, LinesCutGivePrefixes, LoadedTasksArePlain, LoadedTasksArePromised, ShortTasksAreKept, StoppedRunsGivePrefixes, WholeRunsGivePrefixes, WholeRunsHaveCause};
 
 /// A law: whatever the script alters, the connection after the turns that were made keeps its promises; at `Delivered` each reader
-/// has as many octets as the other side writes; and an abort by a reader's peer has its cause. Where mappings are checked, what a
-/// reader has whose side maps still at a run's own end is a prefix of what the other side writes, and at `Delivered` all of it.
+/// has as many octets as the other side writes; and an abort by a reader's peer has its cause. Where mappings are checked, what a reader
+/// has whose side hasn't fallen back by a run's own end is a prefix of what the other side writes, and at `Delivered` all of it.
 pub fn runs_keep_their_promises()
     ensures kept { ShortTasksAreKept }
     ensures delivered { DeliveredRunsGiveAsMany }

@@ -3,13 +3,14 @@
 ghost use Rattle.std.specs.Prelude.{◌≡◌, ◌+◌, ◌-◌, ◌^◌, ◌≤◌, ◌<◌, length, true, IfErr, OnOk};
 ghost use Rattle.path_core.specs.Octets.{octets};
 ghost use Rattle.world_core.specs.Kept.{standing};
+ghost use Rattle.world_core.specs.Logged.{turn_of, all_turns};
 ghost use Rattle.world_laws.specs.Worlds.{is_going, world_step, IsLawfulTurn, after_turn};
 ghost use Rattle.run_outside.specs.Calling.{OnlyPuts};
 ghost use Rattle.mptcp_run.specs.Making.{TurnMade};
 ghost use Rattle.mptcp_run.specs.Courses.{CourseMade, LogStops};
-ghost use Rattle.mptcp_run.specs.Rounds.{AtRound, all_turns};
+ghost use Rattle.mptcp_run.specs.Rounds.{AtRound};
 ghost use Rattle.mptcp_run.specs.Replaying.{UnderWay, StepFault, rounds_after, round_turn, IsReplayFault};
-ghost use Rattle.mptcp_run.specs.Task.{Connection, turn_of};
+ghost use Rattle.mptcp_run.specs.Task.{Connection};
 ghost use Rattle.mptcp_run.specs.Task as course;
 
 use crate::rounds::Run;

@@ -1,36 +1,25 @@
 //! What a run puts to the port of the log: a log, or one line in its place.
 
 ghost use Rattle.std.specs.Prelude.{◌≡◌, ◌+◌, ◌≤◌, ◌*◌, ◌^◌, length, map, sum, take, IfOk};
+ghost use Rattle.world_core.specs.Logged.{told_outcome};
 ghost use Rattle.world_laws.specs.Fine.{lists_of};
 ghost use Rattle.run_log.specs.Lines.{ended, outcome_text};
-ghost use Rattle.mptcp_run.specs.Putting.{told_outcome, summary_text, last_line_of};
+ghost use Rattle.mptcp_run.specs.Putting.{summary_text, last_line_of};
 ghost use Rattle.world_laws.specs.Outcomes.{outcome_of};
 ghost use Rattle.mptcp_run.specs.Putting.{steps_made};
 
 use crate::rounds::Run;
 use pipe_model::Text;
 use std::alloc::{AllocError, Global};
-use world_core::{Outcome, World};
+use world_core::{World, told_outcome};
 
 /// What the port of the log gets.
-#[derive(Clone, Copy, Debug, PartialEq, Eq)]
+#[derive(Clone, Copy)]
 pub enum Report {
     /// A log: the lines that open it, those of each round, and last the outcome.
     Log,
     /// One line, last: what came of the made input of this number.
     Summary { number: u16 },
-}
-
-/// The outcome as the log names it.
-fn told_outcome(outcome: Outcome) -> run_log::Outcome
-    ensures { result ≡ told_outcome outcome }
-{
-    match outcome {
-        Outcome::Going => run_log::Outcome::Rounds,
-        Outcome::Delivered => run_log::Outcome::Delivered,
-        Outcome::Aborted(_) => run_log::Outcome::Aborted,
-        Outcome::NoPath => run_log::Outcome::NoPath,
-    }
 }
 
 /// How many steps the actors have made.

@@ -1,6 +1,7 @@
 //! The top call.
 
 ghost use Rattle.std.specs.Prelude.{◌≡◌, ◌≢◌, ◌≤◌, ◌++◌, [], ◌∷◌, map, IsNone, IfOk, IfErr, IfSome, OnOk, OnErr, string_bytes};
+ghost use Rattle.world_core.specs.Logged.{all_turns};
 ghost use Rattle.outside_kit.specs.declared.port.Port.{Port};
 ghost use Rattle.outside_kit.specs.Calls as call;
 ghost use Rattle.outside_kit.specs.Outside.{HoldsAfter, HoldsPrefix};
@@ -19,7 +20,7 @@ ghost use Rattle.run_outside.specs.Ports.{IsPortsFault};
 ghost use Rattle.mptcp_run.specs.Promised.{NoneIsAltered, ReadersHaveAsMany, ReadersHaveFiles};
 ghost use Rattle.mptcp_run.specs.Putting.{last_line_of, status_of};
 ghost use Rattle.mptcp_run.specs.Replaying.{IsReplayFault};
-ghost use Rattle.mptcp_run.specs.Rounds.{IsOpened, all_turns};
+ghost use Rattle.mptcp_run.specs.Rounds.{IsOpened};
 ghost use Rattle.mptcp_run.specs.Task.{task_from, task_with};
 ghost use Rattle.mptcp_run.specs.Task as course;
 ghost use Rattle.mptcp_run.specs.Taken.{report_in, task_taken, EndsEarly, HasFewLines, TurnsFault};

@@ -3,6 +3,7 @@ use Rattle.std.specs.Prelude.{ℕ, ◌≡◌, ◌+◌, ◌≤◌, ◌⊎◌, Lis
 use Rattle.pace.specs.Lane.{Telling, Copy}
 use Rattle.pace.specs.Rules.{repeats}
 
+-- the segment is one of these
 abbrev pub In : Copy → List Copy → Type 0
 In c [] = ⊥
 In c (x ∷ xs) = (c ≡ x) ⊎ In c xs

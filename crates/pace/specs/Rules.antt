@@ -8,6 +8,7 @@ use Rattle.pace.specs.Lane.{Setting, Telling, Copy, Lane, data_ack}
 abbrev pub wrote : ℕ → Lane → Lane
 wrote n w = record w { writer = record w.writer { written = n } }
 
+-- the stream is closed (1) or not (0)
 abbrev pub closed_by : ℕ → Lane → Lane
 closed_by n w = record w { writer = record w.writer { closed = n } }
 

@@ -4,6 +4,7 @@ use Rattle.std.specs.Prelude.{ℕ, Bool, true, false, not, ◌&&◌, if◌then�
 use Rattle.stream_lanes.specs.Moves.{Flags}
 use Rattle.stream_lanes.specs.Streams.{Direction, StreamEvent, after, opening_direction}
 
+-- what both directions depend on
 pub record Modes : Type 0 where
   -- the side is or was in Identity: it fell back to plain TCP on path 0
   pub plain_a : Bool
@@ -21,12 +22,15 @@ pub record Modes : Type 0 where
   pub alters : Bool
   pub checked : Bool
 
+-- a connection
 pub record Duo : Type 0 where
   pub modes : Modes
   -- from A to B, and from B to A
   pub ab : Direction
   pub ba : Direction
 
+-- An event of the direction to B or to A; a side falls to plain TCP, or loosens: it falls to an infinite mapping as a receiver;
+-- A begins a join, a segment asks for it, and B answers.
 pub data Event : Type 0 where
   ToB : (event : StreamEvent) → Event
   ToA : (event : StreamEvent) → Event
@@ -49,18 +53,23 @@ falls_b m = if m.answered then m else record m { plain_b = true }
 abbrev pub begins_join : Modes → Modes
 begins_join m = if m.plain_a then m else record m { begun = true }
 
+-- a segment asks for a join only once A began one
 abbrev pub sends_join : Modes → Modes
 sends_join m = if m.begun then record m { join_sent = true } else m
 
+-- B answers where it was asked and didn't fall
 abbrev pub hears_join : Modes → Modes
 hears_join m = if m.join_sent && not m.plain_b then record m { answered = true } else m
 
+-- the modes as the direction from A to B needs them
 abbrev pub flags_ab : Modes → Flags
 flags_ab m = record { answered = m.answered; sender = m.plain_a; receiver = m.plain_b; loose = m.loose_b; alters = m.alters; checked = m.checked }
 
+-- the modes as the direction from B to A needs them
 abbrev pub flags_ba : Modes → Flags
 flags_ba m = record { answered = m.answered; sender = m.plain_b; receiver = m.plain_a; loose = m.loose_a; alters = m.alters; checked = m.checked }
 
+-- the connection after an event; one that isn't allowed changes nothing
 abbrev pub after_event : Event → Duo → Duo
 after_event (ToB event) w = record w { ab = after (flags_ab w.modes) event w.ab }
 after_event (ToA event) w = record w { ba = after (flags_ba w.modes) event w.ba }

@@ -53,8 +53,8 @@ pub record ReaderHolds (v : View) (b : Arriving) (r : Reader) : Type 0 where
 abbrev pub HasPlace : List Cell → ℕ → Type 0
 HasPlace sent place = Has (λ c. c.place ≡ place) sent
 
--- A path's record: each byte of it is the written one at its place, spent for the path, and taken by the receiver; it has
--- each byte that the path tried, and is no longer than what was granted to the path once.
+-- A path's record: each byte of it is the written one at its place, spent for the path, and, over links that alter nothing, taken by
+-- the receiver; it has each byte that the path tried, and is no longer than what was granted to the path once.
 pub record CellFits (path : ℕ) (v : View) (c : Cell) : Type 0 where
   pub byte : slice_get v.written c.place ≡ Some c.byte
   pub spent : spent path (slice_get v.marks c.place) ≡ true
@@ -71,6 +71,7 @@ pub record AloneHolds (path : ℕ) (marks : List ByteMark) (sent : List Cell) : 
   pub others : (path ≡ 0 → ⊥) → sent ≡ []
   pub untouched : path ≡ 0 → AreNew (length sent) marks
 
+-- As long as no join was answered only path 0 is open; an end is in plain TCP only where a side fell.
 pub record ModeHolds (path : ℕ) (v : View) (opened sender_plain receiver_plain : Bool) : Type 0 where
   pub joined : opened ≡ true → v.alone ≡ true → path ≡ 0
   pub sender : sender_plain ≡ true → v.fallen ≡ true
@@ -78,14 +79,15 @@ pub record ModeHolds (path : ℕ) (v : View) (opened sender_plain receiver_plain
   -- in plain TCP nothing is checked
   pub inexact : receiver_plain ≡ true → v.exact ≡ true → v.alters ≡ false
 
--- Bytes and places: what is on the way and what the receiver's end keeps is the record's at its position.
+-- Bytes and places: what is on the way and what the receiver's end keeps, if no link altered it, is the record's at its position.
 abbrev pub IsByteOf : List Cell → ℕ → ℕ → Type 0
 IsByteOf sent pos byte = slice_get (bytes_of sent) pos ≡ Some byte
 
--- a byte that came is the record's; or links alter payload, a piece begins there, and the lowest bit is turned
+-- a piece begins at this position
 abbrev pub Starts : List Mapping → ℕ → Type 0
 Starts pieces pos = Has (λ m. m.pos ≡ pos) pieces
 
+-- a byte that came is the record's; or links alter payload, a piece begins there, and the lowest bit is turned
 pub data Came (alters : Bool) (pieces : List Mapping) (sent : List Cell) (pos byte : ℕ) : Type 0 where
   as_sent : IsByteOf sent pos byte → Came alters pieces sent pos byte
   turned : alters ≡ true → Starts pieces pos → (old : ℕ) → IsByteOf sent pos old → byte ≡ bit_xor old (2 ^ 0) → Came alters pieces sent pos byte
@@ -98,17 +100,21 @@ IsPiece pieces m = Has (λ n. n ≡ m) pieces
 abbrev pub AreApart : List Mapping → Type 0
 AreApart pieces = (i j : ℕ) (m n : Mapping) → slice_get pieces i ≡ Some m → slice_get pieces j ≡ Some n → m.pos < n.pos → m.pos + m.len ≤ n.pos
 
+-- a mapping names one byte of the record or more, and the places that it gives them are theirs
 pub record IsRight (sent : List Cell) (m : Mapping) : Type 0 where
   pub some : 1 ≤ m.len
   pub within : m.pos + m.len ≤ length sent
   pub places : (j : ℕ) → j < m.len → slice_get (places_of sent) (m.pos + j) ≡ Some (m.place + j)
 
+-- the bytes of a copy are those of the record at its positions, but for bits that links turn; its mapping, if any, is right and a grant's
 pub record IsHonest (alters : Bool) (pieces : List Mapping) (sent : List Cell) (d : DataCopy) : Type 0 where
   pub within : d.pos + length d.bytes ≤ length sent
   pub bytes : From (Came alters pieces sent) d.pos d.bytes
   pub mapping : IfSome d.mapping (IsRight sent)
   pub piece : IfSome d.mapping (IsPiece pieces)
 
+-- The grants' mappings are right, and no two overlap that begin apart; every copy sent is honest; what the receiver's end keeps came,
+-- and what it learned is right and a grant's. Its edge is within the record, and no acknowledgement is past the FIN.
 pub record BytesHold (alters : Bool) (sent : List Cell) (pieces : List Mapping) (datas : List DataCopy) (edge : ℕ) (kept : List (Option ℕ)) (maps : List Mapping) (acks : List AckCopy) : Type 0 where
   pub granted : Every (IsRight sent) pieces
   pub apart : AreApart pieces
@@ -124,12 +130,13 @@ pub record EndsHold (end known : Option ℕ) (data_fins : List ℕ) : Type 0 whe
   pub told : IfSome known (IsEnd end)
   pub named : Every (IsEnd end) data_fins
 
--- a FIN stands after the record's last byte, nothing more is granted to its path, and in plain TCP it is the end
+-- a FIN stands after the record's last byte, nothing more is granted to its path, and until a join was answered it is the end
 pub record IsFin (path : ℕ) (v : View) (sent : List Cell) (pos : ℕ) : Type 0 where
   pub last : pos ≡ length sent
   pub left : (e : ℕ) × IsEnd v.end e × (e ≤ spent_count path v.marks)
   pub ends : v.alone ≡ true → IsEnd v.end pos
 
+-- what the sender's end heard to be acknowledged is so at its book, and DATA_FIN only with all bytes
 pub record HeardHolds (v : View) (heard : ℕ) (fin_acked : Bool) : Type 0 where
   pub below : heard ≤ v.confirmed
   pub fin : fin_acked ≡ true → IsAll v
@@ -145,6 +152,8 @@ pub record IsAckCopy (v : View) (a : AckCopy) : Type 0 where
   pub stream : IsAck v a.next a.window
   pub subflow : v.alone ≡ true → IsAck v a.sub a.window
 
+-- What the receiver's end was told last may be acknowledged, and each acknowledgement sent might. Until a join was answered all before
+-- its edge is received, a FIN stands at the end, and over links that alter nothing the window has room from there, if no ask is due.
 pub record ReceiverHolds (v : View) (edge : ℕ) (fin_in due : Bool) (latest : Told) (acks : List AckCopy) : Type 0 where
   pub told : IsAck v latest.next latest.window
   pub passed : v.alone ≡ true → edge ≤ v.received
@@ -161,6 +170,7 @@ pub record IsPassed (path : ℕ) (v : View) (sent : List Cell) (upto : ℕ) : Ty
   pub bytes : (pos : ℕ) (c : Cell) → pos < upto → slice_get sent pos ≡ Some c → IsIn v c.place
   pub past : length sent < upto → AllGranted path v
 
+-- so it is up to the receive edge and up to each acknowledgement sent; a FIN that came stands behind all bytes ever granted
 pub record PassedHolds (path : ℕ) (v : View) (sent : List Cell) (edge : ℕ) (fin_in : Bool) (acks : List AckCopy) : Type 0 where
   pub bytes : IsPassed path v sent edge
   pub fin : fin_in ≡ true → (edge ≡ length sent) × AllGranted path v
@@ -181,6 +191,7 @@ pub record IsEndless (path : ℕ) (v : View) (sent : List Cell) (m : Pair) : Typ
   pub upto : place_by m (length sent) ≤ length v.written
   pub owner : IsAlone path v
 
+-- the infinite mapping that the sender's end goes by is right, and so are those ever sent and the one that the receiver's end took
 pub record PairsHold (path : ℕ) (v : View) (sent : List Cell) (pair : Option Pair) (pairs : List Pair) (taken : Option Pair) : Type 0 where
   -- the one that it goes by begins at an acknowledged place or the next one, and the book was given to the path
   pub own : IfSome pair (λ m. IsEndless path v sent m × (m.place ≤ v.acked) × (v.owner ≡ Some path))
@@ -194,6 +205,7 @@ pub record PlaceHolds (v : View) (sent : List Cell) (edge at : ℕ) (bytes : Lis
   pub within : edge + length bytes ≤ length sent
   pub identity : v.alone ≡ true → 1 ≤ length bytes → at ≡ edge
 
+-- only an open end asks for bytes, for one or more; an acknowledgement, bytes and an end that are told to a book are right
 abbrev pub AskHolds : View → List Cell → Bool → ℕ → Ask → Type 0
 AskHolds v sent opened edge Nothing = Unit {0}
 AskHolds v sent opened edge (AskGrant max standby) = (opened ≡ true) × (1 ≤ max)
@@ -210,6 +222,7 @@ pub record LinkHolds (v : View) (alters checked loose : Bool) : Type 0 where
   -- by an infinite mapping nothing is checked
   pub inexact : loose ≡ true → v.exact ≡ true → v.alters ≡ false
 
+-- all of this, of the lane of this path
 pub record LaneHolds (v : View) (path : ℕ) (p : Lane) : Type 0 where
   pub record_of : RecordHolds path v p.sent
   pub alone : v.alone ≡ true → AloneHolds path v.marks p.sent
@@ -232,6 +245,7 @@ IsGranted lanes place = Has (λ p. HasPlace p.sent place) lanes
 abbrev pub IsOwnedBy : View → Type 0
 IsOwnedBy v = (path : ℕ) → v.owner ≡ Some path → v.alone ≡ true → path ≡ 0
 
+-- one direction: both books, the reader, and the lane of each path
 pub record DirectionHolds (f : Flags) (d : Direction) : Type 0 where
   pub owner : IsOwnedBy (view_of f d.send d.arrived)
   pub send : SendHolds d.send (view_of f d.send d.arrived)
@@ -246,6 +260,7 @@ pub record ModesHold (m : Modes) : Type 0 where
   pub sent : m.join_sent ≡ true → m.begun ≡ true
   pub answered : m.answered ≡ true → m.begun ≡ true
 
+-- the whole connection
 pub record Holds (w : Duo) : Type 0 where
   pub modes : ModesHold w.modes
   pub ab : DirectionHolds (flags_ab w.modes) w.ab

@@ -75,6 +75,7 @@ pub record NothingCame (d later : Direction) : Type 0 where
   pub read : later.reader ≡ d.reader
   pub written : later.send.written ≡ d.send.written
 
+-- so it is in both directions, whatever events follow
 abbrev pub NothingFollowsTheEnd : Duo → Type 0
 NothingFollowsTheEnd w = (more : List Event) → (w.ab.reader.told ≡ true → NothingCame w.ab (after_events more w).ab)
     × (w.ba.reader.told ≡ true → NothingCame w.ba (after_events more w).ba)
@@ -106,10 +107,12 @@ pub record IsStep (count : ℕ) (p q : Pipe) : Type 0 where
   pub becomes : q ≡ after_step step p
   pub tells : TellsReceived count step
 
+-- the pipe stays, or makes one step that it allows
 pub data StepsOrStays (count : ℕ) (p q : Pipe) : Type 0 where
   stays : q ≡ p → StepsOrStays count p q
   steps : IsStep count p q → StepsOrStays count p q
 
+-- so does the pipe of a direction that becomes the later one
 abbrev pub IsOneStepOrNone : Direction → Direction → Type 0
 IsOneStepOrNone d later = StepsOrStays (received d.arrived) (pipe_of d) (pipe_of later)
 
@@ -127,6 +130,7 @@ is_beyond_or_clash (Beyond edge) = true
 is_beyond_or_clash (FinClash fin at) = true
 is_beyond_or_clash _ = false
 
+-- the book's answer to what the end is about to ask is one of these
 abbrev pub ask_refused : Ask → Direction → Bool
 ask_refused (AskAckIn next window) d = is_ack_future (send_reply d.send (AckIn next window))
 ask_refused (AskPlace at bytes) d = is_beyond_or_clash (arrival_reply d.arrived (Place at bytes))
@@ -141,6 +145,7 @@ abbrev pub copy_clashes : Option DataCopy → Lane → Bool
 copy_clashes None p = false
 copy_clashes (Some d) p = mapping_clashes d.mapping p
 
+-- the mapping that is to be learned clashes with one that was
 abbrev pub move_refused : Move → Lane → Bool
 move_refused (Learn copy) p = copy_clashes (slice_get p.datas copy) p
 move_refused _ p = false
@@ -204,6 +209,7 @@ pub record IsPlain (d : Direction) : Type 0 where
   pub only : (path : ℕ) (p : Lane) → (path ≡ 0 → ⊥) → slice_get d.lanes path ≡ Some p → p.sent ≡ []
   pub right : (p : Lane) → slice_get d.lanes 0 ≡ Some p → From (λ pos c. c.place ≡ pos) 0 p.sent
 
+-- where A fell no join was begun or answered, where B fell none was answered, and then both directions are plain
 pub record FallsAreRight (w : Duo) : Type 0 where
   pub a : w.modes.plain_a ≡ true → (w.modes.begun ≡ false) × (w.modes.answered ≡ false)
   pub b : w.modes.plain_b ≡ true → w.modes.answered ≡ false
@@ -213,11 +219,12 @@ pub record FallsAreRight (w : Duo) : Type 0 where
 abbrev pub EndsAtAllBytes : Direction → Type 0
 EndsAtAllBytes d = d.reader.told ≡ true → (d.send.closed ≡ true) × (length d.reader.out ≡ length d.send.written)
 
--- the byte at a place of the stream, where it was placed: the reader's, or that of the reassembly book
+-- what stands in a cell, where there is one
 abbrev pub flattened : Option (Option ℕ) → Option ℕ
 flattened None = None
 flattened (Some cell) = cell
 
+-- the byte at a place of the stream, where it was placed: the reader's, or that of the reassembly book
 abbrev pub content : Direction → ℕ → Option ℕ
 content d place = if nat_lt place d.arrived.read then slice_get d.reader.out place else flattened (slice_get d.arrived.places (place - d.arrived.read))
 
@@ -261,6 +268,7 @@ abbrev pub is_clash : ReassemblyReply → Bool
 is_clash (FinClash fin at) = true
 is_clash _ = false
 
+-- the book's answer is FinClash or AckFuture; Beyond isn't counted here
 abbrev pub ask_disagrees : Ask → Direction → Bool
 ask_disagrees (AskAckIn next window) d = is_ack_future (send_reply d.send (AckIn next window))
 ask_disagrees (AskPlace at bytes) d = is_clash (arrival_reply d.arrived (Place at bytes))

@@ -12,6 +12,7 @@ spent path (Some Acked) = true
 spent path (Some (Held holder tried)) = contains path tried
 spent path (Some (Free tried)) = contains path tried
 
+-- how many of the written bytes are granted to the path no more
 abbrev pub spent_count : ℕ → List ByteMark → ℕ
 spent_count path marks = count_by (λ m. spent path (Some m)) marks
 

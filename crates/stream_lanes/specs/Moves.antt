@@ -99,6 +99,7 @@ may_finish p = p.opened && (if p.sender_plain then is_whole p.known_end p else p
 abbrev pub part_of : List Cell → Mapping → List ℕ
 part_of sent m = take m.len (drop m.pos (bytes_of sent))
 
+-- a copy with the bytes of a grant, with its mapping or without
 abbrev pub piece_of : Bool → Lane → Mapping → DataCopy
 piece_of mapped p m = record {
   pos = m.pos;
@@ -131,6 +132,7 @@ abbrev pub sends_piece : Bool → Option Mapping → Lane → Lane
 sends_piece mapped None p = p
 sends_piece mapped (Some m) p = record p { datas = p.datas ++ piece_of mapped p m ∷ [] }
 
+-- only over links that alter payload
 abbrev pub sends_altered : Bool → Option Mapping → Lane → Lane
 sends_altered mapped None p = p
 sends_altered mapped (Some m) p = if p.alters then record p { datas = p.datas ++ altered_piece_of mapped p m ∷ [] } else p
@@ -140,6 +142,7 @@ abbrev pub keeps : ℕ → Option DataCopy → Lane → Lane
 keeps count None p = p
 keeps count (Some d) p = record p { kept = merged p.kept (drop p.edge (by_place d.pos (take count d.bytes))) }
 
+-- a mapping that clashes with one that was learned isn't learned
 abbrev pub learns_mapping : Option Mapping → Lane → Lane
 learns_mapping None p = p
 learns_mapping (Some m) p = if clashes m p.maps then p else record p { maps = p.maps ++ m ∷ [] }
@@ -148,6 +151,7 @@ abbrev pub learns : Option DataCopy → Lane → Lane
 learns None p = p
 learns (Some d) p = learns_mapping d.mapping p
 
+-- the end that it names is to be told
 abbrev pub hears_data_fin : Option ℕ → Lane → Lane
 hears_data_fin None p = p
 hears_data_fin (Some e) p = record p { asking = AskFin e }
@@ -175,6 +179,7 @@ are_same _ _ = false
 abbrev pub passes : Mapping → List ℕ → Lane → Bool
 passes m bytes p = not p.checked || ((m.pos == p.edge) && are_same bytes (part_of p.sent m))
 
+-- bytes that lie in the mapping and pass its check are to be placed
 abbrev pub places : ℕ → Option Mapping → Lane → Lane
 places count None p = p
 places count (Some m) p =
@@ -193,14 +198,17 @@ abbrev pub hears_sub : ℕ → Option AckCopy → Option Pair → Lane → Lane
 hears_sub upto (Some a) (Some m) p = if p.alters then record p { asking = AskAckIn (place_by m (min upto a.sub)) a.window } else p
 hears_sub upto _ _ p = p
 
+-- the mapping begins at a position of the record, or just behind it
 abbrev pub sends_pair : ℕ → Option Pair → Lane → Lane
 sends_pair shift None p = p
 sends_pair shift (Some m) p = if nat_le (m.pos + shift) (length p.sent) then record p { pairs = p.pairs ++ shifted shift m ∷ [] } else p
 
+-- in plain TCP places are positions
 abbrev pub sends_plain_pair : ℕ → Lane → Lane
 sends_plain_pair pos p =
     if p.sender_plain && (p.opened && nat_le pos (length p.sent)) then record p { pairs = p.pairs ++ record { pos = pos; place = pos } ∷ [] } else p
 
+-- by an infinite mapping the FIN goes out where all bytes were granted to the path, or all were acknowledged
 abbrev pub sends_fin_pair : Option Pair → Lane → Lane
 sends_fin_pair None p = p
 sends_fin_pair (Some m) p = if p.opened && is_whole p.known_end p then record p { fins = p.fins ++ length p.sent ∷ [] } else p
@@ -215,6 +223,7 @@ places_pair count None p = p
 places_pair count (Some m) p =
     if p.receiver_loose && nat_le m.pos p.edge then record p { asking = AskPlace (place_by m p.edge) (in_order count p) } else p
 
+-- and takes a FIN that came in order for the end
 abbrev pub ends_pair : Option Pair → Lane → Lane
 ends_pair None p = p
 ends_pair (Some m) p = if p.receiver_loose && (p.fin_in && nat_le m.pos p.edge) then record p { asking = AskFin (place_by m p.edge) } else p
@@ -223,6 +232,7 @@ ends_pair (Some m) p = if p.receiver_loose && (p.fin_in && nat_le m.pos p.edge) 
 abbrev pub sub_next : Lane → ℕ
 sub_next p = p.edge + (if p.fin_in then 1 else 0)
 
+-- at most what was told last, and of the subflow at most what came
 abbrev pub ack_copy : ℕ → ℕ → ℕ → Lane → AckCopy
 ack_copy next window sub p = record {
   next = min next p.latest.next;

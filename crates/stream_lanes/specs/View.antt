@@ -68,6 +68,7 @@ view_of f s b = record {
   places = b.places;
 }
 
+-- the stream is closed, and has so many bytes
 abbrev pub IsEnd : Option ℕ → ℕ → Type 0
 IsEnd end at = end ≡ Some at
 

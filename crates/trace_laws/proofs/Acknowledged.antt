@@ -6,6 +6,7 @@ use Rattle.outside_kit.specs.declared.side.Side.TheVariants.{A, B}
 use Rattle.dss_mapping.specs.declared.kept.KeptMapping.{KeptMapping}
 use Rattle.link_model.specs.Steps.{arriving, after_delivery}
 use Rattle.path_segments.specs.Spelled.{PlainSegment}
+use Rattle.path_segments.specs.Heard.{HeardSegment}
 use Rattle.join_handshake.specs.declared.hearing.JoinSyn.{JoinSyn}
 use Rattle.subflow_recv.specs.Receiving.{after_forget_from}
 use Rattle.subflow_send.specs.Records.{Record, SendState}
@@ -53,7 +54,7 @@ use Rattle.path_core.specs.declared.judged.Judged.{Judged}
 use Rattle.path_core.specs.declared.judged.Judged.TheVariants as judged
 use Rattle.path_core.specs.Arriving.{after_judged, copy_judged, copy_of, held_of, hint_of, is_forged, is_passed_over, items_of, judged_in, judged_of, options_heard, owes_by, owing_if, reset_for, taken_as, template_of, with_payload}
 use Rattle.path_core.specs.Breaking.{reset_of, reset_on, answered_break}
-use Rattle.path_core.specs.Codec.{Codec, HeardSegment}
+use Rattle.path_core.specs.Codec.{Codec}
 use Rattle.path_core.specs.Duties.{stands, passed, answered}
 use Rattle.path_core.specs.Emission.{Grant, after_timer, fin_segment_of, grant_in, answered_grant, answered_data, first_unsent, having_sent_fin}
 use Rattle.path_core.specs.Ends.{PathEnd}

@@ -66,7 +66,7 @@ use Rattle.world_laws.specs.Worlds.{AreLawful, WorldState, Turn, after_turn, all
 use Rattle.world_laws.proofs.Worlds.CastLifting.{writes_the_files}
 use Rattle.world_laws.proofs.Lanes.Doing.{has_last}
 use Rattle.world_laws.proofs.Falls.FailedChecks.{subflow_acks_so}
-use Rattle.world_laws.proofs.Lanes.OfAWorld.{plainly}
+use Rattle.world_laws.proofs.Lanes.OfAWorld.{plainly, plainly_free}
 use Rattle.world_laws.proofs.Asks.OfPaths.{IsHeardAsk, IsQuietAsk, IsQuietDuty, heard_asks, quiet_asks}
 use Rattle.world_laws.proofs.Promises.Made.{run_fresh}
 use Rattle.world_laws.proofs.Lanes.Roads.{put_there}
@@ -499,8 +499,8 @@ books_fit start turns plain fit = record {
     v = world_run values turns (opened_world start)
 
     tile : (s : Side) → Tile (send_of s (books_in v.books))
-    tile A = let can = plainly start plain in let n = all_noted start can turns in subst Tile (same_books can.links start n.0 v n.1.shows A) (records_fit _ n.0.ab n.1.holds.ab).tile
-    tile B = let can = plainly start plain in let n = all_noted start can turns in subst Tile (same_books can.links start n.0 v n.1.shows B) (records_fit _ n.0.ba n.1.holds.ba).tile
+    tile A = let can = plainly start plain in let n = all_noted start can (plainly_free start plain) turns in subst Tile (same_books can.links start n.0 v n.1.shows A) (records_fit _ n.0.ab n.1.holds.ab).tile
+    tile B = let can = plainly start plain in let n = all_noted start can (plainly_free start plain) turns in subst Tile (same_books can.links start n.0 v n.1.shows B) (records_fit _ n.0.ba n.1.holds.ba).tile
 
     prefix : (s : Side) → IsPrefix (send_of s (books_in (world_run octets turns (opened_world start)).books)).written (pick s start.file_a start.file_b)
     prefix A = (writes_the_files octets start turns).a.prefix

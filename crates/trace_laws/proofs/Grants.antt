@@ -38,7 +38,7 @@ use Rattle.world_laws.specs.Worlds.{WorldState, Turn, after_turn, all_over, aske
 use Rattle.world_laws.proofs.Lanes.Beginning.{each_opening_shows}
 use Rattle.world_laws.proofs.Worlds.CastLifting.{writes_the_files}
 use Rattle.world_laws.proofs.Lanes.EveryTurn.{each_turn_shows}
-use Rattle.world_laws.proofs.Lanes.OfAWorld.{Carries, IsSteady, Links, Shown, WorldShows, asked_by, asked_in, first_duo, plainly, turn_events, turn_is}
+use Rattle.world_laws.proofs.Lanes.OfAWorld.{Carries, IsSteady, Links, NoneIsFirm, Shown, WorldShows, asked_by, asked_in, first_duo, free_turn, plainly, plainly_free, turn_events, turn_is}
 use Rattle.world_laws.proofs.Promises.Made.{run_fresh}
 use Rattle.world_laws.proofs.Promises.OverOctets.{same_told}
 use Rattle.world_laws.proofs.Worlds.Steady.{always_steady}
@@ -167,10 +167,10 @@ pub same_books : (links : Links) (start : Start) (d : Duo) (w : WorldState Carri
 same_books links start d w h A = ap (λ (x : Duo). x.ab.send) h.duo_is ∙ ap (λ (v : WorldState Carried). (books_in v.books).send_a) (sym h.is)
 same_books links start d w h B = ap (λ (x : Duo). x.ba.send) h.duo_is ∙ ap (λ (v : WorldState Carried). (books_in v.books).send_b) (sym h.is)
 
-module _ (start : Start) (can : Carries start) where
+module _ (start : Start) (can : Carries start) (free : NoneIsFirm can.links) where
   turn_noted : (turn : Turn) (d : Duo) (w : WorldState Carried) → IsSteady w → Noted can.links start d w → (e : Duo) × Noted can.links start e (after_turn values turn w)
   turn_noted turn d w steady n =
-      let x : Shown can.links start turn d w = each_turn_shows start can turn d w steady n.holds n.shows in (
+      let x : Shown can.links start turn d w = each_turn_shows start can turn d w (free_turn can.links free turn w) steady n.holds n.shows in (
         x.duo,
         record {
           shows = x.world_shows;
@@ -243,7 +243,7 @@ module _ (links : Links) (start : Start) (w : WorldState Carried) (d : Duo) (n :
 
 pub delivered_were_granted : DeliveredFilesWereGranted
 delivered_were_granted start turns plain fit delivered s place below =
-    let can = plainly start plain in let n = all_noted start can turns in
+    let can = plainly start plain in let n = all_noted start can (plainly_free start plain) turns in
     subst (λ (x : WorldState (List ℕ)). WasGranted s place x.crew) (sym is)
     (shown_granted s place v (all_granted can.links start v n.0 n.1 s (told s) (writes_the_files values start turns) place below))
   where

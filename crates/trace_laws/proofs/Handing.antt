@@ -31,7 +31,7 @@ use Rattle.path_core.specs.Emission.{answered_data, data_stands, first_unsent, f
 use Rattle.path_core.specs.Ends.{PathEnd}
 use Rattle.path_core.specs.Looking.{departing, departing_as, first_sends, unsent_sends}
 use Rattle.path_core.specs.Octets.{made, octets, sum_of}
-use Rattle.path_core.specs.OptionsOut.{mapping_of, record_or_ack, spelled_by}
+use Rattle.path_core.specs.OptionsOut.{mapping_of, record_or_ack}
 use Rattle.path_segments.specs.Spelling.{whole_number}
 use Rattle.path_core.specs.State.{PathState, Profile, end_at, goes_on, with_agenda}
 use Rattle.path_core.specs.Steps.{answers, settled, settles_down, takes}
@@ -64,8 +64,8 @@ payload_is checksum segment whole =
 
 pub made_payload : (spelling : Spelling) (s : Side) (segment : PlainSegment) → payload_in (made spelling s segment) ≡ segment.payload
 unfolding segment_text spelled
-made_payload spelling s segment = payload_is (sum_of spelling s segment) (spelled spelling (spelled_by s) segment)
-    (padded_len (unpadded_options spelling (spelled_by s) segment))
+made_payload spelling s segment = payload_is (sum_of spelling s segment) (spelled spelling s segment)
+    (padded_len (unpadded_options spelling s segment))
 
 -- ---- a record that is pushed
 
@@ -130,7 +130,7 @@ pub record SendsNext (s : Side) (from_place : ℕ) (piece : List ℕ) (p : PathS
   pub source : Record
   pub sends : first_sends p.agenda p ≡ unsent_sends s (Some source)
   pub unsent : first_unsent (end_at s p) ≡ Some source
-  pub number : source.mapping.number ≡ whole_number p.profile.spelling (spelled_by s) from_place
+  pub number : source.mapping.number ≡ whole_number p.profile.spelling s from_place
   pub piece_is : source.piece ≡ piece
 
 -- what departs is of this side, and has this payload
@@ -140,7 +140,7 @@ DepartsWith s piece (Some d) = (d.from ≡ s) × (payload_in d.octets ≡ piece)
 
 departs : (s : Side) (from_place : ℕ) (piece : List ℕ) (r : Record) (p : PathState (List ℕ)) (o : Option Departing) → departing p ≡ o → DepartsWith s piece o
     → first_sends p.agenda p ≡ unsent_sends s (Some r) → first_unsent (end_at s p) ≡ Some r
-    → r.mapping.number ≡ whole_number p.profile.spelling (spelled_by s) from_place → r.piece ≡ piece → SendsNext s from_place piece p
+    → r.mapping.number ≡ whole_number p.profile.spelling s from_place → r.piece ≡ piece → SendsNext s from_place piece p
 departs s from_place piece r p None is with_it sends unsent number piece_is = absurd with_it
 departs s from_place piece r p (Some d) is with_it sends unsent number piece_is = record {
   sent = sent_as p d;
@@ -156,7 +156,7 @@ departs s from_place piece r p (Some d) is with_it sends unsent number piece_is 
 
 -- with its record as the first unsent one
 sends_record : (s : Side) (from_place : ℕ) (piece : List ℕ) (ds : List Duty) (r : Record) (p : PathState (List ℕ)) → p.agenda ≡ duties.Step (step_duties.Data s) ∷ ds
-    → first_unsent (end_at s p) ≡ Some r → r.mapping.number ≡ whole_number p.profile.spelling (spelled_by s) from_place → r.piece ≡ piece → SendsNext s from_place piece p
+    → first_unsent (end_at s p) ≡ Some r → r.mapping.number ≡ whole_number p.profile.spelling s from_place → r.piece ≡ piece → SendsNext s from_place piece p
 sends_record s from_place piece ds r p agenda first number piece_is =
     departs s from_place piece r p (option_map (departing_as p) (unsent_sends s (Some r)))
     (ap (λ (todo : List Duty). option_map (departing_as p) (first_sends todo p)) agenda
@@ -206,4 +206,4 @@ module _ (s : Side) (ds : List Duty) (span : Span) (piece : List ℕ) (p : PathS
       subst (SendsNext s span.from piece) (sym is)
       (sends_record s span.from piece ds (pushed p.profile s span piece (end_at s p)) (with_agenda (duties.Step (step_duties.Data s) ∷ ds) q) refl
       (ap first_unsent (end_is s (granted p.profile s span piece (end_at s p)) (duties.Step (step_duties.Data s) ∷ ds) p) ∙ unsent_is p.profile s span piece (end_at s p) none)
-      (ap (λ (c : Profile). whole_number c.spelling (spelled_by s) span.from) (sym (profile_is s (granted p.profile s span piece (end_at s p)) (duties.Step (step_duties.Data s) ∷ ds) p))) refl)
+      (ap (λ (c : Profile). whole_number c.spelling s span.from) (sym (profile_is s (granted p.profile s span piece (end_at s p)) (duties.Step (step_duties.Data s) ∷ ds) p))) refl)

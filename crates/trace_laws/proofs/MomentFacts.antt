@@ -39,7 +39,7 @@ use Rattle.path_core.specs.Emission.{first_unsent}
 use Rattle.path_core.specs.Ends.{PathEnd}
 use Rattle.path_core.specs.Looking.{departing, departing_as, first_sends}
 use Rattle.path_core.specs.Octets.{made, octets}
-use Rattle.path_core.specs.OptionsOut.{is_first_piece, place_numbered, record_or_ack, record_said, spelled_by}
+use Rattle.path_core.specs.OptionsOut.{is_first_piece, place_numbered, record_or_ack, record_said}
 use Rattle.path_core.specs.Shown.{shown_path}
 use Rattle.path_core.specs.State.{PathState, Profile, end_at, path_of}
 use Rattle.path_core.specs.Values.{Carried, values}
@@ -57,7 +57,7 @@ use Rattle.world_laws.proofs.Lanes.Beginning.{each_run_shows}
 use Rattle.world_laws.proofs.Worlds.CastLifting.{each_actor, path_actor, writes_the_files}
 use Rattle.world_laws.proofs.Worlds.Casts.{Walker, walking, world_of}
 use Rattle.world_laws.proofs.Lanes.Doing.{place_is}
-use Rattle.world_laws.proofs.Lanes.OfAWorld.{IsSteady, PathIsSteady, PathThere, StandsSo, WorldShows, duo_of, first_duo, plainly}
+use Rattle.world_laws.proofs.Lanes.OfAWorld.{IsSteady, PathIsSteady, PathThere, StandsSo, WorldShows, duo_of, first_duo, free_run, plainly, plainly_free}
 use Rattle.world_laws.proofs.Promises.Made.{run_fresh}
 use Rattle.world_laws.proofs.Lanes.Records.{every_find}
 use Rattle.world_laws.proofs.Lanes.Saying.{every_one}
@@ -126,11 +126,11 @@ module _ (start : Start) (n : ℕ) (plan : PathPlan) (there : slice_get start.pa
   abbrev planned : Profile
   planned = (path_begins start n plan).profile
 
-  keyed_at : (s : Side) → (numbers_of planned.spelling (spelled_by s)).idsn.0 ≡ idsn_of (pick s start.key_a start.key_b)
+  keyed_at : (s : Side) → (numbers_of planned.spelling s).idsn.0 ≡ idsn_of (pick s start.key_a start.key_b)
   keyed_at A = refl
   keyed_at B = refl
 
-  initial_is : (s : Side) → initial_in (initials_of start.paths) n s ≡ (numbers_of planned.spelling (spelled_by s)).initial.0 % 2 ^ 32
+  initial_is : (s : Side) → initial_in (initials_of start.paths) n s ≡ (numbers_of planned.spelling s).initial.0 % 2 ^ 32
   initial_is A = ap (λ (o : Option PathInitials). initial_at o A) (initials_there start.paths n plan there)
   initial_is B = ap (λ (o : Option PathInitials). initial_at o B) (initials_there start.paths n plan there)
 
@@ -168,7 +168,7 @@ module _ (start : Start) (turns : List Turn) (plain : IsPlain start) (fit : Numb
 
   shows : (d : Duo) × (WorldShows (plainly start plain).links start d v × Holds d)
   shows =
-      let can = plainly start plain in let r = each_run_shows start can turns in
+      let can = plainly start plain in let r = each_run_shows start can turns (free_run can.links (plainly_free start plain) turns (opened_world start)) in
       (after_events r.events (first_duo can.links start), (r.shows, any_held can.links.alters can.links.checked (length start.paths) start.buffer start.buffer r.events))
 
   abbrev h : WorldShows (plainly start plain).links start shows.0 v

@@ -49,7 +49,7 @@ use Rattle.path_agenda.specs.declared.heard.Heard.{Heard}
 use Rattle.path_agenda.specs.declared.heard.Heard.TheVariants as says
 use Rattle.link_trace.specs.declared.carried.Carried.{Carried}
 use Rattle.path_core.specs.Octets.{made, octets}
-use Rattle.path_core.specs.OptionsOut.{ack_said, carried_said, checksum_told, first_piece_options, infinite_or, is_first_piece, mapped_options, noted_said, owes_mapping, piece_mapping, piece_options, place_numbered, plain_options, record_options, record_or_ack, record_said, reset_said, spelled_by, syn_ack_said}
+use Rattle.path_core.specs.OptionsOut.{ack_said, carried_said, checksum_told, first_piece_options, infinite_or, is_first_piece, mapped_options, noted_said, owes_mapping, piece_mapping, piece_options, place_numbered, plain_options, record_options, record_or_ack, record_said, reset_said, syn_ack_said}
 use Rattle.path_core.specs.Passing.{ack_resent, answer_said, first_record, resend_said}
 use Rattle.path_core.specs.StreamEnds.{is_data_fin_owed}
 use Rattle.path_agenda.specs.declared.notice.OwnNotice.{OwnNotice}
@@ -113,8 +113,8 @@ pub record EndFacts (start : Start) (c : Profile) (n : ℕ) (s : Side) (e : Path
   pub few : n ≤ 15
   pub mss : c.mss < 2 ^ 16
   pub checksums : start.checksums ≡ c.spelling.checksums
-  pub keyed : (numbers_of c.spelling (spelled_by s)).idsn.0 ≡ idsn_of (pick s start.key_a start.key_b)
-  pub initial : initial_in (initials_of start.paths) n s ≡ (numbers_of c.spelling (spelled_by s)).initial.0 % 2 ^ 32
+  pub keyed : (numbers_of c.spelling s).idsn.0 ≡ idsn_of (pick s start.key_a start.key_b)
+  pub initial : initial_in (initials_of start.paths) n s ≡ (numbers_of c.spelling s).initial.0 % 2 ^ 32
 
 -- the mapping of a record on its lane
 module _ (v : View) (n place position len : ℕ) (out : Lane) (holds : LaneHolds v n out) (has : HasMapping out.datas place position len) where
@@ -191,17 +191,17 @@ module _ (start : Start) (p : PathState (List ℕ)) (n : ℕ) (x : Sent) (h : En
     options_are = ap (λ kind. record_options kind c s r e) f.kind
 
     -- its one option can be written
-    one_of : (o : PlainOption) → sg.options ≡ o ∷ [] → OneSaid c.spelling (spelled_by s) sg.options
+    one_of : (o : PlainOption) → sg.options ≡ o ∷ [] → OneSaid c.spelling s sg.options
     one_of o one =
-        subst (OneSaid c.spelling (spelled_by s)) (sym one) (
-          (All-head (CanSayOption c.spelling (spelled_by s)) o [] (subst (All (CanSayOption c.spelling (spelled_by s))) one told.sayable.options)).form,
+        subst (OneSaid c.spelling s) (sym one) (
+          (All-head (CanSayOption c.spelling s) o [] (subst (All (CanSayOption c.spelling s)) one told.sayable.options)).form,
           (All-head (OptionTells c s) o [] (subst (All (OptionTells c s)) one told.options)).fits,
         )
 
-    none_of : sg.options ≡ [] → OneSaid c.spelling (spelled_by s) sg.options
-    none_of none = subst (OneSaid c.spelling (spelled_by s)) (sym none) tt
+    none_of : sg.options ≡ [] → OneSaid c.spelling s sg.options
+    none_of none = subst (OneSaid c.spelling s) (sym none) tt
 
-    is_said : OneSaid c.spelling (spelled_by s) sg.options → IsSaid base initials x c.spelling sg key
+    is_said : OneSaid c.spelling s sg.options → IsSaid base initials x c.spelling sg key
     is_said one = record {
       can = told.sayable;
       path = path ∙ numbered ∙ sym h.path;
@@ -215,8 +215,8 @@ module _ (start : Start) (p : PathState (List ℕ)) (n : ℕ) (x : Sent) (h : En
     }
 
     -- the position tells the place
-    at_position : (one : OneSaid c.spelling (spelled_by s) sg.options)
-        → place_mapped (mapping_said c.spelling (spelled_by s) sg.options) (first_byte base s) (sg.position % 2 ^ 32) ≡ None
+    at_position : (one : OneSaid c.spelling s sg.options)
+        → place_mapped (mapping_said c.spelling s sg.options) (first_byte base s) (sg.position % 2 ^ 32) ≡ None
         → (n ≡ 0) × (suc place ≡ r.pos) → Placed base initials x place (length r.piece)
     at_position one unmapped at = by_position base initials x c.spelling sg key (is_said one) place unmapped (path ∙ numbered ∙ at.0) at.1 f.small
 

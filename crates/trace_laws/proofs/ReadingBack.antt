@@ -3,9 +3,8 @@ use Rattle.std.proofs.Common.{◌≡◌, refl, sym, ◌∙◌, ap, subst, ℕ, z
 use Rattle.std.specs.Option.{option_or}
 use Rattle.std.proofs.lemmas.Bool.{ne_eqb}
 use Rattle.outside_kit.specs.declared.side.Side.{Side}
-use Rattle.outside_kit.specs.declared.side.Side.TheVariants.{A, B}
+use Rattle.outside_kit.specs.Side.{peer}
 use Rattle.key_material.specs.KeyDigest.{idsn_of}
-use Rattle.link_model.specs.Octets as links
 use Rattle.mptcp_options.specs.declared.capable.CapableKeys.{CapableKeys}
 use Rattle.mptcp_options.specs.declared.dss.DataNumber.TheVariants.{Low, Whole}
 use Rattle.mptcp_options.specs.declared.dss.DssMap.{DssMap}
@@ -19,37 +18,31 @@ use Rattle.segment_wire.specs.Reading.{segment_meaning}
 use Rattle.segment_wire.specs.Segment.{Segment}
 use Rattle.segment_wire.proofs.Again.{segment_meaning-written}
 use Rattle.segment_wire.proofs.Appended.{IsOption, option_octets-append}
+use Rattle.segment_wire.specs.Paths.{addresses_from}
 use Rattle.path_segments.specs.declared.segment.PathMapping.{PathMapping}
 use Rattle.path_segments.specs.declared.segment.PathMapping.TheVariants.{Bytes, Infinite}
 use Rattle.path_segments.specs.declared.segment.PathOption.TheVariants.{Capable, Dss}
-use Rattle.path_segments.specs.declared.spelling.Side.{Side as SpelledSide}
 use Rattle.path_segments.specs.declared.spelling.Spelling.{Spelling}
 use Rattle.path_segments.specs.Options.{PlainOption, said_mapping, said_option}
 use Rattle.path_segments.specs.Spelled.{CanSay, PlainSegment, options_text, padded, padding, spelled, spelled_text, syn_text, unpadded_options}
-use Rattle.path_segments.specs.Spelling.{addresses_from, data_number, numbers_of, peer_of, subflow_number, whole_number}
+use Rattle.path_segments.specs.Spelling.{data_number, numbers_of, subflow_number, whole_number}
 use Rattle.path_segments.proofs.SegmentsAgain.{four, written}
 use Rattle.link_trace.specs.declared.carried.Base.{Base}
 use Rattle.link_trace.specs.declared.carried.PathInitials.{PathInitials}
 use Rattle.link_trace.specs.declared.sent.Sent.{Sent}
 use Rattle.link_trace.specs.Carrying.{behind, carried_in, carried_of, carries, dss_in, dss_read, first_byte, first_number, initial_in, low_half, low_number, mapped, no_dss, payload_len, place_mapped, place_of, place_plain, value_dss}
 use Rattle.link_trace.specs.Meanings.{meaning_in}
-use Rattle.path_core.specs.OptionsOut.{spelled_by}
 
 -- ---- the segment
 
-same_addresses : (path : ℕ) (s : Side) → links.addresses_from path s ≡ addresses_from path (spelled_by s)
-same_addresses path A = refl
-same_addresses path B = refl
-
 -- octets that are made of a segment mean it
-pub meant : (x : Sent) (spelling : Spelling) (sg : PlainSegment) → CanSay spelling (spelled_by x.from) sg → x.path ≡ spelling.path
-    → x.octets ≡ spelled_text spelling (spelled_by x.from) sg → meaning_in x ≡ Ok (spelled spelling (spelled_by x.from) sg)
+pub meant : (x : Sent) (spelling : Spelling) (sg : PlainSegment) → CanSay spelling x.from sg → x.path ≡ spelling.path
+    → x.octets ≡ spelled_text spelling x.from sg → meaning_in x ≡ Ok (spelled spelling x.from sg)
 meant x spelling sg can path is =
-    let from = spelled_by x.from in
-    ap (λ (n : ℕ). segment_meaning (links.addresses_from n x.from) x.octets) path
-    ∙ ap (λ addresses. segment_meaning addresses x.octets) (same_addresses spelling.path x.from)
+    let from = x.from in
+    ap (λ (n : ℕ). segment_meaning (addresses_from n x.from) x.octets) path
     ∙ ap (segment_meaning (addresses_from spelling.path from)) is
-    ∙ segment_meaning-written (addresses_from spelling.path from) (spelled spelling from sg) (four spelling.path from) (four spelling.path (peer_of from)) (written spelling from sg can)
+    ∙ segment_meaning-written (addresses_from spelling.path from) (spelled spelling from sg) (four spelling.path from) (four spelling.path (peer from)) (written spelling from sg can)
 
 -- ---- its DSS
 
@@ -71,17 +64,17 @@ one_read v checksums k form fits =
     ∙ ap (λ (os : List (List ℕ)). unwrap_or (value_dss v) (dss_in checksums os)) (zeros_none k)
 
 -- the mapping that a segment's options tell, of which there is one at most
-abbrev pub mapping_said : Spelling → SpelledSide → List PlainOption → Option DssMap
+abbrev pub mapping_said : Spelling → Side → List PlainOption → Option DssMap
 mapping_said spelling from [] = None
 mapping_said spelling from (o ∷ options) = (unwrap_or (value_dss (said_option spelling from o)) no_dss).mapping
 
 -- there is one at most, which can be written
-abbrev pub OneSaid : Spelling → SpelledSide → List PlainOption → Type 0
+abbrev pub OneSaid : Spelling → Side → List PlainOption → Type 0
 OneSaid spelling from [] = Unit {0}
 OneSaid spelling from (o ∷ []) = HasForm spelling.checksums (said_option spelling from o) × Fits (said_option spelling from o)
 OneSaid spelling from (o ∷ other ∷ others) = ⊥
 
-module _ (spelling : Spelling) (from : SpelledSide) where
+module _ (spelling : Spelling) (from : Side) where
   options_read : (options : List PlainOption) → OneSaid spelling from options
       → (dss_in spelling.checksums (option_octets (padded (options_text spelling from options)))).mapping ≡ mapping_said spelling from options
   options_read [] one = refl
@@ -91,8 +84,8 @@ module _ (spelling : Spelling) (from : SpelledSide) where
 -- ---- a segment without SYN
 
 module _ (base : Base) (initials : List PathInitials) (x : Sent) (spelling : Spelling) (sg : PlainSegment) where
-  abbrev from : SpelledSide
-  from = spelled_by x.from
+  abbrev from : Side
+  from = x.from
 
   -- as it is read
   record Reads : Type 0 where
@@ -138,7 +131,7 @@ module _ (base : Base) (initials : List PathInitials) (x : Sent) (spelling : Spe
 
 -- ---- the place of a mapping
 
-low_is : (spelling : Spelling) (side : SpelledSide) (place : ℕ) → low_number (data_number spelling side place) ≡ whole_number spelling side place % 2 ^ 32
+low_is : (spelling : Spelling) (side : Side) (place : ℕ) → low_number (data_number spelling side place) ≡ whole_number spelling side place % 2 ^ 32
 low_is spelling side place = by spelling.short
   where
     by : (b : Bool) → low_number (if b then Low (whole_number spelling side place % 2 ^ 32) else Whole (whole_number spelling side place)) ≡ whole_number spelling side place % 2 ^ 32
@@ -148,7 +141,7 @@ low_is spelling side place = by spelling.short
 number_back : (idsn place : ℕ) → behind ((idsn + (place + 1)) % 2 ^ 64 % 2 ^ 32) ((idsn % 2 ^ 32 + 1) % 2 ^ 32) ≡ place % 2 ^ 32
 number_back idsn place = omega arith
 
-module _ (spelling : Spelling) (from : SpelledSide) (key : ℕ) (keyed : (numbers_of spelling from).idsn.0 ≡ idsn_of key) where
+module _ (spelling : Spelling) (from : Side) (key : ℕ) (keyed : (numbers_of spelling from).idsn.0 ≡ idsn_of key) where
   start_back : (place : ℕ) → behind (low_number (data_number spelling from place)) (first_number key) ≡ place % 2 ^ 32
   start_back place =
       ap (λ (n : ℕ). behind n (first_number key)) (low_is spelling from place)
@@ -172,14 +165,14 @@ pub record Placed (base : Base) (initials : List PathInitials) (x : Sent) (place
 
 -- a segment that can be said, without SYN, and with one option at most
 pub record IsSaid (base : Base) (initials : List PathInitials) (x : Sent) (spelling : Spelling) (sg : PlainSegment) (key : ℕ) : Type 0 where
-  pub can : CanSay spelling (spelled_by x.from) sg
+  pub can : CanSay spelling x.from sg
   pub path : x.path ≡ spelling.path
-  pub octets : x.octets ≡ spelled_text spelling (spelled_by x.from) sg
+  pub octets : x.octets ≡ spelled_text spelling x.from sg
   pub none : sg.mss ≡ None
-  pub one : OneSaid spelling (spelled_by x.from) sg.options
+  pub one : OneSaid spelling x.from sg.options
   pub checksums : base.checksums ≡ spelling.checksums
-  pub initial : initial_in initials x.path x.from ≡ (numbers_of spelling (spelled_by x.from)).initial.0 % 2 ^ 32
-  pub keyed : (numbers_of spelling (spelled_by x.from)).idsn.0 ≡ idsn_of key
+  pub initial : initial_in initials x.path x.from ≡ (numbers_of spelling x.from).initial.0 % 2 ^ 32
+  pub keyed : (numbers_of spelling x.from).idsn.0 ≡ idsn_of key
   pub first : first_byte base x.from ≡ first_number key
 
 module _ (base : Base) (initials : List PathInitials) (x : Sent) (spelling : Spelling) (sg : PlainSegment) (key : ℕ) (h : IsSaid base initials x spelling sg key) where
@@ -191,14 +184,14 @@ module _ (base : Base) (initials : List PathInitials) (x : Sent) (spelling : Spe
       → 1 ≤ len → place < 2 ^ 31 → Placed base initials x place (length sg.payload)
   by_mapping next place len checksum options some small = record {
     told = read.place
-        ∙ ap (λ (os : List PlainOption). place_of x.path (mapping_said spelling (spelled_by x.from) os) (first_byte base x.from) (sg.position % 2 ^ 32)) options
-        ∙ ap (λ (n : ℕ). place_of x.path (Some (said_mapping spelling (spelled_by x.from) (Bytes place sg.position len false checksum))) n (sg.position % 2 ^ 32)) h.first
-        ∙ ap (λ (o : Option ℕ). option_or o (place_plain x.path (sg.position % 2 ^ 32))) (mapped_back spelling (spelled_by x.from) key h.keyed place sg.position len checksum some small);
+        ∙ ap (λ (os : List PlainOption). place_of x.path (mapping_said spelling x.from os) (first_byte base x.from) (sg.position % 2 ^ 32)) options
+        ∙ ap (λ (n : ℕ). place_of x.path (Some (said_mapping spelling x.from (Bytes place sg.position len false checksum))) n (sg.position % 2 ^ 32)) h.first
+        ∙ ap (λ (o : Option ℕ). option_or o (place_plain x.path (sg.position % 2 ^ 32))) (mapped_back spelling x.from key h.keyed place sg.position len checksum some small);
     len_is = read.len;
   }
 
   -- without one on path 0
-  pub by_position : (place : ℕ) → place_mapped (mapping_said spelling (spelled_by x.from) sg.options) (first_byte base x.from) (sg.position % 2 ^ 32) ≡ None
+  pub by_position : (place : ℕ) → place_mapped (mapping_said spelling x.from sg.options) (first_byte base x.from) (sg.position % 2 ^ 32) ≡ None
       → x.path ≡ 0 → suc place ≡ sg.position → place < 2 ^ 31 → Placed base initials x place (length sg.payload)
   by_position place unmapped path at small = record {
     told = read.place
@@ -208,13 +201,13 @@ module _ (base : Base) (initials : List PathInitials) (x : Sent) (spelling : Spe
     len_is = read.len;
   }
 
-  pub unmapped_none : sg.options ≡ [] → place_mapped (mapping_said spelling (spelled_by x.from) sg.options) (first_byte base x.from) (sg.position % 2 ^ 32) ≡ None
-  unmapped_none is = ap (λ (os : List PlainOption). place_mapped (mapping_said spelling (spelled_by x.from) os) (first_byte base x.from) (sg.position % 2 ^ 32)) is
+  pub unmapped_none : sg.options ≡ [] → place_mapped (mapping_said spelling x.from sg.options) (first_byte base x.from) (sg.position % 2 ^ 32) ≡ None
+  unmapped_none is = ap (λ (os : List PlainOption). place_mapped (mapping_said spelling x.from os) (first_byte base x.from) (sg.position % 2 ^ 32)) is
 
-  pub unmapped_keys : (a b : Bool) (keys : CapableKeys) → sg.options ≡ Capable a b keys ∷ [] → place_mapped (mapping_said spelling (spelled_by x.from) sg.options) (first_byte base x.from) (sg.position % 2 ^ 32) ≡ None
-  unmapped_keys a b keys is = ap (λ (os : List PlainOption). place_mapped (mapping_said spelling (spelled_by x.from) os) (first_byte base x.from) (sg.position % 2 ^ 32)) is
+  pub unmapped_keys : (a b : Bool) (keys : CapableKeys) → sg.options ≡ Capable a b keys ∷ [] → place_mapped (mapping_said spelling x.from sg.options) (first_byte base x.from) (sg.position % 2 ^ 32) ≡ None
+  unmapped_keys a b keys is = ap (λ (os : List PlainOption). place_mapped (mapping_said spelling x.from os) (first_byte base x.from) (sg.position % 2 ^ 32)) is
 
   -- the infinite mapping
   pub unmapped_infinite : (next : Option ℕ) (place position : ℕ) → sg.options ≡ Dss next (Some (Infinite place position)) ∷ []
-      → place_mapped (mapping_said spelling (spelled_by x.from) sg.options) (first_byte base x.from) (sg.position % 2 ^ 32) ≡ None
-  unmapped_infinite next place position is = ap (λ (os : List PlainOption). place_mapped (mapping_said spelling (spelled_by x.from) os) (first_byte base x.from) (sg.position % 2 ^ 32)) is
+      → place_mapped (mapping_said spelling x.from sg.options) (first_byte base x.from) (sg.position % 2 ^ 32) ≡ None
+  unmapped_infinite next place position is = ap (λ (os : List PlainOption). place_mapped (mapping_said spelling x.from os) (first_byte base x.from) (sg.position % 2 ^ 32)) is

@@ -1,5 +1,5 @@
--- Folds over the actors, and lists that lose their last note again.
-use Rattle.std.proofs.Common.{◌≡◌, refl, sym, ◌∙◌, ap, subst, ℕ, zero, suc, ◌<◌, ◌≤◌, ◌&&◌, Option, Some, None, IfSome, IsNone, List, [], ◌∷◌, ◌++◌, length, set, Result, Ok, Err, IfOk, OnOk, OnErr, arith}
+-- Folds over the actors, and what stands at a place.
+use Rattle.std.proofs.Common.{◌≡◌, refl, sym, ◌∙◌, ap, subst, ℕ, zero, suc, ◌<◌, ◌≤◌, ◌&&◌, Some, None, List, [], ◌∷◌, length, set, Result, Ok, Err, IfOk, OnOk, OnErr, arith}
 use Rattle.std.proofs.lemmas.Option.{same_Some, slice_get-get_or}
 use Rattle.std.specs.List.{slice_get, slice_index_or, list_all}
 use Rattle.world_laws.specs.Actors.{ActorCrew, is_over}
@@ -16,15 +16,6 @@ module _ {C : Type 0} where
   are_all_dead_is (c ∷ crew) = ap (λ b. is_no_live_path c.member && b) (are_all_dead_is crew)
 
 module _ {X : Type 0} where
-  -- lists that are the same with a last item are the same without it
-  pub same_front : (xs ys : List X) (a b : X) → xs ++ a ∷ [] ≡ ys ++ b ∷ [] → xs ≡ ys
-  same_front [] [] a b e = refl
-  same_front [] (y ∷ []) a b e = cc
-  same_front [] (y ∷ z ∷ ys) a b e = cc
-  same_front (x ∷ []) [] a b e = cc
-  same_front (x ∷ z ∷ xs) [] a b e = cc
-  same_front (x ∷ xs) (y ∷ ys) a b e = let rest = same_front xs ys a b cc in cc
-
   -- what stands at a place is put there again
   pub put_again : (xs : List X) (i : ℕ) (x : X) → slice_get xs i ≡ Some x → set xs i x ≡ xs
   put_again [] i x there = refl
@@ -57,12 +48,3 @@ module _ {X : Type 0} where
       by [] j past = refl
       by (x ∷ xs) zero past = absurd (omega (arith, past))
       by (x ∷ xs) (suc j) past = by xs j (omega (arith, past))
-
-  -- a list that had a last item more, without it
-  pub popped : (r : Option X) (old new xs : List X) (x : X) → IfSome r (λ y. old ≡ new ++ y ∷ []) → (IsNone r → old ≡ []) → old ≡ xs ++ x ∷ [] → new ≡ xs
-  popped None old new xs x some none is = absurd (not_nil xs (sym (none refl) ∙ is))
-    where
-      not_nil : (xs : List X) → [] ≡ xs ++ x ∷ [] → ⊥
-      not_nil [] e = cc
-      not_nil (z ∷ xs) e = cc
-  popped (Some y) old new xs x some none is = same_front new xs y x (sym some ∙ is)

@@ -49,6 +49,7 @@ heard_report None actor h = h
 heard_report (Some told) actor h = heard_told actor told h
 
 module _ {C : Type 0} where
+  -- by all steps of both readers
   abbrev pub heard_by : List (ActorCrew C) → Hearing
   heard_by crew = record { a = told_by (notes_of A crew); b = told_by (notes_of B crew) }
 

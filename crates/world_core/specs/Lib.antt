@@ -7,3 +7,4 @@ pub mod AsValues
 pub mod RoundEnds
 pub mod Weaving
 pub mod Looking
+pub mod Logged

@@ -8,6 +8,7 @@ use Rattle.world_laws.specs.Fine.{lists_of}
 use Rattle.world_laws.specs.Outcomes.{output_of}
 use Rattle.world_laws.specs.Worlds.{WorldState, Turn, world_step, end_round, greatest}
 
+-- a connection whose links carry octets
 abbrev Connection : Type 0
 Connection = WorldState (List ℕ)
 

@@ -1,6 +1,6 @@
 //! The step of an actor at a book, or at none.
 
-ghost use Rattle.std.specs.Prelude.{◌≡◌, ◌+◌, ◌^◌, ◌<◌, ◌↔◌, Some, IsTrue, IfOk, OnOk};
+ghost use Rattle.std.specs.Prelude.{◌≡◌, ◌<◌, ◌↔◌, Some, IsTrue, IfOk, OnOk};
 ghost use Rattle.actor_desk.specs.Bounds.{TakesReply};
 ghost use Rattle.actor_desk.specs.Kinds.{CanBeAsked};
 ghost use Rattle.actor_desk.specs.Noted.{Rises};
@@ -9,22 +9,7 @@ ghost use Rattle.actor_desk.specs.Books.{stamp_of, after_entry};
 ghost use Rattle.world_laws.specs.Worlds.{note_of};
 
 use actor_desk::{Ask, Books, Desk, Note, Reply};
-use stamped_book::{Pass, Refusal};
-
-// The greatest stamp.
-const LAST_STAMP: u64 = (1 << 62) - 1;
-
-// The stamp after this one.
-fn go_on(pass: &mut Pass) -> Result<(), Refusal>
-    ensures pass { OnOk result (pass.new ≡ record pass.old { stamp = pass.old.stamp + 1 }) }
-    ensures small { OnOk result (pass.new.stamp < 2 ^ 62) }
-{
-    if pass.stamp >= LAST_STAMP {
-        return Err(Refusal::Stamps);
-    }
-    pass.stamp += 1;
-    Ok(())
-}
+use stamped_book::{Pass, Refusal, go_on};
 
 // The reply to an ask, by its book; a local step is made by nobody.
 fn answered(books: &mut Books, pass: &mut Pass, ask: &Ask) -> Result<Reply, Refusal>

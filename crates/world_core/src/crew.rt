@@ -1,6 +1,6 @@
 //! One step of an actor with the books.
 
-ghost use Rattle.std.specs.Prelude.{◌≡◌, ◌^◌, ◌<◌, ◌++◌, [], ◌∷◌, length, nat_lt, false, List, Some, IfOk, IfSome, OnOk, OnErr, option_map};
+ghost use Rattle.std.specs.Prelude.{◌≡◌, ◌^◌, ◌<◌, ◌++◌, [], ◌∷◌, length, false, Some, IfOk, IfSome, OnOk, OnErr, option_map};
 ghost use Rattle.std.specs.List.{slice_get};
 ghost use Rattle.actor_desk.specs.declared.ask.Note.{Note};
 ghost use Rattle.path_core.specs.Octets.{octets};
@@ -15,23 +15,6 @@ use crate::report::Report;
 use actor_desk::{Actor, Books, Note, Notes};
 use stamped_book::Refusal;
 use std::alloc::{AllocError, Global};
-
-// The most notes that a list has. 2^57 are longer than a vector can be.
-const MOST_NOTES: u64 = (1 << 57) - 1;
-
-// Whether the actor's list has room for a note.
-fn has_room(crew: &Crew) -> bool
-    ensures { result ≡ nat_lt (length crew.now.list) 144115188075855871 }
-{
-    (crew.list.len() as u64) < MOST_NOTES
-}
-
-// The last note leaves the list.
-fn take_back(list: &mut Notes)
-    ensures { (notes : List Note) (note : Note) → list.old ≡ notes ++ note ∷ [] → list.new ≡ notes }
-{
-    list.pop();
-}
 
 // The actor takes the reply of its note of this number, the first being 0, and what is wanted of the note is answered. Where there is
 // no such note nothing is done.
@@ -76,7 +59,7 @@ fn keep<R: Report + Drop>(crew: &mut Crew, note: Note) -> Result<Option<R>, Allo
     crew.list.push(note)?;
     let taken = take_noted::<R>(&mut crew.member, &crew.list, index);
     if taken.is_err() {
-        take_back(&mut crew.list);
+        crew.list.take_back();
     }
     taken
 }
@@ -105,7 +88,7 @@ pub(crate) fn step<R: Report + Drop>(
     let Some(ask) = crew.member.ask(alloc)? else {
         return Ok(None);
     };
-    if !has_room(crew) {
+    if !crew.list.has_room() {
         return Err(Refusal::Memory);
     }
     let note = serve(books, &mut crew.pass, ask)?;

@@ -9,7 +9,7 @@ use actor_desk::{Note, Reply};
 use reassembly_book::ReassemblyReply;
 
 /// What a reader was told.
-#[derive(Clone, Copy, Debug, PartialEq, Eq)]
+#[derive(Clone, Copy)]
 pub(crate) struct Told {
     /// The end of its stream.
     pub end: bool,
@@ -18,7 +18,7 @@ pub(crate) struct Told {
 }
 
 /// What both readers were told.
-#[derive(Clone, Copy, Debug, PartialEq, Eq)]
+#[derive(Clone, Copy)]
 pub(crate) struct Hearing {
     pub a: Told,
     pub b: Told,

@@ -8,6 +8,7 @@ mod asking;
 mod crew;
 mod hearing;
 mod input;
+mod logged;
 mod looking;
 mod member;
 mod reading;
@@ -19,6 +20,7 @@ mod weaving;
 mod whole_turns;
 mod world;
 
+pub use logged::told_outcome;
 pub use member::{Crew, Member};
 pub use reading::read_since;
 pub use stepped::Stepped;

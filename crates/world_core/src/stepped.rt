@@ -3,7 +3,7 @@
 use actor_desk::Note;
 
 /// What a step of an actor is answered.
-#[derive(Debug, Drop, PartialEq)]
+#[derive(Drop)]
 pub enum Stepped {
     /// The step was made, and this is its note.
     Made(Note),

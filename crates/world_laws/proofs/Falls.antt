@@ -8,4 +8,7 @@ pub mod GivenToOnePath
 pub mod Loosening
 pub mod Owned
 pub mod AreRight
+pub mod ByTheJournal
 pub mod ForEver
+pub mod ForGood
+pub mod FirmRuns

@@ -10,3 +10,4 @@ pub mod Books
 pub mod ToldAreOwn
 pub mod DssIsTheSign
 pub mod SureMaySend
+pub mod ByJournals

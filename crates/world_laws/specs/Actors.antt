@@ -12,6 +12,7 @@ use Rattle.path_core.specs.Steps.{asks_of, takes, next_round}
 use Rattle.world_laws.specs.declared.member.Member.{Member}
 use Rattle.world_laws.specs.declared.member.Member.TheVariants.{App, Path}
 
+-- an application or a path
 abbrev pub Actor : Type 0 → Type 0
 Actor C = Member AppState (PathState C)
 

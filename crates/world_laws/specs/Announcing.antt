@@ -35,6 +35,7 @@ abbrev pub announces : ℕ → PlainOption → Bool
 announces id (AddAddr echo other address port hmac) = not echo && other == id
 announces id _ = false
 
+-- one of the segment's options is one
 abbrev pub is_announcement : ℕ → PlainSegment → Bool
 is_announcement id segment = list_any (announces id) segment.options
 
@@ -96,5 +97,6 @@ module _ {C : Type 0} where
       IfSome (first_sends p.agenda p)
       (λ t. (id : ℕ) → is_announcement id (segment_sent p t) ≡ true → WasTold t.from id notes (control_journal t.from books).journal)
 
+  -- so it is with every path
   pub record AnnouncementsEnd (w : WorldState C) : Type 0 where
     pub each : (actor : ℕ) (c : ActorCrew C) → slice_get w.crew actor ≡ Some c → AnnouncesAsTold w.books c.list c.member

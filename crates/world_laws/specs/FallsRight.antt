@@ -1,30 +1,25 @@
 -- A side that fell back to plain TCP did so rightly: neither side began or answers a join, so that path 0 carries all of both streams,
 -- each byte at the position of its place (RFC 8684, section 3.7).
-use Rattle.std.specs.Prelude.{ℕ, suc, ◌≡◌, ◌||◌, Bool, true, false, Some, List, [], ◌∷◌, slice_get}
+use Rattle.std.specs.Prelude.{ℕ, suc, ◌≡◌, ◌||◌, Bool, true, false, Some, List, slice_get}
 use Rattle.std.specs.List.{list_any}
 use Rattle.outside_kit.specs.declared.side.Side.{Side}
 use Rattle.outside_kit.specs.declared.side.Side.TheVariants.{A, B}
-use Rattle.stamped_book.specs.declared.stamped.Entry.{Entry}
 use Rattle.fallback_state.specs.Modes.{is_identity}
 use Rattle.subflow_send.specs.declared.record.RecordKind.{RecordKind}
 use Rattle.subflow_send.specs.declared.record.RecordKind.TheVariants.{Syn, Data, Fin}
 use Rattle.subflow_send.specs.Records.{Record}
-use Rattle.control_book.specs.declared.call.ControlCall.{ControlCall}
-use Rattle.control_book.specs.declared.call.ControlReply.{ControlReply}
-use Rattle.control_book.specs.Control.{Control}
 use Rattle.control_book.specs.Replies.{is_aborted}
-use Rattle.control_book.specs.Steps as control
 use Rattle.stream_lanes.specs.Words.{Every}
 use Rattle.actor_desk.specs.declared.ask.Note.{Note}
-use Rattle.actor_desk.specs.Books.{ControlJournal, books_in}
+use Rattle.actor_desk.specs.Books.{books_in}
 use Rattle.actor_desk.specs.Desk.{control_of}
-use Rattle.actor_desk.specs.Words.{pick}
 use Rattle.path_core.specs.Codec.{Codec}
 use Rattle.path_core.specs.Ends.{PathEnd}
 use Rattle.path_core.specs.OptionsOut.{place_numbered}
 use Rattle.path_core.specs.State.{Profile, end_at}
 use Rattle.world_laws.specs.declared.member.Member.TheVariants.{App, Path}
 use Rattle.world_laws.specs.Actors.{Actor, ActorCrew}
+use Rattle.world_laws.specs.ModesSoFar.{was_ever}
 use Rattle.world_laws.specs.RoundEnd.{asks_grant}
 use Rattle.world_laws.specs.Worlds.{WorldState, Turn, world_run}
 
@@ -43,15 +38,6 @@ pub record EndIsPlain (c : Profile) (s : Side) (e : PathEnd) : Type 0 where
   pub records : Every (λ r. IsAtPlace r.kind c s r) e.tcp.send.records
   pub learned : Every (λ kept. suc kept.place ≡ kept.pos) e.receiving.mappings.live
 
--- whether this control book, or one that the entries make of it one by one, is in plain TCP
-abbrev pub fell_by : Control → List (Entry ControlCall ControlReply) → Bool
-fell_by book [] = is_identity book.fall.mode
-fell_by book (entry ∷ entries) =
-    is_identity book.fall.mode || fell_by (control.after book entry.call) entries
-
-abbrev pub fell_in : ControlJournal → Bool
-fell_in stamped = fell_by stamped.opening stamped.journal
-
 module _ {C : Type 0} where
   -- the side is in plain TCP
   abbrev pub is_fallen : Side → WorldState C → Bool
@@ -59,7 +45,7 @@ module _ {C : Type 0} where
 
   -- or was, by its control book's journal
   abbrev pub has_fallen : Side → WorldState C → Bool
-  has_fallen s w = fell_in (pick s w.books.control_a w.books.control_b)
+  has_fallen s w = was_ever is_identity s w
 
   -- the connection was stopped there, by the side itself or its peer
   abbrev pub is_stopped : Side → WorldState C → Bool
@@ -90,5 +76,6 @@ module _ {C : Type 0} where
   PathIsPlain (App a) = Unit {0}
   PathIsPlain (Path p) = (s : Side) → EndIsPlain p.profile s (end_at s p)
 
+  -- so it is on path 0 where a side fell
   pub record PositionsArePlaces (w : WorldState C) : Type 0 where
     pub each : (s : Side) → has_fallen s w ≡ true → (c : ActorCrew C) → slice_get w.crew 2 ≡ Some c → PathIsPlain c.member

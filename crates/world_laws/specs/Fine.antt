@@ -25,6 +25,7 @@ abbrev pub AreStamped : {C R : Type 0} → ℕ → List (Entry C R) → Type 0
 AreStamped last [] = Unit {0}
 AreStamped last (entry ∷ entries) = (entry.stamp ≡ max last entry.seen + 1) × AreStamped entry.stamp entries
 
+-- so it is in the journal of each book
 pub record BooksAreStamped (books : StampedBooks) : Type 0 where
   pub send_a : AreStamped 0 books.send_a.journal
   pub send_b : AreStamped 0 books.send_b.journal
@@ -54,6 +55,7 @@ pub record IsFineCrew {C : Type 0} (top number : ℕ) (c : ActorCrew C) : Type 0
   pub unrefused : c.refused ≡ None
 
 module _ {C : Type 0} where
+  -- the steps of each actor
   abbrev pub lists_of : List (ActorCrew C) → List (List Note)
   lists_of crew = map (λ c. c.list) crew
 

@@ -13,6 +13,7 @@ pub record IsFreshPath (p : PathState Carried) : Type 0 where
   pub next : NextIsFresh p
   pub sent : SentCanBeAltered p
 
+-- an application hears no copy and sends no segment
 abbrev pub IsFreshMember : Actor Carried → Type 0
 IsFreshMember (App a) = Unit {0}
 IsFreshMember (Path p) = IsFreshPath p
@@ -21,10 +22,12 @@ abbrev pub IsFreshCrew : Option (ActorCrew Carried) → Type 0
 IsFreshCrew None = Unit {0}
 IsFreshCrew (Some c) = IsFreshMember c.member
 
+-- of a step: for the actor that makes it
 abbrev pub IsFreshTurn : Turn → WorldState Carried → Type 0
 IsFreshTurn (Turn.Step actor) w = IsFreshCrew (slice_get w.crew actor)
 IsFreshTurn Turn.Round w = Unit {0}
 
+-- so is each turn in the world that those before it lead to
 abbrev pub AreFresh : List Turn → WorldState Carried → Type 0
 AreFresh [] w = Unit {0}
 AreFresh (turn ∷ turns) w = IsFreshTurn turn w × AreFresh turns (after_turn values turn w)

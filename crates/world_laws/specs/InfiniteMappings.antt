@@ -2,8 +2,8 @@
 -- section 3.7).
 use Rattle.std.specs.Prelude.{ℕ, ◌≡◌, ◌+◌, ◌-◌, ◌≤◌, Option, Some, slice_get}
 use Rattle.outside_kit.specs.declared.side.Side.{Side}
+use Rattle.outside_kit.specs.Side.{peer}
 use Rattle.link_model.specs.declared.flight.Flight.{Flight}
-use Rattle.link_model.specs.Steps.{peer}
 use Rattle.path_segments.specs.declared.segment.PathMapping.{PathMapping}
 use Rattle.path_segments.specs.declared.segment.PathMapping.TheVariants.{Infinite}
 use Rattle.path_segments.specs.declared.segment.PathOption.TheVariants.{Dss}
@@ -31,6 +31,7 @@ abbrev pub MappingIsRight : Profile → Side → PathEnd → Option (PathMapping
 MappingIsRight c s e (Some (Infinite place position)) = Every (λ r. IsUnder place position r.kind c s r) e.tcp.send.records
 MappingIsRight c s e _ = Unit {0}
 
+-- no option but a DSS tells an infinite mapping
 abbrev pub OptionIsRight : Profile → Side → PathEnd → PlainOption → Type 0
 OptionIsRight c s e (Dss next mapping) = MappingIsRight c s e mapping
 OptionIsRight c s e _ = Unit {0}
@@ -39,9 +40,11 @@ OptionIsRight c s e _ = Unit {0}
 abbrev pub FlightIsRight : PathState Carried → Flight Carried → Type 0
 FlightIsRight p f = Every (OptionIsRight p.profile (peer f.to) (end_at (peer f.to) p)) f.carried.segment.options
 
+-- each copy that is under way on a path
 abbrev pub PathIsRight : Actor Carried → Type 0
 PathIsRight (App a) = Unit {0}
 PathIsRight (Path p) = Every (FlightIsRight p) p.link.under_way
 
+-- on every path
 pub record InfiniteMappingsAreRight (w : WorldState Carried) : Type 0 where
   pub each : (actor : ℕ) (c : ActorCrew Carried) → slice_get w.crew actor ≡ Some c → PathIsRight c.member

@@ -20,5 +20,6 @@ module _ {C : Type 0} where
   WaitsSo notes (App a) = Unit {0}
   WaitsSo notes (Path p) = is_joined p.profile ≡ true → p.a.modes.clear ≡ false → list_any asks_for_a notes ≡ false
 
+  -- so it is on every path
   pub record JoinsWait (w : WorldState C) : Type 0 where
     pub each : (actor : ℕ) (c : ActorCrew C) → slice_get w.crew actor ≡ Some c → WaitsSo c.list c.member

@@ -4,6 +4,7 @@ pub mod Worlds
 pub mod Outcomes
 pub mod Serial
 pub mod Openings
+pub mod ModesSoFar
 pub mod FallsRight
 pub mod Fine
 pub mod Fresh

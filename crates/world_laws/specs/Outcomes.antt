@@ -40,13 +40,15 @@ tells_abort _ = false
 abbrev pub note_tells : (Reply → Bool) → Note → Bool
 note_tells test note = test note.reply
 
+-- one of these steps was answered so
 abbrev pub was_told : (Reply → Bool) → List Note → Bool
 was_told test notes = list_any (note_tells test) notes
 
--- the bytes that were read by these steps
+-- the bytes that a step read
 abbrev pub bytes_noted : Note → List ℕ
 bytes_noted note = bytes_in note.reply
 
+-- those of these steps, in their order
 abbrev pub read_by : List Note → List ℕ
 read_by notes = flat_map bytes_noted notes
 
@@ -77,6 +79,7 @@ module _ {C : Type 0} where
 
   -- ---- dead paths
 
+  -- an application is no path
   abbrev pub is_no_live_path : Actor C → Bool
   is_no_live_path (App a) = true
   is_no_live_path (Path p) = is_dead_path p
@@ -85,6 +88,7 @@ module _ {C : Type 0} where
   are_all_dead [] = true
   are_all_dead (c ∷ crew) = is_no_live_path c.member && are_all_dead crew
 
+  -- by what the readers were told, and by whether each path is dead
   abbrev pub outcome_of : List (ActorCrew C) → Outcome
   outcome_of crew =
       outcome_by (was_told tells_abort (notes_of A crew)) (was_told tells_abort (notes_of B crew))

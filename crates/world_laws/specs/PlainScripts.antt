@@ -8,7 +8,7 @@ use Rattle.link_script.specs.Scripts.{HasRanges}
 use Rattle.path_core.specs.Octets.{octets}
 use Rattle.path_core.specs.Values.{values}
 use Rattle.world_laws.specs.AbortCause.{AbortsHaveCause}
-use Rattle.world_laws.specs.Altered.{BothKeepCount, PlacedUntilTheFall, PrefixUntilTheFall}
+use Rattle.world_laws.specs.Altered.{BothKeepCount, FallsForGood, PlacedUntilTheFall, PrefixUntilTheFall}
 use Rattle.world_laws.specs.Announcing.{AnnouncementsEnd}
 use Rattle.world_laws.specs.Agreement.{MappingsAgree}
 use Rattle.world_laws.specs.FallsRight.{FallsAreRight, FallsLast, PositionsArePlaces}
@@ -64,6 +64,7 @@ pub record KeepsAnyway (w : WorldState (List ℕ)) : Type 0 where
   pub falls : FallsAreRight w
   pub lasting : FallsLast octets w
   pub places : PositionsArePlaces w
+  pub for_good : FallsForGood octets w
   pub granted : GrantedOnce w
   pub standbys : BackupsGetNothing w
   pub announcements : AnnouncementsEnd w
@@ -80,6 +81,7 @@ pub record KeepsChecked (w : WorldState (List ℕ)) : Type 0 where
   pub prefix : PrefixUntilTheFall w
   pub placed : PlacedUntilTheFall octets w
 
+-- so it is by every such script with checksums, whatever the order of the steps
 abbrev pub CheckedScriptsKeepOctets : Type 0
 CheckedScriptsKeepOctets =
     (script : Script) (file_a file_b : List ℕ) (turns : List Turn) → IsShortScript script file_a file_b → script.checksum ≡ true
@@ -92,6 +94,7 @@ pub record IsShownOfValues (start : Start) (turns : List Turn) : Type 0 where
       ≡ shown_world (world_run values turns (opened_world start))
   pub short : ShortNumbersGoShort start (world_run values turns (opened_world start))
 
+-- so it is by every such script, whatever the order of the steps
 abbrev pub ScriptsAreShownOfValues : Type 0
 ScriptsAreShownOfValues =
     (script : Script) (file_a file_b : List ℕ) (turns : List Turn)

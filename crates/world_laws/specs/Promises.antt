@@ -71,9 +71,11 @@ tells_bad_address (replies.Control control_replies.BadHmac) = true
 tells_bad_address _ = false
 
 module _ {C : Type 0} where
+  -- the send book of the writer's side
   abbrev pub written_by : Side → WorldState C → Sending
   written_by writer w = send_of writer (books_in w.books)
 
+  -- the reassembly book of the reader's side
   abbrev pub arrived_at : Side → WorldState C → Arriving
   arrived_at reader w = reassembly_of reader (books_in w.books)
 
@@ -98,6 +100,7 @@ module _ {C : Type 0} where
     pub read : output_of reader later ≡ output_of reader w
     pub written : (written_by writer later).written ≡ (written_by writer w).written
 
+  -- so it is in both directions, whatever turns follow
   abbrev pub NothingFollows : Codec C → WorldState C → Type 0
   NothingFollows k w = (more : List Turn) → (was_told_end B w ≡ true → NothingCame A B w (world_run k more w)) × (was_told_end A w ≡ true → NothingCame B A w (world_run k more w))
 

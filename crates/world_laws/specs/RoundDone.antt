@@ -25,10 +25,12 @@ module _ {C : Type 0} where
   next_round w r = if all_over w.crew
       then record { number = r.number + 1; top = greatest 0 w.crew; begun = end_round w } else r
 
+  -- after a turn in this world
   abbrev pub round_by : Turn → WorldState C → RoundState C → RoundState C
   round_by (Turn.Step actor) w r = r
   round_by Turn.Round w r = next_round w r
 
+  -- after these turns from this world on
   abbrev pub round_after : Codec C → List Turn → WorldState C → RoundState C → RoundState C
   round_after k [] w r = r
   round_after k (turn ∷ turns) w r = round_after k turns (after_turn k turn w) (round_by turn w r)
@@ -43,6 +45,7 @@ module _ {C : Type 0} where
 
   -- ---- its end
 
+  -- the round of a path ends at this tick
   abbrev pub EndsAt : ℕ → Actor C → Type 0
   EndsAt tick (App a) = Unit {0}
   EndsAt tick (Path p) = p.until ≡ tick
@@ -68,6 +71,7 @@ module _ {C : Type 0} where
 -- ---- laws, over every list of turns
 
 module _ {C : Type 0} (k : Codec C) where
+  -- so it is at every moment
   abbrev pub RoundsEndOnTime : Type 0
   RoundsEndOnTime =
       (start : Start) (turns : List Turn) → EndsOnTime (round_of k start turns) (reached k start turns)

@@ -28,6 +28,7 @@ abbrev pub round_and : ℕ → List ℕ → List Turn → List Turn
 round_and actor [] rest = Turn.Round ∷ rest
 round_and actor (n ∷ counts) rest = steps_and actor n (round_and (suc actor) counts rest)
 
+-- of these rounds, by the numbers of steps of their actors
 abbrev pub spelled : List (List ℕ) → List Turn
 spelled [] = []
 spelled (counts ∷ rounds) = round_and 0 counts (spelled rounds)
@@ -57,10 +58,12 @@ module _ {C : Type 0} (k : Codec C) where
   AreTurns (suc more) actor [] w = ⊥
   AreTurns (suc more) actor (n ∷ counts) w = IsTurn actor n w × AreTurns more (suc actor) counts (after_steps actor n w)
 
+  -- the world after turns of so many steps, from this actor on
   abbrev pub after_turns : ℕ → List ℕ → WorldState C → WorldState C
   after_turns actor [] w = w
   after_turns actor (n ∷ counts) w = after_turns (suc actor) counts (after_steps actor n w)
 
+  -- and after the end of that round
   abbrev pub after_round : List ℕ → WorldState C → WorldState C
   after_round counts w = end_round (after_turns 0 counts w)
 

@@ -6,7 +6,6 @@ use Rattle.mptcp_options.specs.Value as wire
 use Rattle.path_segments.specs.declared.spelling.Spelling.{Spelling}
 use Rattle.path_segments.specs.Options.{said_option}
 use Rattle.stream_lanes.specs.Words.{Every}
-use Rattle.path_core.specs.OptionsOut.{spelled_by}
 use Rattle.path_core.specs.Values.{Carried}
 use Rattle.world_laws.specs.declared.member.Member.TheVariants.{App, Path}
 use Rattle.world_laws.specs.Actors.{Actor, ActorCrew}
@@ -25,7 +24,7 @@ GoesShort _ = Unit {0}
 
 -- each option of a segment, as its sender says it
 abbrev pub SegmentGoesShort : Spelling → Carried → Type 0
-SegmentGoesShort spelling carried = Every (λ o. GoesShort (said_option spelling (spelled_by carried.from) o)) carried.segment.options
+SegmentGoesShort spelling carried = Every (λ o. GoesShort (said_option spelling carried.from o)) carried.segment.options
 
 -- each copy that is under way
 abbrev pub CopiesGoShort : Actor Carried → Type 0

@@ -40,6 +40,7 @@ abbrev pub is_grant : Reply → Bool
 is_grant (replies.Send (send_replies.Granted span bytes)) = true
 is_grant _ = false
 
+-- the step grants bytes of the side's stream
 abbrev pub grants_bytes : Side → Note → Bool
 grants_bytes s note = asks_grant s note.ask && is_grant note.reply
 

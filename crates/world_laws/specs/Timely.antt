@@ -17,10 +17,11 @@ module _ {C : Type 0} where
   IsTimelyMember steps (App a) = Unit {0}
   IsTimelyMember steps (Path p) = IsTimely steps p
 
-  -- fewer than 2^57 rounds were begun
+  -- 2^57 rounds at most were begun
   abbrev pub CanBegin : Actor C → Type 0
   CanBegin (App a) = Unit {0}
   CanBegin (Path p) = p.until ≤ 100 * 2 ^ 57
 
+  -- so it is with each actor and the steps that it made
   pub record EachRoundHasAStep (w : WorldState C) : Type 0 where
     pub each : (actor : ℕ) (c : ActorCrew C) → slice_get w.crew actor ≡ Some c → IsTimelyMember (length c.list) c.member

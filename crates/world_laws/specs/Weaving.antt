@@ -37,6 +37,7 @@ module _ {O C R : Type 0} (reply_to : O → C → R) (after : O → C → O) whe
     pub made : AreEntries (book_of reply_to after old) (last_stamp 0 old.journal) entries
     pub above : Every (λ entry. top < entry.stamp) entries
 
+-- each of the six journals did
 pub record BooksGrew (top : ℕ) (old new : StampedBooks) : Type 0 where
   pub send_a : JournalGrew sending.reply_to sending.after_call top old.send_a new.send_a
   pub send_b : JournalGrew sending.reply_to sending.after_call top old.send_b new.send_b
@@ -60,6 +61,7 @@ module _ {C : Type 0} where
     list = c.list ++ note ∷ [];
   }
 
+  -- and after those of all these notes
   abbrev pub after_notes : Codec C → List Note → ActorCrew C → ActorCrew C
   after_notes k [] c = c
   after_notes k (note ∷ notes) c = after_notes k notes (after_note k note c)
@@ -72,6 +74,7 @@ module _ {C : Type 0} where
     pub rises : c.pass.stamp < note.stamp
     pub local : is_local note.ask ≡ true → (note.stamp ≡ c.pass.stamp + 1) × (note.reply ≡ replies.Done)
 
+  -- steps of the actor, one after the other
   abbrev pub AreStepsOf : Codec C → List Note → ActorCrew C → Type 0
   AreStepsOf k [] c = Unit {0}
   AreStepsOf k (note ∷ notes) c = IsStepOf k note c × AreStepsOf k notes (after_note k note c)

@@ -1,6 +1,7 @@
 -- No copy that arrives on a path that joins is refused for what it says, unless its options were taken away on the way: each SYN asks
 -- to join, and each HMAC is the one that its end demands (RFC 8684, section 3.2).
 use Rattle.std.specs.Prelude.{ℕ, ◌≡◌, false, Some, slice_get}
+use Rattle.path_segments.specs.Heard.{HeardSegment}
 use Rattle.actor_desk.specs.Words.{is_nil}
 use Rattle.link_model.specs.declared.flight.Due.{Due}
 use Rattle.link_model.specs.Steps.{arriving}
@@ -8,7 +9,7 @@ use Rattle.path_core.specs.declared.event.Event.TheVariants.{Arrives}
 use Rattle.path_core.specs.declared.judged.Judged.{Judged}
 use Rattle.path_core.specs.declared.judged.Judged.TheVariants.{As, Asks, Lacks, Forged}
 use Rattle.path_core.specs.Arriving.{judged_in}
-use Rattle.path_core.specs.Codec.{Codec, HeardSegment}
+use Rattle.path_core.specs.Codec.{Codec}
 use Rattle.path_core.specs.Events.{heard_in, next_event}
 use Rattle.path_core.specs.Joins.{is_joined}
 use Rattle.path_core.specs.State.{PathState, end_at}
@@ -33,5 +34,6 @@ module _ {C : Type 0} (k : Codec C) where
   WelcomesNext (App a) = Unit {0}
   WelcomesNext (Path p) = NextIsWelcome p
 
+  -- on every path
   pub record EachCopyIsWelcome (w : WorldState C) : Type 0 where
     pub each : (actor : ℕ) (c : ActorCrew C) → slice_get w.crew actor ≡ Some c → WelcomesNext c.member

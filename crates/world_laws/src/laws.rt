@@ -1,7 +1,7 @@
 //! What holds of every connection, as clauses of functions that do nothing.
 ghost use Rattle.world_laws.specs.AbortCause.{AbortsHaveCause};
 ghost use Rattle.world_laws.specs.Agreement.{MappingsAgree};
-ghost use Rattle.world_laws.specs.Altered.{BothKeepCount, HoldsChecked, HoldsCheckedOfOctets, PlacedUntilTheFall, PrefixUntilTheFall};
+ghost use Rattle.world_laws.specs.Altered.{BothKeepCount, FallsForGood, HoldsChecked, HoldsCheckedOfOctets, PlacedUntilTheFall, PrefixUntilTheFall};
 ghost use Rattle.world_laws.specs.Announcing.{AnnouncementsEnd};
 ghost use Rattle.world_laws.specs.FallsRight.{FallsAreRight, FallsLast, PositionsArePlaces};
 ghost use Rattle.world_laws.specs.Granted.{GrantedOnce};
@@ -219,15 +219,16 @@ pub fn nothing_is_refused()
     ensures octets { IsPromisedOfOctets NothingWasRefused }
 {}
 
-/// A law: a connection by a script, with files shorter than 2^31 - 2 octets, starts with numbers that fit. So over octets it keeps
-/// these promises, in whatever order its actors go, and whatever payload its links alter: lengths, acknowledgements and ends are right,
-/// nothing follows the end, each turn is on each pipe one step or none, keys never differ, joins and the HMACs of addresses are
-/// right, no copy is refused for what it says of a join, mappings agree, falls are right and last, positions are places after one,
-/// each byte is granted to a path once at most, and none to one that stands by, no announcement goes out after its end, and aborts
-/// have their cause. And it is the connection over segments as values, shown in octets, whose short data numbers go short.
+/// A law: a connection by a script, with files shorter than 2^31 - 2 octets, starts with numbers that fit. So over octets it keeps these
+/// promises, in whatever order its actors go, and whatever payload its links alter: lengths, acknowledgements and ends are right, nothing
+/// follows the end, each turn is on each pipe one step or none, keys never differ, joins and the HMACs of addresses are right, no copy is
+/// refused for what it says of a join, mappings agree, falls are right and last, positions are places after one, a side that fell back
+/// never goes by the peer's mappings again, each byte is granted to a path once at most, and none to one that stands by, no announcement
+/// goes out after its end, and aborts have their cause. And it is the connection over segments as values, shown in octets, whose short data
+/// numbers go short.
 ///
-/// Where mappings are checked, until its side falls back a reader has a prefix of what was written, and each octet that was placed
-/// is right for ever.
+/// Where mappings are checked, until its side falls back, by its control book's journal, a reader has a prefix of what was written, and
+/// each octet that was placed is right for ever.
 pub fn scripts_keep_promises_whatever_is_altered()
     ensures starts { ScriptsFit }
     ensures anyway { ScriptsKeepAnyway }
@@ -313,13 +314,18 @@ pub fn infinite_mappings_are_right()
     ensures { HoldsAnyway InfiniteMappingsAreRight }
 {}
 
-/// A law: whatever payload the links alter, where mappings are checked (RFC 8684, section 3.3.1): as long as a side is neither in plain
-/// TCP nor stopped, nor receives by an infinite mapping (section 3.7), its reader has a prefix of what was written for it; and each
-/// octet that came to a place until then, with the reader or in the reassembly book, is the written one there, and stays it. Over
-/// octets the numbers of the start have to fit.
+/// A law: whatever payload the links alter, where mappings are checked (RFC 8684, section 3.3.1): as long as a side hasn't fallen back to
+/// plain TCP or to an infinite mapping of the peer's (section 3.7), its reader has a prefix of what was written for it; and each octet
+/// that came to a place until then, with the reader or in the reassembly book, is the written one there, and stays it, whatever turns
+/// follow. That it fell back is read off its control book's journal, so a stop of the connection changes nothing of it. Over octets the
+/// numbers of the start have to fit.
+///
+/// And a side that fell back did so for ever: it never goes by the peer's mappings again.
 pub fn checked_octets_are_right()
     ensures prefix { HoldsChecked PrefixUntilTheFall }
     ensures placed { HoldsChecked (PlacedUntilTheFall values) }
     ensures prefix_of_octets { HoldsCheckedOfOctets PrefixUntilTheFall }
     ensures placed_of_octets { HoldsCheckedOfOctets (PlacedUntilTheFall octets) }
+    ensures values { Always values (λ start w. FallsForGood values w) }
+    ensures octets { Always octets (λ start w. FallsForGood octets w) }
 {}

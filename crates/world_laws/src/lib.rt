@@ -4,10 +4,10 @@
 //! Definitions, and laws over every order of steps; no code. They are polymorphic in what the links of the paths carry.
 //!
 //! The folders of `proofs/` say which law stands where. `Lanes` shows a world on the lanes of its paths, step by step; from that
-//! `Promises` has the laws on what is read, acknowledged and told, `Places` those on mappings and grants, `Falls` that on plain
-//! TCP. `Keys` and `Joins` have those on keys, tokens and HMACs, `Announcements` those on addresses, `Standby` that on backups,
-//! `Numbers` those over octets, `Rounds` those on serial turns and on what is done by a round's end, `Weaving` that on woven
-//! rounds. `Asks` and `Worlds` serve all of them.
+//! `Promises` has the laws on what is read, acknowledged and told, `Places` those on mappings and grants, `Falls` those on sides
+//! that fall back. `Keys` and `Joins` have those on keys, tokens and HMACs, `Announcements` those on addresses, `Standby` that on
+//! backups, `Numbers` those over octets, `Rounds` those on serial turns and on what is done by a round's end, `Weaving` that on
+//! woven rounds. `Asks` and `Worlds` serve all of them.
 #![tactic(auto)]
 
 mod laws;

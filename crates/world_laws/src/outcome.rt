@@ -3,7 +3,7 @@
 use outside_kit::Side;
 
 /// How a connection stands.
-#[derive(Clone, Copy, Debug, PartialEq, Eq)]
+#[derive(Clone, Copy)]
 pub enum Outcome {
     /// It goes on.
     Going,

@@ -3,6 +3,7 @@ use Rattle.std.proofs.Common.{inl, inr, ◌⊎◌, subst, ◌==◌, ◌++◌, �
 use Rattle.std.proofs.Math.Bool.{or-true}
 use Rattle.std.proofs.lemmas.Bool.{both_ways, false≢true, or_cases}
 use Rattle.std.specs.List.{list_any}
+use Rattle.path_segments.specs.Heard.{HeardSegment}
 use Rattle.outside_kit.specs.declared.side.Side.{Side}
 use Rattle.outside_kit.specs.declared.side.Side.TheVariants.{A, B}
 use Rattle.dss_mapping.specs.declared.kept.KeptMapping.{KeptMapping}
@@ -35,7 +36,7 @@ use Rattle.path_core.specs.Standing.{may_note, is_connected}
 use Rattle.subflow_tcp.specs.States.{after_finish}
 use Rattle.path_core.specs.Arriving.{judged_in, options_heard, after_judged}
 use Rattle.path_core.specs.Breaking.{answered_break}
-use Rattle.path_core.specs.Codec.{Codec, HeardSegment}
+use Rattle.path_core.specs.Codec.{Codec}
 use Rattle.path_core.specs.declared.event.Event.{Event}
 use Rattle.path_core.specs.declared.event.Event.TheVariants as happenings
 use Rattle.path_core.specs.Duties.{stands, passed, answered}

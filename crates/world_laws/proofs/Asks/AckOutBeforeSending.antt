@@ -2,6 +2,7 @@
 -- told to the book. So what an end sends shows all that it told.
 use Rattle.std.proofs.Common.{◌≡◌, refl, ℕ, ◌+◌, Bool, true, false, if◌then◌else◌, Option, Some, None, List, [], ◌∷◌, subst, ⊎_elim, ◌||◌, ◌&&◌, ◌++◌, length, zero, suc, sym}
 use Rattle.std.proofs.lemmas.Bool.{both_ways, and_parts, or_cases, true≢false, false≢true}
+use Rattle.path_segments.specs.Heard.{HeardSegment}
 use Rattle.outside_kit.specs.declared.side.Side.TheVariants.{A, B}
 use Rattle.outside_kit.specs.declared.side.Side.{Side}
 use Rattle.dss_mapping.specs.declared.kept.KeptMapping.{KeptMapping}
@@ -34,7 +35,7 @@ use Rattle.path_agenda.specs.declared.heard.Heard.{Heard}
 use Rattle.path_agenda.specs.declared.keys.KeyPair.{KeyPair}
 use Rattle.path_core.specs.Arriving.{items_of, judged_in, options_heard, after_judged, template_by, template_judged}
 use Rattle.path_core.specs.Breaking.{answered_break, reset_on}
-use Rattle.path_core.specs.Codec.{Codec, HeardSegment}
+use Rattle.path_core.specs.Codec.{Codec}
 use Rattle.path_core.specs.Duties.{stands, passed, answered}
 use Rattle.path_core.specs.Emission.{Grant, grant_in, answered_grant, answered_data, first_unsent, after_timer}
 use Rattle.path_core.specs.Ends.{PathEnd}

@@ -59,7 +59,7 @@ use Rattle.world_laws.proofs.Falls.ForEver.{ever_fallen}
 use Rattle.world_laws.proofs.Joins.AnsweredAfterBegun.{always_joined}
 use Rattle.world_laws.proofs.Weaving.Journals.{books_after}
 use Rattle.world_laws.proofs.Keys.ToldAreOwn.{Joined, FellBack, MemberIs, WorldIs, fell_stays, joined_stays, turn_keys, opened_keys}
-use Rattle.world_laws.proofs.Lanes.OfAWorld.{Links, anyhow, duo_of, first_duo, MemberIsSteady, IsSteady, WorldShows}
+use Rattle.world_laws.proofs.Lanes.OfAWorld.{anyhow_free, free_run, Links, anyhow, duo_of, first_duo, MemberIsSteady, IsSteady, WorldShows}
 use Rattle.world_laws.proofs.Worlds.Opened.{opened_actors}
 use Rattle.world_laws.proofs.Promises.Made.{run_fresh}
 use Rattle.world_laws.proofs.Rounds.GrantAtOneDuty.{MayNotAsk, ask_isn't, asks_none}
@@ -353,7 +353,7 @@ shown_plain links start d w held h right = record { each = λ s fell c at. path 
 pub positions_are_places : HoldsAnyway PositionsArePlaces
 positions_are_places start turns size =
     let can = anyhow start size in
-    let r = each_run_shows start can turns in
+    let r = each_run_shows start can turns (free_run can.links (anyhow_free start size) turns (opened_world start)) in
     shown_plain can.links start (after_events r.events (first_duo can.links start)) (world_run values turns (opened_world start)) (any_held can.links.alters can.links.checked (length start.paths) start.buffer start.buffer r.events) r.shows (falls_are_right start turns)
 
 -- ---- over octets

@@ -11,7 +11,7 @@ use Rattle.stream_lanes.specs.Lane.{Lane}
 use Rattle.stream_lanes.specs.Streams.{Reader}
 use Rattle.stream_lanes.specs.Duo.{Modes, Duo, Event, after_events, falls_a, falls_b, begins_join, sends_join, hears_join}
 use Rattle.stream_lanes.specs.Duo.Event.{FallA, FallB, LoosenA, LoosenB, BeginJoin, SendJoin, HearJoin}
-use Rattle.world_laws.proofs.Falls.WhereASideStands.{is_plain, is_loose, SameFall, HasJoined, Fallen, call_falls}
+use Rattle.world_laws.proofs.Falls.WhereASideStands.{is_plain, is_loose, Loosened, SameFall, FellBack, HasJoined, Fallen, call_falls, fell_unjoined}
 use Rattle.world_laws.proofs.Lanes.OfAWorld.{Links, MayCall, Moved, AreSilent, duo_of, modes_by, then_moved}
 
 -- ---- what becomes of the modes
@@ -84,12 +84,13 @@ module _ (links : Links) (x y : Stand) where
 
 -- ---- by what becomes of a fall
 
-abbrev pub stand_of : Fall → Stand
-stand_of f = record { plain = is_plain f; loose = is_loose f; joined = f.joined }
+-- a firm side fell in no way
+abbrev pub stand_of : Bool → Fall → Stand
+stand_of firm f = record { plain = not firm && is_plain f; loose = not firm && is_loose f; joined = f.joined }
 
 -- the modes of two falls
 abbrev pub modes_in : Links → Fall → Fall → Modes
-modes_in links f g = modes_with links (stand_of f) (stand_of g)
+modes_in links f g = modes_with links (stand_of links.firm_a f) (stand_of links.firm_b g)
 
 -- a side stands as before, or receives by an infinite mapping from now on
 a_as_before : (links : Links) (x z y : Stand) → z.plain ≡ x.plain → (z.loose ≡ x.loose) ⊎ (z.loose ≡ true) → z.joined ≡ x.joined → Modulated (modes_with links x y) (modes_with links z y)
@@ -102,30 +103,97 @@ b_as_before links x y z plain (inl loose) joined = stay_modes _ _ (ap (λ s. mod
 b_as_before links x y z plain (inr loose) joined =
     then_modulated _ (modes_with links x (record y { loose = true })) _ (b_loosens links x y) (stay_modes _ _ (ap (λ s. modes_with links x s) (stand_is (record y { loose = true }) z plain loose joined)))
 
+loosened : (firm : Bool) (f g : Fall) → Loosened f g → ((not firm && is_loose g) ≡ (not firm && is_loose f)) ⊎ ((not firm && is_loose g) ≡ true)
+loosened true f g loose = inl refl
+loosened false f g loose = loose
+
+unplain : (firm : Bool) (f : Fall) → is_plain f ≡ false → (not firm && is_plain f) ≡ false
+unplain true f is = refl
+unplain false f is = is
+
+a_fell : (links : Links) (firm : Bool) (f h : Fall) (y : Stand) → FellBack f h → Modulated (modes_with links (stand_of firm f) y) (modes_with links (stand_of firm h) y)
+a_fell links true f h y fell = a_as_before links (stand_of true f) (stand_of true h) y refl (inl refl) fell.joined
+a_fell links false f h y fell =
+    then_modulated _ _ _ (a_falls links (stand_of false f) y fell.was)
+    (a_as_before links (record (stand_of false f) { plain = true }) (stand_of false h) y fell.mode fell.loose fell.joined)
+
+b_fell : (links : Links) (firm : Bool) (x : Stand) (g h : Fall) → FellBack g h → Modulated (modes_with links x (stand_of firm g)) (modes_with links x (stand_of firm h))
+b_fell links true x g h fell = b_as_before links x (stand_of true g) (stand_of true h) refl (inl refl) fell.joined
+b_fell links false x g h fell =
+    then_modulated _ _ _ (b_falls links x (stand_of false g) fell.was)
+    (b_as_before links x (record (stand_of false g) { plain = true }) (stand_of false h) fell.mode fell.loose fell.joined)
+
 module _ (links : Links) (f g h : Fall) where
+  abbrev at_a : Fall → Stand
+  at_a x = stand_of links.firm_a x
+
+  abbrev at_b : Fall → Stand
+  at_b x = stand_of links.firm_b x
+
   a_goes : Fallen f h → Modulated (modes_in links f g) (modes_in links h g)
-  a_goes (inl same) = a_as_before links (stand_of f) (stand_of h) (stand_of g) same.mode same.loose same.joined
-  a_goes (inr fell) =
-      then_modulated _ _ _ (a_falls links (stand_of f) (stand_of g) fell.was)
-      (a_as_before links (record (stand_of f) { plain = true }) (stand_of h) (stand_of g) fell.mode fell.loose fell.joined)
+  a_goes (inl same) = a_as_before links (at_a f) (at_a h) (at_b g) (ap (λ b. not links.firm_a && b) same.mode) (loosened links.firm_a f h same.loose) same.joined
+  a_goes (inr fell) = a_fell links links.firm_a f h (at_b g) fell
 
   b_goes : Fallen g h → Modulated (modes_in links f g) (modes_in links f h)
-  b_goes (inl same) = b_as_before links (stand_of f) (stand_of g) (stand_of h) same.mode same.loose same.joined
-  b_goes (inr fell) =
-      then_modulated _ _ _ (b_falls links (stand_of f) (stand_of g) fell.was)
-      (b_as_before links (stand_of f) (record (stand_of g) { plain = true }) (stand_of h) fell.mode fell.loose fell.joined)
+  b_goes (inl same) = b_as_before links (at_a f) (at_b g) (at_b h) (ap (λ b. not links.firm_b && b) same.mode) (loosened links.firm_b g h same.loose) same.joined
+  b_goes (inr fell) = b_fell links links.firm_b (at_a f) g h fell
 
   a_begins : SameFall f h ⊎ HasJoined f h → Modulated (modes_in links f g) (modes_in links h g)
   a_begins (inl same) = a_goes (inl same)
   a_begins (inr joins) =
-      then_modulated _ _ _ (a_joins links (stand_of f) (stand_of g) joins.was)
-      (a_as_before links (record (stand_of f) { joined = true }) (stand_of h) (stand_of g) joins.mode joins.loose joins.joined)
+      then_modulated _ _ _ (a_joins links (at_a f) (at_b g) (unplain links.firm_a f joins.was))
+      (a_as_before links (record (at_a f) { joined = true }) (at_a h) (at_b g) (ap (λ b. not links.firm_a && b) joins.mode) (loosened links.firm_a f h joins.loose) joins.joined)
 
   b_begins : f.joined ≡ true → SameFall g h ⊎ HasJoined g h → Modulated (modes_in links f g) (modes_in links f h)
   b_begins begun (inl same) = b_goes (inl same)
   b_begins begun (inr joins) =
-      then_modulated _ _ _ (b_joins links (stand_of f) (stand_of g) begun joins.was)
-      (b_as_before links (stand_of f) (record (stand_of g) { joined = true }) (stand_of h) joins.mode joins.loose joins.joined)
+      then_modulated _ _ _ (b_joins links (at_a f) (at_b g) begun (unplain links.firm_b g joins.was))
+      (b_as_before links (at_a f) (record (at_b g) { joined = true }) (at_b h) (ap (λ b. not links.firm_b && b) joins.mode) (loosened links.firm_b g h joins.loose) joins.joined)
+
+-- ---- a side that is firm no more
+
+-- it fell back, or may have done so before it was stopped
+module _ (links : Links) where
+  a_softer : (f : Fall) (y : Stand) (plain loose : Bool) → (plain ≡ true → f.joined ≡ false)
+      → Modulated (modes_with links (stand_of true f) y) (modes_with links (record { plain = plain; loose = loose; joined = f.joined }) y)
+  a_softer f y plain loose unjoined = then_modulated _ _ _ (falls plain unjoined) (loosens loose)
+    where
+      falls : (b : Bool) → (b ≡ true → f.joined ≡ false) → Modulated (modes_with links (stand_of true f) y) (modes_with links (record (stand_of true f) { plain = b }) y)
+      falls false unjoined = stay_modes _ _ refl
+      falls true unjoined = a_falls links (stand_of true f) y (unjoined refl)
+
+      loosens : (b : Bool) → let x : Stand = record (stand_of true f) { plain = plain } in Modulated (modes_with links x y) (modes_with links (record x { loose = b }) y)
+      loosens false = stay_modes _ _ refl
+      loosens true = a_loosens links (record (stand_of true f) { plain = plain }) y
+
+  b_softer : (x : Stand) (g : Fall) (plain loose : Bool) → (plain ≡ true → g.joined ≡ false)
+      → Modulated (modes_with links x (stand_of true g)) (modes_with links x (record { plain = plain; loose = loose; joined = g.joined }))
+  b_softer x g plain loose unjoined = then_modulated _ _ _ (falls plain unjoined) (loosens loose)
+    where
+      falls : (b : Bool) → (b ≡ true → g.joined ≡ false) → Modulated (modes_with links x (stand_of true g)) (modes_with links x (record (stand_of true g) { plain = b }))
+      falls false unjoined = stay_modes _ _ refl
+      falls true unjoined = b_falls links x (stand_of true g) (unjoined refl)
+
+      loosens : (b : Bool) → let y : Stand = record (stand_of true g) { plain = plain } in Modulated (modes_with links x y) (modes_with links x (record y { loose = b }))
+      loosens false = stay_modes _ _ refl
+      loosens true = b_loosens links x (record (stand_of true g) { plain = plain })
+
+  a_softens : (firm : Bool) (f : Fall) (y : Stand) → Modulated (modes_with links (stand_of firm f) y) (modes_with links (stand_of false f) y)
+  a_softens true f y = a_softer f y (is_plain f) (is_loose f) (fell_unjoined f)
+  a_softens false f y = stay_modes _ _ refl
+
+  b_softens : (firm : Bool) (x : Stand) (g : Fall) → Modulated (modes_with links x (stand_of firm g)) (modes_with links x (stand_of false g))
+  b_softens true x g = b_softer x g (is_plain g) (is_loose g) (fell_unjoined g)
+  b_softens false x g = stay_modes _ _ refl
+
+-- the same links, where no side is firm
+abbrev pub softened : Links → Links
+softened links = record links { firm_a = false; firm_b = false }
+
+pub softens : (links : Links) (six : SixBooks) → Modulated (modes_by links six) (modes_by (softened links) six)
+softens links six =
+    then_modulated _ _ _ (a_softens links links.firm_a six.control_a.fall (stand_of links.firm_b six.control_b.fall))
+    (b_softens links links.firm_b (stand_of false six.control_a.fall) six.control_b.fall)
 
 -- after what may be called
 modulated : (links : Links) (s : Side) (call : ControlCall) (six : SixBooks) → MayCall s call six → Modulated (modes_by links six) (modes_by links (after_ask (asks.Control s call) six))

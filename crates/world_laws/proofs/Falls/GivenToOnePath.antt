@@ -8,7 +8,7 @@ use Rattle.std.specs.List.{slice_get, list_all}
 use Rattle.std.specs.Option.{IfSome}
 use Rattle.outside_kit.specs.declared.side.Side.{Side}
 use Rattle.outside_kit.specs.declared.side.Side.TheVariants.{A, B}
-use Rattle.link_model.specs.Steps.{peer}
+use Rattle.outside_kit.specs.Side.{peer}
 use Rattle.send_book.specs.declared.call.SendCall.TheVariants.{GoInfinite as GoInfiniteBook}
 use Rattle.send_book.specs.declared.call.SendReply.TheVariants as send_replies
 use Rattle.send_book.specs.declared.mark.ByteMark.{ByteMark}

@@ -1,6 +1,6 @@
 -- A side receives by the peer's infinite mapping from now on: the lane that it hears goes by that mapping.
 use Rattle.std.proofs.Common.{◌≡◌, refl, sym, ◌∙◌, ap, ℕ, ◌-◌, ◌⊎◌, Bool, true, false, ◌&&◌, not, is_none, if◌then◌else◌, inl, inr, Option, Some, None, [], ◌∷◌, set}
-use Rattle.std.proofs.lemmas.Bool.{false≢true}
+use Rattle.std.proofs.lemmas.Bool.{both_ways, false≢true}
 use Rattle.std.proofs.lemmas.List.{append-nil, set-set}
 use Rattle.outside_kit.specs.declared.side.Side.{Side}
 use Rattle.outside_kit.specs.declared.side.Side.TheVariants.{A, B}
@@ -29,11 +29,12 @@ use Rattle.path_core.specs.Ends.{PathEnd}
 use Rattle.path_core.specs.InfiniteReceiving.{is_infinite_receive, receiving_infinite}
 use Rattle.path_core.specs.State.{PathState, Profile}
 use Rattle.path_core.specs.Values.{Carried}
+use Rattle.world_laws.specs.Altered.{is_fallback}
 use Rattle.world_laws.proofs.Lanes.Ending.{Did}
 use Rattle.world_laws.proofs.Falls.WhereASideStands.{is_plain, is_loose}
 use Rattle.world_laws.proofs.Falls.CallsAndModes.{control_moves}
 use Rattle.world_laws.proofs.Lanes.Growing.{ReceiverGoes, sender_stays, same_edge}
-use Rattle.world_laws.proofs.Lanes.OfAWorld.{flags_of, Others, duo_at, MayCall, Moved, unmoved, then_moved}
+use Rattle.world_laws.proofs.Lanes.OfAWorld.{Links, is_firm, plain_at, loose_at, StaysFirm, flags_of, Others, duo_at, MayCall, Moved, unmoved, then_moved}
 use Rattle.world_laws.proofs.Lanes.Roads.{Strolls, stays, one_move, put_there}
 use Rattle.world_laws.proofs.Lanes.Showing.{PairTold, PeerIs, HasFin, EndShows, PathShows}
 use Rattle.world_laws.proofs.Lanes.Sides.{SideDid, Answered}
@@ -43,11 +44,11 @@ use Rattle.world_laws.proofs.Lanes.Strolling.{did_on_path}
 
 -- where this row tells so, the side receives by an infinite mapping
 abbrev RowLoosens : Fall × Verdict → Type 0
-RowLoosens row = is_infinite_receive (replies.Control (control_replies.Verdict row.1)) ≡ true → (is_loose row.0 ≡ true) × (is_plain row.0 ≡ false)
+RowLoosens row = is_infinite_receive (replies.Control (control_replies.Verdict row.1)) ≡ true → (is_loose row.0 ≡ true) × (is_plain row.0 ≡ false) × (is_fallback row.0.mode ≡ true)
 
 goes_loose : (m : Mode) (f : Fall) → RowLoosens (goes m f)
-goes_loose modes.InfiniteReceive f is = (refl, refl)
-goes_loose modes.InfiniteBoth f is = (refl, refl)
+goes_loose modes.InfiniteReceive f is = (refl, refl, refl)
+goes_loose modes.InfiniteBoth f is = (refl, refl, refl)
 goes_loose modes.Starting f is = absurd (false≢true is)
 goes_loose modes.Sure f is = absurd (false≢true is)
 goes_loose modes.Identity f is = absurd (false≢true is)
@@ -66,11 +67,22 @@ row_loosens path sole f =
     (loosens_if (sole && is_failed_path f.failed path) (goes (receiving f.mode) f) last (goes_loose (receiving f.mode) f)
     (loosens_if (writes_mappings f.mode && not f.joined && is_none f.failed) (goes modes.Identity f) (breaks 1 f) (goes_loose modes.Identity f) (λ is. absurd (false≢true is))))
 
--- so it is in the books after the call
-pub call_loosens : (s : Side) (path : ℕ) (six : SixBooks) → let ask = asks.Control s (control_calls.Fell path events.InfiniteHeard) in is_infinite_receive (reply_of six ask) ≡ true
-    → (is_loose (control_of s (after_ask ask six)).fall ≡ true) × (is_plain (control_of s (after_ask ask six)).fall ≡ false)
-call_loosens A path six is = row_loosens path (sole_path six.control_a.paths path) six.control_a.fall is
-call_loosens B path six is = row_loosens path (sole_path six.control_b.paths path) six.control_b.fall is
+-- so it is in the books after the call, and no firm side is told so
+told_loosens : (s : Side) (path : ℕ) (six : SixBooks) → let ask = asks.Control s (control_calls.Fell path events.InfiniteHeard) in is_infinite_receive (reply_of six ask) ≡ true
+    → (is_loose (control_of s (after_ask ask six)).fall ≡ true) × (is_plain (control_of s (after_ask ask six)).fall ≡ false) × (is_fallback (control_of s (after_ask ask six)).fall.mode ≡ true)
+told_loosens A path six is = row_loosens path (sole_path six.control_a.paths path) six.control_a.fall is
+told_loosens B path six is = row_loosens path (sole_path six.control_b.paths path) six.control_b.fall is
+
+pub call_loosens : (links : Links) (s : Side) (path : ℕ) (six : SixBooks) → let ask = asks.Control s (control_calls.Fell path events.InfiniteHeard) in StaysFirm links s six ask
+    → is_infinite_receive (reply_of six ask) ≡ true → (loose_at links s (after_ask ask six) ≡ true) × (plain_at links s (after_ask ask six) ≡ false)
+call_loosens links s path six firm is = by (is_firm links s) refl
+  where
+    books : SixBooks
+    books = after_ask (asks.Control s (control_calls.Fell path events.InfiniteHeard)) six
+
+    by : (b : Bool) → is_firm links s ≡ b → ((not b && is_loose (control_of s books).fall) ≡ true) × ((not b && is_plain (control_of s books).fall) ≡ false)
+    by true so = absurd (both_ways _ (firm so) (told_loosens s path six is).2)
+    by false so = let told = told_loosens s path six is in (told.0, told.1)
 
 -- ---- the lane
 
@@ -79,7 +91,7 @@ abbrev pub loosened : Lane → Lane
 loosened p = record p { receiver_plain = false; receiver_loose = true }
 
 -- and looks at it
-pub loosen_moves : (s : Side) (six : SixBooks) (others : Others) (ab ba : Lane) → is_loose (control_of s six).fall ≡ true → is_plain (control_of s six).fall ≡ false
+pub loosen_moves : (s : Side) (six : SixBooks) (others : Others) (ab ba : Lane) → loose_at others.links s six ≡ true → plain_at others.links s six ≡ false
     → Moved (duo_at six ab ba others) (duo_at six (pick s ab (loosened ab)) (pick s (loosened ba) ba) others)
 loosen_moves A six others ab ba loose plain = record {
   events = ToA (Moves others.number LookAtReceiver) ∷ [];
@@ -87,8 +99,8 @@ loosen_moves A six others ab ba loose plain = record {
   to = sym (
       ap (λ o. record (duo_at six ab ba others) { ba = moves (flags_of others.links B six) others.number LookAtReceiver o (duo_at six ab ba others).ba }) (put_there others.lanes_ba others.number ba others.within_ba)
       ∙ ap (λ xs. record (duo_at six ab ba others) { ba = record (duo_at six ab ba others).ba { lanes = xs } })
-      (set-set others.lanes_ba others.number ba (record ba { receiver_plain = is_plain six.control_a.fall; receiver_loose = is_loose six.control_a.fall }))
-      ∙ ap (λ (b : Bool). duo_at six ab (record ba { receiver_plain = b; receiver_loose = is_loose six.control_a.fall }) others) plain
+      (set-set others.lanes_ba others.number ba (record ba { receiver_plain = plain_at others.links A six; receiver_loose = loose_at others.links A six }))
+      ∙ ap (λ (b : Bool). duo_at six ab (record ba { receiver_plain = b; receiver_loose = loose_at others.links A six }) others) plain
       ∙ ap (λ (b : Bool). duo_at six ab (record ba { receiver_plain = false; receiver_loose = b }) others) loose);
 }
 loosen_moves B six others ab ba loose plain = record {
@@ -97,14 +109,14 @@ loosen_moves B six others ab ba loose plain = record {
   to = sym (
       ap (λ o. record (duo_at six ab ba others) { ab = moves (flags_of others.links A six) others.number LookAtReceiver o (duo_at six ab ba others).ab }) (put_there others.lanes_ab others.number ab others.within_ab)
       ∙ ap (λ xs. record (duo_at six ab ba others) { ab = record (duo_at six ab ba others).ab { lanes = xs } })
-      (set-set others.lanes_ab others.number ab (record ab { receiver_plain = is_plain six.control_b.fall; receiver_loose = is_loose six.control_b.fall }))
-      ∙ ap (λ (b : Bool). duo_at six (record ab { receiver_plain = b; receiver_loose = is_loose six.control_b.fall }) ba others) plain
+      (set-set others.lanes_ab others.number ab (record ab { receiver_plain = plain_at others.links B six; receiver_loose = loose_at others.links B six }))
+      ∙ ap (λ (b : Bool). duo_at six (record ab { receiver_plain = b; receiver_loose = loose_at others.links B six }) ba others) plain
       ∙ ap (λ (b : Bool). duo_at six (record ab { receiver_plain = false; receiver_loose = b }) ba others) loose);
 }
 
 -- a step of the path after such a call
 pub loosen_side : (c : Profile) (six : SixBooks) (others : Others) (s : Side) (call : ControlCall) (p q : PathState Carried) (ab ba : Lane) → PathShows c p ab ba → MayCall s call six
-    → is_loose (control_of s (after_ask (asks.Control s call) six)).fall ≡ true → is_plain (control_of s (after_ask (asks.Control s call) six)).fall ≡ false
+    → loose_at others.links s (after_ask (asks.Control s call) six) ≡ true → plain_at others.links s (after_ask (asks.Control s call) six) ≡ false
     → SideDid c s p q ab ba (pick s ab ba) (loosened (pick s ba ab)) → Answered c six others (asks.Control s call) q ab ba
 loosen_side c six others A call p q ab ba h may loose plain d = record {
   ab_before = ab;

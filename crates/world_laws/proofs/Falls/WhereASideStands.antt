@@ -498,7 +498,7 @@ tells_fall v = is_fall (replies.Control (control_replies.Verdict v))
 
 -- where this row tells of a fall, the side is in plain TCP and joined nothing
 abbrev pub RowFalls : Fall × Verdict → Type 0
-RowFalls row = tells_fall row.1 ≡ true → (is_plain row.0 ≡ true) × (row.0.joined ≡ false)
+RowFalls row = tells_fall row.1 ≡ true → (is_plain row.0 ≡ true) × (row.0.joined ≡ false) × (is_identity row.0.mode ≡ true)
 
 row_if : (b : Bool) (x y : Fall × Verdict) → (b ≡ true → RowFalls x) → (b ≡ false → RowFalls y) → RowFalls (if b then x else y)
 row_if true x y is isnt = is refl
@@ -528,7 +528,7 @@ calm_row row calm tells = absurd (false≢true (sym calm ∙ tells))
 plain_row : (f : Fall) → RowFalls (if is_starting f.mode && not f.joined then goes modes.Identity f else stays f)
 plain_row f =
     row_if (is_starting f.mode && not f.joined) (goes modes.Identity f) (stays f)
-    (λ is tells. let none = (and_parts (is_starting f.mode) (not f.joined) is).1 in (none, not_true f.joined none)) (λ isnt. calm_row (stays f) refl)
+    (λ is tells. let none = (and_parts (is_starting f.mode) (not f.joined) is).1 in (none, not_true f.joined none, refl)) (λ isnt. calm_row (stays f) refl)
 
 sign_row : (f : Fall) → RowFalls (if is_starting f.mode then goes modes.Sure f else stays f)
 sign_row f = row_if (is_starting f.mode) (goes modes.Sure f) (stays f) (λ is. calm_row (goes modes.Sure f) refl) (λ isnt. calm_row (stays f) refl)
@@ -547,7 +547,7 @@ row_falls path sole events.InfiniteHeard f =
     (λ reads. row_if (sole && is_failed_path f.failed path) (goes (receiving f.mode) f) last (λ is. calm_row (goes (receiving f.mode) f) (receiving_tells f.mode))
     (λ isnt. row_if falls (goes modes.Identity f) (breaks 1 f)
     (λ is tells.
-    let none = (and_parts (writes_mappings f.mode) (not f.joined) (and_parts (writes_mappings f.mode && not f.joined) (is_none f.failed) is).0).1 in (none, not_true f.joined none))
+    let none = (and_parts (writes_mappings f.mode) (not f.joined) (and_parts (writes_mappings f.mode && not f.joined) (is_none f.failed) is).0).1 in (none, not_true f.joined none, refl))
     (λ other. calm_row (breaks 1 f) refl)))
 row_falls path sole events.KeysHeard f =
     let known : Fall × Verdict = (record f { confirmed = true }, verdicts.Stay) in

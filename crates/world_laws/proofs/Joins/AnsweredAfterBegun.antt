@@ -201,7 +201,7 @@ module _ (key_a key_b number : ℕ) (six : SixBooks) (p : PathState Carried) (nu
       asks_join (asked_at B p) first (asked_is (with_nonces key_a key_b false h.nonce_a h.nonce_b) false (Joined six) (Past six NoMore) (is_joined p.profile) B p.b.treated.items h.is.b.items)
   duty_joined (duties.Ask (ask_duties.JoinHeard A)) ds is first = tt
   duty_joined (duties.Ask (ask_duties.GoIdentity s)) ds is first =
-      (h.is.known (Voice.Falls s) (subst (λ xs. speaks (Voice.Falls s) xs ≡ true) (sym is) (first_speaks (Voice.Falls s) (duties.Ask (ask_duties.GoIdentity s)) ds (itself s)))).1
+      (h.is.known (Voice.Falls s) (subst (λ xs. speaks (Voice.Falls s) xs ≡ true) (sym is) (first_speaks (Voice.Falls s) (duties.Ask (ask_duties.GoIdentity s)) ds (itself s)))).1.0
   duty_joined (duties.Step step_duties.Events) ds is first = tt
   duty_joined _ ds is first = tt
 
@@ -222,7 +222,7 @@ module _ (key_a key_b number : ℕ) (six : SixBooks) (p : PathState Carried) (nu
     fails = fails_joined;
     joined = λ n is s may. (end_is (with_nonces key_a key_b false h.nonce_a h.nonce_b) false (Joined six) (Past six NoMore) s p h.is).past (joins_at n is) (finish_past (end_at s p).tcp.state may);
     plain = λ n is s. by s (joins_at n is) (end_at s p).modes.identity refl;
-    fell = λ s is. ((end_is (with_nonces key_a key_b false h.nonce_a h.nonce_b) false (Joined six) (Past six NoMore) s p h.is).modes.fell is).1;
+    fell = λ s is. ((end_is (with_nonces key_a key_b false h.nonce_a h.nonce_b) false (Joined six) (Past six NoMore) s p h.is).modes.fell is).1.0;
   }
     where
       by : (s : Side) → is_joined p.profile ≡ true → (b : Bool) → (end_at s p).modes.identity ≡ b → b ≡ false

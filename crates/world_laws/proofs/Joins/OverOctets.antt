@@ -4,10 +4,11 @@ use Rattle.std.proofs.lemmas.Option.{same_Some}
 use Rattle.std.specs.List.{slice_get}
 use Rattle.outside_kit.specs.declared.side.Side.{Side}
 use Rattle.outside_kit.specs.declared.side.Side.TheVariants.{A, B}
+use Rattle.outside_kit.specs.Side.{peer}
 use Rattle.link_model.specs.declared.flight.Due.{Due}
 use Rattle.link_model.specs.declared.flight.Flight.{Flight}
 use Rattle.link_model.specs.Laws.{shown_flight}
-use Rattle.link_model.specs.Steps.{peer, is_due, arriving}
+use Rattle.link_model.specs.Steps.{is_due, arriving}
 use Rattle.path_segments.specs.Laws.{IsFresh, meant}
 use Rattle.path_segments.specs.declared.expected.Expected.{Expected}
 use Rattle.stream_lanes.proofs.Lists.{in_map}
@@ -17,13 +18,12 @@ use Rattle.path_core.specs.Arriving.{expected_by, judged_in}
 use Rattle.path_core.specs.Events.{heard_in, next_event}
 use Rattle.path_core.specs.Joins.{is_joined}
 use Rattle.path_core.specs.Octets.{octets}
-use Rattle.path_core.specs.OptionsOut.{spelled_by}
 use Rattle.path_core.specs.Shown.{octets_of, shown_path, IsFarReset, IsFreshCopy, NextIsFresh}
 use Rattle.path_core.specs.State.{PathState, end_at}
 use Rattle.path_core.specs.Values.{Carried, as_arrived, values}
-use Rattle.path_core.specs.Codec.{HeardSegment}
 use Rattle.path_core.proofs.CopiesRead.{near_read, far_read}
 use Rattle.path_segments.specs.Spelling.{subflow_number}
+use Rattle.path_segments.specs.Heard.{HeardSegment}
 use Rattle.path_core.proofs.FarResets.{unplaced}
 use Rattle.path_core.proofs.Showing.{same_event}
 use Rattle.world_laws.specs.declared.member.Member.TheVariants.{App, Path}
@@ -66,15 +66,15 @@ module _ (p : PathState Carried) (fresh : NextIsFresh p) (welcomes : NextIsWelco
       → octets.reads p.profile.spelling side expected (octets_of p.profile.spelling carried) ≡ Some heard → Welcomed heard
   near_or_reset carried meant_is copy reads = ⊎_elim (λ near. by_near near) (λ far. by_far far) copy.fresh
     where
-      by_near : IsFresh p.profile.spelling (spelled_by side) expected carried.segment → Welcomed heard
+      by_near : IsFresh p.profile.spelling side expected carried.segment → Welcomed heard
       by_near near =
           let same = same_Some (meant (as_arrived carried)) heard (sym (near_read p.profile.spelling side expected carried copy.from copy.sayable copy.expected near) ∙ reads) in
           subst Welcomed same (welcomes due (meant (as_arrived carried)) next meant_is (ap (λ h. is_nil h.options) same ∙ some))
 
-      by_far : IsFarReset p.profile.spelling (spelled_by side) expected carried.segment → Welcomed heard
+      by_far : IsFarReset p.profile.spelling side expected carried.segment → Welcomed heard
       by_far far =
-          let same = same_Some (unplaced (subflow_number p.profile.spelling (spelled_by side) carried.segment.position) (meant (as_arrived carried))) heard (sym (far_read p.profile.spelling side expected carried copy.from copy.sayable copy.expected far) ∙ reads) in
-          subst Welcomed same (reset_welcome due.to (end_at due.to p) (unplaced (subflow_number p.profile.spelling (spelled_by side) carried.segment.position) (meant (as_arrived carried))) far.reset (is_joined p.profile))
+          let same = same_Some (unplaced (subflow_number p.profile.spelling side carried.segment.position) (meant (as_arrived carried))) heard (sym (far_read p.profile.spelling side expected carried copy.from copy.sayable copy.expected far) ∙ reads) in
+          subst Welcomed same (reset_welcome due.to (end_at due.to p) (unplaced (subflow_number p.profile.spelling side carried.segment.position) (meant (as_arrived carried))) far.reset (is_joined p.profile))
 
   heard_welcome : (o : Option (Flight Carried)) → arriving due p.link ≡ o → heard_in octets due.to (option_map (shown_flight (octets_of p.profile.spelling)) o) (shown_path p) ≡ Some heard
       → Welcomed heard

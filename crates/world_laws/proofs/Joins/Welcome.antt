@@ -8,10 +8,11 @@ use Rattle.std.specs.Option.{IfSome, option_or}
 use Rattle.std.specs.Result.{result_ok}
 use Rattle.outside_kit.specs.declared.side.Side.{Side}
 use Rattle.outside_kit.specs.declared.side.Side.TheVariants.{A, B}
+use Rattle.outside_kit.specs.Side.{peer}
 use Rattle.key_material.specs.JoinHmac.{join_a160_of, join_b64_of}
 use Rattle.link_script.specs.Places.{same_side}
 use Rattle.link_model.specs.declared.flight.Flight.{Flight}
-use Rattle.link_model.specs.Steps.{peer, is_due, arriving}
+use Rattle.link_model.specs.Steps.{is_due, arriving}
 use Rattle.mptcp_options.specs.declared.join.JoinForm.{JoinForm}
 use Rattle.mptcp_options.specs.declared.join.JoinForm.TheVariants.{Syn, Answer, Third}
 use Rattle.join_handshake.specs.declared.hearing.JoinAnswer.{JoinAnswer}
@@ -35,7 +36,6 @@ use Rattle.path_agenda.specs.declared.heard.JoinStep.{JoinStep}
 use Rattle.path_agenda.specs.declared.heard.JoinStep.TheVariants as step
 use Rattle.path_core.specs.declared.judged.Judged.TheVariants as judged
 use Rattle.path_core.specs.Arriving.{copy_of, is_forged, is_passed_over, items_of, join_judged, judged_in}
-use Rattle.path_core.specs.Codec.{HeardSegment}
 use Rattle.path_core.specs.Ends.{PathEnd}
 use Rattle.path_core.specs.Events.{heard_in}
 use Rattle.path_core.specs.Joins.{is_joined, is_hmac_right, is_third_right, join_answer, join_asked, join_value, peer_key_of, third_in}
@@ -48,6 +48,7 @@ use Rattle.actor_desk.specs.Desk.{SixBooks, reply_of}
 use Rattle.actor_desk.specs.Words.{is_nil}
 use Rattle.path_segments.specs.Laws.{meant_option}
 use Rattle.path_segments.specs.Options.{PlainOption}
+use Rattle.path_segments.specs.Heard.{HeardSegment}
 use Rattle.stream_lanes.proofs.Lists.{Every-nil, in_set, in_map}
 use Rattle.world_laws.specs.declared.member.Member.TheVariants.{App, Path}
 use Rattle.world_laws.specs.Actors.{Actor, ActorCrew, member_asks, member_takes, member_next}

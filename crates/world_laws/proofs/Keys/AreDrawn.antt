@@ -4,7 +4,7 @@ use Rattle.std.specs.List.{flat_map}
 use Rattle.std.specs.Option.{IfSome, option_map}
 use Rattle.outside_kit.specs.declared.side.Side.{Side}
 use Rattle.outside_kit.specs.declared.side.Side.TheVariants.{A, B}
-use Rattle.link_model.specs.Steps.{peer}
+use Rattle.outside_kit.specs.Side.{peer}
 use Rattle.key_material.specs.AddressHmac.{add_addr64_of}
 use Rattle.key_material.specs.JoinHmac.{join_a160_of, join_b64_of}
 use Rattle.key_material.specs.KeyDigest.{token_of}

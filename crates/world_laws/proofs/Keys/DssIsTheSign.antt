@@ -14,6 +14,7 @@ use Rattle.fallback_state.specs.declared.fall.Event.{Event as FallEvent}
 use Rattle.fallback_state.specs.declared.fall.Event.TheVariants as events
 use Rattle.join_handshake.specs.declared.hearing.JoinSyn.{JoinSyn}
 use Rattle.path_segments.specs.declared.segment.PathOption.TheVariants.{Capable, Join, Dss, AddAddr, Remove, Prio, Fail, FastClose, Reset}
+use Rattle.path_segments.specs.Heard.{HeardSegment}
 use Rattle.dss_mapping.specs.declared.kept.KeptMapping.{KeptMapping}
 use Rattle.subflow_send.specs.Records.{Record}
 use Rattle.subflow_tcp.specs.Expiring.{is_sixth}
@@ -36,7 +37,7 @@ use Rattle.path_agenda.specs.declared.keys.KeyPair.{KeyPair}
 use Rattle.key_material.specs.declared.address.Address.{Address}
 use Rattle.path_core.specs.Arriving.{HeardOption, ack_items, map_items, key_items, join_items, address_items, item_removed, items_in, items_of, judged_in, template_by, template_judged, options_heard}
 use Rattle.path_core.specs.Breaking.{answered_break, reset_on}
-use Rattle.path_core.specs.Codec.{Codec, HeardSegment}
+use Rattle.path_core.specs.Codec.{Codec}
 use Rattle.path_core.specs.declared.event.Event.{Event}
 use Rattle.path_core.specs.declared.event.Event.TheVariants as happenings
 use Rattle.path_core.specs.declared.judged.Judged.{Judged}

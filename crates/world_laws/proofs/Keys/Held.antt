@@ -6,12 +6,13 @@ use Rattle.std.specs.Option.{IfSome, option_or}
 use Rattle.std.specs.Result.{result_ok}
 use Rattle.outside_kit.specs.declared.side.Side.{Side}
 use Rattle.outside_kit.specs.declared.side.Side.TheVariants.{A, B}
+use Rattle.outside_kit.specs.Side.{peer}
 use Rattle.fallback_state.specs.declared.fall.Verdict.{Verdict}
 use Rattle.fallback_state.specs.declared.fall.Verdict.TheVariants as verdicts
 use Rattle.link_script.specs.Places.{same_side}
 use Rattle.link_model.specs.declared.flight.Flight.{Flight}
 use Rattle.link_model.specs.Fate.{is_stripped, is_altered, fate_of}
-use Rattle.link_model.specs.Steps.{peer, arrivals, changed, next_number}
+use Rattle.link_model.specs.Steps.{arrivals, changed, next_number}
 use Rattle.key_material.specs.JoinHmac.{join_b64_of}
 use Rattle.key_material.specs.KeyDigest.{token_of}
 use Rattle.key_material.specs.declared.address.Address.{Address}

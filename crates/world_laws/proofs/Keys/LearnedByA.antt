@@ -7,6 +7,7 @@ use Rattle.outside_kit.specs.declared.side.Side.TheVariants.{A, B}
 use Rattle.dss_mapping.specs.declared.kept.KeptMapping.{KeptMapping}
 use Rattle.link_model.specs.Steps.{arriving, after_delivery}
 use Rattle.path_segments.specs.Spelled.{PlainSegment}
+use Rattle.path_segments.specs.Heard.{HeardSegment}
 use Rattle.subflow_recv.specs.Receiving.{after_forget_from}
 use Rattle.subflow_tcp.specs.declared.segments.Outgoing.{Outgoing}
 use Rattle.subflow_tcp.specs.declared.verdicts.Meaning.{Meaning}
@@ -47,7 +48,6 @@ use Rattle.path_core.specs.declared.event.Event.TheVariants as happenings
 use Rattle.path_core.specs.declared.judged.Judged.TheVariants as judged
 use Rattle.path_core.specs.declared.modes.Modes.{Modes}
 use Rattle.path_core.specs.Arriving.{after_judged, asked_in, copy_judged, copy_of, held_of, hint_of, items_of, judged_in, options_heard, owes_by, reset_for, taken_as, template_of, HeardOption}
-use Rattle.path_core.specs.Codec.{HeardSegment}
 use Rattle.path_core.specs.Duties.{stands, passed}
 use Rattle.path_core.specs.Emission.{after_timer}
 use Rattle.path_core.specs.Ends.{PathEnd}

@@ -6,7 +6,7 @@ use Rattle.std.specs.List.{slice_get}
 use Rattle.std.specs.Option.{IfSome}
 use Rattle.outside_kit.specs.declared.side.Side.{Side}
 use Rattle.outside_kit.specs.declared.side.Side.TheVariants.{A, B}
-use Rattle.link_model.specs.Steps.{peer}
+use Rattle.outside_kit.specs.Side.{peer}
 use Rattle.subflow_send.specs.Records.{Record}
 use Rattle.loss_recovery.specs.declared.windows.Pending.{Pending}
 use Rattle.reassembly_book.specs.declared.call.ReassemblyCall.TheVariants as reassembly_calls
@@ -53,7 +53,7 @@ use Rattle.path_core.specs.Duties.{ask_for}
 use Rattle.path_core.specs.Emission.{first_unsent, data_ask}
 use Rattle.path_core.specs.Events.{next_event, step_for}
 use Rattle.path_agenda.specs.Items.{key_heard, keys_heard}
-use Rattle.path_core.specs.Fallback.{fell_ask}
+use Rattle.path_core.specs.Fallback.{fell_ask, is_fall}
 use Rattle.path_core.specs.Opening.{peer_key_ask, opened_ask}
 use Rattle.path_core.specs.Passing.{piece_of, piece_ask, data_fin_of, fin_ask, plain_fin, rate_ask}
 use Rattle.path_core.specs.Deliver.{Piece}
@@ -276,21 +276,21 @@ keyed_stays six (asks.Reassembly B call) A is = is
 keyed_stays six (asks.Reassembly B call) B is = is
 keyed_stays six (asks.Local step) s is = is
 
--- What a side did: that it fell back, and that it has the peer's key, is told by its book, and what there is to say of a fast close
--- beside it.
+-- What a side did: that it has the peer's key is told by its book, and that it fell back, with what there is to say of that beside it;
+-- so is all that there is to say of a fast close.
 abbrev pub Past : SixBooks → (Deed → Side → Type 0) → Deed → Side → Type 0
-Past six also Deed.Fell s = FellBack six s
+Past six also Deed.Fell s = FellBack six s × also Deed.Fell s
 Past six also Deed.Closed s = also Deed.Closed s
 Past six also Deed.Stopped s = also Deed.Stopped s
 Past six also Deed.Keyed s = HasPeerKey six s
 
--- nothing is said of a fast close
+-- nothing is said beside it
 abbrev pub NoMore : Deed → Side → Type 0
 NoMore d s = Unit {0}
 
 -- the more is said of it
 past_stays : (also later : Deed → Side → Type 0) → ((d : Deed) (s : Side) → also d s → later d s) → (six : SixBooks) (x : Ask) (d : Deed) (s : Side) → Past six also d s → Past (after_ask x six) later d s
-past_stays also later rises six x Deed.Fell s is = fell_stays six x s is
+past_stays also later rises six x Deed.Fell s is = (fell_stays six x s is.0, rises Deed.Fell s is.1)
 past_stays also later rises six x Deed.Closed s is = rises Deed.Closed s is
 past_stays also later rises six x Deed.Stopped s is = rises Deed.Stopped s is
 past_stays also later rises six x Deed.Keyed s is = keyed_stays six x s is
@@ -377,9 +377,10 @@ module _ (key_a key_b : ℕ) (right : Bool) where
       by true true is true joins = (h.own_is, (joins refl, λ sure. ap peer_or_zero (h.confirmed is).0))
       by true true is false joins = tt
 
-  -- what a reply tells of a fast close is so
+  -- what a reply tells of a fall or a fast close is so
   abbrev pub Tells : (Deed → Side → Type 0) → Ask → Reply → Type 0
   Tells also (asks.Control s (control_calls.Look path)) r = IfSome (carrier_told r) (λ key. also Deed.Closed s)
+  Tells also (asks.Control s (control_calls.Fell path event)) r = is_fall r ≡ true → also Deed.Fell s
   Tells also (asks.Control s (control_calls.FastHeard key)) r = is_stopped_by r ≡ true → also Deed.Stopped s
   Tells also _ r = Unit {0}
 
@@ -392,7 +393,7 @@ module _ (key_a key_b : ℕ) (right : Bool) where
       by (control_calls.Look path) told = (told, announces_confirmed _ six.control_a path (λ confirmed. absurd (h.a.confirmed confirmed).1))
       by (control_calls.PeerKey key) told = refl
       by (control_calls.Keys own other) told = noted_keyed own other six.control_a
-      by (control_calls.Fell path event) told = λ fell. let row = row_falls path (sole_path six.control_a.paths path) event six.control_a.fall fell in (row.0, λ is. both_ways _ row.1 is)
+      by (control_calls.Fell path event) told = λ fell. let row = row_falls path (sole_path six.control_a.paths path) event six.control_a.fall fell in ((row.0, told fell), λ is. both_ways _ row.1 is)
       by (control_calls.JoinBegin path) told = begins_so also six path knows h
       by (control_calls.JoinHeard path token) told = heard_so A token six.control_a (Joined (after_ask (asks.Control A (control_calls.JoinHeard path token)) six)) (Past (after_ask (asks.Control A (control_calls.JoinHeard path token)) six) also) _ (λ is. is) h.a
       by (control_calls.Live path backup) told = tt
@@ -413,7 +414,7 @@ module _ (key_a key_b : ℕ) (right : Bool) where
       by (control_calls.Look path) told = (told, announces_confirmed _ six.control_b path (λ confirmed. (refl, (h.b.confirmed confirmed).1)))
       by (control_calls.PeerKey key) told = refl
       by (control_calls.Keys own other) told = noted_keyed own other six.control_b
-      by (control_calls.Fell path event) told = λ fell. let row = row_falls path (sole_path six.control_b.paths path) event six.control_b.fall fell in (row.0, λ is. both_ways _ row.1 is)
+      by (control_calls.Fell path event) told = λ fell. let row = row_falls path (sole_path six.control_b.paths path) event six.control_b.fall fell in ((row.0, told fell), λ is. both_ways _ row.1 is)
       by (control_calls.JoinBegin path) told = tt
       by (control_calls.JoinHeard path token) told = heard_so B token six.control_b (Joined (after_ask (asks.Control B (control_calls.JoinHeard path token)) six)) (Past (after_ask (asks.Control B (control_calls.JoinHeard path token)) six) also) _ (λ is. is) h.b
       by (control_calls.Live path backup) told = tt
@@ -617,6 +618,7 @@ module _ (key_a key_b : ℕ) (right : Bool) where
   -- of which nothing is said
   says_no_more : (six : SixBooks) (x : Ask) → Tells NoMore x (reply_of six x)
   says_no_more six (asks.Control s (control_calls.Look path)) = if_any (carrier_told (reply_of six (asks.Control s (control_calls.Look path))))
+  says_no_more six (asks.Control s (control_calls.Fell path event)) = λ is. tt
   says_no_more six (asks.Control s (control_calls.FastHeard key)) = λ is. tt
   says_no_more six (asks.Control s control_calls.FastClose) = tt
   says_no_more six (asks.Control s _) = tt

@@ -5,6 +5,7 @@ use Rattle.std.proofs.lemmas.Option.{same_Some}
 use Rattle.std.specs.Option.{IfSome, option_map}
 use Rattle.std.specs.Prelude.{unwrap_or}
 use Rattle.outside_kit.specs.declared.side.Side.{Side}
+use Rattle.outside_kit.specs.Side.{peer}
 use Rattle.dss_mapping.specs.declared.kept.KeptMapping.{KeptMapping}
 use Rattle.path_segments.specs.Laws.{meant, window_told}
 use Rattle.path_segments.specs.Spelled.{PlainSegment}
@@ -41,7 +42,6 @@ use Rattle.world_laws.proofs.Lanes.Roads.{Strolls, stays}
 use Rattle.world_laws.proofs.Lanes.Showing.{HasSub, HasNone, HasData, HasFin, Knowledge, knowledge_of, is_unfinished, AcksShow, SegmentShows, EndShows, PairsShow}
 use Rattle.world_laws.proofs.Lanes.RulesLeaveAlone.{sub_of_none}
 use Rattle.path_segments.specs.declared.position.HeardPosition.TheVariants.{At}
-use Rattle.link_model.specs.Steps.{peer}
 
 -- the octets of a payload are on the lane, where they are held
 pub record Holding (c : Profile) (s : Side) (k : Knowledge) (live : List KeptMapping) (out back : Lane) (tcp : EndState) : Type 0 where

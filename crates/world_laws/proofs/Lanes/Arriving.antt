@@ -4,6 +4,7 @@ use Rattle.std.proofs.lemmas.Bool.{both_ways}
 use Rattle.std.specs.Option.{IfSome}
 use Rattle.outside_kit.specs.declared.side.Side.{Side}
 use Rattle.outside_kit.specs.declared.side.Side.TheVariants.{A, B}
+use Rattle.outside_kit.specs.Side.{peer}
 use Rattle.dss_mapping.specs.declared.kept.KeptMapping.{KeptMapping}
 use Rattle.loss_recovery.specs.declared.windows.Told.{Told}
 use Rattle.mptcp_options.specs.declared.capable.CapableKeys.{CapableKeys}
@@ -39,7 +40,6 @@ use Rattle.world_laws.proofs.Lanes.Hearing.{state_shows, handshake_back, fin_ack
 use Rattle.world_laws.proofs.Announcements.NothingKnown.{noted, removed_noted, address_noted}
 use Rattle.world_laws.proofs.Lanes.Records.{acknowledged_shows, every_cons}
 use Rattle.world_laws.proofs.Lanes.Showing.{Knowledge, HasAck, HasMapping, HasFin, is_unfinished, SenderShows, ReceiverShows, HeldShows, ItemShows, MappingShows, KeysShow, OptionShows, IsSummed}
-use Rattle.link_model.specs.Steps.{peer}
 
 -- ---- what the options say
 

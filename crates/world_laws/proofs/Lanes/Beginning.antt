@@ -1,5 +1,5 @@
 -- The opened world shows in the two directions, and so does the world after every list of turns.
-use Rattle.std.proofs.Common.{◌≡◌, refl, sym, ◌∙◌, ap, subst, ℕ, zero, suc, ◌+◌, ◌<◌, inl, Bool, true, false, Option, Some, List, [], ◌∷◌, ◌++◌, length, replicate, set, arith, inr}
+use Rattle.std.proofs.Common.{◌≡◌, refl, sym, ◌∙◌, ap, subst, ℕ, zero, suc, ◌+◌, ◌<◌, inl, Bool, true, false, not, ◌&&◌, Option, Some, List, [], ◌∷◌, ◌++◌, length, replicate, set, arith, inr}
 use Rattle.std.proofs.lemmas.Bool.{false≢true, both_ways}
 use Rattle.std.proofs.lemmas.Option.{same_Some, slice_get_within}
 use Rattle.std.specs.List.{slice_get}
@@ -13,7 +13,7 @@ use Rattle.stream_lanes.specs.Lane.{AckCopy, Lane, lane_over}
 use Rattle.stream_lanes.specs.Moves.Move.{Open, SendAck}
 use Rattle.stream_lanes.specs.Streams.{Reader}
 use Rattle.stream_lanes.specs.Streams.StreamEvent.{Moves}
-use Rattle.stream_lanes.specs.Duo.{Duo, Event, after_events, opening_over}
+use Rattle.stream_lanes.specs.Duo.{Modes, Duo, Event, after_events, opening_over}
 use Rattle.stream_lanes.specs.Duo.Event.{ToB, ToA}
 use Rattle.stream_lanes.proofs.Duos.{any_held}
 use Rattle.stream_lanes.proofs.Lists.{Every-nil, set_same, set_other}
@@ -32,7 +32,7 @@ use Rattle.world_laws.specs.Worlds.{WorldState, Turn, after_turn, world_run}
 use Rattle.world_laws.proofs.Lanes.Applying.{Reads, settled_app}
 use Rattle.world_laws.proofs.Worlds.Casts.{first_cast, first_fare, opened_is, walker_there}
 use Rattle.world_laws.proofs.Lanes.EveryTurn.{settled_first, beside, beside_is, same_there, same_there_sent, each_turn_shows}
-use Rattle.world_laws.proofs.Lanes.OfAWorld.{Links, Carries, duo_of, Others, duo_at, StandsSo, PathThere, WorldShows, IsSteady, Moved, unmoved, then_moved, Shown, first_duo, OpenedShows, EachOpeningShows, Reached, EachRunShows, events_append, turn_events, turn_is}
+use Rattle.world_laws.proofs.Lanes.OfAWorld.{TurnIsFirm, RunIsFirm, Links, Carries, duo_of, Others, duo_at, StandsSo, PathThere, WorldShows, IsSteady, Moved, unmoved, then_moved, Shown, first_duo, OpenedShows, EachOpeningShows, Reached, EachRunShows, events_append, turn_events, turn_is}
 use Rattle.world_laws.proofs.Places.Known.{opens_those}
 use Rattle.world_laws.proofs.Places.Sent.{IsLonger, BothLast, all_last, there_lasts, last_longer}
 use Rattle.world_laws.proofs.Lanes.Roads.{Strolls, there_again}
@@ -166,9 +166,29 @@ module _ (start : Start) (can : Carries start) where
   abbrev opens : List Event
   opens = ToB (Moves 0 Open) ∷ ToA (Moves 0 Open) ∷ []
 
+  -- no side fell, firm or not
+  abbrev opened_modes : Bool → Bool → Modes
+  opened_modes firm_a firm_b = record {
+    plain_a = not firm_a && false;
+    plain_b = not firm_b && false;
+    loose_a = not firm_a && false;
+    loose_b = not firm_b && false;
+    begun = false;
+    join_sent = false;
+    answered = false;
+    alters = can.links.alters;
+    checked = can.links.checked;
+  }
+
+  none_fell : (firm_a firm_b : Bool) → opened_modes true true ≡ opened_modes firm_a firm_b
+  none_fell true true = refl
+  none_fell true false = refl
+  none_fell false true = refl
+  none_fell false false = refl
+
   opens_many : (n : ℕ) → after_events opens (opening_over can.links.alters can.links.checked n start.buffer start.buffer) ≡ with_lanes (fresh_lanes can.links n) (fresh_lanes can.links n)
-  opens_many zero = refl
-  opens_many (suc n) = refl
+  opens_many zero = ap (λ (modes : Modes). record (with_lanes [] []) { modes = modes }) (none_fell can.links.firm_a can.links.firm_b)
+  opens_many (suc n) = ap (λ (modes : Modes). record (with_lanes (fresh_lanes can.links (suc n)) (fresh_lanes can.links (suc n))) { modes = modes }) (none_fell can.links.firm_a can.links.firm_b)
 
   -- ---- a path alone
 
@@ -373,21 +393,21 @@ each_opening_shows start can = opened_shows start can
 -- ---- every list of turns
 
 module _ (start : Start) (can : Carries start) where
-  pub turn_reached : (turn : Turn) (w : WorldState Carried) → IsSteady w → Reached can.links start w → Reached can.links start (after_turn values turn w)
-  turn_reached turn w steady r =
+  pub turn_reached : (turn : Turn) (w : WorldState Carried) → TurnIsFirm can.links turn w → IsSteady w → Reached can.links start w → Reached can.links start (after_turn values turn w)
+  turn_reached turn w firm steady r =
       let d : Duo = after_events r.events (first_duo can.links start) in
-      let x : Shown can.links start turn d w = each_turn_shows start can turn d w steady (any_held can.links.alters can.links.checked (length start.paths) start.buffer start.buffer r.events) r.shows in
+      let x : Shown can.links start turn d w = each_turn_shows start can turn d w firm steady (any_held can.links.alters can.links.checked (length start.paths) start.buffer start.buffer r.events) r.shows in
       record {
         events = r.events ++ turn_events x.turn_shows;
         shows = subst (λ y. WorldShows can.links start y (after_turn values turn w)) (turn_is x.turn_shows ∙ sym (events_append r.events (turn_events x.turn_shows) (first_duo can.links start))) x.world_shows;
       }
 
-  run_reached : (turns : List Turn) (w : WorldState Carried) → ((more : List Turn) → IsSteady (world_run values more w)) → Reached can.links start w → Reached can.links start (world_run values turns w)
-  run_reached [] w steady r = r
-  run_reached (turn ∷ turns) w steady r = run_reached turns (after_turn values turn w) (λ more. steady (turn ∷ more)) (turn_reached turn w (steady []) r)
+  run_reached : (turns : List Turn) (w : WorldState Carried) → RunIsFirm can.links turns w → ((more : List Turn) → IsSteady (world_run values more w)) → Reached can.links start w → Reached can.links start (world_run values turns w)
+  run_reached [] w firm steady r = r
+  run_reached (turn ∷ turns) w firm steady r = run_reached turns (after_turn values turn w) firm.1 (λ more. steady (turn ∷ more)) (turn_reached turn w firm.0 (steady []) r)
 
   pub opened_reached : Reached can.links start (opened_world start)
   opened_reached = let o = opened_shows start can in record { events = o.0; shows = o.1 }
 
 pub each_run_shows : EachRunShows
-each_run_shows start can turns = run_reached start can turns (opened_world start) (always_steady start) (opened_reached start can)
+each_run_shows start can turns firm = run_reached start can turns (opened_world start) firm (always_steady start) (opened_reached start can)

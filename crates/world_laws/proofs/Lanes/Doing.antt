@@ -18,7 +18,7 @@ use Rattle.stream_lanes.proofs.Lists.{Has-more}
 use Rattle.ones_sum.specs.Words.{with_bit_turned}
 use Rattle.segment_wire.specs.Changes.{with_turned_bit}
 use Rattle.path_segments.specs.Spelling.{numbers_of}
-use Rattle.path_core.specs.OptionsOut.{spelled_by, bare_mapping, place_numbered, mapping_of}
+use Rattle.path_core.specs.OptionsOut.{bare_mapping, place_numbered, mapping_of}
 use Rattle.path_core.specs.State.{Profile}
 use Rattle.world_laws.proofs.Lanes.Growing.{SenderGoes, ReceiverGoes}
 use Rattle.world_laws.proofs.Lanes.Roads.{moves, Strolls, one_move, then_strolls}
@@ -148,7 +148,7 @@ place_back : (idsn place : ℕ) → place < 2 ^ 64 → ((idsn + (place + 1)) % 2
 place_back idsn place small = omega (arith, small)
 
 pub place_is : (c : Profile) (s : Side) (place position len : ℕ) → place < 2 ^ 64 → place_numbered c s (bare_mapping c s place position len).number ≡ place
-place_is c s place position len small = place_back (numbers_of c.spelling (spelled_by s)).idsn.0 place small
+place_is c s place position len small = place_back (numbers_of c.spelling s).idsn.0 place small
 
 -- the piece is granted, and its segment may be sent from now on
 module _ (span : Span) (piece : List ℕ) (p : Lane) where

@@ -31,7 +31,7 @@ use Rattle.path_core.specs.State.{PathState, Profile, path_of, with_agenda, end_
 use Rattle.path_core.specs.Steps.{settled, asks_first, answers, takes, settles_down, next_round}
 use Rattle.path_core.specs.Turns.{FirstStands, IsSettled}
 use Rattle.path_core.specs.Values.{Carried, values}
-use Rattle.world_laws.specs.declared.member.Member.TheVariants.{App}
+use Rattle.world_laws.specs.declared.member.Member.TheVariants.{App, Path}
 use Rattle.world_laws.specs.Openings.{PathPlan, Start, path_begins}
 use Rattle.world_laws.specs.StampedBooks.{answer_to}
 use Rattle.world_laws.specs.Worlds.{WorldState, Turn, note_of, asked, all_over, greatest, begins, end_round, after_turn}
@@ -40,7 +40,7 @@ use Rattle.world_laws.proofs.Lanes.Answering.{IsReady, FailOpens}
 use Rattle.world_laws.proofs.Worlds.Casts.{Walker, Cast, Fare, Every-put, world_of, walking, seated, walked, after_a, after_b, after_path, fare_after_a, fare_after_b, fare_after_path, map_there, path_asked, path_stepped, path_step_is, walks_on, next_cast, next_is, next_fare}
 use Rattle.world_laws.proofs.Falls.ClearStays.{unclear_before, takes_clear, next_clear}
 use Rattle.world_laws.proofs.Weaving.Journals.{books_after}
-use Rattle.world_laws.proofs.Lanes.OfAWorld.{Carries, duo_of, Others, duo_at, StandsSo, PathThere, WorldShows, FailsJoined, PathIsSteady, IsSteady, Moved, unmoved, then_moved, asked_by, asked_in, TurnShows, Shown, EachTurnShows, turn_events, turn_is}
+use Rattle.world_laws.proofs.Lanes.OfAWorld.{DutyIsFirm, MemberIsFirm, TurnIsFirm, Carries, duo_of, Others, duo_at, StandsSo, PathThere, WorldShows, FailsJoined, PathIsSteady, IsSteady, Moved, unmoved, then_moved, asked_by, asked_in, TurnShows, Shown, EachTurnShows, turn_events, turn_is}
 use Rattle.world_laws.proofs.Places.Known.{takes_those, begins_those}
 use Rattle.world_laws.proofs.Places.Sent.{IsLonger, BothLast, all_last, there_lasts, last_longer, KnowsThose}
 use Rattle.world_laws.proofs.Lanes.Ready.{ready, opens_where}
@@ -409,23 +409,23 @@ module _ (start : Start) (can : Carries start) where
       fails_open (duties.Step (step_duties.Heard s index)) fails = λ fail. opens_where number p readied.ab readied.ba readied.stands s (λ n is. readied.opens s (fails n is fail))
       fails_open _ fails = tt
 
-      turn_of : (duty : Duty) (ds : List Duty) (is : p.agenda ≡ duty ∷ ds)
+      turn_of : (duty : Duty) (ds : List Duty) (is : p.agenda ≡ duty ∷ ds) → DutyIsFirm can.links six p duty
           → let r = readied in PathTurn p.profile six others (ask_for values duty p) (takes values (reply_of six (ask_for values duty p)) p) r.ab r.ba
-      turn_of duty ds is =
+      turn_of duty ds is firm =
           let ask = ask_for values duty p in
           let q = answered values duty (reply_of six ask) p in
           let r = readied in
           subst (λ x. PathTurn p.profile six others ask x r.ab r.ba) (sym (ap (λ xs. settles_down (answers values xs (reply_of six ask) p)) is))
           (path_turn p.profile six others ask q r.ab r.ba q.agenda readied_holds
-          (duty_step six others p r.ab r.ba r.shows readied_holds r.ready path.numbered size short duty (first_of duty ds is) (path_steady.calm duty ds is) (path_steady.may duty ds is)
+          (duty_step six others p r.ab r.ba r.shows readied_holds r.ready path.numbered size short duty (first_of duty ds is) (path_steady.calm duty ds is) (path_steady.may duty ds is) firm
           (fails_open duty (path_steady.fails duty ds is))))
 
-      duty_stepped : (duty : Duty) (ds : List Duty) → p.agenda ≡ duty ∷ ds → Stepped (Some (ask_for values duty p)) here (world_of (after_path values number x (ask_for values duty p) t))
-      duty_stepped duty ds is =
+      duty_stepped : (duty : Duty) (ds : List Duty) → p.agenda ≡ duty ∷ ds → DutyIsFirm can.links six p duty → Stepped (Some (ask_for values duty p)) here (world_of (after_path values number x (ask_for values duty p) t))
+      duty_stepped duty ds is firm =
           let ask = ask_for values duty p in
           let q : PathState Carried = takes values (reply_of six ask) p in
           let r = readied in
-          let turn = turn_of duty ds is in
+          let turn = turn_of duty ds is firm in
           let d : Duo = duo_at six r.ab r.ba others in
           let e : Duo = duo_at (after_ask ask six) turn.ab_end turn.ba_end others in
           let there_ab = put_there lanes_ab number r.ab others.within_ab in
@@ -472,9 +472,9 @@ module _ (start : Start) (can : Carries start) where
               let m = answered values duty (reply_of six (ask_for values duty p)) p in
               subst IsSettled (sym (ap (λ xs. settles_down (answers values xs (reply_of six (ask_for values duty p)) p)) is)) (settled_first m.agenda m)
 
-      path_step : (ds : List Duty) → p.agenda ≡ ds → Stepped (asks_first values ds p) here (path_asked values number x (asks_first values ds p) t)
-      path_step [] is = stays_here
-      path_step (duty ∷ ds) is = duty_stepped duty ds is
+      path_step : (ds : List Duty) → p.agenda ≡ ds → MemberIsFirm can.links six (Path p) → Stepped (asks_first values ds p) here (path_asked values number x (asks_first values ds p) t)
+      path_step [] is firm = stays_here
+      path_step (duty ∷ ds) is firm = duty_stepped duty ds is (firm duty ds is)
 
     -- ---- the applications
 
@@ -571,9 +571,10 @@ module _ (start : Start) (can : Carries start) where
 
     -- ---- every turn
 
-    path_turn_step : (number : ℕ) (o : Option (Walker Carried)) → slice_get t.paths number ≡ o → Stepped (path_asks o) here (path_stepped values number o t)
-    path_turn_step number None there = stays_here
-    path_turn_step number (Some x) there = path_step number x there x.path.agenda refl
+    path_turn_step : (number : ℕ) → TurnIsFirm can.links (Turn.Step (suc (suc number))) (world_of t) → (o : Option (Walker Carried)) → slice_get t.paths number ≡ o
+        → Stepped (path_asks o) here (path_stepped values number o t)
+    path_turn_step number firm None there = stays_here
+    path_turn_step number firm (Some x) there = path_step number x there x.path.agenda refl (firm (walking x) (map_there walking t.paths number ∙ ap (option_map walking) there))
 
     shown_by : (turn : Turn) (o : Option Ask) (w : WorldState Carried) → asked_in turn (world_of t) ≡ o → after_turn values turn (world_of t) ≡ w → Stepped o here w → Shown can.links start turn here (world_of t)
     shown_by turn o w asks goes x = record {
@@ -582,19 +583,19 @@ module _ (start : Start) (can : Carries start) where
       world_shows = subst (WorldShows can.links start x.duo) (sym goes) x.world_shows;
     }
 
-    turn_step : (turn : Turn) → Shown can.links start turn here (world_of t)
-    turn_step (Turn.Step zero) = shown_by (Turn.Step 0) _ _ refl refl (step_of_a t.a.agenda refl)
-    turn_step (Turn.Step (suc zero)) = shown_by (Turn.Step 1) _ _ refl refl (step_of_b t.b.agenda refl)
-    turn_step (Turn.Step (suc (suc number))) =
+    turn_step : (turn : Turn) → TurnIsFirm can.links turn (world_of t) → Shown can.links start turn here (world_of t)
+    turn_step (Turn.Step zero) firm = shown_by (Turn.Step 0) _ _ refl refl (step_of_a t.a.agenda refl)
+    turn_step (Turn.Step (suc zero)) firm = shown_by (Turn.Step 1) _ _ refl refl (step_of_b t.b.agenda refl)
+    turn_step (Turn.Step (suc (suc number))) firm =
         shown_by (Turn.Step (suc (suc number))) (path_asks (slice_get t.paths number)) (path_stepped values number (slice_get t.paths number) t) (path_asked_is number t) (path_step_is values number t)
-        (path_turn_step number (slice_get t.paths number) refl)
-    turn_step Turn.Round = shown_by Turn.Round None (end_round (world_of t)) refl refl round_step
+        (path_turn_step number firm (slice_get t.paths number) refl)
+    turn_step Turn.Round firm = shown_by Turn.Round None (end_round (world_of t)) refl refl round_step
 
 -- ---- every turn
 
 pub each_turn_shows : EachTurnShows
-each_turn_shows start can turn d w steady holds h =
+each_turn_shows start can turn d w firm steady holds h =
     let x = turn_step start can h.cast h.fare h.settled h.lanes_ab h.lanes_ba h.reader_a h.reader_b h.reads_a h.reads_b h.paths
-    (subst IsSteady h.is steady) (subst Holds h.duo_is holds) turn in
+    (subst IsSteady h.is steady) (subst Holds h.duo_is holds) turn (subst (TurnIsFirm can.links turn) h.is firm) in
     let at_duo : Shown can.links start turn d (world_of h.cast) = subst (λ y. Shown can.links start turn y (world_of h.cast)) (sym h.duo_is) x in
     subst (Shown can.links start turn d) (sym h.is) at_duo

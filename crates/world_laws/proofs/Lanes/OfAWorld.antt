@@ -1,8 +1,8 @@
 -- What the two directions of a connection show of its world, and what a step of the world is there: moves of the lanes, at most
 -- one call of a book, and moves again.
-use Rattle.std.proofs.Common.{◌≡◌, refl, sym, ◌∙◌, ap, ℕ, zero, suc, ◌-◌, ◌^◌, ◌<◌, ◌≤◌, Bool, true, false, Option, Some, None, List, [], ◌∷◌, ◌++◌, length, set}
+use Rattle.std.proofs.Common.{◌≡◌, refl, sym, ◌∙◌, ap, ℕ, zero, suc, ◌-◌, ◌^◌, ◌<◌, ◌≤◌, Bool, true, false, not, ◌&&◌, Option, Some, None, List, [], ◌∷◌, ◌++◌, length, set}
 use Rattle.std.specs.List.{slice_get, list_all}
-use Rattle.std.proofs.lemmas.Bool.{and_parts, and_from, true≢false, false≢true}
+use Rattle.std.proofs.lemmas.Bool.{and_parts, and_from, both_ways, true≢false, false≢true}
 use Rattle.outside_kit.specs.declared.side.Side.TheVariants.{A, B}
 use Rattle.outside_kit.specs.declared.side.Side.{Side}
 use Rattle.send_book.specs.declared.call.SendCall.{SendCall}
@@ -22,7 +22,7 @@ use Rattle.stream_lanes.specs.Words.{Every, From}
 use Rattle.actor_desk.specs.declared.ask.Ask.{Ask}
 use Rattle.actor_desk.specs.declared.ask.Ask.TheVariants as asks
 use Rattle.actor_desk.specs.Books.{books_in}
-use Rattle.actor_desk.specs.Desk.{SixBooks, control_of, send_of}
+use Rattle.actor_desk.specs.Desk.{SixBooks, after_ask, control_of, send_of}
 use Rattle.path_agenda.specs.declared.duty.Duty.{Duty}
 use Rattle.path_agenda.specs.declared.duty.Duty.TheVariants as duties
 use Rattle.path_agenda.specs.declared.duty.AskDuty.TheVariants as ask_duties
@@ -31,6 +31,7 @@ use Rattle.path_agenda.specs.declared.heard.Heard.TheVariants as says
 use Rattle.path_core.specs.Words.{item_at}
 use Rattle.path_core.specs.State.{PathState, end_at}
 use Rattle.path_core.specs.Shown.{AltersNothing}
+use Rattle.path_core.specs.Treating.{item_ask, item_of}
 use Rattle.path_core.specs.Turns.{IsSettled}
 use Rattle.link_model.specs.Steps.{lines_of}
 use Rattle.path_core.specs.Values.{Carried, values}
@@ -39,6 +40,7 @@ use Rattle.control_book.specs.declared.call.ControlCall.{ControlCall}
 use Rattle.control_book.specs.declared.call.ControlCall.TheVariants as control_calls
 use Rattle.world_laws.specs.declared.member.Member.TheVariants.{App, Path}
 use Rattle.world_laws.specs.Actors.{Actor, ActorCrew, member_asks}
+use Rattle.world_laws.specs.Altered.{is_fallback}
 use Rattle.world_laws.specs.Openings.{PathPlan, Start, path_begins, opened_world}
 use Rattle.world_laws.specs.Promises.{IsPlain}
 use Rattle.world_laws.specs.Worlds.{WorldState, Turn, after_turn, world_run}
@@ -52,19 +54,35 @@ use Rattle.world_laws.proofs.Asks.AckOutDuties.{is_shield}
 
 -- ---- what is shown
 
--- what is so of a connection for ever: whether its links may alter payload, and whether mappings are checked
+-- What is so of a connection for ever: whether its links may alter payload, and whether mappings are checked. And a side may be firm:
+-- it falls back by no turn that is looked at. Of another one that was stopped it isn't known whether it had fallen back.
 pub record Links : Type 0 where
   pub alters : Bool
   pub checked : Bool
+  pub firm_a : Bool
+  pub firm_b : Bool
 
--- by the control books: which side fell back to plain TCP or to an infinite mapping of the peer's, or may have done so before it was
--- stopped, whether A began a join, and whether B answered one
+abbrev pub is_firm : Links → Side → Bool
+is_firm links A = links.firm_a
+is_firm links B = links.firm_b
+
+-- a side that isn't firm fell back to plain TCP, or to an infinite mapping of the peer's, or may have done so before it was stopped
+abbrev pub plain_at : Links → Side → SixBooks → Bool
+plain_at links s six = not (is_firm links s) && is_plain (control_of s six).fall
+
+abbrev pub loose_at : Links → Side → SixBooks → Bool
+loose_at links s six = not (is_firm links s) && is_loose (control_of s six).fall
+
+pub plain_unless : (links : Links) (s : Side) (six : SixBooks) → is_firm links s ≡ false → is_plain (control_of s six).fall ≡ true → plain_at links s six ≡ true
+plain_unless links s six none is = ap (λ b. not b && is_plain (control_of s six).fall) none ∙ is
+
+-- by the control books: which side fell back, whether A began a join, and whether B answered one
 abbrev pub modes_by : Links → SixBooks → Modes
 modes_by links six = record {
-  plain_a = is_plain six.control_a.fall;
-  plain_b = is_plain six.control_b.fall;
-  loose_a = is_loose six.control_a.fall;
-  loose_b = is_loose six.control_b.fall;
+  plain_a = plain_at links A six;
+  plain_b = plain_at links B six;
+  loose_a = loose_at links A six;
+  loose_b = loose_at links B six;
   begun = six.control_a.fall.joined;
   join_sent = six.control_a.fall.joined;
   answered = six.control_b.fall.joined;
@@ -262,11 +280,21 @@ MayCall s (control_calls.JoinBegin path) six = MayBegin s
 MayCall s (control_calls.JoinHeard path token) six = MayAnswer s six
 MayCall s _ six = Unit {0}
 
+-- by this ask no firm side falls back
+abbrev pub StaysFirm : Links → Side → SixBooks → Ask → Type 0
+StaysFirm links s six ask = is_firm links s ≡ true → is_fallback (control_of s (after_ask ask six)).fall.mode ≡ false
+
 -- a duty whose step may be made: B hears only of joins that were begun, and an end falls back with its side
 abbrev pub MayDo : SixBooks → Duty → Type 0
 MayDo six (duties.Ask (ask_duties.JoinHeard s)) = MayAnswer s six
 MayDo six (duties.Ask (ask_duties.GoIdentity s)) = is_plain (control_of s six).fall ≡ true
 MayDo six _ = Unit {0}
+
+-- a duty by which no firm side falls back: its end learns of no fall, and no item that it hears is one by which the side falls
+abbrev pub DutyIsFirm : Links → SixBooks → PathState Carried → Duty → Type 0
+DutyIsFirm links six p (duties.Ask (ask_duties.GoIdentity s)) = is_firm links s ≡ false
+DutyIsFirm links six p (duties.Step (step_duties.Heard s index)) = StaysFirm links s six (item_ask values s (item_of index (end_at s p)) p)
+DutyIsFirm links six p _ = Unit {0}
 
 -- on a path that joins MP_FAIL is heard only where B joined
 abbrev pub FailsJoined : SixBooks → ℕ → PathState Carried → Duty → Type 0
@@ -302,6 +330,47 @@ pub record IsSteady (w : WorldState Carried) : Type 0 where
   -- and no book has too many bytes
   pub short : (s : Side) → length (send_of s (books_in w.books)).written ≤ 2 ^ 62 - 3
 
+-- by the first duty of a path no firm side falls back
+abbrev pub MemberIsFirm : Links → SixBooks → Actor Carried → Type 0
+MemberIsFirm links six (App a) = Unit {0}
+MemberIsFirm links six (Path p) = (d : Duty) (ds : List Duty) → p.agenda ≡ d ∷ ds → DutyIsFirm links six p d
+
+-- nor by this turn
+abbrev pub TurnIsFirm : Links → Turn → WorldState Carried → Type 0
+TurnIsFirm links (Turn.Step zero) w = Unit {0}
+TurnIsFirm links (Turn.Step (suc zero)) w = Unit {0}
+TurnIsFirm links (Turn.Step (suc (suc number))) w = (c : ActorCrew Carried) → slice_get w.crew (suc (suc number)) ≡ Some c → MemberIsFirm links (books_in w.books) c.member
+TurnIsFirm links Turn.Round w = Unit {0}
+
+-- nor by these
+abbrev pub RunIsFirm : Links → List Turn → WorldState Carried → Type 0
+RunIsFirm links [] w = Unit {0}
+RunIsFirm links (turn ∷ turns) w = TurnIsFirm links turn w × RunIsFirm links turns (after_turn values turn w)
+
+-- no side is firm
+abbrev pub NoneIsFirm : Links → Type 0
+NoneIsFirm links = (s : Side) → is_firm links s ≡ false
+
+module _ (links : Links) (none : NoneIsFirm links) where
+  pub free_duty : (six : SixBooks) (p : PathState Carried) (d : Duty) → DutyIsFirm links six p d
+  free_duty six p (duties.Ask (ask_duties.GoIdentity s)) = none s
+  free_duty six p (duties.Step (step_duties.Heard s index)) = λ firm. absurd (both_ways _ (none s) firm)
+  free_duty six p _ = tt
+
+  free_member : (six : SixBooks) (m : Actor Carried) → MemberIsFirm links six m
+  free_member six (App a) = tt
+  free_member six (Path p) = λ d ds is. free_duty six p d
+
+  pub free_turn : (turn : Turn) (w : WorldState Carried) → TurnIsFirm links turn w
+  free_turn (Turn.Step zero) w = tt
+  free_turn (Turn.Step (suc zero)) w = tt
+  free_turn (Turn.Step (suc (suc number))) w = λ c there. free_member (books_in w.books) c.member
+  free_turn Turn.Round w = tt
+
+  pub free_run : (turns : List Turn) (w : WorldState Carried) → RunIsFirm links turns w
+  free_run [] w = tt
+  free_run (turn ∷ turns) w = (free_turn turn w, free_run turns (after_turn values turn w))
+
 -- The connection goes from one state to another by moves of its lanes, the call that was asked, and moves.
 pub record TurnShows (ask : Option Ask) (d e : Duo) : Type 0 where
   pub before : List Event
@@ -326,16 +395,28 @@ pub record Carries (start : Start) : Type 0 where
   pub checks : links.checked ≡ true → start.checksums ≡ true
   pub size : Every (λ plan. 29 ≤ plan.mss) start.paths
 
--- links that alter anything, and links that alter nothing
-pub anyhow : (start : Start) → Every (λ plan. 29 ≤ plan.mss) start.paths → Carries start
-anyhow start size = record { links = record { alters = true; checked = false }; may = λ none. absurd (true≢false none); checks = λ is. absurd (false≢true is); size = size }
+-- links that alter anything, and links that alter nothing; no side is firm
+abbrev pub anyhow : (start : Start) → Every (λ plan. 29 ≤ plan.mss) start.paths → Carries start
+anyhow start size = record { links = record { alters = true; checked = false; firm_a = false; firm_b = false }; may = λ none. absurd (true≢false none); checks = λ is. absurd (false≢true is); size = size }
 
 -- links that alter anything, where mappings are checked
 abbrev pub checkedly : (start : Start) → Every (λ plan. 29 ≤ plan.mss) start.paths → start.checksums ≡ true → Carries start
-checkedly start size uses = record { links = record { alters = true; checked = true }; may = λ none. absurd (true≢false none); checks = λ is. uses; size = size }
+checkedly start size uses = record { links = record { alters = true; checked = true; firm_a = false; firm_b = false }; may = λ none. absurd (true≢false none); checks = λ is. uses; size = size }
 
 abbrev pub plainly : (start : Start) → IsPlain start → Carries start
-plainly start plain = record { links = record { alters = false; checked = false }; may = λ none. plain.unaltered; checks = λ is. absurd (false≢true is); size = plain.size }
+plainly start plain = record { links = record { alters = false; checked = false; firm_a = false; firm_b = false }; may = λ none. plain.unaltered; checks = λ is. absurd (false≢true is); size = plain.size }
+
+pub anyhow_free : (start : Start) (size : Every (λ plan. 29 ≤ plan.mss) start.paths) → NoneIsFirm (anyhow start size).links
+anyhow_free start size A = refl
+anyhow_free start size B = refl
+
+pub checkedly_free : (start : Start) (size : Every (λ plan. 29 ≤ plan.mss) start.paths) (uses : start.checksums ≡ true) → NoneIsFirm (checkedly start size uses).links
+checkedly_free start size uses A = refl
+checkedly_free start size uses B = refl
+
+pub plainly_free : (start : Start) (plain : IsPlain start) → NoneIsFirm (plainly start plain).links
+plainly_free start plain A = refl
+plainly_free start plain B = refl
 
 -- moves of the lanes before the first turn
 abbrev pub OpenedShows : Links → Start → Type 0
@@ -350,9 +431,9 @@ pub record Shown (links : Links) (start : Start) (turn : Turn) (d : Duo) (w : Wo
 abbrev pub EachOpeningShows : Type 0
 EachOpeningShows = (start : Start) (can : Carries start) → OpenedShows can.links start
 
--- and every turn keeps it, lawful or not
+-- and every turn by which no firm side falls back keeps it, lawful or not
 abbrev pub EachTurnShows : Type 0
-EachTurnShows = (start : Start) (can : Carries start) (turn : Turn) (d : Duo) (w : WorldState Carried) → IsSteady w → Holds d → WorldShows can.links start d w → Shown can.links start turn d w
+EachTurnShows = (start : Start) (can : Carries start) (turn : Turn) (d : Duo) (w : WorldState Carried) → TurnIsFirm can.links turn w → IsSteady w → Holds d → WorldShows can.links start d w → Shown can.links start turn d w
 
 -- after each list of turns the world shows in a connection that comes about by events from the opening
 pub record Reached (links : Links) (start : Start) (w : WorldState Carried) : Type 0 where
@@ -360,7 +441,7 @@ pub record Reached (links : Links) (start : Start) (w : WorldState Carried) : Ty
   pub shows : WorldShows links start (after_events events (first_duo links start)) w
 
 abbrev pub EachRunShows : Type 0
-EachRunShows = (start : Start) (can : Carries start) (turns : List Turn) → Reached can.links start (world_run values turns (opened_world start))
+EachRunShows = (start : Start) (can : Carries start) (turns : List Turn) → RunIsFirm can.links turns (opened_world start) → Reached can.links start (world_run values turns (opened_world start))
 
 -- ---- events
 

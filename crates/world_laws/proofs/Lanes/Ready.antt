@@ -5,6 +5,7 @@ use Rattle.std.proofs.lemmas.Bool.{both_ways, false≢true}
 use Rattle.std.specs.Option.{IfSome}
 use Rattle.outside_kit.specs.declared.side.Side.{Side}
 use Rattle.outside_kit.specs.declared.side.Side.TheVariants.{A, B}
+use Rattle.outside_kit.specs.Side.{peer}
 use Rattle.subflow_tcp.specs.States as states
 use Rattle.stream_lanes.specs.Holding.{Holds, IsHonest, IsRight, LaneHolds}
 use Rattle.stream_lanes.specs.Lane.{Cell, Lane}
@@ -18,7 +19,6 @@ use Rattle.world_laws.proofs.Lanes.Answering.{BeginsFirst, IsReady}
 use Rattle.world_laws.proofs.Lanes.OfAWorld.{Others, duo_at, StandsSo, flags_are}
 use Rattle.world_laws.proofs.Lanes.Showing.{HasMapping}
 use Rattle.world_laws.proofs.Lanes.Strolling.{out_holds, back_holds}
-use Rattle.link_model.specs.Steps.{peer}
 
 -- as long as no join was answered, a mapping from the first position begins at the first place
 first_mapping : (v : View) (path : ℕ) (p : Lane) → v.alone ≡ true → LaneHolds v path p → (place len : ℕ) → HasMapping p.datas place 1 len → place ≡ 0

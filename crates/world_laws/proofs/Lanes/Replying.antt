@@ -6,7 +6,7 @@ use Rattle.std.proofs.lemmas.Option.{same_Some}
 use Rattle.std.proofs.lemmas.List.{length-drop, length-take}
 use Rattle.outside_kit.specs.declared.side.Side.{Side}
 use Rattle.outside_kit.specs.declared.side.Side.TheVariants.{A, B}
-use Rattle.link_model.specs.Steps.{peer}
+use Rattle.outside_kit.specs.Side.{peer}
 use Rattle.send_book.specs.declared.call.SendCall.TheVariants.{Grant, AckIn, GoIdentity as GoIdentityBook, GoInfinite as GoInfiniteBook}
 use Rattle.send_book.specs.declared.call.SendReply.{SendReply}
 use Rattle.send_book.specs.declared.call.SendReply.TheVariants as send_replies
@@ -34,7 +34,7 @@ use Rattle.actor_desk.specs.declared.ask.Ask.TheVariants as asks
 use Rattle.actor_desk.specs.declared.ask.LocalStep.TheVariants as steps
 use Rattle.actor_desk.specs.declared.ask.Reply.{Reply}
 use Rattle.actor_desk.specs.declared.ask.Reply.TheVariants as replies
-use Rattle.actor_desk.specs.Desk.{SixBooks, send_of, reply_of, control_of, after_ask}
+use Rattle.actor_desk.specs.Desk.{SixBooks, send_of, reply_of, after_ask}
 use Rattle.actor_desk.specs.Words.{pick}
 use Rattle.fallback_state.specs.declared.fall.Event.TheVariants as events
 use Rattle.fallback_state.specs.declared.fall.Event.{Event}
@@ -64,11 +64,10 @@ use Rattle.path_core.specs.FastClosing.{is_stopped_by, fast_heard_ask}
 use Rattle.path_core.specs.Addressing.{notice_ask, after_peer_notice}
 use Rattle.path_agenda.specs.declared.notice.PeerNotice.{PeerNotice}
 use Rattle.path_agenda.specs.declared.notice.PeerNotice.TheVariants as notes
-use Rattle.world_laws.proofs.Falls.WhereASideStands.{is_plain}
 use Rattle.world_laws.proofs.Lanes.Answering.{IsReady, Steps, shows_at, agenda_step, agenda_side, end_step, did_step, did_then, break_step, rate_quiet}
 use Rattle.world_laws.proofs.Lanes.Doing.{granted_lane, refused_lane, wants_grant, hears_ack, wants_fin, hears_none, hears_sub}
 use Rattle.world_laws.proofs.Lanes.Ending.{granted_end, refused_end, idle_end, IsFit, heard_end, unheard_end}
-use Rattle.world_laws.proofs.Lanes.OfAWorld.{Others, duo_at, flags_are, MayCall, Moved, moved_along}
+use Rattle.world_laws.proofs.Lanes.OfAWorld.{Others, plain_at, loose_at, duo_at, flags_are, StaysFirm, MayCall, Moved, moved_along}
 use Rattle.world_laws.proofs.Falls.Loosening.{call_loosens, loosened, loosen_side, taken_end}
 use Rattle.world_laws.proofs.Lanes.Placing.{learned_end, asked_back, asked_end, placed_end, next_ready, failing_alters, plain_fin_came}
 use Rattle.world_laws.proofs.Lanes.Records.{every_first, every_rest}
@@ -77,7 +76,7 @@ use Rattle.world_laws.proofs.Falls.GivenToOnePath.{book_step, sends_by, hears_ow
 use Rattle.world_laws.proofs.Lanes.Showing.{OwnIs, HasAck, HasNumber, PairTold, ItemShows, EndShows, PathShows}
 use Rattle.world_laws.proofs.Lanes.Strolling.{agrees, out_holds, back_holds}
 use Rattle.world_laws.proofs.Lanes.Sides.{SideDid, side_kept, grant_side, ack_reply_at, ack_side, place_reply_at, place_side, fin_reply_at, fin_side, IsQuiet}
-use Rattle.world_laws.proofs.Lanes.Waking.{look_moves, looked_out, looked_back, loose_at, path_looks}
+use Rattle.world_laws.proofs.Lanes.Waking.{look_moves, looked_out, looked_back, path_looks}
 use Rattle.world_laws.proofs.Lanes.Roads.{Strolls, stays}
 
 -- ---- ends
@@ -130,7 +129,7 @@ given_event A = ToB GoIdentity
 given_event B = ToA GoIdentity
 
 -- where its side fell back, GoIdentity is that call of the book
-given_to_one : (s : Side) (six : SixBooks) (others : Others) (ab ba : Lane) → is_plain (control_of s six).fall ≡ true
+given_to_one : (s : Side) (six : SixBooks) (others : Others) (ab ba : Lane) → plain_at others.links s six ≡ true
     → Moved (after_events (given_event s ∷ []) (duo_at six ab ba others)) (duo_at (after_ask (identity_ask s) six) ab ba others)
 given_to_one A six others ab ba plain = moved_along _ _ (
     ap (λ (fell : Bool). record (duo_at six ab ba others) { ab = if fell then with_send GoIdentityBook (duo_at six ab ba others).ab else (duo_at six ab ba others).ab }) plain)
@@ -264,10 +263,10 @@ module _ (six : SixBooks) (others : Others) (p : PathState Carried) (ab ba : Lan
             (learned_end p.profile s out back f (agrees six others s ab ba holds) (fell_shows p.profile s out back events.MappingHeard r e shows))
 
     -- by the peer's infinite mapping the side falls back to plain TCP, receives from now on, or breaks the path
-    infinite_step : (place : ℕ) (position : Option ℕ) → e.modes.identity ≡ false → IfSome position (PairTold back.pairs back.fins place)
-        → Makes (fell_ask s events.InfiniteHeard p) (answered_infinite s place position (reply_of six (fell_ask s events.InfiniteHeard p)) p)
-    infinite_step place None above has = told_fell events.InfiniteHeard tt
-    infinite_step place (Some position) above has = by (is_infinite_receive r) refl
+    infinite_step : (place : ℕ) (position : Option ℕ) → StaysFirm others.links s six (fell_ask s events.InfiniteHeard p) → e.modes.identity ≡ false
+        → IfSome position (PairTold back.pairs back.fins place) → Makes (fell_ask s events.InfiniteHeard p) (answered_infinite s place position (reply_of six (fell_ask s events.InfiniteHeard p)) p)
+    infinite_step place None firm above has = told_fell events.InfiniteHeard tt
+    infinite_step place (Some position) firm above has = by (is_infinite_receive r) refl
       where
         r : Reply
         r = reply_of six (fell_ask s events.InfiniteHeard p)
@@ -278,26 +277,26 @@ module _ (six : SixBooks) (others : Others) (p : PathState Carried) (ab ba : Lan
         by : (b : Bool) → is_infinite_receive r ≡ b → Makes (fell_ask s events.InfiniteHeard p) (goes_on s (receiving_infinite place (Some position) b f) (fell_duties s r p) p)
         by false is = told_fell events.InfiniteHeard tt
         by true is =
-            let told = call_loosens s (path_of p) six is in
+            let told = call_loosens others.links s (path_of p) six firm is in
             loosen_side p.profile six others s (control_calls.Fell (path_of p) events.InfiniteHeard) p _ ab ba h tt told.0 told.1
             (side_kept p.profile p ab ba h s out (loosened back) (receiving_infinite place (Some position) true f) (fell_duties s r p)
             (taken_end p.profile s out back place position f ((fell_alike events.InfiniteHeard r e.modes).identity ∙ above) (fell_shows p.profile s out back events.InfiniteHeard r e shows) has))
 
     -- the next acknowledgement, bytes, end or sign of Multipath TCP of a copy, which an end hears that didn't fall back
-    heard_step : (item : Heard) → (item ≡ says.Fail → FailFits) → e.modes.identity ≡ false → ItemShows out.acks back item → Makes (heard_ask values s item p) (answered_heard values s item (reply_of six (heard_ask values s item p)) p)
-    heard_step (says.DataAck next window) opens above has = data_ack_step next window above has
-    heard_step (says.Mapping fin) opens above has = mapping_step
-    heard_step (says.DataFin place) opens above has =
+    heard_step : (item : Heard) → (item ≡ says.Fail → FailFits) → StaysFirm others.links s six (heard_ask values s item p) → e.modes.identity ≡ false → ItemShows out.acks back item → Makes (heard_ask values s item p) (answered_heard values s item (reply_of six (heard_ask values s item p)) p)
+    heard_step (says.DataAck next window) opens firm above has = data_ack_step next window above has
+    heard_step (says.Mapping fin) opens firm above has = mapping_step
+    heard_step (says.DataFin place) opens firm above has =
         fell_step events.MappingHeard tt (with_data_fin place) (λ f x. fin_shows p.profile s place f out back has x) (fell_duties s (reply_of six (fell_ask s events.MappingHeard p)) p)
-    heard_step (says.InfiniteMapping place position) opens above has = infinite_step place position above has
-    heard_step (says.Keys own peer) opens above has =
+    heard_step (says.InfiniteMapping place position) opens firm above has = infinite_step place position firm above has
+    heard_step (says.Keys own peer) opens firm above has =
         let keys : Option KeyPair = Some (record { own = own; peer = peer }) in
         let r : Reply = reply_of six (keys_ask s keys) in
         end_step six others p ab ba h ready s (keys_ask s keys) (after_keys r keys e) (left p) tt (keys_show p.profile s out back r keys e shows)
-    heard_step says.Dss opens above has = agenda_step six others p ab ba h ready (asks.Local steps.End) (left p) tt
-    heard_step (says.PeerKey key) opens above has = agenda_step six others p ab ba h ready (asks.Local steps.End) (left p) tt
-    heard_step (says.Join form) opens above has = agenda_step six others p ab ba h ready (asks.Local steps.End) (left p) tt
-    heard_step (says.Notice notice) opens above has =
+    heard_step says.Dss opens firm above has = agenda_step six others p ab ba h ready (asks.Local steps.End) (left p) tt
+    heard_step (says.PeerKey key) opens firm above has = agenda_step six others p ab ba h ready (asks.Local steps.End) (left p) tt
+    heard_step (says.Join form) opens firm above has = agenda_step six others p ab ba h ready (asks.Local steps.End) (left p) tt
+    heard_step (says.Notice notice) opens firm above has =
         end_step six others p ab ba h ready s (notice_ask s notice p) (after_peer_notice notice (reply_of six (notice_ask s notice p)) e) (left p) (quiet notice) noted
       where
         quiet : (notice : PeerNotice) → IsQuiet six (notice_ask s notice p)
@@ -308,23 +307,24 @@ module _ (six : SixBooks) (others : Others) (p : PathState Carried) (ab ba : Lan
 
         noted : EndShows p.profile s (after_peer_notice notice (reply_of six (notice_ask s notice p)) e) out back
         noted = record { sender = shows.sender; receiver = shows.receiver; acks = shows.acks; told = shows.told; treated = shows.treated; held = shows.held; pairs = shows.pairs }
-    heard_step says.Fail opens above has = fail_step (opens refl) has
-    heard_step (says.FastClose key) opens above has = stopped_step (is_stopped_by (reply_of six (fast_heard_ask s key)))
+    heard_step says.Fail opens firm above has = fail_step (opens refl) has
+    heard_step (says.FastClose key) opens firm above has = stopped_step (is_stopped_by (reply_of six (fast_heard_ask s key)))
       where
         stopped_step : (b : Bool) → Makes (fast_heard_ask s key) (with_agenda (if b then stops s else left p) p)
         stopped_step b = agenda_step six others p ab ba h ready (fast_heard_ask s key) (if b then stops s else left p) tt
 
-    item_by : (o : Option Heard) → (o ≡ Some says.Fail → FailFits) → e.modes.identity ≡ false → IfSome o (ItemShows out.acks back) → Makes (item_ask values s o p) (answered_item values s o (reply_of six (item_ask values s o p)) p)
-    item_by None opens above has = agenda_step six others p ab ba h ready (asks.Local steps.End) (left p) tt
-    item_by (Some item) opens above has = heard_step item (λ is. opens (ap Some is)) above has
+    item_by : (o : Option Heard) → (o ≡ Some says.Fail → FailFits) → StaysFirm others.links s six (item_ask values s o p) → e.modes.identity ≡ false → IfSome o (ItemShows out.acks back) → Makes (item_ask values s o p) (answered_item values s o (reply_of six (item_ask values s o p)) p)
+    item_by None opens firm above has = agenda_step six others p ab ba h ready (asks.Local steps.End) (left p) tt
+    item_by (Some item) opens firm above has = heard_step item (λ is. opens (ap Some is)) firm above has
 
-    pub item_step : (index : ℕ) → (item_at index e.treated.items ≡ Some says.Fail → FailFits) → item_stands (item_of index e) e ≡ true → Makes (item_ask values s (item_of index e) p) (answered_item values s (item_of index e) (reply_of six (item_ask values s (item_of index e) p)) p)
-    item_step index opens is = by e.modes.identity refl is
+    pub item_step : (index : ℕ) → (item_at index e.treated.items ≡ Some says.Fail → FailFits) → StaysFirm others.links s six (item_ask values s (item_of index e) p) → item_stands (item_of index e) e ≡ true
+        → Makes (item_ask values s (item_of index e) p) (answered_item values s (item_of index e) (reply_of six (item_ask values s (item_of index e) p)) p)
+    item_step index opens firm is = by e.modes.identity refl firm is
       where
-        by : (b : Bool) → e.modes.identity ≡ b → item_stands (if b then None else item_at index e.treated.items) e ≡ true
+        by : (b : Bool) → e.modes.identity ≡ b → StaysFirm others.links s six (item_ask values s (if b then None else item_at index e.treated.items) p) → item_stands (if b then None else item_at index e.treated.items) e ≡ true
             → let o = if b then None else item_at index e.treated.items in Makes (item_ask values s o p) (answered_item values s o (reply_of six (item_ask values s o p)) p)
-        by true plain none = absurd (false≢true none)
-        by false above none = item_by (item_at index e.treated.items) opens above (every_item index e.treated.items shows.treated.items)
+        by true plain firm none = absurd (false≢true none)
+        by false above firm none = item_by (item_at index e.treated.items) opens firm above (every_item index e.treated.items shows.treated.items)
 
     -- ---- an acknowledgement without a Data ACK
 
@@ -487,38 +487,38 @@ module _ (six : SixBooks) (others : Others) (p : PathState Carried) (ab ba : Lan
   -- ---- the fall
 
   -- the ends look at what their sides know before the send book is told
-  pub identity_step : (s : Side) → is_plain (control_of s six).fall ≡ true → Makes (identity_ask s) (answered_identity s p)
+  pub identity_step : (s : Side) → plain_at others.links s six ≡ true → Makes (identity_ask s) (answered_identity s p)
   identity_step A plain = record {
     ab_before = looked_out ab;
-    ba_before = looked_back (loose_at A six) ba;
+    ba_before = looked_back (loose_at others.links A six) ba;
     before = look_moves A six others ab ba plain;
     call = Some (ToB GoIdentity);
     calls = (GoIdentity, refl, refl);
     ab_called = looked_out ab;
-    ba_called = looked_back (loose_at A six) ba;
-    called = given_to_one A six others (looked_out ab) (looked_back (loose_at A six) ba) plain;
+    ba_called = looked_back (loose_at others.links A six) ba;
+    called = given_to_one A six others (looked_out ab) (looked_back (loose_at others.links A six) ba) plain;
     after = record {
       ab_after = looked_out ab;
-      ba_after = looked_back (loose_at A six) ba;
+      ba_after = looked_back (loose_at others.links A six) ba;
       ab_moves = stays (looked_out ab);
-      ba_moves = stays (looked_back (loose_at A six) ba);
-      shows = path_looks p.profile A (loose_at A six) p ab ba (left p) h;
+      ba_moves = stays (looked_back (loose_at others.links A six) ba);
+      shows = path_looks p.profile A (loose_at others.links A six) p ab ba (left p) h;
     };
   }
   identity_step B plain = record {
-    ab_before = looked_back (loose_at B six) ab;
+    ab_before = looked_back (loose_at others.links B six) ab;
     ba_before = looked_out ba;
     before = look_moves B six others ab ba plain;
     call = Some (ToA GoIdentity);
     calls = (GoIdentity, refl, refl);
-    ab_called = looked_back (loose_at B six) ab;
+    ab_called = looked_back (loose_at others.links B six) ab;
     ba_called = looked_out ba;
-    called = given_to_one B six others (looked_back (loose_at B six) ab) (looked_out ba) plain;
+    called = given_to_one B six others (looked_back (loose_at others.links B six) ab) (looked_out ba) plain;
     after = record {
-      ab_after = looked_back (loose_at B six) ab;
+      ab_after = looked_back (loose_at others.links B six) ab;
       ba_after = looked_out ba;
-      ab_moves = stays (looked_back (loose_at B six) ab);
+      ab_moves = stays (looked_back (loose_at others.links B six) ab);
       ba_moves = stays (looked_out ba);
-      shows = path_looks p.profile B (loose_at B six) p ab ba (left p) h;
+      shows = path_looks p.profile B (loose_at others.links B six) p ab ba (left p) h;
     };
   }

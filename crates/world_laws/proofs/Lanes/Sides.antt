@@ -2,7 +2,7 @@
 use Rattle.std.proofs.Common.{◌≡◌, refl, sym, ◌∙◌, ap, ℕ, Bool, true, Option, Some, None, List, [], ◌∷◌, length, set}
 use Rattle.outside_kit.specs.declared.side.Side.{Side}
 use Rattle.outside_kit.specs.declared.side.Side.TheVariants.{A, B}
-use Rattle.link_model.specs.Steps.{peer}
+use Rattle.outside_kit.specs.Side.{peer}
 use Rattle.path_segments.specs.Spelled.{PlainSegment}
 use Rattle.send_book.specs.declared.call.SendCall.TheVariants.{Grant, AckIn, Return as ReturnBytes}
 use Rattle.send_book.specs.declared.call.SendReply.{SendReply}

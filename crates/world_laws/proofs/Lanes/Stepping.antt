@@ -43,7 +43,7 @@ use Rattle.world_laws.proofs.Lanes.Doing.{with_fin_sent, sends_the_fin, sends_ow
 use Rattle.world_laws.proofs.Lanes.Roads.{Strolls}
 use Rattle.world_laws.proofs.Lanes.Ending.{did_nothing}
 use Rattle.world_laws.proofs.Lanes.Happening.{join_step, events_step}
-use Rattle.world_laws.proofs.Lanes.OfAWorld.{Others, duo_at, MayDo}
+use Rattle.world_laws.proofs.Lanes.OfAWorld.{plain_unless, Others, duo_at, MayDo, DutyIsFirm}
 use Rattle.world_laws.proofs.Lanes.Replying as replying
 use Rattle.world_laws.proofs.Lanes.RulesLeaveAlone.{looked_shows, died_shows}
 use Rattle.world_laws.proofs.Lanes.Showing.{OwnIs, EndShows, PathShows}
@@ -122,63 +122,63 @@ module _ (six : SixBooks) (others : Others) (p : PathState Carried) (ab ba : Lan
 
   -- A duty that comes to something, as far as it sends or ends something nothing is to be asked before; B hears only of joins that
   -- were begun.
-  pub duty_step : (d : Duty) → stands d p ≡ true → ((s : Side) → is_shield s d ≡ false → (end_at s p).treated.asked ≡ false) → MayDo six d → FailOpens p ab ba d → Answers d
-  duty_step (duties.Ask ask_duties.JoinAgain) is calm may opens =
+  pub duty_step : (d : Duty) → stands d p ≡ true → ((s : Side) → is_shield s d ≡ false → (end_at s p).treated.asked ≡ false) → MayDo six d → DutyIsFirm others.links six p d → FailOpens p ab ba d → Answers d
+  duty_step (duties.Ask ask_duties.JoinAgain) is calm may firm opens =
       let r : Reply = reply_of six (join_begin_ask (path_of p)) in
       join_step six others p ab ba h holds (λ s. calm s refl) (join_begin_ask (path_of p)) r (replaced (duties.Ask (ask_duties.Leave A)) p.agenda) (left p) p tt (λ s. calm s refl) h
-  duty_step (duties.Step (step_duties.Look s)) is calm may opens =
+  duty_step (duties.Step (step_duties.Look s)) is calm may firm opens =
       let r : Reply = reply_of six (look_ask s p) in
       answering.end_step six others p ab ba h ready s (look_ask s p) (after_look r (end_at s p)) (left p) tt (looked_shows p.profile s (pick s ab ba) (pick s ba ab) r (end_at s p) (shows s))
-  duty_step (duties.Ask (ask_duties.Window s)) is calm may opens = answering.told_step six others p ab ba h ready s (left p)
-  duty_step (duties.Send (send_duties.Update s)) is calm may opens = answering.acknowledges_step six others p ab ba h ready s (calm s refl) (left p)
-  duty_step (duties.Send (send_duties.FastClose s)) is calm may opens = answering.fast_close_step six others p ab ba h ready s (calm s refl)
-  duty_step (duties.Send (send_duties.Notice s)) is calm may opens = answering.note_step six others p ab ba h ready s (calm s refl)
-  duty_step (duties.Send (send_duties.Syn s)) is calm may opens = answering.unsent_step six others p ab ba h ready s (calm s refl) (left p)
-  duty_step (duties.Step (step_duties.Data s)) is calm may opens = data_by s (calm s refl) (first_unsent (end_at s p)) refl is
-  duty_step (duties.Send (send_duties.DataFin s)) is calm may opens = answering.data_fin_step six others p ab ba h ready s (calm s refl)
-  duty_step (duties.Send (send_duties.Fin s)) is calm may opens = fin_due s (calm s refl) is
-  duty_step (duties.Silent (silent_duties.Timer s)) is calm may opens = answering.agenda_step six others p ab ba h ready _ (left p) tt
-  duty_step (duties.Step step_duties.Events) is calm may opens = events_step six others p ab ba h holds (λ s. calm s refl) (next_event p) (reply_of six (step_for (path_of p) (next_event p)))
-  duty_step (duties.Ask (ask_duties.SynHeard s)) is calm may opens = replying.syn_window_step six others p ab ba h holds ready s
-  duty_step (duties.Ask (ask_duties.SynAnswered s)) is calm may opens = replying.syn_window_step six others p ab ba h holds ready s
-  duty_step (duties.Ask (ask_duties.PlainHandshake s)) is calm may opens = replying.told_fell six others p ab ba h holds ready s events.PlainHandshake tt
-  duty_step (duties.Ask (ask_duties.PeerKey s)) is calm may opens = replying.peer_key_step six others p ab ba h holds ready s (key_heard (end_at s p).treated.items)
-  duty_step (duties.Send (send_duties.SynAck s)) is calm may opens = answering.syn_ack_step six others p ab ba h ready s (left p)
-  duty_step (duties.Ask (ask_duties.JoinHeard s)) is calm may opens = answering.join_heard_step six others p ab ba h ready s (reply_of six (join_heard_ask s (asked_at s p) p)) may
-  duty_step (duties.Send (send_duties.Refuse s)) is calm may opens = answering.refuse_step six others p ab ba h ready s
-  duty_step (duties.Ask (ask_duties.Opened s)) is calm may opens = replying.opened_step six others p ab ba h holds ready s (keys_heard (end_at s p).treated.items)
-  duty_step (duties.Ask (ask_duties.Live s)) is calm may opens = answering.agenda_step six others p ab ba h ready _ (left p) tt
-  duty_step (duties.Step (step_duties.Heard s index)) is calm may opens = replying.item_step six others p ab ba h holds ready s index (λ fail. (opens fail, numbered, short s)) is
-  duty_step (duties.Ask (ask_duties.AckHeard s)) is calm may opens = replying.told_fell six others p ab ba h holds ready s events.AckHeard tt
-  duty_step (duties.Ask (ask_duties.CheckFailed s)) is calm may opens = replying.check_failed_step six others p ab ba h holds ready s
-  duty_step (duties.Ask (ask_duties.FailHeard s)) is calm may opens = replying.fail_heard_step six others p ab ba h holds ready s
-  duty_step (duties.Step (step_duties.PlainAck s)) is calm may opens = replying.plain_ack_step six others p ab ba h holds ready s
-  duty_step (duties.Ask (ask_duties.SubflowAck s)) is calm may opens = replying.subflow_ack_step six others p ab ba h holds ready s is
-  duty_step (duties.Ask (ask_duties.PlainData s)) is calm may opens = replying.told_fell six others p ab ba h holds ready s events.PlainData tt
-  duty_step (duties.Ask (ask_duties.GoIdentity s)) is calm may opens = replying.identity_step six others p ab ba h holds ready s may
-  duty_step (duties.Step (step_duties.Unmapped s)) is calm may opens = answering.break_step six others p ab ba h ready s 6
-  duty_step (duties.Ask (ask_duties.SubflowFin s)) is calm may opens = replying.plain_fin_step six others p ab ba h holds ready s (plain_fin (end_at s p)) refl
-  duty_step (duties.Silent (silent_duties.Keep s)) is calm may opens = answering.agenda_step six others p ab ba h ready _ (left p) tt
-  duty_step (duties.Ask (ask_duties.Edge s)) is calm may opens = replying.piece_step six others p ab ba h holds ready s (piece_of s p) refl
-  duty_step (duties.Ask (ask_duties.HeardFin s index)) is calm may opens = replying.fin_heard_step six others p ab ba h holds ready s index
-  duty_step (duties.Silent (silent_duties.PassFin s)) is calm may opens = answering.agenda_step six others p ab ba h ready _ (left p) tt
-  duty_step (duties.Ask (ask_duties.AckOut s)) is calm may opens = answering.told_step six others p ab ba h ready s (left p)
-  duty_step (duties.Ask (ask_duties.Rate s)) is calm may opens = replying.rate_step six others p ab ba h holds ready s
-  duty_step (duties.Send (send_duties.Acknowledge s)) is calm may opens = answering.acknowledges_step six others p ab ba h ready s (calm s refl) (left p)
-  duty_step (duties.Send (send_duties.Again s)) is calm may opens = answering.again_step six others p ab ba h ready s (calm s refl)
-  duty_step (duties.Send (send_duties.Answer s)) is calm may opens = answering.answer_step six others p ab ba h ready s (calm s refl)
-  duty_step (duties.Send (send_duties.ResetAnswer s)) is calm may opens = answering.dead_step six others p ab ba h ready s
-  duty_step (duties.Ask (ask_duties.Return s)) is calm may opens = returns s (left p)
-  duty_step (duties.Ask (ask_duties.AbortSend s)) is calm may opens = abort_send_side p.profile six others s p (with_agenda (left p) p) ab ba h (done_side s)
-  duty_step (duties.Ask (ask_duties.AbortReceive s)) is calm may opens = abort_receive_side p.profile six others s p (with_agenda (left p) p) ab ba h (done_side s)
-  duty_step (duties.Ask (ask_duties.Announce s id)) is calm may opens = answering.agenda_step six others p ab ba h ready _ (left p) tt
-  duty_step (duties.Ask (ask_duties.Withdraw s id)) is calm may opens = answering.agenda_step six others p ab ba h ready _ (left p) tt
-  duty_step (duties.Send (send_duties.Resend s)) is calm may opens = answering.resend_step six others p ab ba h ready s (calm s refl)
-  duty_step (duties.Ask (ask_duties.BreakAck s reason)) is calm may opens = answering.told_step six others p ab ba h ready s (resets s reason)
-  duty_step (duties.Send (send_duties.BreakReset s reason)) is calm may opens = answering.reset_step six others p ab ba h ready s (calm s refl) (Some reason) (leaves s)
-  duty_step (duties.Send (send_duties.Reset s)) is calm may opens = answering.reset_step six others p ab ba h ready s (calm s refl) None (replaced (duties.Ask (ask_duties.Leave s)) p.agenda)
-  duty_step (duties.Send (send_duties.ResetNoted s)) is calm may opens = answering.reset_step six others p ab ba h ready s (calm s refl) None (replaced (duties.Ask (ask_duties.Leave s)) p.agenda)
-  duty_step (duties.Ask (ask_duties.Leave s)) is calm may opens = returns s (replaced (duties.Ask (ask_duties.Dead s)) p.agenda)
-  duty_step (duties.Ask (ask_duties.LeaveNoted s)) is calm may opens = leaves_noted s (calm s refl)
-  duty_step (duties.Ask (ask_duties.Dead s)) is calm may opens = answering.agenda_step six others p ab ba h ready _ (left p) tt
-  duty_step duties.End is calm may opens = answering.agenda_step six others p ab ba h ready _ [] tt
+  duty_step (duties.Ask (ask_duties.Window s)) is calm may firm opens = answering.told_step six others p ab ba h ready s (left p)
+  duty_step (duties.Send (send_duties.Update s)) is calm may firm opens = answering.acknowledges_step six others p ab ba h ready s (calm s refl) (left p)
+  duty_step (duties.Send (send_duties.FastClose s)) is calm may firm opens = answering.fast_close_step six others p ab ba h ready s (calm s refl)
+  duty_step (duties.Send (send_duties.Notice s)) is calm may firm opens = answering.note_step six others p ab ba h ready s (calm s refl)
+  duty_step (duties.Send (send_duties.Syn s)) is calm may firm opens = answering.unsent_step six others p ab ba h ready s (calm s refl) (left p)
+  duty_step (duties.Step (step_duties.Data s)) is calm may firm opens = data_by s (calm s refl) (first_unsent (end_at s p)) refl is
+  duty_step (duties.Send (send_duties.DataFin s)) is calm may firm opens = answering.data_fin_step six others p ab ba h ready s (calm s refl)
+  duty_step (duties.Send (send_duties.Fin s)) is calm may firm opens = fin_due s (calm s refl) is
+  duty_step (duties.Silent (silent_duties.Timer s)) is calm may firm opens = answering.agenda_step six others p ab ba h ready _ (left p) tt
+  duty_step (duties.Step step_duties.Events) is calm may firm opens = events_step six others p ab ba h holds (λ s. calm s refl) (next_event p) (reply_of six (step_for (path_of p) (next_event p)))
+  duty_step (duties.Ask (ask_duties.SynHeard s)) is calm may firm opens = replying.syn_window_step six others p ab ba h holds ready s
+  duty_step (duties.Ask (ask_duties.SynAnswered s)) is calm may firm opens = replying.syn_window_step six others p ab ba h holds ready s
+  duty_step (duties.Ask (ask_duties.PlainHandshake s)) is calm may firm opens = replying.told_fell six others p ab ba h holds ready s events.PlainHandshake tt
+  duty_step (duties.Ask (ask_duties.PeerKey s)) is calm may firm opens = replying.peer_key_step six others p ab ba h holds ready s (key_heard (end_at s p).treated.items)
+  duty_step (duties.Send (send_duties.SynAck s)) is calm may firm opens = answering.syn_ack_step six others p ab ba h ready s (left p)
+  duty_step (duties.Ask (ask_duties.JoinHeard s)) is calm may firm opens = answering.join_heard_step six others p ab ba h ready s (reply_of six (join_heard_ask s (asked_at s p) p)) may
+  duty_step (duties.Send (send_duties.Refuse s)) is calm may firm opens = answering.refuse_step six others p ab ba h ready s
+  duty_step (duties.Ask (ask_duties.Opened s)) is calm may firm opens = replying.opened_step six others p ab ba h holds ready s (keys_heard (end_at s p).treated.items)
+  duty_step (duties.Ask (ask_duties.Live s)) is calm may firm opens = answering.agenda_step six others p ab ba h ready _ (left p) tt
+  duty_step (duties.Step (step_duties.Heard s index)) is calm may firm opens = replying.item_step six others p ab ba h holds ready s index (λ fail. (opens fail, numbered, short s)) firm is
+  duty_step (duties.Ask (ask_duties.AckHeard s)) is calm may firm opens = replying.told_fell six others p ab ba h holds ready s events.AckHeard tt
+  duty_step (duties.Ask (ask_duties.CheckFailed s)) is calm may firm opens = replying.check_failed_step six others p ab ba h holds ready s
+  duty_step (duties.Ask (ask_duties.FailHeard s)) is calm may firm opens = replying.fail_heard_step six others p ab ba h holds ready s
+  duty_step (duties.Step (step_duties.PlainAck s)) is calm may firm opens = replying.plain_ack_step six others p ab ba h holds ready s
+  duty_step (duties.Ask (ask_duties.SubflowAck s)) is calm may firm opens = replying.subflow_ack_step six others p ab ba h holds ready s is
+  duty_step (duties.Ask (ask_duties.PlainData s)) is calm may firm opens = replying.told_fell six others p ab ba h holds ready s events.PlainData tt
+  duty_step (duties.Ask (ask_duties.GoIdentity s)) is calm may firm opens = replying.identity_step six others p ab ba h holds ready s (plain_unless others.links s six firm may)
+  duty_step (duties.Step (step_duties.Unmapped s)) is calm may firm opens = answering.break_step six others p ab ba h ready s 6
+  duty_step (duties.Ask (ask_duties.SubflowFin s)) is calm may firm opens = replying.plain_fin_step six others p ab ba h holds ready s (plain_fin (end_at s p)) refl
+  duty_step (duties.Silent (silent_duties.Keep s)) is calm may firm opens = answering.agenda_step six others p ab ba h ready _ (left p) tt
+  duty_step (duties.Ask (ask_duties.Edge s)) is calm may firm opens = replying.piece_step six others p ab ba h holds ready s (piece_of s p) refl
+  duty_step (duties.Ask (ask_duties.HeardFin s index)) is calm may firm opens = replying.fin_heard_step six others p ab ba h holds ready s index
+  duty_step (duties.Silent (silent_duties.PassFin s)) is calm may firm opens = answering.agenda_step six others p ab ba h ready _ (left p) tt
+  duty_step (duties.Ask (ask_duties.AckOut s)) is calm may firm opens = answering.told_step six others p ab ba h ready s (left p)
+  duty_step (duties.Ask (ask_duties.Rate s)) is calm may firm opens = replying.rate_step six others p ab ba h holds ready s
+  duty_step (duties.Send (send_duties.Acknowledge s)) is calm may firm opens = answering.acknowledges_step six others p ab ba h ready s (calm s refl) (left p)
+  duty_step (duties.Send (send_duties.Again s)) is calm may firm opens = answering.again_step six others p ab ba h ready s (calm s refl)
+  duty_step (duties.Send (send_duties.Answer s)) is calm may firm opens = answering.answer_step six others p ab ba h ready s (calm s refl)
+  duty_step (duties.Send (send_duties.ResetAnswer s)) is calm may firm opens = answering.dead_step six others p ab ba h ready s
+  duty_step (duties.Ask (ask_duties.Return s)) is calm may firm opens = returns s (left p)
+  duty_step (duties.Ask (ask_duties.AbortSend s)) is calm may firm opens = abort_send_side p.profile six others s p (with_agenda (left p) p) ab ba h (done_side s)
+  duty_step (duties.Ask (ask_duties.AbortReceive s)) is calm may firm opens = abort_receive_side p.profile six others s p (with_agenda (left p) p) ab ba h (done_side s)
+  duty_step (duties.Ask (ask_duties.Announce s id)) is calm may firm opens = answering.agenda_step six others p ab ba h ready _ (left p) tt
+  duty_step (duties.Ask (ask_duties.Withdraw s id)) is calm may firm opens = answering.agenda_step six others p ab ba h ready _ (left p) tt
+  duty_step (duties.Send (send_duties.Resend s)) is calm may firm opens = answering.resend_step six others p ab ba h ready s (calm s refl)
+  duty_step (duties.Ask (ask_duties.BreakAck s reason)) is calm may firm opens = answering.told_step six others p ab ba h ready s (resets s reason)
+  duty_step (duties.Send (send_duties.BreakReset s reason)) is calm may firm opens = answering.reset_step six others p ab ba h ready s (calm s refl) (Some reason) (leaves s)
+  duty_step (duties.Send (send_duties.Reset s)) is calm may firm opens = answering.reset_step six others p ab ba h ready s (calm s refl) None (replaced (duties.Ask (ask_duties.Leave s)) p.agenda)
+  duty_step (duties.Send (send_duties.ResetNoted s)) is calm may firm opens = answering.reset_step six others p ab ba h ready s (calm s refl) None (replaced (duties.Ask (ask_duties.Leave s)) p.agenda)
+  duty_step (duties.Ask (ask_duties.Leave s)) is calm may firm opens = returns s (replaced (duties.Ask (ask_duties.Dead s)) p.agenda)
+  duty_step (duties.Ask (ask_duties.LeaveNoted s)) is calm may firm opens = leaves_noted s (calm s refl)
+  duty_step (duties.Ask (ask_duties.Dead s)) is calm may firm opens = answering.agenda_step six others p ab ba h ready _ (left p) tt
+  duty_step duties.End is calm may firm opens = answering.agenda_step six others p ab ba h ready _ [] tt

@@ -4,8 +4,9 @@ use Rattle.std.specs.List.{slice_get, list_all}
 use Rattle.std.proofs.lemmas.Bool.{and_parts}
 use Rattle.outside_kit.specs.declared.side.Side.{Side}
 use Rattle.outside_kit.specs.declared.side.Side.TheVariants.{A, B}
+use Rattle.outside_kit.specs.Side.{peer}
 use Rattle.link_model.specs.State.{LinkState}
-use Rattle.link_model.specs.Steps.{peer, changed, arrivals, next_number, with_flights, one_more}
+use Rattle.link_model.specs.Steps.{changed, arrivals, next_number, with_flights, one_more}
 use Rattle.link_model.specs.Fate.{is_stripped, is_altered, fate_of}
 use Rattle.path_segments.specs.Spelled.{PlainSegment}
 use Rattle.stream_lanes.specs.Lane.{Lane, AckCopy}

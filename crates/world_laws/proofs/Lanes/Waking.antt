@@ -13,7 +13,7 @@ use Rattle.stream_lanes.specs.Duo.{after_event}
 use Rattle.stream_lanes.specs.Duo.Event.{ToB, ToA}
 use Rattle.stream_lanes.proofs.Lists.{Every-map}
 use Rattle.stream_lanes.specs.Moves.{Flags}
-use Rattle.actor_desk.specs.Desk.{SixBooks, control_of}
+use Rattle.actor_desk.specs.Desk.{SixBooks}
 use Rattle.actor_desk.specs.Words.{pick}
 use Rattle.path_agenda.specs.declared.duty.Duty.{Duty}
 use Rattle.path_core.specs.Ends.{PathEnd}
@@ -22,9 +22,8 @@ use Rattle.path_core.specs.Values.{Carried}
 use Rattle.path_core.specs.Fallback.{in_identity}
 use Rattle.send_book.specs.State.{Sending}
 use Rattle.reassembly_book.specs.State.{Arriving}
-use Rattle.world_laws.proofs.Falls.WhereASideStands.{is_plain, is_loose}
 use Rattle.world_laws.proofs.Lanes.Growing.{Longer, same_edge, treated_longer, segment_longer}
-use Rattle.world_laws.proofs.Lanes.OfAWorld.{flags_of, Others, duo_at, Moved}
+use Rattle.world_laws.proofs.Lanes.OfAWorld.{flags_of, plain_at, loose_at, Others, duo_at, Moved}
 use Rattle.world_laws.proofs.Lanes.Roads.{direction, put_there}
 use Rattle.world_laws.proofs.Lanes.Showing.{EndShows, FlightShows, PathShows}
 
@@ -234,12 +233,8 @@ module _ (f : Flags) (lanes : List Lane) (send : Sending) (arrived : Arriving) (
       ∙ ap (λ xs. direction send arrived xs reader) (set-set lanes number p (record p { receiver_plain = f.receiver; receiver_loose = f.loose }))
       ∙ ap (λ (b : Bool). direction send arrived (set lanes number (record p { receiver_plain = b; receiver_loose = f.loose })) reader) plain
 
--- what an end learns of its side's fall to an infinite mapping
-abbrev pub loose_at : Side → SixBooks → Bool
-loose_at s six = is_loose (control_of s six).fall
-
-pub look_moves : (s : Side) (six : SixBooks) (others : Others) (ab ba : Lane) → is_plain (control_of s six).fall ≡ true
-    → Moved (duo_at six ab ba others) (duo_at six (pick s (looked_out ab) (looked_back (loose_at s six) ab)) (pick s (looked_back (loose_at s six) ba) (looked_out ba)) others)
+pub look_moves : (s : Side) (six : SixBooks) (others : Others) (ab ba : Lane) → plain_at others.links s six ≡ true
+    → Moved (duo_at six ab ba others) (duo_at six (pick s (looked_out ab) (looked_back (loose_at others.links s six) ab)) (pick s (looked_back (loose_at others.links s six) ba) (looked_out ba)) others)
 look_moves A six others ab ba plain = record {
   events = ToB (Moves others.number LookAtSender) ∷ ToA (Moves others.number LookAtReceiver) ∷ [];
   silent = refl;
@@ -255,6 +250,6 @@ look_moves B six others ab ba plain = record {
   to = sym (
       ap (λ d. after_event (ToA (Moves others.number LookAtSender)) (record (duo_at six ab ba others) { ab = d }))
       (looks_back (flags_of others.links A six) others.lanes_ab six.send_a six.reassembly_b others.reader_b others.number ab (put_there others.lanes_ab others.number ab others.within_ab) plain)
-      ∙ ap (λ d. record (duo_at six (looked_back (loose_at B six) ab) ba others) { ba = d })
+      ∙ ap (λ d. record (duo_at six (looked_back (loose_at others.links B six) ab) ba others) { ba = d })
       (looks_out (flags_of others.links B six) others.lanes_ba six.send_b six.reassembly_a others.reader_a others.number ba (put_there others.lanes_ba others.number ba others.within_ba) plain));
 }

@@ -62,7 +62,7 @@ use Rattle.world_laws.proofs.Lanes.Applying.{Reads, Writes}
 use Rattle.world_laws.proofs.Lanes.Beginning.{first_lane, waiting, six, waiting_shows, alone, alone_holds, turn_reached, opened_reached}
 use Rattle.world_laws.proofs.Lanes.EveryTurn.{beside, beside_is, begun_path, fails_open, readied, readied_holds}
 use Rattle.world_laws.proofs.Weaving.Journals.{books_after}
-use Rattle.world_laws.proofs.Lanes.OfAWorld.{Carries, anyhow, duo_of, Others, duo_at, PathThere, WorldShows, PathIsSteady, IsSteady, first_duo, Reached}
+use Rattle.world_laws.proofs.Lanes.OfAWorld.{NoneIsFirm, free_duty, free_turn, anyhow_free, Carries, anyhow, duo_of, Others, duo_at, PathThere, WorldShows, PathIsSteady, IsSteady, first_duo, Reached}
 use Rattle.world_laws.proofs.Worlds.Opened.{opened_actors}
 use Rattle.world_laws.proofs.Lanes.Showing.{PathShows}
 use Rattle.world_laws.proofs.Lanes.Sides.{Answered}
@@ -216,7 +216,7 @@ app_tells app_duties.Close a = tt
 app_tells app_duties.Read a = tt
 app_tells app_duties.End a = tt
 
-module _ (start : Start) (plain : Carries start) (fit : NumbersFit start) where
+module _ (start : Start) (plain : Carries start) (free : NoneIsFirm plain.links) (fit : NumbersFit start) where
   books_short : (t : Cast Carried) → Fare start t → RoomsAre start.buffer (books_in t.books) → BooksKeepShort (books_in t.books) → BooksAreShort (books_in t.books)
   books_short t fare rooms keys = record { written = written; room = room; control = kept_at (books_in t.books) keys }
     where
@@ -296,7 +296,7 @@ module _ (start : Start) (plain : Carries start) (fit : NumbersFit start) where
           let now : Others = others in
           let held : Holds (duo_at books r.ab r.ba now) = readied_holds start plain t fare settled_paths lanes_ab lanes_ba reader_a reader_b reads_a reads_b paths steady holds number x there in
           let a : Answered p.profile books now ask q r.ab r.ba =
-          duty_step books now p r.ab r.ba r.shows held r.ready path.numbered size short duty first (path_steady.calm duty ds is) (path_steady.may duty ds is)
+          duty_step books now p r.ab r.ba r.shows held r.ready path.numbered size short duty first (path_steady.calm duty ds is) (path_steady.may duty ds is) (free_duty plain.links free books p duty)
           (fails_open start plain t fare settled_paths lanes_ab lanes_ba reader_a reader_b reads_a reads_b paths steady holds number x there duty (path_steady.fails duty ds is)) in
           let told : PathTells p.profile q =
           duty_tells books now p r.ab r.ba r.shows held r.ready path.numbered (books_short t fare tells.rooms tells.keys) numbered size most own_tells duty first (and_parts (is_fair duty) (list_all is_fair ds) fair).0 in
@@ -411,14 +411,14 @@ module _ (start : Start) (plain : Carries start) (fit : NumbersFit start) where
   run_fresh [] w steady r tells = tt
   run_fresh (turn ∷ turns) w steady r tells =
       let g : Going turn w = goes turn (after_events r.events (first_duo plain.links start)) w (steady []) (any_held plain.links.alters plain.links.checked (length start.paths) start.buffer start.buffer r.events) r.shows tells in
-      (g.fresh, run_fresh turns (after_turn values turn w) (λ more. steady (turn ∷ more)) (turn_reached start plain turn w (steady []) r) g.tells)
+      (g.fresh, run_fresh turns (after_turn values turn w) (λ more. steady (turn ∷ more)) (turn_reached start plain turn w (free_turn plain.links free turn w) (steady []) r) g.tells)
 
   run_tells : (turns : List Turn) (w : WorldState Carried) → ((more : List Turn) → IsSteady (world_run values more w)) → Reached plain.links start w → WorldTells start w
       → WorldTells start (world_run values turns w)
   run_tells [] w steady r tells = tells
   run_tells (turn ∷ turns) w steady r tells =
       let g : Going turn w = goes turn (after_events r.events (first_duo plain.links start)) w (steady []) (any_held plain.links.alters plain.links.checked (length start.paths) start.buffer start.buffer r.events) r.shows tells in
-      run_tells turns (after_turn values turn w) (λ more. steady (turn ∷ more)) (turn_reached start plain turn w (steady []) r) g.tells
+      run_tells turns (after_turn values turn w) (λ more. steady (turn ∷ more)) (turn_reached start plain turn w (free_turn plain.links free turn w) (steady []) r) g.tells
 
   waiting_tells : (number : ℕ) (plan : PathPlan) → slice_get start.paths number ≡ Some plan → PathTells (path_begins start number plan).profile (with_agenda start_of_turn (waiting start plain number plan))
   waiting_tells number plan there = record {
@@ -463,10 +463,12 @@ module _ (start : Start) (plain : Carries start) (fit : NumbersFit start) where
 pub every_list_is_fresh : EveryListIsFresh
 every_list_is_fresh start turns size fit =
     let can = anyhow start size in
-    run_fresh start can fit turns (opened_world start) (always_steady start) (opened_reached start can) (opened_tells start can fit)
+    let free = anyhow_free start size in
+    run_fresh start can free fit turns (opened_world start) (always_steady start) (opened_reached start can) (opened_tells start can free fit)
 
 -- what ends and copies tell at every moment
 pub always_tells : (start : Start) (turns : List Turn) → HasRoom start → NumbersFit start → WorldTells start (world_run values turns (opened_world start))
 always_tells start turns size fit =
     let can = anyhow start size in
-    run_tells start can fit turns (opened_world start) (always_steady start) (opened_reached start can) (opened_tells start can fit)
+    let free = anyhow_free start size in
+    run_tells start can free fit turns (opened_world start) (always_steady start) (opened_reached start can) (opened_tells start can free fit)

@@ -2,14 +2,15 @@
 use Rattle.std.proofs.Common.{◌≡◌, sym, ◌∙◌, ap, subst, ℕ, ◌+◌, ◌%◌, ◌^◌, Bool, true, if◌then◌else◌, option_map, Option, Some, None, List, arith}
 use Rattle.std.specs.List.{slice_get}
 use Rattle.std.specs.Option.{IfSome}
+use Rattle.outside_kit.specs.declared.side.Side.{Side}
+use Rattle.outside_kit.specs.Side.{peer}
 use Rattle.mptcp_options.specs.declared.dss.DataNumber.TheVariants.{Whole, Low}
 use Rattle.path_segments.specs.declared.segment.PathMapping.{PathMapping}
 use Rattle.path_segments.specs.declared.segment.PathMapping.TheVariants.{Bytes, End, Infinite}
 use Rattle.path_segments.specs.declared.segment.PathOption.TheVariants.{Capable, Join, Dss, AddAddr, Remove, Prio, Fail, FastClose, Reset}
-use Rattle.path_segments.specs.declared.spelling.Side.{Side}
 use Rattle.path_segments.specs.declared.spelling.Spelling.{Spelling}
 use Rattle.path_segments.specs.Options.{PlainOption, said_option, said_mapping}
-use Rattle.path_segments.specs.Spelling.{peer_of, whole_number, data_number}
+use Rattle.path_segments.specs.Spelling.{whole_number, data_number}
 use Rattle.stream_lanes.specs.Words.{Every}
 use Rattle.stream_lanes.proofs.Lists.{in_map}
 use Rattle.path_core.specs.Starts.{waiting_path}
@@ -42,7 +43,7 @@ module _ (spelling : Spelling) (short : spelling.short ≡ true) where
   mapping_short from (Some (Infinite place position)) = number_short from place
 
   option_short : (from : Side) (o : PlainOption) → GoesShort (said_option spelling from o)
-  option_short from (Dss next mapping) = (numbers_short (peer_of from) next, mapping_short from mapping)
+  option_short from (Dss next mapping) = (numbers_short (peer from) next, mapping_short from mapping)
   option_short from (Capable flag_a flag_c keys) = tt
   option_short from (Join form) = tt
   option_short from (AddAddr echo id address port hmac) = tt

@@ -5,8 +5,9 @@ use Rattle.std.specs.Option.{IfSome}
 use Rattle.std.proofs.lemmas.Bool.{and_parts, and_from}
 use Rattle.outside_kit.specs.declared.side.Side.{Side}
 use Rattle.outside_kit.specs.declared.side.Side.TheVariants.{A, B}
+use Rattle.outside_kit.specs.Side.{peer}
 use Rattle.link_model.specs.Fate.{is_stripped, is_altered, fate_of}
-use Rattle.link_model.specs.Steps.{peer, changed, arrivals, next_number, with_flights, one_more}
+use Rattle.link_model.specs.Steps.{changed, arrivals, next_number, with_flights, one_more}
 use Rattle.path_segments.specs.Spelled.{PlainSegment}
 use Rattle.reassembly_book.specs.State.{received}
 use Rattle.reassembly_book.specs.Steps.{next_wanted, window, is_end}

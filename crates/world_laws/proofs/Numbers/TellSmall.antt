@@ -8,6 +8,7 @@ use Rattle.std.specs.Prelude.{All}
 use Rattle.std.specs.Option.{IfSome, IsSome}
 use Rattle.outside_kit.specs.declared.side.Side.{Side}
 use Rattle.outside_kit.specs.declared.side.Side.TheVariants.{A, B}
+use Rattle.outside_kit.specs.Side.{peer}
 use Rattle.seq_units.specs.declared.mapping.Mapping.{Mapping}
 use Rattle.key_material.specs.JoinHmac.{join_a160_of, join_b64_of}
 use Rattle.key_material.specs.KeyDigest.{token_of}
@@ -26,13 +27,12 @@ use Rattle.path_segments.specs.declared.expected.Expected.{Expected}
 use Rattle.path_segments.specs.declared.segment.PathMapping.{PathMapping}
 use Rattle.path_segments.specs.declared.segment.PathMapping.TheVariants.{Bytes, End, Infinite}
 use Rattle.path_segments.specs.declared.segment.PathOption.TheVariants.{Capable, Dss, Fail, FastClose}
-use Rattle.path_segments.specs.declared.spelling.Side.{Side as SpelledSide}
 use Rattle.path_segments.specs.declared.spelling.Spelling.{Spelling}
 use Rattle.path_segments.specs.HeardLent.{IsExpected}
 use Rattle.path_segments.specs.Laws.{meant, IsPositionFresh, IsPlaceFresh, IsBytes, IsMappingFresh, IsOptionFresh, IsHearable, IsFresh}
 use Rattle.path_segments.specs.Options.{PlainOption, said_option, relative_number}
 use Rattle.path_segments.specs.Spelled.{syn_text, options_text, PlainSegment, CanSayOption, CanSay}
-use Rattle.path_segments.specs.Spelling.{peer_of, whole_number, data_number}
+use Rattle.path_segments.specs.Spelling.{whole_number, data_number}
 use Rattle.subflow_send.specs.declared.record.RecordKind.{RecordKind}
 use Rattle.subflow_send.specs.declared.record.RecordKind.TheVariants.{Syn, Data, Fin}
 use Rattle.subflow_send.specs.Records.{Record, SendState}
@@ -49,7 +49,7 @@ use Rattle.path_core.specs.declared.modes.Modes.{Modes}
 use Rattle.path_core.specs.Ends.{PathEnd, Sending, Receiving, Treated, Notices}
 use Rattle.path_core.specs.Joins.{is_joined, peer_key_of, join_options, third_options}
 use Rattle.path_core.specs.Passing.{outgoing_or}
-use Rattle.path_core.specs.OptionsOut.{spelled_by, bare_mapping, checksum_in, place_numbered, checksum_told, is_syn_unsent, owes_mapping, own_reset, plain_options, capable_options, syn_options, key_options, opening_options, data_fin_mapping, ack_options, piece_mapping, is_first_piece, first_piece_options, piece_options, fin_options, record_options, reset_options, segment_of, ack_said, carried_said, record_said, syn_ack_said, fin_said, reset_said, record_or_ack, fail_options, fail_beside, infinite_options, infinite_or, mapped_options, broken_options}
+use Rattle.path_core.specs.OptionsOut.{bare_mapping, checksum_in, place_numbered, checksum_told, is_syn_unsent, owes_mapping, own_reset, plain_options, capable_options, syn_options, key_options, opening_options, data_fin_mapping, ack_options, piece_mapping, is_first_piece, first_piece_options, piece_options, fin_options, record_options, reset_options, segment_of, ack_said, carried_said, record_said, syn_ack_said, fin_said, reset_said, record_or_ack, fail_options, fail_beside, infinite_options, infinite_or, mapped_options, broken_options}
 use Rattle.path_core.specs.Shown.{IsFarReset}
 use Rattle.path_core.specs.State.{Profile}
 use Rattle.key_material.specs.declared.address.Address.{Address}
@@ -85,7 +85,7 @@ OptionIsShort _ = Unit {0}
 
 -- an option whose numbers fit their fields, and are small
 pub record OptionTells (c : Profile) (s : Side) (o : PlainOption) : Type 0 where
-  pub fits : Fits (said_option c.spelling (spelled_by s) o)
+  pub fits : Fits (said_option c.spelling s o)
   pub short : OptionIsShort o
 
 -- A reset of a dead end, which answers a SYN at number 0: that may be any position below 2^32.
@@ -96,7 +96,7 @@ pub record IsStray (rst : Bool) (acknowledged : Option ℕ) (position : ℕ) : T
 
 -- a segment of a side that can be said, with small numbers, but for the position of a stray reset
 pub record SegmentTells (c : Profile) (s : Side) (sg : PlainSegment) : Type 0 where
-  pub sayable : CanSay c.spelling (spelled_by s) sg
+  pub sayable : CanSay c.spelling s sg
   pub position : IsStray sg.rst sg.acknowledged sg.position ⊎ IsShort sg.position
   pub acknowledged : IfSome sg.acknowledged IsShort
   -- where it acknowledges nothing, the position after it is small too
@@ -137,7 +137,7 @@ bare_tells c s sg h = record {
   sayable = record {
     path = h.sayable.path;
     window = h.sayable.window;
-    options = All-nil (CanSayOption c.spelling (spelled_by s));
+    options = All-nil (CanSayOption c.spelling s);
     room = syn_room sg.mss;
     fits = h.sayable.fits;
   };
@@ -194,13 +194,13 @@ module _ (short : Bool) (x : Expected) (h : IsShortly x) where
 
 -- a segment that tells is fresh, at each position that is
 fresh_at : (c : Profile) (s : Side) (x : Expected) (sg : PlainSegment) (position : ℕ) → SegmentTells c s sg → IsPositionFresh x.edge position → IsShortly x
-    → IsFresh c.spelling (spelled_by s) x (record sg { position = position })
+    → IsFresh c.spelling s x (record sg { position = position })
 fresh_at c s x sg position tells at h = record {
   position = at;
   acknowledged = acknowledged_near sg.acknowledged tells.acknowledged;
   syn = tells.syn;
   mss = tells.mss;
-  options = All-weaker (OptionTells c s) (IsHearable c.spelling (spelled_by s) x) (λ o t. record { fits = t.fits; fresh = option_near c.spelling.short x h o t.short }) sg.options tells.options;
+  options = All-weaker (OptionTells c s) (IsHearable c.spelling s x) (λ o t. record { fits = t.fits; fresh = option_near c.spelling.short x h o t.short }) sg.options tells.options;
 }
   where
     acknowledged_near : (o : Option ℕ) → IfSome o IsShort → IfSome o (IsPositionFresh x.unacknowledged)
@@ -209,7 +209,7 @@ fresh_at c s x sg position tells at h = record {
 
 -- and so it is at its own, unless it is a reset that is far
 pub fresh_or_far : (c : Profile) (s : Side) (x : Expected) (sg : PlainSegment) → SegmentTells c s sg → IsShortly x
-    → IsFresh c.spelling (spelled_by s) x sg ⊎ IsFarReset c.spelling (spelled_by s) x sg
+    → IsFresh c.spelling s x sg ⊎ IsFarReset c.spelling s x sg
 fresh_or_far c s x sg tells h = ⊎_elim
     (λ stray. ⊎_elim
     (λ below. inl (fresh_at c s x sg sg.position tells (near_below x.edge sg.position h.edge below) h))
@@ -338,7 +338,7 @@ expected_shortly c s e h =
 
 -- ---- what an end says
 
-data_fits : (spelling : Spelling) (side : SpelledSide) (place : ℕ) → DataNumberFits (data_number spelling side place)
+data_fits : (spelling : Spelling) (side : Side) (place : ℕ) → DataNumberFits (data_number spelling side place)
 data_fits spelling side place = by spelling.short
   where
     by : (short : Bool) → DataNumberFits (if short then Low (whole_number spelling side place % 2 ^ 32) else Whole (whole_number spelling side place))
@@ -424,8 +424,8 @@ told_form false checksum = refl
 
 -- an option that can be said in 28 octets, and tells
 record Says (c : Profile) (s : Side) (o : PlainOption) : Type 0 where
-  can : CanSayOption c.spelling (spelled_by s) o
-  few : length (option_text (said_option c.spelling (spelled_by s) o)) ≤ 28
+  can : CanSayOption c.spelling s o
+  few : length (option_text (said_option c.spelling s o)) ≤ 28
   tells : OptionTells c s o
 
 -- one option at most
@@ -436,8 +436,8 @@ OneSays c s (o ∷ other ∷ others) = ⊥
 
 -- an option that can be said in 12 octets, and tells
 record SaysLittle (c : Profile) (s : Side) (o : PlainOption) : Type 0 where
-  can : CanSayOption c.spelling (spelled_by s) o
-  little : length (option_text (said_option c.spelling (spelled_by s) o)) ≤ 12
+  can : CanSayOption c.spelling s o
+  little : length (option_text (said_option c.spelling s o)) ≤ 12
   tells : OptionTells c s o
 
 -- that one and another at most
@@ -456,12 +456,12 @@ module _ (c : Profile) (s : Side) where
   one_of_two (o ∷ []) h = h
   one_of_two (o ∷ other ∷ others) h = absurd h
 
-  two_said : (os : List PlainOption) → TwoSay c s os → All (CanSayOption c.spelling (spelled_by s)) os
-  two_said [] h = All-nil (CanSayOption c.spelling (spelled_by s))
-  two_said (o ∷ []) h = All-cons (CanSayOption c.spelling (spelled_by s)) o [] h.can (All-nil (CanSayOption c.spelling (spelled_by s)))
+  two_said : (os : List PlainOption) → TwoSay c s os → All (CanSayOption c.spelling s) os
+  two_said [] h = All-nil (CanSayOption c.spelling s)
+  two_said (o ∷ []) h = All-cons (CanSayOption c.spelling s) o [] h.can (All-nil (CanSayOption c.spelling s))
   two_said (o ∷ other ∷ []) h =
-      All-cons (CanSayOption c.spelling (spelled_by s)) o (other ∷ []) h.0.can
-      (All-cons (CanSayOption c.spelling (spelled_by s)) other [] h.1.can (All-nil (CanSayOption c.spelling (spelled_by s))))
+      All-cons (CanSayOption c.spelling s) o (other ∷ []) h.0.can
+      (All-cons (CanSayOption c.spelling s) other [] h.1.can (All-nil (CanSayOption c.spelling s)))
   two_said (o ∷ other ∷ another ∷ others) h = absurd h
 
   two_told : (os : List PlainOption) → TwoSay c s os → All (OptionTells c s) os
@@ -470,19 +470,19 @@ module _ (c : Profile) (s : Side) where
   two_told (o ∷ other ∷ []) h = All-cons (OptionTells c s) o (other ∷ []) h.0.tells (All-cons (OptionTells c s) other [] h.1.tells (All-nil (OptionTells c s)))
   two_told (o ∷ other ∷ another ∷ others) h = absurd h
 
-  two_room : (os : List PlainOption) → TwoSay c s os → length (syn_text None ++ options_text c.spelling (spelled_by s) os) ≤ 40
+  two_room : (os : List PlainOption) → TwoSay c s os → length (syn_text None ++ options_text c.spelling s os) ≤ 40
   two_room [] h = omega arith
-  two_room (o ∷ []) h = let few = h.few in omega (arith, few, ap length (append-nil (option_text (said_option c.spelling (spelled_by s) o))))
+  two_room (o ∷ []) h = let few = h.few in omega (arith, few, ap length (append-nil (option_text (said_option c.spelling s o))))
   two_room (o ∷ other ∷ []) h =
-      let first = option_text (said_option c.spelling (spelled_by s) o) in
-      let second = option_text (said_option c.spelling (spelled_by s) other) in
+      let first = option_text (said_option c.spelling s o) in
+      let second = option_text (said_option c.spelling s other) in
       let few = h.0.few in let little = h.1.little in
       omega (arith, few, little, length-append first (second ++ []), ap length (append-nil second))
   two_room (o ∷ other ∷ another ∷ others) h = absurd h
 
-  each_said : (os : List PlainOption) → OneSays c s os → All (CanSayOption c.spelling (spelled_by s)) os
-  each_said [] h = All-nil (CanSayOption c.spelling (spelled_by s))
-  each_said (o ∷ []) h = All-cons (CanSayOption c.spelling (spelled_by s)) o [] h.can (All-nil (CanSayOption c.spelling (spelled_by s)))
+  each_said : (os : List PlainOption) → OneSays c s os → All (CanSayOption c.spelling s) os
+  each_said [] h = All-nil (CanSayOption c.spelling s)
+  each_said (o ∷ []) h = All-cons (CanSayOption c.spelling s) o [] h.can (All-nil (CanSayOption c.spelling s))
   each_said (o ∷ other ∷ others) h = absurd h
 
   each_told : (os : List PlainOption) → OneSays c s os → All (OptionTells c s) os
@@ -491,11 +491,11 @@ module _ (c : Profile) (s : Side) where
   each_told (o ∷ other ∷ others) h = absurd h
 
   room_of : (syn : Bool) (mss : ℕ) (os : List PlainOption) → OneSays c s os
-      → length (syn_text (if syn then Some mss else None) ++ options_text c.spelling (spelled_by s) os) ≤ 40
+      → length (syn_text (if syn then Some mss else None) ++ options_text c.spelling s os) ≤ 40
   room_of true mss [] h = omega arith
   room_of false mss [] h = omega arith
-  room_of true mss (o ∷ []) h = let few = h.few in omega (arith, few, ap length (append-nil (option_text (said_option c.spelling (spelled_by s) o))))
-  room_of false mss (o ∷ []) h = let few = h.few in omega (arith, few, ap length (append-nil (option_text (said_option c.spelling (spelled_by s) o))))
+  room_of true mss (o ∷ []) h = let few = h.few in omega (arith, few, ap length (append-nil (option_text (said_option c.spelling s o))))
+  room_of false mss (o ∷ []) h = let few = h.few in omega (arith, few, ap length (append-nil (option_text (said_option c.spelling s o))))
   room_of syn mss (o ∷ other ∷ others) h = absurd h
 
 module _ (c : Profile) (s : Side) (path : c.spelling.path ≤ 15) (mss : c.mss < 2 ^ 16) (e : PathEnd) (h : EndTells c s e) where
@@ -503,7 +503,7 @@ module _ (c : Profile) (s : Side) (path : c.spelling.path ≤ 15) (mss : c.mss <
   One os = OneSays c s os
 
   abbrev ack_number : DataNumber
-  ack_number = data_number c.spelling (peer_of (spelled_by s)) e.receiving.next
+  ack_number = data_number c.spelling (peer s) e.receiving.next
 
   capable_tells : (t : Side) → One (capable_options c t e)
   capable_tells A = record { can = record { form = tt }; few = capable_length c.spelling.checksums false NoKey; tells = record { fits = tt; short = tt } }
@@ -568,15 +568,15 @@ module _ (c : Profile) (s : Side) (path : c.spelling.path ≤ 15) (mss : c.mss <
   end_tells None n = record {
     can = record { form = (tt, refl) };
     few = ack_length ack_number false;
-    tells = record { fits = (data_fits c.spelling (peer_of (spelled_by s)) e.receiving.next, tt); short = (h.window.next, tt) };
+    tells = record { fits = (data_fits c.spelling (peer s) e.receiving.next, tt); short = (h.window.next, tt) };
   }
   end_tells (Some place) n = record {
     can = record { form = (told_form c.spelling.checksums _, tt) };
-    few = dss_length ack_number (data_number c.spelling (spelled_by s) place) 0 1 _ true;
+    few = dss_length ack_number (data_number c.spelling s place) 0 1 _ true;
     tells = record {
       fits = (
-        data_fits c.spelling (peer_of (spelled_by s)) e.receiving.next,
-        (data_fits c.spelling (spelled_by s) place, omega arith, omega arith, told_below c _ (sum_small c (bare_mapping c s place 0 1) [])),
+        data_fits c.spelling (peer s) e.receiving.next,
+        (data_fits c.spelling s place, omega arith, omega arith, told_below c _ (sum_small c (bare_mapping c s place 0 1) [])),
       );
       short = (h.window.next, n);
     };
@@ -586,7 +586,7 @@ module _ (c : Profile) (s : Side) (path : c.spelling.path ≤ 15) (mss : c.mss <
   fail_tells : (place : ℕ) → IsShort place → SaysLittle c s (Fail place)
   fail_tells place short = record {
     can = record { form = tt };
-    little = fail_little (whole_number c.spelling (peer_of (spelled_by s)) place);
+    little = fail_little (whole_number c.spelling (peer s) place);
     tells = record { fits = omega arith; short = short };
   }
 
@@ -622,9 +622,9 @@ module _ (c : Profile) (s : Side) (path : c.spelling.path ≤ 15) (mss : c.mss <
       by : (b : Bool) → One (if b then Dss None (Some (Infinite (position - 1) position)) ∷ [] else [])
       by true = record {
         can = record { form = (told_form c.spelling.checksums 0, tt) };
-        few = infinite_length (data_number c.spelling (spelled_by s) (position - 1)) (relative_number position) (checksum_told c 0);
+        few = infinite_length (data_number c.spelling s (position - 1)) (relative_number position) (checksum_told c 0);
         tells = record {
-          fits = (tt, (data_fits c.spelling (spelled_by s) (position - 1), omega arith, omega arith, checksum_zero));
+          fits = (tt, (data_fits c.spelling s (position - 1), omega arith, omega arith, checksum_zero));
           short = (tt, (omega (arith, at), at));
         };
       }
@@ -637,11 +637,11 @@ module _ (c : Profile) (s : Side) (path : c.spelling.path ≤ 15) (mss : c.mss <
       by : (b : Bool) → Says c s (Dss (Some e.receiving.next) (if b then Some (Infinite mapping.place mapping.position) else None))
       by true = record {
         can = record { form = (told_form c.spelling.checksums 0, tt) };
-        few = dss_length ack_number (data_number c.spelling (spelled_by s) mapping.place) (relative_number mapping.position) 0 (checksum_told c 0) false;
+        few = dss_length ack_number (data_number c.spelling s mapping.place) (relative_number mapping.position) 0 (checksum_told c 0) false;
         tells = record {
           fits = (
-            data_fits c.spelling (peer_of (spelled_by s)) e.receiving.next,
-            (data_fits c.spelling (spelled_by s) mapping.place, omega arith, omega arith, checksum_zero),
+            data_fits c.spelling (peer s) e.receiving.next,
+            (data_fits c.spelling s mapping.place, omega arith, omega arith, checksum_zero),
           );
           short = (h.window.next, (pair.place, pair.position));
         };
@@ -680,8 +680,8 @@ module _ (c : Profile) (s : Side) (path : c.spelling.path ≤ 15) (mss : c.mss <
         few = dss_length ack_number _ (relative_number r.pos) r.mapping.length (checksum_told c r.mapping.checksum) false;
         tells = record {
           fits = (
-            data_fits c.spelling (peer_of (spelled_by s)) e.receiving.next,
-            (data_fits c.spelling (spelled_by s) (place_numbered c s r.mapping.number), omega arith, m.1, told_below c r.mapping.checksum m.2),
+            data_fits c.spelling (peer s) e.receiving.next,
+            (data_fits c.spelling s (place_numbered c s r.mapping.number), omega arith, m.1, told_below c r.mapping.checksum m.2),
           );
           short = (h.window.next, (m.3, at, bytes_of r.pos r.mapping.length m.0));
         };
@@ -729,7 +729,7 @@ module _ (c : Profile) (s : Side) (path : c.spelling.path ≤ 15) (mss : c.mss <
       path = path;
       window = h.window.window;
       options = two_said c s options two;
-      room = subst (λ b. length (syn_text (if b then Some c.mss else None) ++ options_text c.spelling (spelled_by s) options) ≤ 40) (sym plain) (two_room c s options two);
+      room = subst (λ b. length (syn_text (if b then Some c.mss else None) ++ options_text c.spelling s options) ≤ 40) (sym plain) (two_room c s options two);
       fits = most;
     };
     position = at;

@@ -13,7 +13,7 @@ use Rattle.world_laws.specs.Promises.{HoldsAnyway, HoldsAnywayOfOctets}
 use Rattle.world_laws.specs.Worlds.{WorldState, world_run}
 use Rattle.world_laws.proofs.Lanes.Beginning.{each_run_shows}
 use Rattle.world_laws.proofs.Worlds.CastLifting.{each_actor}
-use Rattle.world_laws.proofs.Lanes.OfAWorld.{Links, WorldShows, anyhow}
+use Rattle.world_laws.proofs.Lanes.OfAWorld.{anyhow_free, free_run, Links, WorldShows, anyhow}
 use Rattle.world_laws.proofs.Places.Known.{agrees_so}
 use Rattle.world_laws.proofs.Promises.Made.{run_fresh}
 
@@ -26,7 +26,7 @@ shows_agreement links start w h = subst MappingsAgree (sym h.is) (record {
 -- ---- the law
 
 pub mappings_agree : HoldsAnyway MappingsAgree
-mappings_agree start turns size = shows_agreement _ start (world_run values turns (opened_world start)) (each_run_shows start (anyhow start size) turns).shows
+mappings_agree start turns size = shows_agreement _ start (world_run values turns (opened_world start)) (each_run_shows start (anyhow start size) turns (free_run (anyhow start size).links (anyhow_free start size) turns (opened_world start))).shows
 
 shown_agrees : (m : Actor Carried) → EndsAgree m → EndsAgree (shown_member m)
 shown_agrees (App a) h = tt

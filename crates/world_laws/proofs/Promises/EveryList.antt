@@ -14,7 +14,7 @@ use Rattle.world_laws.specs.Openings.{Start, opened_world}
 use Rattle.world_laws.specs.Altered.{BothKeepCount}
 use Rattle.world_laws.specs.Promises.{tells_refusal, BothKeepTheirWord, NothingFollows, EachTurnIsOneStep, NothingWasRefused}
 use Rattle.world_laws.specs.Worlds.{WorldState, Turn, after_turn, world_run}
-use Rattle.world_laws.proofs.Lanes.OfAWorld.{Carries, WorldShows, IsSteady, first_duo, asked_by, asked_in, CallIs, events_append, turn_events, turn_is}
+use Rattle.world_laws.proofs.Lanes.OfAWorld.{NoneIsFirm, free_turn, Carries, WorldShows, IsSteady, first_duo, asked_by, asked_in, CallIs, events_append, turn_events, turn_is}
 use Rattle.world_laws.proofs.Lanes.Beginning.{each_opening_shows}
 use Rattle.world_laws.proofs.Lanes.EveryTurn.{each_turn_shows}
 use Rattle.world_laws.proofs.Worlds.Steady.{always_steady}
@@ -24,7 +24,7 @@ use Rattle.world_laws.proofs.Promises.Shown.{keeps_its_word, keeps_count, same_a
 
 -- ---- every list of turns
 
-module _ (start : Start) (can : Carries start) where
+module _ (start : Start) (can : Carries start) (free : NoneIsFirm can.links) where
   abbrev begun : Duo
   begun = first_duo can.links start
 
@@ -49,7 +49,7 @@ module _ (start : Start) (can : Carries start) where
 
   turn_later : (events : List Event) (turn : Turn) (w : WorldState Carried) → IsSteady w → ShownAfter events w → Later events (after_turn values turn w)
   turn_later events turn w steady s =
-      let shown = each_turn_shows start can turn (after_events events begun) w steady (held events) s.shows in
+      let shown = each_turn_shows start can turn (after_events events begun) w (free_turn can.links free turn w) steady (held events) s.shows in
       record { more = turn_events shown.turn_shows; shows = subst (λ e. WorldShows can.links start e (after_turn values turn w)) (turn_is shown.turn_shows) shown.world_shows }
 
   shown_later : (events more : List Event) (v : WorldState Carried) → WorldShows can.links start (after_events more (after_events events begun)) v → ShownAfter (events ++ more) v
@@ -110,7 +110,7 @@ module _ (start : Start) (can : Carries start) where
   one_step : (events : List Event) (w : WorldState Carried) → IsSteady w → WorldShows can.links start (after_events events begun) w → EachTurnIsOneStep values w
   one_step events w steady s turn =
       let d = after_events events begun in
-      let shown = each_turn_shows start can turn d w steady (held events) s in
+      let shown = each_turn_shows start can turn d w (free_turn can.links free turn w) steady (held events) s in
       let now = same_as_shown can.links start d w s in
       let later = same_as_shown can.links start shown.duo (after_turn values turn w) shown.world_shows in
       let t = shown.turn_shows in
@@ -135,7 +135,7 @@ module _ (start : Start) (can : Carries start) where
   untold plain events w steady s actor c x there asks =
       let d = after_events events begun in
       let turn : Turn = Turn.Step actor in
-      let shown = each_turn_shows start can turn d w steady (held events) s in
+      let shown = each_turn_shows start can turn d w (free_turn can.links free turn w) steady (held events) s in
       let now = same_as_shown can.links start d w s in
       let t = shown.turn_shows in
       let same = same_before (asked_in turn w) d shown.duo t in

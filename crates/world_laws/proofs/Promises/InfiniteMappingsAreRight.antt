@@ -4,7 +4,7 @@ use Rattle.std.specs.Option.{IfSome}
 use Rattle.std.specs.List.{slice_get}
 use Rattle.outside_kit.specs.declared.side.Side.{Side}
 use Rattle.outside_kit.specs.declared.side.Side.TheVariants.{A, B}
-use Rattle.link_model.specs.Steps.{peer}
+use Rattle.outside_kit.specs.Side.{peer}
 use Rattle.path_segments.specs.declared.segment.PathMapping.{PathMapping}
 use Rattle.path_segments.specs.declared.segment.PathMapping.TheVariants.{Bytes, End, Infinite}
 use Rattle.path_segments.specs.declared.segment.PathOption.TheVariants.{Capable, Join, Dss, AddAddr, Remove, Prio, Fail, FastClose, Reset}
@@ -30,7 +30,7 @@ use Rattle.world_laws.specs.Openings.{Start, opened_world}
 use Rattle.world_laws.specs.Worlds.{WorldState, world_run}
 use Rattle.world_laws.proofs.Lanes.Beginning.{each_run_shows}
 use Rattle.world_laws.proofs.Worlds.CastLifting.{each_actor}
-use Rattle.world_laws.proofs.Lanes.OfAWorld.{Links, WorldShows, PathThere, anyhow, duo_of, first_duo}
+use Rattle.world_laws.proofs.Lanes.OfAWorld.{anyhow_free, free_run, Links, WorldShows, PathThere, anyhow, duo_of, first_duo}
 use Rattle.world_laws.proofs.Lanes.Showing.{HasMapping, PairTold, KindShows, RecordShows, MappingShows, OptionShows, SegmentShows, FlightShows, PathShows}
 
 module _ (v : View) (path : ℕ) (p : Lane) (holds : LaneHolds v path p) where
@@ -105,6 +105,6 @@ shown_right links start d w held h = subst InfiniteMappingsAreRight (sym h.is) (
 pub infinite_mappings_are_right : HoldsAnyway InfiniteMappingsAreRight
 infinite_mappings_are_right start turns size =
     let can = anyhow start size in
-    let r = each_run_shows start can turns in
+    let r = each_run_shows start can turns (free_run can.links (anyhow_free start size) turns (opened_world start)) in
     shown_right can.links start (after_events r.events (first_duo can.links start)) (world_run values turns (opened_world start))
     (any_held can.links.alters can.links.checked (length start.paths) start.buffer start.buffer r.events) r.shows

@@ -1,10 +1,10 @@
 -- The promises, over segments as values and over octets.
-use Rattle.std.proofs.Common.{◌≡◌, sym, ◌∙◌, ap, subst, ℕ, true, List, [], ◌∷◌, ◌++◌, refl}
+use Rattle.std.proofs.Common.{◌≡◌, sym, ◌∙◌, ap, subst, ℕ, true, false, List, [], ◌∷◌, ◌++◌, refl}
 use Rattle.outside_kit.specs.declared.side.Side.{Side}
 use Rattle.outside_kit.specs.declared.side.Side.TheVariants.{A, B}
 use Rattle.path_core.specs.Octets.{octets}
 use Rattle.path_core.specs.Values.{Carried, values}
-use Rattle.world_laws.specs.Altered.{BothKeepCount, HoldsCheckedOfOctets, PlacedUntilTheFall, PrefixUntilTheFall, StaysRight, still_maps}
+use Rattle.world_laws.specs.Altered.{BothKeepCount, HoldsCheckedOfOctets, PlacedUntilTheFall, PrefixUntilTheFall, StaysRight, fell_back}
 use Rattle.world_laws.specs.Fresh.{shown_world}
 use Rattle.world_laws.specs.Openings.{Start, opened_world}
 use Rattle.world_laws.specs.Promises.{HasRoom, NumbersFit, was_told_end, BothKeepTheirWord, NothingCame, NothingFollows, IsOneStep, EachTurnIsOneStep, NothingWasRefused, JoinsAreRight, AddressesAreRight, KeysNeverDiffer, IsPromised, IsPromisedOfOctets, HoldsAnywayOfOctets, OctetsAreValuesShown}
@@ -17,15 +17,15 @@ use Rattle.world_laws.proofs.Promises.EveryList.{always_keep_word, never_refused
 use Rattle.world_laws.proofs.Promises.OverOctets.{both_shown, counts_shown, came_shown, step_shown, prefix_shown, stays_shown, refused_shown, addresses_shown, joins_shown, keys_shown, same_told, run_shown}
 use Rattle.world_laws.proofs.Numbers.EveryTurn.{every_list_is_fresh}
 use Rattle.world_laws.proofs.Weaving.WholeRounds.{run_append}
-use Rattle.world_laws.proofs.Lanes.OfAWorld.{plainly}
+use Rattle.world_laws.proofs.Lanes.OfAWorld.{plainly, plainly_free}
 
 -- ---- over segments as values
 
 pub keep_their_word : IsPromised BothKeepTheirWord
-keep_their_word start turns plain = always_keep_word start (plainly start plain) refl turns
+keep_their_word start turns plain = always_keep_word start (plainly start plain) (plainly_free start plain) refl turns
 
 pub nothing_refused : IsPromised NothingWasRefused
-nothing_refused start turns plain = never_refused start (plainly start plain) refl turns
+nothing_refused start turns plain = never_refused start (plainly start plain) (plainly_free start plain) refl turns
 
 -- ---- over octets
 
@@ -80,10 +80,10 @@ module _ (start : Start) (turns : List Turn) (size : HasRoom start) (fit : Numbe
   step : (writer reader : Side) (turn : Turn) → IsOneStep writer reader (valued start turns) (after_turn values turn (valued start turns)) → IsOneStep writer reader heard (after_turn octets turn heard)
   step writer reader turn is = both (IsOneStep writer reader) (turn ∷ []) (step_shown writer reader (valued start turns) (after_turn values turn (valued start turns)) is)
 
-  stays : (writer reader : Side) (more : List Turn) → (still_maps reader (valued start turns) ≡ true → StaysRight writer reader (valued start turns) (world_run values more (valued start turns)))
-      → still_maps reader heard ≡ true → StaysRight writer reader heard (world_run octets more heard)
-  stays writer reader more right maps =
-      let is = ap (λ (v : WorldState (List ℕ)). still_maps reader v) (sym heard_is) ∙ maps in
+  stays : (writer reader : Side) (more : List Turn) → (fell_back reader (valued start turns) ≡ false → StaysRight writer reader (valued start turns) (world_run values more (valued start turns)))
+      → fell_back reader heard ≡ false → StaysRight writer reader heard (world_run octets more heard)
+  stays writer reader more right none =
+      let is = ap (λ (v : WorldState (List ℕ)). fell_back reader v) (sym heard_is) ∙ none in
       both (StaysRight writer reader) more (stays_shown writer reader (valued start turns) (world_run values more (valued start turns)) (right is))
 
 pub nothing_follows_in_octets : HoldsAnywayOfOctets (NothingFollows octets)
@@ -104,4 +104,4 @@ prefix_in_octets start turns size fit uses =
 pub placed_in_octets : HoldsCheckedOfOctets (PlacedUntilTheFall octets)
 placed_in_octets start turns size fit uses more =
     let placed = placed_until start turns size uses more in
-    (λ maps. stays start turns size fit A B more placed.0 maps, λ maps. stays start turns size fit B A more placed.1 maps)
+    (λ none. stays start turns size fit A B more placed.0 none, λ none. stays start turns size fit B A more placed.1 none)

@@ -29,6 +29,7 @@ use Rattle.world_laws.proofs.Standby.GrantedNothing.{backups_get_nothing}
 use Rattle.world_laws.proofs.Numbers.LowHalves.{short_numbers}
 use Rattle.world_laws.proofs.Places.Agree.{mappings_agree_in_octets}
 use Rattle.world_laws.proofs.Joins.OverOctets.{each_copy_is_welcome_in_octets}
+use Rattle.world_laws.proofs.Falls.ForGood.{falls_for_good}
 use Rattle.world_laws.proofs.Promises.Made.{keep_their_word_in_octets, keep_count_in_octets, nothing_follows_in_octets, one_step_each_in_octets, nothing_refused_in_octets, keys_in_octets, addresses_in_octets, joins_in_octets, prefix_in_octets, placed_in_octets, run_fresh}
 
 -- ---- lines
@@ -131,6 +132,7 @@ scripts_keep_anyway script file_a file_b turns h =
       falls = falls_in_octets start turns starts.0 starts.1;
       lasting = falls_last_in_octets start turns starts.0 starts.1;
       places = places_in_octets start turns starts.0 starts.1;
+      for_good = falls_for_good octets start turns;
       granted = granted_once octets start turns;
       standbys = backups_get_nothing octets start turns;
       announcements = announcements_end octets start turns;

@@ -66,7 +66,7 @@ pub counts_shown : (w : WorldState Carried) → BothKeepCount w → BothKeepCoun
 counts_shown w h = record { ab = count_shown A B w h.ab; ba = count_shown B A w h.ba }
 
 pub prefix_shown : (w : WorldState Carried) → PrefixUntilTheFall w → PrefixUntilTheFall (shown_world w)
-prefix_shown w h = (λ maps. front B (h.0 maps), λ maps. front A (h.1 maps))
+prefix_shown w h = (λ none. front B (h.0 none), λ none. front A (h.1 none))
   where
     front : (s : Side) {whole : List ℕ} → IsPrefix (output_of s w) whole → IsPrefix (output_of s (shown_world w)) whole
     front s {whole} is = subst (λ xs. IsPrefix xs whole) (sym (same_output s w)) is

@@ -39,17 +39,14 @@ use Rattle.actor_desk.specs.Desk.{SixBooks, reply_of}
 use Rattle.path_core.specs.Values.{Carried}
 use Rattle.world_laws.specs.Openings.{Start}
 use Rattle.world_laws.specs.Outcomes.{tells_end, was_told, read_by, output_of, pipe_ab, pipe_ba}
-use Rattle.world_laws.specs.Altered.{BothKeepCount, octet_at, still_maps}
+use Rattle.world_laws.specs.Altered.{BothKeepCount, octet_at}
 use Rattle.world_laws.specs.Promises.{tells_refusal, was_told_end, BothKeepTheirWord, arrived_at}
 use Rattle.world_laws.specs.Worlds.{WorldState}
 use Rattle.world_laws.proofs.Lanes.Applying.{Reads}
-use Rattle.world_laws.proofs.Lanes.OfAWorld.{Links, duo_of, WorldShows, IsAsking, SendCallIs, ReassemblyCallIs, CallIs, is_silent, AreSilent, call_events, TurnShows}
+use Rattle.world_laws.proofs.Lanes.OfAWorld.{Links, plain_at, loose_at, duo_of, WorldShows, IsAsking, SendCallIs, ReassemblyCallIs, CallIs, is_silent, AreSilent, call_events, TurnShows}
 use Rattle.world_laws.proofs.Lanes.Roads.{direction}
 use Rattle.world_laws.proofs.Worlds.Casts.{Cast, world_of}
-use Rattle.world_laws.proofs.Falls.WhereASideStands.{is_plain, is_loose, plain_of, loose_of}
-use Rattle.fallback_state.specs.declared.fall.Mode.{Mode}
-use Rattle.fallback_state.specs.declared.fall.Mode.TheVariants as fall_modes
-use Rattle.fallback_state.specs.Modes.{reads_mappings}
+use Rattle.world_laws.proofs.Falls.WhereASideStands.{is_plain, is_loose}
 
 -- ---- one direction
 
@@ -68,8 +65,8 @@ kept : (links : Links) → links.alters ≡ false → (t : Cast Carried) (ab ba 
     → Reads t.b.told t.at_b.list reader_b → BothKeepTheirWord (world_of t)
 kept links none t ab ba reader_a reader_b h reads_a reads_b =
     let six = books_in t.books in
-    let exact_b = ap (λ c. not c || (links.checked && not (is_plain six.control_b.fall || is_loose six.control_b.fall))) none in
-    let exact_a = ap (λ c. not c || (links.checked && not (is_plain six.control_a.fall || is_loose six.control_a.fall))) none in
+    let exact_b = ap (λ c. not c || (links.checked && not (plain_at links B six || loose_at links B six))) none in
+    let exact_a = ap (λ c. not c || (links.checked && not (plain_at links A six || loose_at links A six))) none in
     let to_b = acknowledges _ (direction six.send_a six.reassembly_b ab reader_b) h.ab in
     let to_a = acknowledges _ (direction six.send_b six.reassembly_a ba reader_a) h.ba in
     record {
@@ -159,24 +156,17 @@ octets_a d w now place =
     ap (λ out. if nat_lt place (arrived_at A w).read then slice_get out place else flattened (slice_get (arrived_at A w).places (place - (arrived_at A w).read))) now.out_a
     ∙ ap (λ (a : Arriving). if nat_lt place a.read then slice_get d.ba.reader.out place else flattened (slice_get a.places (place - a.read))) now.arrived_a
 
--- a side at which the peer's mappings count fell in no way
-still_mode : (m : Mode) (joined : Bool) → reads_mappings m ≡ true → not (plain_of m joined || loose_of m) ≡ true
-still_mode fall_modes.Starting joined is = refl
-still_mode fall_modes.Sure joined is = refl
-still_mode fall_modes.Identity joined is = absurd (false≢true is)
-still_mode fall_modes.InfiniteSend joined is = refl
-still_mode fall_modes.InfiniteReceive joined is = absurd (false≢true is)
-still_mode fall_modes.InfiniteBoth joined is = absurd (false≢true is)
-still_mode fall_modes.Aborted joined is = absurd (false≢true is)
+-- a firm side fell in no way
+abbrev pub FirmShown : Links → Duo → Type 0
+FirmShown links d = (links.firm_b ≡ true → never_fell_b d.modes ≡ true) × (links.firm_a ≡ true → never_fell_a d.modes ≡ true)
 
-abbrev pub StillShown : Duo → WorldState Carried → Type 0
-StillShown d w = (still_maps B w ≡ true → never_fell_b d.modes ≡ true) × (still_maps A w ≡ true → never_fell_a d.modes ≡ true)
-
-pub still_shown : (links : Links) (start : Start) (d : Duo) (w : WorldState Carried) → WorldShows links start d w → StillShown d w
-still_shown links start d w s =
+pub firm_shown : (links : Links) (start : Start) (d : Duo) (w : WorldState Carried) → WorldShows links start d w → FirmShown links d
+firm_shown links start d w s =
     let six : SixBooks = books_in s.cast.books in
-    subst (StillShown d) (sym s.is) (subst (λ e. StillShown e (world_of s.cast)) (sym s.duo_is)
-    (λ is. still_mode six.control_b.fall.mode six.control_b.fall.joined is, λ is. still_mode six.control_a.fall.mode six.control_a.fall.joined is))
+    subst (FirmShown links) (sym s.duo_is) (
+      λ firm. ap (λ b. not ((not b && is_plain six.control_b.fall) || (not b && is_loose six.control_b.fall))) firm,
+      λ firm. ap (λ b. not ((not b && is_plain six.control_a.fall) || (not b && is_loose six.control_a.fall))) firm,
+    )
 
 -- ---- moves of lanes
 

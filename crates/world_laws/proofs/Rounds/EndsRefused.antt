@@ -4,9 +4,11 @@ use Rattle.std.proofs.Common.{◌≡◌, refl, sym, ◌∙◌, ℕ, zero, suc, �
 use Rattle.std.proofs.lemmas.Bool.{and_parts, not-true, both_ways, true≢false, false≢true}
 use Rattle.outside_kit.specs.declared.side.Side.{Side}
 use Rattle.outside_kit.specs.declared.side.Side.TheVariants.{A, B}
+use Rattle.outside_kit.specs.Side.{peer}
 use Rattle.link_script.specs.Places.{same_side}
-use Rattle.link_model.specs.Steps.{peer, arriving, after_delivery}
+use Rattle.link_model.specs.Steps.{arriving, after_delivery}
 use Rattle.path_segments.specs.Spelled.{PlainSegment}
+use Rattle.path_segments.specs.Heard.{HeardSegment}
 use Rattle.fallback_state.specs.declared.fall.Event.{Event as FallEvent}
 use Rattle.fallback_state.specs.declared.fall.Event.TheVariants as events
 use Rattle.subflow_send.specs.Records.{Record}
@@ -33,7 +35,7 @@ use Rattle.path_agenda.specs.Agenda.{rest_of_turn, emission, syn_came, syn_ack_c
 use Rattle.path_agenda.specs.Items.{key_heard, keys_heard}
 use Rattle.path_core.specs.Arriving.{items_of, reset_for, copy_judged, held_of, judged_in, taken_as, template_by, template_judged, options_heard}
 use Rattle.path_core.specs.Breaking.{reset_of, reset_on, answered_break}
-use Rattle.path_core.specs.Codec.{Codec, HeardSegment}
+use Rattle.path_core.specs.Codec.{Codec}
 use Rattle.path_core.specs.Duties.{stands, passed, answered}
 use Rattle.path_core.specs.Emission.{first_unsent, may_ask, Grant, answered_grant, answered_data, data_stands}
 use Rattle.path_core.specs.Ends.{PathEnd}

@@ -1,6 +1,7 @@
 -- A turn of a path is over only where nothing is due before the round's end.
 use Rattle.std.proofs.Common.{◌≡◌, refl, sym, subst, ℕ, zero, suc, ◌+◌, ◌⊎◌, inl, inr, Bool, true, false, if◌then◌else◌, is_some, Option, Some, None, List, [], ◌∷◌, ◌++◌, length}
 use Rattle.std.proofs.lemmas.Bool.{true≢false}
+use Rattle.path_segments.specs.Heard.{HeardSegment}
 use Rattle.outside_kit.specs.declared.side.Side.{Side}
 use Rattle.outside_kit.specs.declared.side.Side.TheVariants.{A, B}
 use Rattle.fallback_state.specs.declared.fall.Verdict.TheVariants as verdicts
@@ -30,7 +31,7 @@ use Rattle.path_agenda.specs.declared.keys.KeyPair.{KeyPair}
 use Rattle.path_agenda.specs.Agenda.{start_of_turn, heard_and, payload_came, rest_of_turn, emission, resets, leaves, breaks, stops}
 use Rattle.path_core.specs.Arriving.{items_of, judged_in, template_by, template_judged, options_heard}
 use Rattle.path_core.specs.Breaking.{answered_break, reset_on}
-use Rattle.path_core.specs.Codec.{Codec, HeardSegment}
+use Rattle.path_core.specs.Codec.{Codec}
 use Rattle.path_core.specs.Duties.{stands, passed, answered}
 use Rattle.path_core.specs.Emission.{first_unsent, Grant, grant_in, answered_grant, answered_data}
 use Rattle.path_core.specs.declared.judged.Judged.{Judged}

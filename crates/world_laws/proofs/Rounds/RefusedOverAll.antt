@@ -4,7 +4,7 @@ use Rattle.std.proofs.lemmas.Bool.{and_parts, false≢true, ltb-false}
 use Rattle.std.specs.List.{count_by}
 use Rattle.outside_kit.specs.declared.side.Side.{Side}
 use Rattle.outside_kit.specs.declared.side.Side.TheVariants.{A, B}
-use Rattle.link_model.specs.Steps.{peer}
+use Rattle.outside_kit.specs.Side.{peer}
 use Rattle.send_book.specs.declared.call.SendCall.{SendCall}
 use Rattle.send_book.specs.declared.call.SendCall.TheVariants as send_calls
 use Rattle.send_book.specs.State.{Sending}

@@ -2,6 +2,7 @@
 use Rattle.std.proofs.Common.{◌≡◌, refl, sym, ◌∙◌, ap, ℕ, ◌+◌, Bool, true, false, if◌then◌else◌, Option, Some, None, List, [], ◌∷◌}
 use Rattle.std.proofs.lemmas.Bool.{false≢true}
 use Rattle.std.proofs.lemmas.Option.{same_Some}
+use Rattle.path_segments.specs.Heard.{HeardSegment}
 use Rattle.outside_kit.specs.declared.side.Side.{Side}
 use Rattle.outside_kit.specs.declared.side.Side.TheVariants.{A, B}
 use Rattle.control_book.specs.declared.call.ControlCall.TheVariants as control_calls
@@ -38,7 +39,7 @@ use Rattle.path_agenda.specs.declared.heard.Heard.TheVariants as says
 use Rattle.path_agenda.specs.declared.keys.KeyPair.{KeyPair}
 use Rattle.path_core.specs.Arriving.{items_of, judged_in, taken_as, answered_in, cleared_in, with_answer, options_heard, asked_in, after_judged, HeardOption, with_held, held_of, after_join}
 use Rattle.path_core.specs.Breaking.{answered_break}
-use Rattle.path_core.specs.Codec.{Codec, HeardSegment}
+use Rattle.path_core.specs.Codec.{Codec}
 use Rattle.path_core.specs.declared.event.Event.{Event}
 use Rattle.path_core.specs.declared.event.Event.TheVariants as happenings
 use Rattle.path_core.specs.declared.modes.Modes.{Modes}

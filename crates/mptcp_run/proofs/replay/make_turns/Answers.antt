@@ -1,8 +1,7 @@
 use Rattle.std.proofs.Common.{refl, sym, subst, ap, arith, map, drop, ◌+◌}
 use Rattle.std.proofs.lemmas.List.{drop_more, at_drop_all}
 use Rattle.std.proofs.lemmas.Result.{err_from_is_err_and}
-use Rattle.mptcp_run.specs.Task.{turn_of}
-use Rattle.mptcp_run.specs.Rounds.{all_turns}
+use Rattle.world_core.specs.Logged.{turn_of, all_turns}
 use Rattle.mptcp_run.proofs.Turning.{under_length, under_begins}
 use Rattle.mptcp_run.proofs.TurnsMade.{put_turn, turns_over, fault_later, fault_now, rounds_few}
 use Rattle.run_outside.proofs.Calling.{only_none, only_then}

@@ -1,11 +1,11 @@
 use Rattle.std.proofs.Common.{◌∙◌, subst, List, arith}
 use Rattle.std.proofs.lemmas.Result.{err_from_is_err_and}
+use Rattle.world_core.specs.Logged.{all_turns}
 use Rattle.outside_kit.specs.declared.port.Port.TheVariants.{ReadByA, ReadByB}
 use Rattle.run_words.specs.Lines.{as_line}
 use Rattle.run_log.specs.declared.turn.Turn.{Turn}
 use Rattle.mptcp_run.specs.declared.report.Report.TheVariants as report
 use Rattle.mptcp_run.specs.Courses.{CourseMade, LogStops}
-use Rattle.mptcp_run.specs.Rounds.{all_turns}
 use Rattle.mptcp_run.specs.Task.{Task, task_from, first_world}
 use Rattle.mptcp_run.specs.Task as course
 use Rattle.mptcp_run.proofs.Courses.{no_turn}

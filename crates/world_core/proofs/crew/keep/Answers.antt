@@ -31,5 +31,5 @@ returns-else-is_err-clause-ok g c =
 
 pub returns-then-is_err-clause-err : goal.returns-then-is_err-clause-err
 returns-then-is_err-clause-err g c =
-    let list : c.take_back.new.list ≡ c.args.crew.now.list = c.take_back.ensures c.args.crew.now.list c.args.note c.in_ok-push.ensures.ok in
+    let list : c.take_back.new.self ≡ c.args.crew.now.list = c.take_back.ensures c.args.crew.now.list c.args.note c.in_ok-push.ensures.ok in
     on_err_weaker c.take_noted-taken.result (λ (member : c.take_noted-taken.new.member ≡ c.args.crew.now.member). rw (member, list) refl) c.take_noted-taken.ensures.err

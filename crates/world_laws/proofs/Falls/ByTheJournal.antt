@@ -1,0 +1,127 @@
+-- The modes that a side was in by the journal of its control book: it was in them for ever, and the present one is one of them.
+use Rattle.std.proofs.Common.{◌≡◌, ⊎_elim, ◌⊎◌, inl, inr, ◌||◌, Bool, true, false, if◌then◌else◌, Option, Some, None, List, [], ◌∷◌, ◌++◌, map, refl}
+use Rattle.std.proofs.lemmas.Bool.{false≢true, or_cases}
+use Rattle.std.specs.List.{slice_get}
+use Rattle.outside_kit.specs.declared.side.Side.{Side}
+use Rattle.outside_kit.specs.declared.side.Side.TheVariants.{A, B}
+use Rattle.stamped_book.specs.declared.stamped.Entry.{Entry}
+use Rattle.stamped_book.specs.declared.stamped.Pass.{Pass}
+use Rattle.stamped_book.specs.Entering.{entry_of}
+use Rattle.stamped_book.specs.Journal.{replay}
+use Rattle.fallback_state.specs.declared.fall.Mode.{Mode}
+use Rattle.control_book.specs.declared.call.ControlCall.{ControlCall}
+use Rattle.control_book.specs.declared.call.ControlReply.{ControlReply}
+use Rattle.control_book.specs.Control.{Control}
+use Rattle.control_book.specs.Replies as controlling
+use Rattle.control_book.specs.Steps as control
+use Rattle.actor_desk.specs.declared.ask.Ask.{Ask}
+use Rattle.actor_desk.specs.declared.ask.Ask.TheVariants as asks
+use Rattle.actor_desk.specs.Books.{StampedBooks, books_in, after_entry}
+use Rattle.actor_desk.specs.Desk.{control_of}
+use Rattle.actor_desk.specs.Words.{pick}
+use Rattle.path_core.specs.Codec.{Codec}
+use Rattle.world_laws.specs.Actors.{ActorCrew, member_asks}
+use Rattle.world_laws.specs.ModesSoFar.{was_by, was_in}
+use Rattle.world_laws.specs.Worlds.{WorldState, Turn, asked, stepped, all_over, greatest, begins, after_turn, world_run}
+
+or_first : (a b : Bool) → a ≡ true → (a || b) ≡ true
+or_first true b is = refl
+or_first false b is = absurd (false≢true is)
+
+or_second : (a b : Bool) → b ≡ true → (a || b) ≡ true
+or_second true b is = refl
+or_second false b is = is
+
+-- ---- a journal
+
+module _ (such : Mode → Bool) where
+  -- with an entry more: before, or by it
+  was_by_more : (book : Control) (journal : List (Entry ControlCall ControlReply)) (entry : Entry ControlCall ControlReply) → was_by such book (journal ++ entry ∷ []) ≡ true
+      → (was_by such book journal ≡ true) ⊎ (such (replay controlling.reply_to control.after book (journal ++ entry ∷ [])).fall.mode ≡ true)
+  was_by_more book [] entry is = or_cases (such book.fall.mode) (such (control.after book entry.call).fall.mode) is
+  was_by_more book (first ∷ journal) entry is = ⊎_elim
+      (λ here. inl (or_first (such book.fall.mode) (was_by such (control.after book first.call) journal) here))
+      (λ later. ⊎_elim (λ before. inl (or_second (such book.fall.mode) (was_by such (control.after book first.call) journal) before)) (λ by_it. inr by_it)
+      (was_by_more (control.after book first.call) journal entry later))
+      (or_cases (such book.fall.mode) (was_by such (control.after book first.call) (journal ++ entry ∷ [])) is)
+
+  was_by_still : (book : Control) (journal more : List (Entry ControlCall ControlReply)) → was_by such book journal ≡ true → was_by such book (journal ++ more) ≡ true
+  was_by_still book [] [] is = is
+  was_by_still book [] (entry ∷ more) is = or_first (such book.fall.mode) (was_by such (control.after book entry.call) more) is
+  was_by_still book (first ∷ journal) more is = ⊎_elim
+      (λ here. or_first (such book.fall.mode) (was_by such (control.after book first.call) (journal ++ more)) here)
+      (λ later. or_second (such book.fall.mode) (was_by such (control.after book first.call) (journal ++ more)) (was_by_still (control.after book first.call) journal more later))
+      (or_cases (such book.fall.mode) (was_by such (control.after book first.call) journal) is)
+
+  was_by_now : (book : Control) (journal : List (Entry ControlCall ControlReply)) → such (replay controlling.reply_to control.after book journal).fall.mode ≡ true → was_by such book journal ≡ true
+  was_by_now book [] is = is
+  was_by_now book (first ∷ journal) is = or_second (such book.fall.mode) (was_by such (control.after book first.call) journal) (was_by_now (control.after book first.call) journal is)
+
+-- a side in such a mode is in a wider one
+was_by_wider : (such wider : Mode → Bool) → ((m : Mode) → such m ≡ true → wider m ≡ true) → (book : Control) (journal : List (Entry ControlCall ControlReply)) → was_by such book journal ≡ true
+    → was_by wider book journal ≡ true
+was_by_wider such wider widens book [] is = widens book.fall.mode is
+was_by_wider such wider widens book (first ∷ journal) is = ⊎_elim
+    (λ here. or_first (wider book.fall.mode) (was_by wider (control.after book first.call) journal) (widens book.fall.mode here))
+    (λ later. or_second (wider book.fall.mode) (was_by wider (control.after book first.call) journal) (was_by_wider such wider widens (control.after book first.call) journal later))
+    (or_cases (such book.fall.mode) (was_by such (control.after book first.call) journal) is)
+
+-- ---- the books
+
+abbrev pub Was : (Mode → Bool) → StampedBooks → Side → Type 0
+Was such books s = was_in such (pick s books.control_a books.control_b) ≡ true
+
+pub was_wider : (such wider : Mode → Bool) → ((m : Mode) → such m ≡ true → wider m ≡ true) → (books : StampedBooks) (s : Side) → Was such books s → Was wider books s
+was_wider such wider widens books A is = was_by_wider such wider widens books.control_a.opening books.control_a.journal is
+was_wider such wider widens books B is = was_by_wider such wider widens books.control_b.opening books.control_b.journal is
+
+module _ (such : Mode → Bool) where
+  pub was_now : (books : StampedBooks) (s : Side) → such (control_of s (books_in books)).fall.mode ≡ true → Was such books s
+  was_now books A is = was_by_now such books.control_a.opening books.control_a.journal is
+  was_now books B is = was_by_now such books.control_b.opening books.control_b.journal is
+
+  pub was_more : (x : Ask) (pass : Pass) (books : StampedBooks) (s : Side) → Was such (after_entry x pass books) s
+      → Was such books s ⊎ (such (control_of s (books_in (after_entry x pass books))).fall.mode ≡ true)
+  was_more (asks.Control A call) pass books A is = was_by_more such books.control_a.opening books.control_a.journal (entry_of controlling.reply_to control.after books.control_a pass call) is
+  was_more (asks.Control A call) pass books B is = inl is
+  was_more (asks.Control B call) pass books A is = inl is
+  was_more (asks.Control B call) pass books B is = was_by_more such books.control_b.opening books.control_b.journal (entry_of controlling.reply_to control.after books.control_b pass call) is
+  was_more (asks.Send t call) pass books A is = inl is
+  was_more (asks.Send t call) pass books B is = inl is
+  was_more (asks.Reassembly t call) pass books A is = inl is
+  was_more (asks.Reassembly t call) pass books B is = inl is
+  was_more (asks.Local step) pass books s is = inl is
+
+  pub was_stays : (x : Ask) (pass : Pass) (books : StampedBooks) (s : Side) → Was such books s → Was such (after_entry x pass books) s
+  was_stays (asks.Control A call) pass books A is = was_by_still such books.control_a.opening books.control_a.journal _ is
+  was_stays (asks.Control A call) pass books B is = is
+  was_stays (asks.Control B call) pass books A is = is
+  was_stays (asks.Control B call) pass books B is = was_by_still such books.control_b.opening books.control_b.journal _ is
+  was_stays (asks.Send t call) pass books A is = is
+  was_stays (asks.Send t call) pass books B is = is
+  was_stays (asks.Reassembly t call) pass books A is = is
+  was_stays (asks.Reassembly t call) pass books B is = is
+  was_stays (asks.Local step) pass books s is = is
+
+  -- ---- turns
+
+  module _ {C : Type 0} (k : Codec C) (s : Side) where
+    pub turn_was : (turn : Turn) (w : WorldState C) → Was such w.books s → Was such (after_turn k turn w).books s
+    turn_was (Turn.Step actor) w is = by (slice_get w.crew actor)
+      where
+        asking : (c : ActorCrew C) (o : Option Ask) → Was such (asked k actor o c w).books s
+        asking c None = is
+        asking c (Some x) = was_stays x c.pass w.books s is
+
+        by : (o : Option (ActorCrew C)) → Was such (stepped k actor o w).books s
+        by None = is
+        by (Some c) = asking c (member_asks k c.member)
+    turn_was Turn.Round w is = by (all_over w.crew)
+      where
+        by : (b : Bool) → Was such (if b then record w { crew = map (begins (greatest 0 w.crew)) w.crew } else w).books s
+        by true = is
+        by false = is
+
+    pub run_was : (turns : List Turn) (w : WorldState C) → Was such w.books s → Was such (world_run k turns w).books s
+    run_was [] w is = is
+    run_was (turn ∷ turns) w is = run_was turns (after_turn k turn w) (turn_was turn w is)

@@ -1,0 +1,133 @@
+-- Where a side hasn't fallen back after a run, by its control book's journal, no turn of the run made it fall: it may be firm.
+use Rattle.std.proofs.Common.{◌≡◌, refl, sym, ◌∙◌, ap, subst, ℕ, zero, suc, Bool, true, false, Some, List, [], ◌∷◌, ◌++◌}
+use Rattle.std.proofs.lemmas.Bool.{both_ways, false≢true}
+use Rattle.std.specs.List.{slice_get}
+use Rattle.outside_kit.specs.declared.side.Side.{Side}
+use Rattle.fallback_state.specs.declared.fall.Mode.{Mode}
+use Rattle.fallback_state.specs.declared.fall.Mode.TheVariants as modes
+use Rattle.fallback_state.specs.Modes.{is_identity}
+use Rattle.stream_lanes.proofs.Lists.{in_map}
+use Rattle.actor_desk.specs.declared.ask.Ask.{Ask}
+use Rattle.actor_desk.specs.Books.{StampedBooks, books_in}
+use Rattle.actor_desk.specs.Desk.{SixBooks, control_of, after_ask}
+use Rattle.path_agenda.specs.declared.duty.Duty.{Duty}
+use Rattle.path_agenda.specs.declared.duty.Duty.TheVariants as duties
+use Rattle.path_agenda.specs.declared.duty.AskDuty.TheVariants as ask_duties
+use Rattle.path_agenda.specs.declared.duty.StepDuty.TheVariants as step_duties
+use Rattle.path_core.specs.State.{PathState, end_at}
+use Rattle.path_core.specs.Steps.{asks_first}
+use Rattle.path_core.specs.Treating.{item_ask, item_of}
+use Rattle.path_core.specs.Values.{Carried, values}
+use Rattle.world_laws.specs.declared.member.Member.TheVariants.{App, Path}
+use Rattle.world_laws.specs.Actors.{Actor, ActorCrew, member_asks}
+use Rattle.world_laws.specs.Altered.{is_fallback, fell_back}
+use Rattle.world_laws.specs.Laws.{Always}
+use Rattle.world_laws.specs.Openings.{Start, opened_world}
+use Rattle.world_laws.specs.Worlds.{WorldState, Turn, asked, stepped, after_turn, world_run}
+use Rattle.world_laws.proofs.Falls.ByTheJournal.{Was, was_wider, was_now, turn_was, run_was}
+use Rattle.world_laws.proofs.Keys.ByJournals.{Knows, run_causes}
+use Rattle.world_laws.proofs.Keys.WhatWakes.{Voice, first_speaks, itself, speaks}
+use Rattle.world_laws.proofs.Lanes.OfAWorld.{Links, is_firm, DutyIsFirm, MemberIsFirm, TurnIsFirm, RunIsFirm}
+use Rattle.world_laws.proofs.Weaving.Journals.{books_after}
+use Rattle.world_laws.proofs.Weaving.WholeRounds.{run_append}
+use Rattle.world_laws.proofs.Worlds.Casts.{Cast, walking}
+
+-- ---- ends that learn of a fall
+
+-- a path is to tell an end of plain TCP only where its side fell back to it
+abbrev MemberFell : StampedBooks → Actor Carried → Type 0
+MemberFell books (App a) = Unit {0}
+MemberFell books (Path p) = (s : Side) (ds : List Duty) → p.agenda ≡ duties.Ask (ask_duties.GoIdentity s) ∷ ds → Was is_identity books s
+
+record FellBefore (w : WorldState Carried) : Type 0 where
+  each : (number : ℕ) (c : ActorCrew Carried) → slice_get w.crew (suc (suc number)) ≡ Some c → MemberFell w.books c.member
+
+knows_fall : (start : Start) (t : Cast Carried) (p : PathState Carried) → Knows start t p → MemberFell t.books (Path p)
+knows_fall start t p h = λ s ds is.
+    (h.is.known (Voice.Falls s) (subst (λ xs. speaks (Voice.Falls s) xs ≡ true) (sym is) (first_speaks (Voice.Falls s) (duties.Ask (ask_duties.GoIdentity s)) ds (itself s)))).1.1
+
+always_fell : Always values (λ start w. FellBefore w)
+always_fell start turns =
+    let now = run_causes start turns in
+    subst FellBefore (sym now.is) (record {
+      each = λ number c there. let found = in_map walking now.cast.paths number c there in
+          subst (λ (y : ActorCrew Carried). MemberFell now.cast.books y.member) found.2 (knows_fall start now.cast found.0.path (now.holds.paths.each number found.0 found.1));
+    })
+
+-- plain TCP is a fallback
+identity_falls : (m : Mode) → is_identity m ≡ true → is_fallback m ≡ true
+identity_falls modes.Identity is = refl
+identity_falls modes.Starting is = absurd (false≢true is)
+identity_falls modes.Sure is = absurd (false≢true is)
+identity_falls modes.InfiniteSend is = absurd (false≢true is)
+identity_falls modes.InfiniteReceive is = absurd (false≢true is)
+identity_falls modes.InfiniteBoth is = absurd (false≢true is)
+identity_falls modes.Aborted is = absurd (false≢true is)
+
+-- ---- a turn
+
+-- the books after a step
+stepped_books : (actor : ℕ) (w : WorldState Carried) (c : ActorCrew Carried) (x : Ask) → slice_get w.crew actor ≡ Some c → member_asks values c.member ≡ Some x
+    → books_in (after_turn values (Turn.Step actor) w).books ≡ after_ask x (books_in w.books)
+stepped_books actor w c x there asks =
+    ap (λ o. books_in (stepped values actor o w).books) there ∙ ap (λ o. books_in (asked values actor o c w).books) asks ∙ books_after x c.pass w.books
+
+module _ (links : Links) where
+  -- no firm side has fallen back
+  abbrev pub Unfallen : WorldState Carried → Type 0
+  Unfallen w = (s : Side) → is_firm links s ≡ true → fell_back s w ≡ false
+
+  module _ (number : ℕ) (w : WorldState Carried) (none : Unfallen (after_turn values (Turn.Step (suc (suc number))) w)) (c : ActorCrew Carried)
+      (there : slice_get w.crew (suc (suc number)) ≡ Some c) (p : PathState Carried) (is : c.member ≡ Path p) (fell : MemberFell w.books (Path p)) where
+    abbrev v : WorldState Carried
+    v = after_turn values (Turn.Step (suc (suc number))) w
+
+    learns_none : (s : Side) (ds : List Duty) → p.agenda ≡ duties.Ask (ask_duties.GoIdentity s) ∷ ds → (b : Bool) → is_firm links s ≡ b → b ≡ false
+    learns_none s ds first false so = refl
+    learns_none s ds first true so =
+        absurd (both_ways _ (none s so) (turn_was is_fallback values s (Turn.Step (suc (suc number))) w (was_wider is_identity is_fallback identity_falls w.books s (fell s ds first))))
+
+    asked_none : (s : Side) (x : Ask) → member_asks values c.member ≡ Some x → is_firm links s ≡ true → (b : Bool) → is_fallback (control_of s (after_ask x (books_in w.books))).fall.mode ≡ b → b ≡ false
+    asked_none s x asks firm false falls = refl
+    asked_none s x asks firm true falls =
+        absurd (both_ways _ (none s firm)
+        (was_now is_fallback v.books s (subst (λ (y : SixBooks). is_fallback (control_of s y).fall.mode ≡ true) (sym (stepped_books (suc (suc number)) w c x there asks)) falls)))
+
+    firm_duty : (d : Duty) (ds : List Duty) → p.agenda ≡ d ∷ ds → DutyIsFirm links (books_in w.books) p d
+    firm_duty (duties.Ask (ask_duties.GoIdentity s)) ds first = learns_none s ds first (is_firm links s) refl
+    firm_duty (duties.Step (step_duties.Heard s index)) ds first = λ firm.
+        asked_none s (item_ask values s (item_of index (end_at s p)) p) (ap (λ m. member_asks values m) is ∙ ap (λ xs. asks_first values xs p) first) firm
+        (is_fallback (control_of s (after_ask (item_ask values s (item_of index (end_at s p)) p) (books_in w.books))).fall.mode) refl
+    firm_duty _ ds first = tt
+
+  firm_turn : (turn : Turn) (w : WorldState Carried) → FellBefore w → Unfallen (after_turn values turn w) → TurnIsFirm links turn w
+  firm_turn (Turn.Step zero) w fell none = tt
+  firm_turn (Turn.Step (suc zero)) w fell none = tt
+  firm_turn (Turn.Step (suc (suc number))) w fell none = λ c there. by c there c.member refl (fell.each number c there)
+    where
+      by : (c : ActorCrew Carried) → slice_get w.crew (suc (suc number)) ≡ Some c → (m : Actor Carried) → c.member ≡ m → MemberFell w.books m → MemberIsFirm links (books_in w.books) m
+      by c there (App a) is fell = tt
+      by c there (Path p) is fell = λ d ds first. firm_duty number w none c there p is fell d ds first
+  firm_turn Turn.Round w fell none = tt
+
+  -- ---- a run
+
+  -- what hasn't fallen by a later moment hasn't before
+  unfallen_before : (turns : List Turn) (w : WorldState Carried) → Unfallen (world_run values turns w) → Unfallen w
+  unfallen_before turns w none s firm = by (fell_back s w) refl
+    where
+      by : (b : Bool) → fell_back s w ≡ b → b ≡ false
+      by false fell = refl
+      by true fell = absurd (both_ways _ (none s firm) (run_was is_fallback values s turns w fell))
+
+  firm_on : (start : Start) (done turns : List Turn) → let w = world_run values done (opened_world start) in Unfallen (world_run values turns w) → RunIsFirm links turns w
+  firm_on start done [] none = tt
+  firm_on start done (turn ∷ turns) none =
+      let w = world_run values done (opened_world start) in
+      let next : world_run values (done ++ turn ∷ []) (opened_world start) ≡ after_turn values turn w = run_append values done (turn ∷ []) (opened_world start) in (
+        firm_turn turn w (always_fell start done) (unfallen_before turns (after_turn values turn w) none),
+        subst (RunIsFirm links turns) next (firm_on start (done ++ turn ∷ []) turns (subst (λ x. Unfallen (world_run values turns x)) (sym next) none)),
+      )
+
+  pub firm_run : (start : Start) (turns : List Turn) → Unfallen (world_run values turns (opened_world start)) → RunIsFirm links turns (opened_world start)
+  firm_run start turns none = firm_on start [] turns none
