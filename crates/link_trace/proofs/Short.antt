@@ -2,11 +2,12 @@
 use Rattle.std.proofs.Common.{◌≡◌, ℕ, ◌+◌, ◌^◌, ◌<◌, ◌≤◌, Bool, true, false, List, ◌++◌, length, length-append, codes, arith}
 use Rattle.std.proofs.lemmas.Fmt.{length-decimal-le}
 use Rattle.std.specs.Fmt.{decimal}
+use Rattle.segment_words.specs.Multipath.{word_if}
 use Rattle.link_model.specs.declared.fate.Fate.{Fate}
 use Rattle.link_model.specs.declared.fate.Fate.TheVariants.{OnTime, Lost, Late, Twice}
 use Rattle.link_model.specs.declared.fate.SegmentFate.{SegmentFate}
 use Rattle.link_model.specs.Fate.{ticks_of}
-use Rattle.link_trace.specs.Fates.{arrival_words, word_if, fate_words}
+use Rattle.link_trace.specs.Fates.{arrival_words, fate_words}
 
 decimal_short : (n : ℕ) → n < 2 ^ 32 → length (decimal n) ≤ 10
 decimal_short n small = length-decimal-le 10 n (omega arith) (omega arith) (omega arith)

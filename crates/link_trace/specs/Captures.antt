@@ -1,9 +1,9 @@
 -- A capture of a trace: an interface for each path, a packet for each segment.
 use Rattle.std.specs.Prelude.{ℕ, zero, suc, ◌+◌, min, List, [], ◌∷◌, ◌++◌, map, length, take, codes}
 use Rattle.std.specs.Fmt.{decimal}
+use Rattle.segment_wire.specs.Paths.{addresses_from}
 use Rattle.outside_kit.specs.declared.side.Side.{Side}
 use Rattle.outside_kit.specs.declared.side.Side.TheVariants.{A, B}
-use Rattle.link_model.specs.Octets.{addresses_from}
 use Rattle.pcap_text.specs.declared.blocks.Direction.{Direction}
 use Rattle.pcap_text.specs.declared.blocks.Direction.TheVariants.{Outbound, Inbound}
 use Rattle.pcap_text.specs.Blocks.{Block, Section, Interface, Packet}
@@ -20,11 +20,13 @@ direction_of B = Inbound
 abbrev pub segment_len : Sent → ℕ
 segment_len s = min (length s.octets) 65515
 
+-- the segment behind an IPv4 header between the addresses of its path (RFC 791, section 3.1)
 abbrev pub ipv4_packet : Sent → List ℕ
 ipv4_packet s =
     let addresses = addresses_from s.path s.from in
     header_text addresses.source addresses.destination (segment_len s) ++ take (segment_len s) s.octets
 
+-- on the interface of its path at its tick, a millisecond, with a comment of what becomes of it
 abbrev pub packet_of : Sent → Block
 packet_of s =
     Packet (record { interface = s.path; millisecond = s.tick; direction = direction_of s.from }) (ipv4_packet s) (fate_words s.fate)
@@ -34,5 +36,6 @@ abbrev pub interfaces : ℕ → ℕ → List Block
 interfaces zero path = []
 interfaces (suc more) path = Interface (codes "path " ++ decimal path) ∷ interfaces more (path + 1)
 
+-- a section with so many interfaces, and then the packets in order
 abbrev pub blocks_of : ℕ → List Sent → List Block
 blocks_of paths trace = Section ∷ (interfaces paths 0 ++ map packet_of trace)

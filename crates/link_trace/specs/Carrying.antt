@@ -4,13 +4,13 @@ use Rattle.std.specs.Prelude.{ℕ, ◌+◌, ◌-◌, ◌%◌, ◌^◌, ◌==◌,
 use Rattle.std.specs.Option.{option_or}
 use Rattle.outside_kit.specs.declared.side.Side.{Side}
 use Rattle.outside_kit.specs.declared.side.Side.TheVariants.{A, B}
+use Rattle.outside_kit.specs.Side.{peer}
 use Rattle.key_material.specs.KeyDigest.{idsn_of}
 use Rattle.mptcp_options.specs.declared.dss.DataNumber.{DataNumber}
 use Rattle.mptcp_options.specs.declared.dss.DataNumber.TheVariants.{Whole, Low}
 use Rattle.mptcp_options.specs.declared.dss.DssMap.{DssMap}
 use Rattle.mptcp_options.specs.Meaning.{option_meaning}
 use Rattle.mptcp_options.specs.Value as wire
-use Rattle.link_model.specs.Steps.{peer}
 use Rattle.segment_wire.specs.declared.reading.SegmentFault.{SegmentFault}
 use Rattle.segment_wire.specs.Options.{option_octets}
 use Rattle.segment_wire.specs.Segment.{Segment}
@@ -29,6 +29,7 @@ behind number base = (number + (2 ^ 32 - base)) % 2 ^ 32
 abbrev pub low_half : ℕ → ℕ
 low_half number = number % 2 ^ 32
 
+-- the low half of a data number, of eight octets or of four
 abbrev pub low_number : DataNumber → ℕ
 low_number (Whole number) = low_half number
 low_number (Low low) = low
@@ -43,6 +44,7 @@ first_number key = (low_half (idsn_of key) + 1) % 2 ^ 32
 abbrev pub base_of : ℕ → ℕ → Bool → Base
 base_of key_a key_b checksums = record { first_a = first_number key_a; first_b = first_number key_b; checksums = checksums }
 
+-- the low half of the number of the first byte of this side's stream
 abbrev pub first_byte : Base → Side → ℕ
 first_byte base A = base.first_a
 first_byte base B = base.first_b
@@ -90,6 +92,7 @@ place_mapped (Some map) first position = mapped map first position
 abbrev pub place_plain : ℕ → ℕ → Option ℕ
 place_plain path position = if path == 0 then Some (behind position 1) else None
 
+-- by the mapping, or else by the position
 abbrev pub place_of : ℕ → Option DssMap → ℕ → ℕ → Option ℕ
 place_of path mapping first position = option_or (place_mapped mapping first position) (place_plain path position)
 
@@ -134,6 +137,7 @@ abbrev pub carried_in : Base → Sent → ℕ → Result Segment SegmentFault �
 carried_in base s initial (Ok segment) = carries base s initial segment
 carried_in base s initial (Err fault) = carries_nothing s
 
+-- what a segment carries on paths with these initial numbers
 abbrev pub carried_of : Base → List PathInitials → Sent → Carried
 carried_of base initials s = carried_in base s (initial_in initials s.path s.from) (meaning_in s)
 

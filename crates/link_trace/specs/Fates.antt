@@ -1,9 +1,10 @@
 -- What becomes of a segment, in words.
-use Rattle.std.specs.Prelude.{ℕ, Bool, true, false, not, ◌&&◌, if◌then◌else◌, List, [], ◌++◌, codes}
+use Rattle.std.specs.Prelude.{ℕ, Bool, true, false, not, ◌&&◌, List, ◌++◌, codes}
 use Rattle.std.specs.Fmt.{decimal}
 use Rattle.link_model.specs.declared.fate.Fate.{Fate}
 use Rattle.link_model.specs.declared.fate.Fate.TheVariants.{OnTime, Lost, Late, Twice}
 use Rattle.link_model.specs.declared.fate.SegmentFate.{SegmentFate}
+use Rattle.segment_words.specs.Multipath.{word_if}
 
 abbrev pub is_on_time : Fate → Bool
 is_on_time OnTime = true
@@ -22,9 +23,6 @@ arrival_words OnTime = codes "on time"
 arrival_words Lost = codes "lost"
 arrival_words (Late ticks) = codes "late by " ++ decimal ticks
 arrival_words (Twice ticks) = codes "repeated after " ++ decimal ticks
-
-abbrev pub word_if : Bool → List ℕ → List ℕ
-word_if flag word = if flag then word else []
 
 abbrev pub fate_words : SegmentFate → List ℕ
 fate_words f = arrival_words f.arrival ++ (word_if f.stripped (codes ", stripped") ++ word_if f.altered (codes ", altered"))

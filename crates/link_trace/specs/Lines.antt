@@ -4,7 +4,7 @@ use Rattle.std.specs.Fmt.{decimal}
 use Rattle.std.specs.List.{flat_map}
 use Rattle.outside_kit.specs.declared.side.Side.{Side}
 use Rattle.outside_kit.specs.declared.side.Side.TheVariants.{A, B}
-use Rattle.link_model.specs.Steps.{peer}
+use Rattle.outside_kit.specs.Side.{peer}
 use Rattle.link_model.specs.declared.fate.SegmentFate.{SegmentFate}
 use Rattle.segment_words.specs.declared.segment.Initials.{Initials}
 use Rattle.segment_words.specs.Segments.{words_of}
@@ -28,6 +28,7 @@ place_words s = decimal s.tick ++ (codes " path " ++ (decimal s.path ++ (codes "
 abbrev pub note_words : SegmentFate → List ℕ
 note_words f = if is_plain f then [] else codes " (" ++ (fate_words f ++ codes ")")
 
+-- what it is and what becomes of it; the line ends with LF
 abbrev pub line_of : Bool → List Sent → Sent → List ℕ
 line_of checksums trace s =
     place_words s ++ (words_of (initials_of trace s) checksums (meaning_in s) ++ (note_words s.fate ++ 10 ∷ []))

@@ -3,10 +3,10 @@ use Rattle.std.specs.Prelude.{ℕ, ◌==◌, ◌&&◌, if◌then◌else◌, Opti
 use Rattle.std.specs.Option.{option_or}
 use Rattle.outside_kit.specs.declared.side.Side.{Side}
 use Rattle.link_script.specs.Places.{same_side}
-use Rattle.link_model.specs.Octets.{addresses_from}
 use Rattle.segment_wire.specs.declared.reading.SegmentFault.{SegmentFault}
 use Rattle.segment_wire.specs.Reading.{segment_meaning}
 use Rattle.segment_wire.specs.Segment.{Segment}
+use Rattle.segment_wire.specs.Paths.{addresses_from}
 use Rattle.link_trace.specs.declared.sent.Sent.{Sent}
 
 -- what the octets mean between the addresses of the path

@@ -53,6 +53,7 @@ moved_by path edge repeated c = if c.path == path then repeated - below c.positi
 abbrev pub fresh_by : ℕ → ℕ → Carried → ℕ
 fresh_by path repeated c = if c.path == path then c.len - repeated else 0
 
+-- the edge after this segment: the greatest position behind one of the path
 abbrev pub edge_behind : ℕ → ℕ → Carried → ℕ
 edge_behind path edge c = if c.path == path then max edge (end_of c) else edge
 
@@ -74,6 +75,7 @@ fresh_behind path places [] = 0
 fresh_behind path places (c ∷ cs) =
     fresh_by path (repeated c.place c.len places) c + fresh_behind path (with_carried c.place c.len places) cs
 
+-- of a path's octets those sent again, those moved and those sent for the first time, by all segments of the direction
 abbrev pub shares_of : ℕ → List Carried → Shares
 shares_of path direction = record {
   again = capped (again_behind path 0 no_marks direction);
@@ -85,10 +87,11 @@ shares_of path direction = record {
 abbrev pub lost_of : List Carried → ℕ
 lost_of cs = count_by (λ c. c.lost) cs
 
+-- the tick of the segment with this number in the list
 abbrev pub tick_at : ℕ → List Carried → Option ℕ
 tick_at place cs = option_map (λ (c : Carried). c.tick) (slice_get cs place)
 
-abbrev pub row_of : ℕ → Side → Option Rate → List Carried → Row
+abbrev pub row_of : ℕ → Side → Rate → List Carried → Row
 row_of path side rate cs =
     let row = filter (is_on path side) cs in let shares = shares_of path (filter (is_from side) cs) in record {
       path = path;
@@ -118,6 +121,7 @@ rows_of rates cs = rows_behind 0 rates cs
 abbrev pub if_from : Side → Row → ℕ → ℕ
 if_from side row octets = if same_side row.from side then octets else 0
 
+-- the octets of all payloads
 abbrev pub octets_from : Side → List Row → ℕ
 octets_from side [] = 0
 octets_from side (row ∷ rows) = if_from side row row.octets + octets_from side rows

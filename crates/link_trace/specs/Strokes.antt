@@ -3,13 +3,13 @@ use Rattle.std.specs.Prelude.{ℕ, ◌+◌, ◌==◌, nat_lt, max, if◌then◌e
 use Rattle.std.specs.List.{filter_map}
 use Rattle.std.specs.Option.{option_to_list}
 use Rattle.outside_kit.specs.declared.side.Side.{Side}
-use Rattle.link_model.specs.Steps.{peer}
+use Rattle.outside_kit.specs.Side.{peer}
 use Rattle.link_trace.specs.declared.carried.Carried.{Carried}
 use Rattle.link_trace.specs.declared.strokes.Dot.{Dot}
 use Rattle.link_trace.specs.declared.strokes.Stroke.{Stroke}
 use Rattle.link_trace.specs.Rows.{is_from, reach}
 
--- below this place all was carried before
+-- a payload that begins below this place, up to which earlier ones reached, counts as sent again
 abbrev pub stroke_at : ℕ → Carried → ℕ → Stroke
 stroke_at top c place = record {
   path = c.path;
@@ -20,10 +20,12 @@ stroke_at top c place = record {
   to = place + c.len;
 }
 
+-- none without a payload, or where its place isn't told
 abbrev pub stroke_of : ℕ → Carried → Option ℕ → Option Stroke
 stroke_of top c None = None
 stroke_of top c (Some place) = if c.len == 0 then None else Some (stroke_at top c place)
 
+-- of these segments, where earlier ones reached up to this place
 abbrev pub strokes_behind : ℕ → List Carried → List Stroke
 strokes_behind top [] = []
 strokes_behind top (c ∷ cs) = option_to_list (stroke_of top c c.place) ++ strokes_behind (max top (reach c.place c.len)) cs

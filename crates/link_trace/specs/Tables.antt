@@ -14,6 +14,7 @@ use Rattle.link_trace.specs.Rows.{capped, first_octets_from, goodput, last_tick,
 abbrev pub aligned : ℕ → ℕ → List ℕ
 aligned width n = padded_integral (format_spec 32 3 0 width (2 ^ 64 - 1)) false [] (decimal n)
 
+-- a space, and a number in nine columns at least
 abbrev pub column : ℕ → List ℕ
 column n = 32 ∷ aligned 9 n
 
@@ -24,20 +25,22 @@ abbrev pub optional_column : Option ℕ → List ℕ
 optional_column (Some n) = column n
 optional_column None = no_column
 
-abbrev pub rate_columns : Option Rate → List ℕ
-rate_columns (Some rate) = column rate.rtt ++ column rate.window
-rate_columns None = no_column ++ no_column
+abbrev pub rate_columns : Rate → List ℕ
+rate_columns rate = optional_column rate.rtt ++ column rate.window
 
 abbrev pub way_column : Side → List ℕ
 way_column A = codes "   ab"
 way_column B = codes "   ba"
 
+-- the path, the direction, and the ticks of the first segment and of the last one
 abbrev pub place_columns : Row → List ℕ
 place_columns row = aligned 4 row.path ++ (way_column row.from ++ (optional_column row.first ++ optional_column row.last))
 
+-- the segments, and of their octets all, those sent again and those moved
 abbrev pub octets_columns : Row → List ℕ
 octets_columns row = column row.segments ++ (column row.octets ++ (column row.again ++ column row.moved))
 
+-- these, the segments that were lost, and the rate; the row ends with LF
 abbrev pub row_words : Row → List ℕ
 row_words row = place_columns row ++ (octets_columns row ++ (column row.lost ++ (rate_columns row.rate ++ 10 ∷ [])))
 

@@ -7,18 +7,16 @@ ghost use Rattle.mptcp_options.specs.Meaning.{option_meaning};
 ghost use Rattle.link_trace.specs.Carrying.{acknowledged_by, all_carried, base_of, behind, carried_of, carries, carries_nothing, dss_in, dss_read, first_byte, first_number, initial_in, low_half, low_number, mapped, payload_len, place_mapped, place_of, place_plain};
 
 use crate::fate::is_lost;
-use crate::meanings::peer;
 use crate::sent::Sent;
 use key_material::idsn;
-use link_model::addresses_from;
 use mptcp_options::{DataNumber, DssMap, MpOption, Read, read};
 use outside_kit::Side;
-use segment_wire::{SegmentRef, parse};
+use segment_wire::{SegmentRef, addresses_from, parse};
 use std::alloc::{AllocError, Global};
 
 /// What a segment carries. Positions are counted from the initial number of its side, which is that of the SYN, and places from the
 /// first byte of the side's stream, modulo 2^32.
-#[derive(Clone, Copy, Debug)]
+#[derive(Clone, Copy)]
 pub struct Carried {
     /// When it was sent, in ticks of a millisecond.
     pub tick: u64,
@@ -39,7 +37,7 @@ pub struct Carried {
 }
 
 /// The numbers from which those of a run count.
-#[derive(Clone, Copy, Debug)]
+#[derive(Clone, Copy)]
 pub struct Base {
     /// The low half of the number of the first byte of A's stream.
     pub first_a: u32,
@@ -50,7 +48,7 @@ pub struct Base {
 }
 
 /// The initial sequence numbers of both ends of a path.
-#[derive(Clone, Copy, Debug)]
+#[derive(Clone, Copy)]
 pub struct PathInitials {
     pub a: u32,
     pub b: u32,
@@ -184,7 +182,7 @@ fn acknowledged_by(base: &Base, from: Side, ack: Option<DataNumber>) -> Option<u
 {
     match ack {
         None => None,
-        Some(number) => Some(behind(low_number(number), base.first_byte(peer(from)))),
+        Some(number) => Some(behind(low_number(number), base.first_byte(from.peer()))),
     }
 }
 

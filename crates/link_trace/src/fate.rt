@@ -1,9 +1,10 @@
 //! What becomes of a segment, in words.
 
 ghost use Rattle.std.specs.Prelude.{◌≡◌, ◌++◌, OnOk, string_bytes};
-ghost use Rattle.link_trace.specs.Fates.{arrival_words, fate_words, is_lost, is_on_time, is_plain, word_if};
+ghost use Rattle.link_trace.specs.Fates.{arrival_words, fate_words, is_lost, is_on_time, is_plain};
 
 use link_model::{Fate, SegmentFate};
+use segment_words::word_if;
 use std::alloc::AllocError;
 
 fn is_on_time(arrival: Fate) -> bool
@@ -35,12 +36,6 @@ fn put_arrival(text: &mut String, arrival: Fate) -> Result<(), AllocError>
         Fate::Late { ticks } => write!(text, "late by {ticks}"),
         Fate::Twice { ticks } => write!(text, "repeated after {ticks}"),
     }
-}
-
-fn word_if(flag: bool, word: &'static str) -> &'static str
-    ensures { result.now ≡ word_if flag word.now }
-{
-    if flag { word } else { "" }
 }
 
 /// The words of a fate.

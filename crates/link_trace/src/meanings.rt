@@ -1,23 +1,11 @@
 //! The numbers from which those of a trace count.
 
 ghost use Rattle.std.specs.Prelude.{◌≡◌};
-ghost use Rattle.link_model.specs.Steps.{peer};
 ghost use Rattle.link_trace.specs.Meanings.{initial_of, meaning_in, syn_in, syn_of};
 
 use crate::sent::Sent;
-use link_model::addresses_from;
 use outside_kit::Side;
-use segment_wire::parse;
-
-/// The side at the other end.
-pub fn peer(side: Side) -> Side
-    ensures { result ≡ peer side }
-{
-    match side {
-        Side::A => Side::B,
-        Side::B => Side::A,
-    }
-}
+use segment_wire::{addresses_from, parse};
 
 /// The sequence number of a SYN.
 fn syn_in(sent: &Sent) -> Option<u32>

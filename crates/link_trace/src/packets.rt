@@ -10,9 +10,10 @@ ghost use Rattle.link_trace.specs.Fates.{fate_words};
 
 use crate::fate::put_fate;
 use crate::sent::Sent;
-use link_model::{Fate, SegmentFate, addresses_from};
+use link_model::{Fate, SegmentFate};
 use outside_kit::Side;
 use pcap_text::{Direction, Seen, header, interface, packet, section};
+use segment_wire::addresses_from;
 use std::alloc::{AllocError, Global};
 
 /// Seen from A.
@@ -69,6 +70,7 @@ fn comment_of(alloc: Global, fate: &SegmentFate) -> Result<String, AllocError>
     ensures text { IfOk result (λ comment. string_bytes comment ≡ fate_words fate.now) }
     ensures short { IfOk result (λ comment. length (string_bytes comment) < 2 ^ 16) }
 {
+    // For the proof: the ticks are a number of 32 bits.
     let _some = look_at(fate.arrival);
     let mut comment = String::new(alloc);
     put_fate(&mut comment, fate)?;

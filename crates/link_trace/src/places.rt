@@ -23,6 +23,7 @@ fn carried_in(runs: Runs<'_, bool>, edge: u64) -> u64
 fn carried_below(places: &RangeMarks<bool>, edge: u64) -> u64
     ensures { result ≡ carried_below edge places.now }
 {
+    // For the proof: there are fewer than 2^63 places.
     let _len = places.len();
     carried_in(places.runs(), edge)
 }

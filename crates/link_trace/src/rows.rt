@@ -10,22 +10,23 @@ use outside_kit::Side;
 use range_marks::RangeMarks;
 use std::alloc::{AllocError, Global};
 
-/// The congestion window and the smoothed round-trip time that an end told last, in octets and ticks.
-#[derive(Clone, Copy, Debug)]
+/// The congestion window of an end, in octets, and its smoothed round-trip time, in ticks.
+#[derive(Clone, Copy)]
 pub struct Rate {
     pub window: u32,
-    pub rtt: u32,
+    /// None before the first measurement.
+    pub rtt: Option<u32>,
 }
 
 /// Those of both ends of a path.
-#[derive(Clone, Copy, Debug)]
+#[derive(Clone, Copy)]
 pub struct Rates {
-    pub a: Option<Rate>,
-    pub b: Option<Rate>,
+    pub a: Rate,
+    pub b: Rate,
 }
 
 /// The sums of one direction of a path. Sums of octets stand still at 2^64 - 1.
-#[derive(Clone, Copy, Debug)]
+#[derive(Clone, Copy)]
 pub struct Row {
     /// The number of the path.
     pub path: usize,
@@ -46,12 +47,12 @@ pub struct Row {
     pub fresh: u64,
     /// Segments that a line of the script lets go lost.
     pub lost: usize,
-    /// What the end of this side told last.
-    pub rate: Option<Rate>,
+    /// Of the end of this side.
+    pub rate: Rate,
 }
 
 /// Octets of one direction of a path, by whether they were sent before.
-#[derive(Clone, Copy, Debug)]
+#[derive(Clone, Copy)]
 pub(crate) struct Shares {
     pub again: u64,
     pub moved: u64,
@@ -231,7 +232,7 @@ fn row_of(
     alloc: Global,
     path: usize,
     side: Side,
-    rate: Option<Rate>,
+    rate: Rate,
     carried: &[Carried],
 ) -> Result<Row, AllocError>
     ensures { IfOk result (λ row. row ≡ row_of path side rate carried.now) }
@@ -273,13 +274,13 @@ fn put_rows(
     Ok(())
 }
 
-/// The rows of both directions of each path, with what their ends told last.
+/// The rows of both directions of each path, whose ends have these windows and round-trip times.
 pub fn rows_of(alloc: Global, rates: &[Rates], carried: &[Carried]) -> Result<Vec<Row>, AllocError>
     ensures { IfOk result (λ rows. rows.items ≡ rows_of rates.now carried.now) }
 {
     let mut rows = Vec::new(alloc);
-    for (path, told) in rates.iter().enumerate() {
-        put_rows(alloc, &mut rows, path, *told, carried)?;
+    for (path, rates) in rates.iter().enumerate() {
+        put_rows(alloc, &mut rows, path, *rates, carried)?;
     }
     Ok(rows)
 }

@@ -5,7 +5,7 @@ use outside_kit::Side;
 use pipe_model::Text;
 
 /// A segment as its end handed it to its link.
-#[derive(Debug, Drop)]
+#[derive(Drop)]
 pub struct Sent {
     /// When, in ticks of a millisecond from the run's beginning.
     pub tick: u64,

@@ -5,13 +5,12 @@ ghost use Rattle.std.specs.Option.{option_to_list};
 ghost use Rattle.link_trace.specs.Strokes.{dot_of, dots_of, stroke_at, stroke_of, strokes_behind, strokes_of};
 
 use crate::carried::Carried;
-use crate::meanings::peer;
 use crate::rows::{reach, side_of};
 use outside_kit::Side;
 use std::alloc::{AllocError, Global};
 
 /// A payload that was sent: its places at its tick.
-#[derive(Clone, Copy, Debug)]
+#[derive(Clone, Copy)]
 pub struct Stroke {
     /// The number of the path.
     pub path: u8,
@@ -27,7 +26,7 @@ pub struct Stroke {
 }
 
 /// A Data ACK that was sent: how many bytes it acknowledges.
-#[derive(Clone, Copy, Debug)]
+#[derive(Clone, Copy)]
 pub struct Dot {
     pub tick: u64,
     pub place: u32,
@@ -107,7 +106,7 @@ fn dot_of(carried: &Carried) -> Option<Dot>
 pub fn dots_of(alloc: Global, side: Side, carried: &[Carried]) -> Result<Vec<Dot>, AllocError>
     ensures { IfOk result (λ dots. dots.items ≡ dots_of side carried.now) }
 {
-    let direction = side_of(alloc, carried, peer(side))?;
+    let direction = side_of(alloc, carried, side.peer())?;
     direction
         .iter()
         .filter_map(|segment| dot_of(segment))

@@ -37,13 +37,11 @@ fn put_optional(text: &mut String, number: Option<u64>) -> Result<(), AllocError
     }
 }
 
-fn put_rate(text: &mut String, rate: Option<Rate>) -> Result<(), AllocError>
+fn put_rate(text: &mut String, rate: Rate) -> Result<(), AllocError>
     ensures { OnOk result (string_bytes text.new ≡ string_bytes text.old ++ rate_columns rate) }
 {
-    match rate {
-        Some(Rate { window, rtt }) => write!(text, " {rtt:>9} {window:>9}"),
-        None => write!(text, "         -         -"),
-    }
+    put_optional(text, rate.rtt.map(u64::from))?;
+    put_column(text, u64::from(rate.window))
 }
 
 fn way_column(from: Side) -> &'static str
@@ -122,7 +120,7 @@ fn put_total(text: &mut String, ticks: u64, rows: &[Row]) -> Result<(), AllocErr
     writeln!(text)
 }
 
-/// The table of what a trace carries, a row for each direction of each path, with what their ends told last.
+/// The table of what a trace carries, a row for each direction of each path, whose ends have these windows and round-trip times.
 pub fn summary(alloc: Global, rates: &[Rates], carried: &[Carried]) -> Result<Vec<u8>, AllocError>
     ensures { IfOk result (λ text. text.items ≡ summary_of rates.now carried.now) }
 {

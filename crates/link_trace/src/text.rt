@@ -6,10 +6,11 @@ ghost use Rattle.link_trace.specs.Meanings.{meaning_in};
 ghost use Rattle.segment_words.specs.Segments.{words_of};
 
 use crate::fate::{is_plain, put_fate};
-use crate::meanings::{initial_of, peer};
+use crate::meanings::initial_of;
 use crate::sent::Sent;
-use link_model::{SegmentFate, addresses_from};
+use link_model::SegmentFate;
 use outside_kit::Side;
+use segment_wire::addresses_from;
 use segment_words::{Initials, words};
 use std::alloc::{AllocError, Global};
 
@@ -28,7 +29,7 @@ fn initials_of(trace: &[Sent], sent: &Sent) -> Initials
 {
     Initials {
         own: initial_of(trace, sent.path, sent.from),
-        peer: initial_of(trace, sent.path, peer(sent.from)),
+        peer: initial_of(trace, sent.path, sent.from.peer()),
     }
 }
 

@@ -1,6 +1,7 @@
 -- What is answered is put together of what its parts answer.
 use Rattle.std.proofs.Common.{◌≡◌, sym, subst, ℕ, List, Option, Result, Ok, Err, IfSome, IfOk, OnOk}
 use Rattle.std.specs.Prelude.{option_and_then}
+use Rattle.world_core.specs.Logged.{all_turns}
 use Rattle.link_script.specs.declared.script.Script.{Script}
 use Rattle.link_trace.specs.Carrying.{all_carried}
 use Rattle.link_trace.specs.Tables.{summary_of}
@@ -17,7 +18,6 @@ use Rattle.run_outside.specs.declared.input.Input.{Input}
 use Rattle.run_outside.specs.declared.status.Status.{Status}
 use Rattle.run_trace.specs.Initials.{initials_in}
 use Rattle.run_trace.specs.Rates.{rates_of}
-use Rattle.run_trace.specs.Trace.{all_turns}
 use Rattle.run_words.specs.Lines.{Line, Work, replay}
 use Rattle.world_laws.specs.Worlds.{AreLawful, WorldState}
 use Rattle.mptcp_view.specs.Views.{AreInputs, IsViewFrom, IsViewOf, Shows, base_in, first_world}

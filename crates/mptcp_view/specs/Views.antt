@@ -1,6 +1,7 @@
 -- What the words ask for, what OUT then shows, and why it doesn't.
 use Rattle.std.specs.Prelude.{◌≡◌, ◌⊎◌, Ok, ℕ, ◌+◌, ◌^◌, ◌≤◌, if◌then◌else◌, Option, Some, None, option_map, IfSome, List, [], ◌∷◌, length, codes}
 use Rattle.std.specs.Str.{bytes_eq}
+use Rattle.world_core.specs.Logged.{all_turns}
 use Rattle.outside_kit.specs.declared.port.Port.TheVariants as port
 use Rattle.outside_kit.specs.Outside.{HasRisen}
 use Rattle.link_script.specs.declared.script.Script.{Script}
@@ -23,7 +24,7 @@ use Rattle.run_outside.specs.declared.status.Status.{Status}
 use Rattle.run_outside.specs.declared.status.Status.TheVariants as status
 use Rattle.run_trace.specs.Initials.{initials_in}
 use Rattle.run_trace.specs.Rates.{rates_of}
-use Rattle.run_trace.specs.Trace.{StopsAt, all_turns, trace_of}
+use Rattle.run_trace.specs.Trace.{StopsAt, trace_of}
 use Rattle.run_trace.specs.declared.making.TraceFault.{TraceFault}
 use Rattle.run_trace.specs.declared.making.TraceFault.TheVariants as fault
 use Rattle.run_words.specs.Lines.{Line, as_line, replay}
@@ -118,6 +119,7 @@ IsTurnsFault turns input lines (status.Log line) = (place : ℕ) × ((line ≡ l
 IsTurnsFault turns input lines status.Memory = Unit {0}
 IsTurnsFault turns input lines _ = ⊥
 
+-- where so many lines stand before the first turn; the first line of the log is line 1
 abbrev pub stopped_at : ℕ → TraceFault → Status
 stopped_at lines (fault.Turn place) = status.Log (lines + place + 1)
 stopped_at lines fault.Memory = status.Memory

@@ -6,30 +6,11 @@ mod showing;
 mod terminal;
 
 use file_outside::FileOutside;
-use run_outside::Status;
+use run_outside::{Status, command_words};
 use showing::view_words;
 use std::alloc::{AllocError, Global};
-use std::env::{self, Env};
-use std::io;
 use std::process::ExitCode;
 use terminal::Terminal;
-
-/// The words after the program's name, or the status where there are none to be had.
-fn words_of(rt: &(impl Env + Alloc<A = Global>)) -> Result<Vec<String>, Status> {
-    let mut words = Vec::new(rt.alloc());
-    match env::args(rt) {
-        Ok(args) => {
-            for word in args.skip(1) {
-                if words.push(word).is_err() {
-                    return Err(Status::Memory);
-                }
-            }
-            Ok(words)
-        }
-        Err(error) if error.kind() == io::ErrorKind::OutOfMemory => Err(Status::Memory),
-        Err(_) => Err(Status::Usage),
-    }
-}
 
 /// The line on standard error, without its end.
 fn fault_line(alloc: Global, status: &Status) -> Result<String, AllocError> {
@@ -51,7 +32,7 @@ fn fault_line(alloc: Global, status: &Status) -> Result<String, AllocError> {
 
 /// Writes what the words ask for.
 fn view_of(rt: &HostRuntime) -> Result<(), Status> {
-    let words = words_of(rt)?;
+    let words = command_words(rt)?;
     let (mut outside, mut terminal) = (FileOutside::new(rt, false), Terminal::new(rt));
     let shown = view_words(rt.alloc(), &words, &mut outside, &mut terminal);
     terminal.end();

@@ -6,10 +6,11 @@ ghost use Rattle.link_script.specs.Scripts.{HasRanges};
 ghost use Rattle.path_core.specs.Octets.{octets};
 ghost use Rattle.link_trace.specs.Carrying.{all_carried};
 ghost use Rattle.run_trace.specs.Initials.{initials_in};
-ghost use Rattle.run_trace.specs.Trace.{all_turns, place_of};
+ghost use Rattle.run_trace.specs.Trace.{place_of};
 ghost use Rattle.run_words.specs.Lines.{as_line, replay};
 ghost use Rattle.run_outside.specs.declared.status.Status.TheVariants.{Usage};
 ghost use Rattle.world_core.specs.Kept.{standing};
+ghost use Rattle.world_core.specs.Logged.{all_turns};
 ghost use Rattle.world_laws.specs.Worlds.{AreLawful};
 ghost use Rattle.mptcp_view.specs.Views.{IsOutFault, IsTurnsFault, IsViewFault, IsViewFrom, IsViewOf, Shows, as_asked, asked_in, base_in, first_world, stopped_at, view_named};
 
@@ -24,7 +25,7 @@ use std::alloc::{AllocError, Global};
 use world_core::World;
 
 /// What is shown of a run.
-#[derive(Clone, Copy, Debug, PartialEq, Eq)]
+#[derive(Clone, Copy)]
 pub enum View {
     /// A capture in the pcapng format.
     Capture,
@@ -191,7 +192,7 @@ fn view_of<P: Progress>(
 }
 
 /// What the words ask for: a view, and the inputs of a replay.
-#[derive(Clone, Copy, Debug)]
+#[derive(Clone, Copy)]
 struct Asked<'a> {
     view: View,
     line: CommandLine<'a>,

@@ -1,6 +1,7 @@
 -- The tick of a path: no reply lets it fall, or come behind the round's end.
 use Rattle.std.proofs.Common.{◌≡◌, refl, ◌∙◌, ℕ, max, ◌<◌, ◌≤◌, Bool, true, false, if◌then◌else◌, nat_lt, Option, Some, None, option_and_then, IfSome, List, [], ◌∷◌, arith}
 use Rattle.std.proofs.lemmas.Bool.{ltb-true}
+use Rattle.path_segments.specs.Heard.{HeardSegment}
 use Rattle.outside_kit.specs.declared.side.Side.{Side}
 use Rattle.outside_kit.specs.declared.side.Side.TheVariants.{A, B}
 use Rattle.actor_desk.specs.declared.ask.Reply.{Reply}
@@ -18,7 +19,7 @@ use Rattle.path_agenda.specs.declared.duty.StepDuty.TheVariants as step_duties
 use Rattle.path_agenda.specs.declared.heard.Heard.{Heard}
 use Rattle.path_agenda.specs.declared.heard.Heard.TheVariants as says
 use Rattle.path_core.specs.Breaking.{answered_break}
-use Rattle.path_core.specs.Codec.{Codec, HeardSegment}
+use Rattle.path_core.specs.Codec.{Codec}
 use Rattle.path_core.specs.Duties.{stands, passed, answered}
 use Rattle.path_core.specs.Emission.{Grant, grant_in, answered_grant, answered_data, first_unsent}
 use Rattle.path_core.specs.Events.{tick_of, earliest, before, next_event, join_begun, after_line, at_tick, copy_heard, heard_in, happens_if}

@@ -2,6 +2,7 @@ mod Clocks
 mod Gathering
 mod InitialRows
 mod Numbered
+mod RateCounts
 mod RateRows
 mod Rising
 mod Telling

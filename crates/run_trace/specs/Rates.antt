@@ -1,42 +1,32 @@
--- What the ends of each path told their control books last of their windows and round-trip times.
-use Rattle.std.specs.Prelude.{ℕ, zero, suc, ◌+◌, ◌-◌, if◌then◌else◌, Option, Some, None, List, [], ◌∷◌, length}
-use Rattle.std.specs.Option.{option_or}
+-- The congestion windows and the smoothed round-trip times of the ends of the paths.
+use Rattle.std.specs.Prelude.{◌≡◌, option_map, List, length}
+use Rattle.std.specs.List.{flat_map}
+use Rattle.std.specs.Option.{option_to_list}
 use Rattle.outside_kit.specs.declared.side.Side.{Side}
 use Rattle.outside_kit.specs.declared.side.Side.TheVariants.{A, B}
-use Rattle.link_script.specs.Places.{same_side}
-use Rattle.control_book.specs.declared.call.ControlCall.{ControlCall}
-use Rattle.control_book.specs.declared.call.ControlCall.TheVariants as calls
-use Rattle.actor_desk.specs.declared.ask.Ask.{Ask}
-use Rattle.actor_desk.specs.declared.ask.Ask.TheVariants as asks
-use Rattle.actor_desk.specs.declared.ask.Note.{Note}
 use Rattle.link_trace.specs.declared.rows.Rate.{Rate}
 use Rattle.link_trace.specs.declared.rows.Rates.{Rates}
+use Rattle.path_core.specs.Looking.{congestion_window, smoothed_rtt}
+use Rattle.path_core.specs.Octets.{octets}
+use Rattle.path_core.specs.State.{PathState}
+use Rattle.world_core.specs.Looking.{member_path}
 use Rattle.world_laws.specs.Actors.{ActorCrew}
-use Rattle.world_laws.specs.Outcomes.{notes_at}
-
-abbrev pub call_tells : ControlCall → Option Rate
-call_tells (calls.Rate path window rtt) = Some (record { window = window; rtt = rtt })
-call_tells _ = None
-
--- of the end of a side
-abbrev pub ask_tells : Side → Ask → Option Rate
-ask_tells side (asks.Control at call) = if same_side at side then call_tells call else None
-ask_tells side _ = None
-
--- the last of these steps that tells it, or else what was told before
-abbrev pub last_told : Side → Option Rate → List Note → Option Rate
-last_told side before [] = before
-last_told side before (note ∷ notes) = last_told side (option_or (ask_tells side note.ask) before) notes
-
-abbrev pub rates_in : List Note → Rates
-rates_in notes = record { a = last_told A None notes; b = last_told B None notes }
+use Rattle.world_laws.specs.Openings.{Start, opened_world}
+use Rattle.world_laws.specs.Worlds.{Turn, world_run}
 
 module _ {C : Type 0} where
-  -- of so many actors, the first of which has this number
-  abbrev pub rates_behind : ℕ → ℕ → List (ActorCrew C) → List Rates
-  rates_behind zero actor crew = []
-  rates_behind (suc more) actor crew = rates_in (notes_at actor crew) ∷ rates_behind more (actor + 1) crew
+  -- of a side's end
+  abbrev pub rate_at : Side → PathState C → Rate
+  rate_at side p = record { window = congestion_window side p; rtt = smoothed_rtt side p }
 
-  -- of each path, path 0 first: behind the two applications
+  abbrev pub rates_in : PathState C → Rates
+  rates_in p = record { a = rate_at A p; b = rate_at B p }
+
+  -- of each path among these actors, in their order: path 0 first
   abbrev pub rates_of : List (ActorCrew C) → List Rates
-  rates_of crew = rates_behind (length crew - 2) 2 crew
+  rates_of crew = flat_map (λ c. option_to_list (option_map rates_in (member_path c.member))) crew
+
+-- After any turns each path of a connection has them, and nobody else.
+abbrev pub EachPathHasItsRates : Type 0
+EachPathHasItsRates =
+    (start : Start) (turns : List Turn) → length (rates_of (world_run octets turns (opened_world start)).crew) ≡ length start.paths

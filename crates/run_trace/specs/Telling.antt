@@ -23,6 +23,7 @@ pub record SentLine : Type 0 where
   pub payload : ℕ
   pub checksum : ℕ
 
+-- what a step tells of the segment that it hands to the link
 abbrev pub line_in : Ask → Option SentLine
 line_in (asks.Local (steps.Sent from number payload checksum)) =
     Some (record { from = from; number = number; payload = payload; checksum = checksum })

@@ -1,14 +1,12 @@
 -- The trace of turns: the segments that they hand to the links, in order.
-use Rattle.std.specs.Prelude.{◌≡◌, IsOk, ℕ, zero, suc, Bool, true, false, Option, Some, None, option_map, option_and_then, List, [], ◌∷◌, ◌++◌, map}
+use Rattle.std.specs.Prelude.{◌≡◌, IsOk, ℕ, zero, suc, Bool, true, false, Option, Some, None, option_map, option_and_then, List, [], ◌∷◌, ◌++◌}
 use Rattle.std.specs.Option.{option_to_list}
-use Rattle.link_model.specs.Octets.{addresses_from}
-use Rattle.run_log.specs.declared.turn.Turn as logged_turn
-use Rattle.run_log.specs.declared.turn.Turn.TheVariants as logged
 use Rattle.path_core.specs.Looking.{departing}
 use Rattle.path_core.specs.declared.looking.Departing.{Departing}
 use Rattle.path_core.specs.Octets.{octets}
 use Rattle.path_core.specs.State.{PathState, path_of}
 use Rattle.segment_wire.specs.Reading.{segment_meaning}
+use Rattle.segment_wire.specs.Paths.{addresses_from}
 use Rattle.run_trace.specs.declared.making.TraceFault.{TraceFault}
 use Rattle.run_trace.specs.declared.making.TraceFault.TheVariants as fault
 use Rattle.link_trace.specs.declared.sent.Sent.{Sent}
@@ -26,6 +24,7 @@ sent_as p d = record {
   fate = d.fate;
 }
 
+-- the segment that the path's next step hands to the link, if it hands one
 abbrev pub sent_by : PathState (List ℕ) → Option Sent
 sent_by p = option_map (sent_as p) (departing p)
 
@@ -33,6 +32,7 @@ sent_by p = option_map (sent_as p) (departing p)
 abbrev pub sent_next : ℕ → WorldState (List ℕ) → Option Sent
 sent_next actor w = option_and_then sent_by (path_at actor w.crew)
 
+-- a round's end sends nothing
 abbrev pub sent_at : Turn → WorldState (List ℕ) → List Sent
 sent_at (Turn.Step actor) w = option_to_list (sent_next actor w)
 sent_at Turn.Round w = []
@@ -45,15 +45,6 @@ trace_of (turn ∷ turns) w = sent_at turn w ++ trace_of turns (after_turn octet
 -- its octets are a segment between the addresses of its path
 abbrev pub IsWhole : Sent → Type 0
 IsWhole s = IsOk (segment_meaning (addresses_from s.path s.from) s.octets)
-
--- ---- the turns of a log
-
-abbrev pub turn_of : logged_turn.Turn → Turn
-turn_of (logged.Step actor) = Turn.Step actor
-turn_of logged.Round = Turn.Round
-
-abbrev pub all_turns : List logged_turn.Turn → List Turn
-all_turns turns = map turn_of turns
 
 -- an actor whose turn hasn't ended makes the step; each turn ended where the round does
 abbrev pub can_be_made : Turn → WorldState (List ℕ) → Bool

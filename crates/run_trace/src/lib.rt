@@ -10,7 +10,7 @@ mod progress;
 mod rates;
 
 pub use initials::initials_in;
-pub use laws::{sent_lines_tell_the_trace, ticks_rise_by_path};
+pub use laws::{each_path_has_its_rates, sent_lines_tell_the_trace, ticks_rise_by_path};
 pub use link_trace::Sent;
 pub use making::{TraceFault, gather};
 pub use next::sent_next;

@@ -4,8 +4,9 @@ ghost use Rattle.std.specs.Prelude.{◌≡◌, ◌<◌, ◌^◌, ◌++◌, true,
 ghost use Rattle.std.specs.Option.{option_to_list};
 ghost use Rattle.path_core.specs.Octets.{octets};
 ghost use Rattle.world_core.specs.Kept.{standing};
+ghost use Rattle.world_core.specs.Logged.{turn_of, all_turns};
 ghost use Rattle.world_laws.specs.Worlds.{AreLawful, after_turn, is_going, world_run, world_step};
-ghost use Rattle.run_trace.specs.Trace.{IsTraceFault, IsWhole, all_turns, can_be_made, place_of, sent_at, sent_next, trace_of, turn_of};
+ghost use Rattle.run_trace.specs.Trace.{IsTraceFault, IsWhole, can_be_made, place_of, sent_at, sent_next, trace_of};
 
 use crate::next::sent_next;
 use crate::progress::Progress;
@@ -15,7 +16,7 @@ use std::alloc::{AllocError, Global};
 use world_core::World;
 
 /// Why the turns weren't all made.
-#[derive(Clone, Copy, Debug, PartialEq, Eq)]
+#[derive(Clone, Copy)]
 pub enum TraceFault {
     /// The turn of this place, the first being 0, can't be made: its actor's turn has ended, or the round ends while an actor's
     /// hasn't.

@@ -1,75 +1,52 @@
-//! What the ends of a path told their control books last of their windows and round-trip times.
+//! The congestion windows and the smoothed round-trip times of the ends of the paths.
 
-ghost use Rattle.std.specs.Prelude.{◌≡◌, None, IfOk};
-ghost use Rattle.std.specs.Option.{option_or};
-ghost use Rattle.run_trace.specs.Rates.{ask_tells, call_tells, last_told, rates_in, rates_of};
+ghost use Rattle.std.specs.Prelude.{◌≡◌, ◌++◌, option_map, IfOk, OnOk};
+ghost use Rattle.std.specs.Option.{option_to_list};
+ghost use Rattle.run_trace.specs.Rates.{rate_at, rates_in, rates_of};
 
-use actor_desk::{Ask, Note};
-use control_book::ControlCall;
 use link_trace::{Rate, Rates};
 use outside_kit::Side;
+use path_core::Path;
 use std::alloc::{AllocError, Global};
 use world_core::World;
 
-fn call_tells(call: &ControlCall) -> Option<Rate>
-    ensures { result ≡ call_tells call.now }
+/// Those of a side's end.
+fn rate_at(side: Side, path: &Path) -> Rate
+    ensures { result ≡ rate_at side path.now }
 {
-    match call {
-        ControlCall::Rate { window, rtt, .. } => Some(Rate {
-            window: *window,
-            rtt: *rtt,
-        }),
-        _ => None,
+    Rate {
+        window: path.congestion_window(side),
+        rtt: path.smoothed_rtt(side),
     }
 }
 
-/// What a step tells of a side's end.
-fn ask_tells(side: Side, ask: &Ask) -> Option<Rate>
-    ensures { result ≡ ask_tells side ask.now }
-{
-    match ask {
-        Ask::Control(at, call) => { if *at == side { call_tells(call) } else { None } }
-        _ => None,
-    }
-}
-
-/// What is told last: this, or else what was told before.
-fn told_or(told: Option<Rate>, before: Option<Rate>) -> Option<Rate>
-    ensures { result ≡ option_or told before }
-{
-    match told {
-        None => before,
-        Some(rate) => Some(rate),
-    }
-}
-
-/// The last of these steps that tells it.
-fn last_told(side: Side, notes: &[Note]) -> Option<Rate>
-    ensures { result ≡ last_told side None notes.now }
-{
-    let mut last = None;
-    for note in notes {
-        last = told_or(ask_tells(side, &note.ask), last);
-    }
-    last
-}
-
-fn rates_in(notes: &[Note]) -> Rates
-    ensures { result ≡ rates_in notes.now }
+fn rates_in(path: &Path) -> Rates
+    ensures { result ≡ rates_in path.now }
 {
     Rates {
-        a: last_told(Side::A, notes),
-        b: last_told(Side::B, notes),
+        a: rate_at(Side::A, path),
+        b: rate_at(Side::B, path),
     }
 }
 
-/// What both ends of each path told last, path 0 first.
+/// Keeps those of a path, if there is one.
+fn keep(rates: &mut Vec<Rates>, path: Option<&Path>) -> Result<(), AllocError>
+    ensures { OnOk result (rates.new.items ≡
+        rates.old.items ++ option_to_list (option_map (λ path. rates_in path.now) path.entry)) }
+{
+    if let Some(path) = path {
+        rates.push(rates_in(path))?;
+    }
+    Ok(())
+}
+
+/// Those of both ends of each path, path 0 first.
 pub fn rates_of(alloc: Global, world: &World) -> Result<Vec<Rates>, AllocError>
     ensures { IfOk result (λ rates. rates.items ≡ rates_of world.now.state.crew) }
 {
     let mut rates = Vec::new(alloc);
-    for actor in 2..world.actors() {
-        rates.push(rates_in(world.notes(actor)))?;
+    for actor in 0..world.actors() {
+        keep(&mut rates, world.path(actor))?;
     }
     Ok(rates)
 }

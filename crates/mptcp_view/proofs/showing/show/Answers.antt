@@ -1,7 +1,7 @@
 use Rattle.std.proofs.Common.{sym, subst}
 use Rattle.std.proofs.lemmas.Result.{err_from_is_err_and}
+use Rattle.world_core.specs.Logged.{all_turns}
 use Rattle.outside_kit.specs.declared.port.Port.TheVariants.{ReadByB}
-use Rattle.run_trace.specs.Trace.{all_turns}
 use Rattle.run_words.specs.Lines.{as_line}
 use Rattle.mptcp_view.specs.Views.{IsViewOf}
 use Rattle.mptcp_view.proofs.Answering.{are_inputs, shown_where_ok}

@@ -1,7 +1,7 @@
 use Rattle.std.proofs.Common.{◌∙◌, sym, ap, map, drop, ◌+◌, arith}
 use Rattle.std.proofs.lemmas.List.{drop_more}
 use Rattle.world_core.specs.Kept.{Kept}
-use Rattle.run_trace.specs.Trace.{all_turns, turn_of}
+use Rattle.world_core.specs.Logged.{turn_of, all_turns}
 use Rattle.run_trace.proofs.Gathering.{gathers_more, stops_here}
 use Rattle.run_trace.proofs.making.gather.Goals as goal
 

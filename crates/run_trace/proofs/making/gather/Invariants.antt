@@ -1,5 +1,5 @@
 use Rattle.std.proofs.Common.{◌≡◌, drop, false}
-use Rattle.run_trace.specs.Trace.{all_turns}
+use Rattle.world_core.specs.Logged.{all_turns}
 use Rattle.run_trace.proofs.Gathering.{Gathers}
 use Rattle.run_trace.proofs.making.gather.Given as goal
 
