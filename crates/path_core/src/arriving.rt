@@ -219,6 +219,7 @@ impl PathEnd {
         ensures value { result ≡ expected_by self.now }
         ensures within { IsExpected result }
     {
+        // For the proof: what was sent ends at or before position 2^62.
         let _sent = self.tcp.nxt();
         Expected {
             edge: self.tcp.edge(),
@@ -256,6 +257,7 @@ impl PathEnd {
             else 0) }
         ensures bound { result ≤ 2 ^ 62 }
     {
+        // For the proof: what was sent ends at or before position 2^62.
         let _sent = self.tcp.nxt();
         match meaning {
             Meaning::Taken { acknowledged, .. } => acknowledged,

@@ -80,6 +80,7 @@ impl PathEnd {
         ensures ok { OnOk result (self.new ≡ with_piece span piece.now mapping.now self.old) }
         ensures err { OnErr result (self.new ≡ self.old) }
     {
+        // For the proof: whether the FIN was pushed tells where it stands.
         let _finished = self.tcp.is_finished();
         let granted = GrantedPiece {
             position: self.tcp.nxt(),
@@ -124,6 +125,7 @@ impl PathEnd {
           tcp = after_sending Fin now (after_finishing self.old.tcp);
         } }
     {
+        // For the proof: whether the FIN was pushed tells where it stands.
         let _finished = self.tcp.is_finished();
         self.receiving.tell_edge(told_edge);
         self.modes = modes;

@@ -165,6 +165,7 @@ impl Machine {
         ensures whole { IfOk result (λ text.
             IsOk (segment_meaning (addresses_from (path_of self.now) side) text.items)) }
     {
+        // For the proof: the path is that of its spelling.
         let _path = self.number();
         let said = self.said(side, kind);
         said.octets(self.alloc, self.profile.spelling(), side)

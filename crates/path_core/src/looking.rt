@@ -62,72 +62,27 @@ pub(crate) fn send_of(duty: SendDuty) -> ToSend
     ensures { Some result ≡ send_of duty }
 {
     match duty {
-        SendDuty::Update(from) => ToSend {
-            from,
-            kind: SegmentKind::Ack,
-        },
-        SendDuty::Acknowledge(from) => ToSend {
-            from,
-            kind: SegmentKind::Ack,
-        },
-        SendDuty::Syn(from) => ToSend {
-            from,
-            kind: SegmentKind::Unsent,
-        },
-        SendDuty::FastClose(from) => ToSend {
-            from,
-            kind: SegmentKind::FastClose,
-        },
-        SendDuty::Notice(from) => ToSend {
-            from,
-            kind: SegmentKind::Notice,
-        },
-        SendDuty::DataFin(from) => ToSend {
-            from,
-            kind: SegmentKind::DataFin,
-        },
-        SendDuty::Fin(from) => ToSend {
-            from,
-            kind: SegmentKind::Fin,
-        },
-        SendDuty::SynAck(from) => ToSend {
-            from,
-            kind: SegmentKind::SynAck,
-        },
-        SendDuty::Refuse(from) => ToSend {
-            from,
-            kind: SegmentKind::Refusal,
-        },
-        SendDuty::Again(from) => ToSend {
-            from,
-            kind: SegmentKind::First,
-        },
-        SendDuty::Answer(from) => ToSend {
-            from,
-            kind: SegmentKind::Answer,
-        },
-        SendDuty::ResetAnswer(from) => ToSend {
-            from,
-            kind: SegmentKind::DeadAnswer,
-        },
-        SendDuty::Resend(from) => ToSend {
-            from,
-            kind: SegmentKind::Resend,
-        },
-        SendDuty::BreakReset { side: from, reason } => ToSend {
-            from,
-            kind: SegmentKind::Reset {
+        SendDuty::Update(side) => to_send(side, SegmentKind::Ack),
+        SendDuty::Acknowledge(side) => to_send(side, SegmentKind::Ack),
+        SendDuty::Syn(side) => to_send(side, SegmentKind::Unsent),
+        SendDuty::FastClose(side) => to_send(side, SegmentKind::FastClose),
+        SendDuty::Notice(side) => to_send(side, SegmentKind::Notice),
+        SendDuty::DataFin(side) => to_send(side, SegmentKind::DataFin),
+        SendDuty::Fin(side) => to_send(side, SegmentKind::Fin),
+        SendDuty::SynAck(side) => to_send(side, SegmentKind::SynAck),
+        SendDuty::Refuse(side) => to_send(side, SegmentKind::Refusal),
+        SendDuty::Again(side) => to_send(side, SegmentKind::First),
+        SendDuty::Answer(side) => to_send(side, SegmentKind::Answer),
+        SendDuty::ResetAnswer(side) => to_send(side, SegmentKind::DeadAnswer),
+        SendDuty::Resend(side) => to_send(side, SegmentKind::Resend),
+        SendDuty::BreakReset { side, reason } => to_send(
+            side,
+            SegmentKind::Reset {
                 reason: Some(reason),
             },
-        },
-        SendDuty::Reset(from) => ToSend {
-            from,
-            kind: SegmentKind::Reset { reason: None },
-        },
-        SendDuty::ResetNoted(from) => ToSend {
-            from,
-            kind: SegmentKind::Reset { reason: None },
-        },
+        ),
+        SendDuty::Reset(side) => to_send(side, SegmentKind::Reset { reason: None }),
+        SendDuty::ResetNoted(side) => to_send(side, SegmentKind::Reset { reason: None }),
     }
 }
 

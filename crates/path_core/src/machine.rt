@@ -97,6 +97,7 @@ impl Machine {
     pub(crate) fn takes_time(&self)
         ensures { TakesTime self.now }
     {
+        // For the proof: the delay is within its limits.
         let _delay = self.link.delay();
         let (_a, _b) = (self.a.tcp.rto(), self.b.tcp.rto());
     }

@@ -195,6 +195,7 @@ fn has_address(notice: OwnNotice)
 {
     match notice {
         OwnNotice::AddEcho { address, .. } => {
+            // For the proof: an address has 4 or 16 octets.
             let _octets = address.octets();
         }
         OwnNotice::AddAddr { .. } | OwnNotice::Removes { .. } | OwnNotice::Prio { .. } => {}
@@ -206,6 +207,7 @@ fn may_have_address(notice: Option<OwnNotice>)
     ensures { IfSome notice HasAddress }
 {
     if let Some(notice) = notice {
+        // For the proof: the address has its octets.
         has_address(notice);
     }
 }
@@ -610,6 +612,7 @@ impl PathEnd {
         ensures value { plain_said result ≡ said_by kind profile.now side self.now }
         ensures can { CanBeSaid profile.now.spelling side (plain_said result) }
     {
+        // For the proof: the path is 15 at most, and the window 2^20.
         let _path = profile.spelling();
         let _window = self.receiving.window();
         may_have_address(self.notices.first());

@@ -68,6 +68,7 @@ impl Path {
         ensures turn { Ends octets self.now }
         ensures round { Ends octets (next_round self.now) }
     {
+        // For the proof: the invariant of the machine.
         let _machine = &self.machine;
     }
 

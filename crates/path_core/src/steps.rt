@@ -57,6 +57,7 @@ impl Machine {
         ensures plain { needs_memory_first self.old.agenda reply.now self.old ≡ false →
             IsOk result }
     {
+        // For the proof: the segment size is within its limits.
         let _mss = self.profile.mss();
         match self.agenda.first() {
             Some(duty) => self.answer(duty, reply),

@@ -40,7 +40,6 @@ impl Machine {
     }
 
     /// The step of its segment.
-    #[tactic(auto, using(crate::proofs::SegmentsTold::step_sent))]
     pub(crate) fn send_step(&self, duty: SendDuty) -> Ask
         ensures value { result ≡ ask_for octets (duties.Send duty) self.now }
         ensures able { CanBeAsked result }
