@@ -3,7 +3,7 @@ use Rattle.std.proofs.Common.{◌≡◌, refl, ◌∙◌, ℕ, max, ◌<◌, ◌
 use Rattle.std.proofs.lemmas.Bool.{ltb-true}
 use Rattle.path_segments.specs.Heard.{HeardSegment}
 use Rattle.outside_kit.specs.declared.side.Side.{Side}
-use Rattle.outside_kit.specs.declared.side.Side.TheVariants.{A, B}
+use Rattle.outside_kit.specs.declared.side.Side.TheVariants.{A}
 use Rattle.actor_desk.specs.declared.ask.Reply.{Reply}
 use Rattle.actor_desk.specs.Words.{tail_of}
 use Rattle.join_handshake.specs.declared.hearing.JoinSyn.{JoinSyn}
@@ -31,7 +31,7 @@ use Rattle.path_core.specs.Joining.{is_never, keys_begun, asked_at, join_taken}
 use Rattle.path_core.specs.Passing.{answered_piece, is_placed, is_fin_set, piece_of}
 use Rattle.path_core.specs.Deliver.{Piece}
 use Rattle.path_core.specs.State.{PathState, end_at, with_agenda, left}
-use Rattle.path_core.specs.Steps.{settled, settles_down, answers, takes, begins_turn}
+use Rattle.path_core.specs.Steps.{settled, answers, takes, begins_turn}
 use Rattle.path_core.specs.Opening.{answered_peer_key, answered_opened}
 use Rattle.path_core.specs.Treating.{answered_heard, answered_item, item_of, breaks_by_ack}
 use Rattle.path_agenda.specs.Items.{key_heard, keys_heard}

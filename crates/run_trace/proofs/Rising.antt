@@ -12,12 +12,12 @@ use Rattle.path_core.specs.State.{PathState, path_of}
 use Rattle.world_core.specs.Looking.{crew_path, member_path}
 use Rattle.world_laws.specs.Actors.{Actor, ActorCrew, member_asks, member_takes, member_next}
 use Rattle.world_laws.specs.declared.member.Member.TheVariants.{App, Path}
-use Rattle.world_laws.specs.Openings.{Start, opened_world}
+use Rattle.world_laws.specs.Openings.{opened_world}
 use Rattle.world_laws.specs.StampedBooks.{answer_to}
-use Rattle.world_laws.specs.Worlds.{WorldState, Turn, after_turn, all_over, asked, begins, crew_after, end_round, greatest, stepped, world_step}
+use Rattle.world_laws.specs.Worlds.{WorldState, Turn, all_over, asked, begins, crew_after, end_round, greatest, stepped, world_step}
 use Rattle.link_trace.specs.declared.sent.Sent.{Sent}
 use Rattle.run_trace.specs.Telling.{RiseFrom, TicksRiseByPath, on_path}
-use Rattle.run_trace.specs.Trace.{sent_as, sent_at, sent_by, sent_next, trace_of}
+use Rattle.run_trace.specs.Trace.{sent_as, sent_by, sent_next, trace_of}
 use Rattle.run_trace.proofs.Clocks.{begun_clock, takes_climbs}
 use Rattle.run_trace.proofs.Numbered.{AreNumbered, StandsAt, map_got, opened_numbered, set_got, turn_numbered}
 

@@ -1,5 +1,5 @@
 -- The steps of a path tell just the segments that it hands to its link.
-use Rattle.std.proofs.Common.{◌≡◌, refl, sym, ap, subst, ◌∙◌, ℕ, zero, suc, ◌==◌, ◌⊎◌, inl, inr, Bool, true, false, if◌then◌else◌, Ok, Option, Some, None, option_map, option_and_then, IfSome, List, [], ◌∷◌, ◌++◌, map, filter, set, slice_get, append_assoc, append-nil, arith}
+use Rattle.std.proofs.Common.{◌≡◌, refl, sym, ap, subst, ◌∙◌, ℕ, zero, suc, ◌==◌, ◌⊎◌, inl, inr, Bool, true, false, if◌then◌else◌, Ok, Option, Some, None, option_map, option_and_then, IfSome, List, [], ◌∷◌, ◌++◌, map, set, slice_get, append_assoc, append-nil, arith}
 use Rattle.std.proofs.lemmas.Bool.{cases_eq, eqb-false, eqb-true, true≢false}
 use Rattle.std.proofs.lemmas.Grind.{flat_map-append}
 use Rattle.std.proofs.lemmas.List.{map-append}

@@ -1,5 +1,5 @@
 -- The initial sequence numbers of the paths of a run.
-use Rattle.std.specs.Prelude.{ℕ, ◌%◌, ◌^◌, List, [], ◌∷◌}
+use Rattle.std.specs.Prelude.{◌%◌, ◌^◌, List, [], ◌∷◌}
 use Rattle.link_script.specs.declared.script.Script.{Script}
 use Rattle.link_trace.specs.declared.carried.PathInitials.{PathInitials}
 use Rattle.world_laws.specs.Openings.{PathPlan, plans_from}

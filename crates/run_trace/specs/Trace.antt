@@ -1,5 +1,5 @@
 -- The trace of turns: the segments that they hand to the links, in order.
-use Rattle.std.specs.Prelude.{◌≡◌, IsOk, ℕ, zero, suc, Bool, true, false, Option, Some, None, option_map, option_and_then, List, [], ◌∷◌, ◌++◌}
+use Rattle.std.specs.Prelude.{◌≡◌, IsOk, ℕ, zero, suc, Bool, true, false, Option, option_map, option_and_then, List, [], ◌∷◌, ◌++◌}
 use Rattle.std.specs.Option.{option_to_list}
 use Rattle.path_core.specs.Looking.{departing}
 use Rattle.path_core.specs.declared.looking.Departing.{Departing}
