@@ -3,8 +3,8 @@ ghost use Rattle.std.specs.Prelude.{◌≡◌, OnOk, OnErr, IfOk};
 
 use crate::call::{ControlCall, ControlReply, Notice};
 use crate::notices::{
-    address_notice, carrier, is_path, is_starting, is_sure, no_withdrawals, peer_or_zero,
-    set_withdrawal, withdraw_on, withdrawals_on,
+    address_notice, carrier, is_path, is_sure, no_withdrawals, peer_or_zero, set_withdrawal,
+    withdraw_on, withdrawals_on,
 };
 use crate::registry::{
     PathState, Phase, lowest_living, opening_paths, rows_with, set_phase, set_removed, set_row,
@@ -96,34 +96,10 @@ impl ControlBook {
         })
     }
 
-    /// Which side this is.
-    pub fn side(&self) -> Side
-        ensures { result ≡ self.now.side }
-    {
-        self.side
-    }
-
-    /// The side's key, and the peer's.
-    pub fn keys(&self) -> Keys
-        ensures { result ≡ self.now.keys }
-    {
-        self.keys
-    }
-
-    /// How the side stands to Multipath TCP.
-    pub fn fall(&self) -> Fall
-        ensures { result ≡ self.now.fall }
-    {
-        self.fall
-    }
-
     fn carries(&self, path: u8) -> bool
         ensures { result ≡ carries self.now path }
     {
-        match self.notices.carrier {
-            Some(carrier) => carrier == path,
-            None => false,
-        }
+        self.notices.carrier == Some(path)
     }
 
     fn resets(&self, path: u8) -> bool
@@ -187,7 +163,7 @@ impl ControlBook {
         if is_sure(self.fall.mode) {
             return self.begin();
         }
-        if is_starting(self.fall.mode) && stands(&self.paths, 0) {
+        if self.fall.mode.is_starting() && stands(&self.paths, 0) {
             return ControlReply::NotYet;
         }
         ControlReply::Never(self.fall.mode)
@@ -203,7 +179,7 @@ impl ControlBook {
         if !self.fall.confirmed {
             return ControlReply::NotConfirmed;
         }
-        if is_starting(self.fall.mode) || is_sure(self.fall.mode) {
+        if self.fall.mode.is_starting() || is_sure(self.fall.mode) {
             return self.begin();
         }
         ControlReply::Fallen(self.fall.mode)
@@ -336,7 +312,7 @@ impl ControlBook {
     {
         if asked == token(self.keys.own)
             && self.fall.confirmed
-            && (is_starting(self.fall.mode) || is_sure(self.fall.mode))
+            && (self.fall.mode.is_starting() || is_sure(self.fall.mode))
         {
             self.fall.joined = true;
         }

@@ -2,7 +2,7 @@
 ghost use Rattle.std.specs.Prelude.{◌≡◌, if◌then◌else◌, is_some, fold};
 ghost use Rattle.control_book.specs.Registry.{lowest_living};
 ghost use Rattle.control_book.specs.Control.{no_withdrawals, peer_or_zero, is_path, withdrawals_on, with_withdrawal};
-ghost use Rattle.control_book.specs.Replies.{is_sure, is_starting, address_notice};
+ghost use Rattle.control_book.specs.Replies.{is_sure, address_notice};
 ghost use Rattle.control_book.specs.Steps.{withdrawn_on, withdrawn};
 
 use crate::call::Notice;
@@ -35,28 +35,16 @@ pub(crate) fn is_sure(mode: Mode) -> bool
     matches!(mode, Mode::Sure)
 }
 
-pub(crate) fn is_starting(mode: Mode) -> bool
-    ensures { result ≡ is_starting mode }
-{
-    matches!(mode, Mode::Starting)
-}
-
 pub(crate) fn is_path(one: Option<u8>, path: u8) -> bool
     ensures { result ≡ is_path one path }
 {
-    match one {
-        Some(one) => one == path,
-        None => false,
-    }
+    one == Some(path)
 }
 
 pub(crate) fn peer_or_zero(peer: Option<u64>) -> u64
     ensures { result ≡ peer_or_zero peer }
 {
-    match peer {
-        Some(key) => key,
-        None => 0,
-    }
+    peer.unwrap_or(0)
 }
 
 /// An announcement goes before an address to be taken back.

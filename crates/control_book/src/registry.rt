@@ -108,10 +108,7 @@ pub(crate) fn lowest_living(paths: &[PathState]) -> Option<u8>
     requires { length paths.now ≤ 16 }
     ensures { result ≡ lowest_living paths.now }
 {
-    match first_living(paths) {
-        Some(path) => Some(path as u8),
-        None => None,
-    }
+    first_living(paths).map(|path| path as u8)
 }
 
 /// The place of the first path that lives.

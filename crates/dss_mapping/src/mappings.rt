@@ -80,7 +80,7 @@ impl Mappings {
 
     /// Learns that the positions from `pos` on, so many as the mapping's length, have the places from `place` on. Positions
     /// from 2^64 - 1 on are passed over. Where a position has another place already, the first such one is told; there,
-    /// where all have these, and without memory, all stays as it was.
+    /// where all have these, and without memory, all stays as it was. A new one takes the room of one mapping at most.
     ///
     /// Positions whose places are known are kept as runs of one distance between place and position, in order. The call takes
     /// a search by halves of the runs for each run that the mapping meets. A new one moves the runs behind it.
@@ -96,6 +96,7 @@ impl Mappings {
         ensures after { IfOk result (λ answer. self.new.mappings ≡
             after_learn (record { pos = pos; place = place; mapping = mapping.now; fin = false })
             answer self.old.mappings) }
+        ensures ready { self.old.ready ≤ self.new.ready + 1 }
         ensures err { OnErr result (self.new.mappings ≡ self.old.mappings) }
     {
         let kept = KeptMapping {
@@ -116,6 +117,7 @@ impl Mappings {
     /// Makes room for so many mappings more. The mappings stay, also where there is no memory for them.
     pub fn make_ready(&mut self, count: usize) -> Result<(), AllocError>
         ensures ok { OnOk result (count ≤ self.new.ready) }
+        ensures more { self.old.ready ≤ self.new.ready }
         ensures mappings { self.new.mappings ≡ self.old.mappings }
     {
         self.runs.reserve(count)?;
@@ -152,18 +154,22 @@ impl Mappings {
     }
 
     /// Learns the first of the mappings that are held, as [`learn`](Mappings::learn) does, and holds it no longer. Takes no
-    /// memory; where none is held, nothing changes.
+    /// memory, and the room of one mapping at most; where none is held, nothing changes.
     pub fn learn_held(&mut self)
-        ensures { self.new.mappings ≡ after_learn_held self.old.mappings }
+        ensures mappings { self.new.mappings ≡ after_learn_held self.old.mappings }
+        ensures ready { self.old.ready ≤ self.new.ready + 1 }
+        ensures none { self.old.mappings.held ≡ [] → self.new ≡ self.old }
     {
         if let Some(kept) = self.take_first() {
             self.learn_kept(kept);
         }
     }
 
-    /// Holds the first of the mappings that are held no longer. Takes no memory; where none is held, nothing changes.
+    /// Holds the first of the mappings that are held no longer, and there is as much room as before. Takes no memory; where
+    /// none is held, nothing changes.
     pub fn skip_held(&mut self)
-        ensures { self.new.mappings ≡ after_skip_held self.old.mappings }
+        ensures mappings { self.new.mappings ≡ after_skip_held self.old.mappings }
+        ensures ready { self.new.ready ≡ self.old.ready }
     {
         self.take_first();
     }
@@ -266,6 +272,7 @@ impl Mappings {
     fn take_first(&mut self) -> Option<KeptMapping>
         ensures value { result ≡ first_held self.old.mappings }
         ensures after { self.new.mappings ≡ after_skip_held self.old.mappings }
+        ensures ready { self.new.ready ≡ self.old.ready }
         ensures within { IfSome result IsWithin }
         ensures room { IsSome result → length self.new.mappings.held < self.new.ready }
     {
@@ -279,7 +286,8 @@ impl Mappings {
     fn learn_kept(&mut self, kept: KeptMapping)
         requires within { IsWithin kept }
         requires room { length self.old.mappings.held < self.old.ready }
-        ensures { self.new.mappings ≡ learned kept self.old.mappings }
+        ensures mappings { self.new.mappings ≡ learned kept self.old.mappings }
+        ensures ready { self.old.ready ≤ self.new.ready + 1 }
     {
         match self.answer(kept.run()) {
             Learn::New => self.keep(kept),
@@ -293,23 +301,11 @@ impl Mappings {
         requires sound { IsSound (run_of kept) }
         requires agree { Agree (run_of kept) (run_of kept).to self.old.mappings }
         requires room { length self.old.mappings.held < self.old.ready }
-        ensures { self.new.mappings ≡ after_learn kept New self.old.mappings }
+        ensures mappings { self.new.mappings ≡ after_learn kept New self.old.mappings }
+        ensures ready { self.old.ready ≤ self.new.ready + 1 }
     {
-        push_within(&mut self.live, kept);
+        self.live.push_reserved(kept);
         put_in(&mut self.runs, kept.run());
-    }
-}
-
-/// Appends a mapping for which there is room.
-fn push_within(live: &mut Vec<KeptMapping>, kept: KeptMapping)
-    requires { vec_len live.old < vec_capacity live.old }
-    ensures items { live.new.items ≡ live.old.items ++ kept ∷ [] }
-    ensures len { vec_len live.new ≡ vec_len live.old + 1 }
-    ensures capacity { vec_capacity live.old ≤ vec_capacity live.new }
-{
-    match live.push(kept) {
-        Ok(()) => {}
-        Err(_) => unreachable!(),
     }
 }
 

@@ -23,7 +23,8 @@ pub enum Mode {
 impl Mode {
     ghost use Rattle.fallback_state.specs.Modes.{is_starting, is_identity, reads_mappings, writes_mappings, receiving, sending};
 
-    pub(crate) fn is_starting(self) -> bool
+    /// Whether the side doesn't know yet that the peer and all on the way use Multipath TCP.
+    pub fn is_starting(self) -> bool
         ensures { result ≡ is_starting self }
     {
         matches!(self, Mode::Starting)
@@ -36,14 +37,14 @@ impl Mode {
     }
 
     /// Whether the peer's mappings count.
-    pub(crate) fn reads_mappings(self) -> bool
+    pub fn reads_mappings(self) -> bool
         ensures { result ≡ reads_mappings self }
     {
         matches!(self, Mode::Starting | Mode::Sure | Mode::InfiniteSend)
     }
 
     /// Whether the side's own mappings count.
-    pub(crate) fn writes_mappings(self) -> bool
+    pub fn writes_mappings(self) -> bool
         ensures { result ≡ writes_mappings self }
     {
         matches!(self, Mode::Starting | Mode::Sure | Mode::InfiniteReceive)
@@ -162,9 +163,6 @@ impl Fall {
     pub(crate) fn failed_on(self, path: u8) -> bool
         ensures { result ≡ is_failed_path self.failed path }
     {
-        match self.failed {
-            Some(failed) => failed == path,
-            None => false,
-        }
+        self.failed == Some(path)
     }
 }

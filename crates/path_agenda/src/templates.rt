@@ -23,7 +23,8 @@ impl Agenda {
         Agenda::before_emission(&[], side)
     }
 
-    /// A turn, from its start: a path that had to wait asks to join, and both ends look at how their sides stand, tell their windows, and send what they may.
+    /// A turn, from its start: a path that had to wait asks to join, and both ends look at how their sides stand, tell
+    /// their windows, and send what they may.
     pub fn start_of_turn() -> Self
         ensures { result ≡ start_of_turn }
     {
@@ -178,14 +179,16 @@ impl Agenda {
         Agenda::before_rest(Duty::Send(SendDuty::Reset(side)))
     }
 
-    /// The side is to announce the address of this id (RFC 8684, section 3.4.1): it is told, and then the side's end sends what it may.
+    /// The side is to announce the address of this id (RFC 8684, section 3.4.1): it is told, and then the side's end sends
+    /// what it may.
     pub fn announces(side: Side, id: u8) -> Self
         ensures { result ≡ announces side id }
     {
         Agenda::before_emission(&[Duty::Ask(AskDuty::Announce { side, id })], side)
     }
 
-    /// The side takes the address of this id back (RFC 8684, section 3.4.2): it is told, and then the side's end sends what it may.
+    /// The side takes the address of this id back (RFC 8684, section 3.4.2): it is told, and then the side's end sends what
+    /// it may.
     pub fn withdraws(side: Side, id: u8) -> Self
         ensures { result ≡ withdraws side id }
     {

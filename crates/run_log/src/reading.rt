@@ -65,8 +65,8 @@ fn read_lines(alloc: Global, setting: Setting, bytes: &[u8]) -> Result<Vec<Turn>
 /// Reads the turns of a log, or says which line is refused first.
 ///
 /// The run has so many actors, and its data numbers have `width` octets, 8 or 4. Both formats are read; the second line
-/// of format 2 has to name this width, and format 1 names none. Each line ends with LF, which the last line may lack. Every octet is allowed, and every text
-/// is answered.
+/// of format 2 has to name this width, and format 1 names none. Each line ends with LF, which the last line may lack.
+/// Every octet is allowed, and every text is answered.
 pub fn read_log(alloc: Global, bytes: &[u8], actors: u8, width: u8) -> Result<Vec<Turn>, LogFault>
     // The turns that the text tells or the first line that is refused, unless memory ran out.
     ensures exact { Gives (λ turns. turns.items) result (reading actors width bytes.now) }

@@ -3,7 +3,6 @@ use Rattle.std.specs.Prelude.{◌≡◌, ℕ, ◌<◌, List, length, Err, Option
 use Rattle.link_script.specs.declared.fault.ScriptFault.TheVariants as script_fault
 use Rattle.link_script.specs.declared.script.Script as link
 use Rattle.run_log.specs.declared.fault.LogFault.TheVariants as log_fault
-use Rattle.outside_kit.specs.declared.port.Port.{Port}
 use Rattle.outside_kit.specs.Outside.{HasRisen}
 use Rattle.run_words.specs.Lines.{line_of}
 use Rattle.run_outside.specs.declared.status.Named.{Named}
@@ -11,7 +10,7 @@ use Rattle.run_outside.specs.declared.status.Named.TheVariants as input
 use Rattle.run_outside.specs.declared.status.Status.{Status}
 use Rattle.link_script.specs.Reading.{reading}
 use Rattle.run_outside.specs.Reading.{log_reading}
-use Rattle.run_outside.specs.declared.status.Status.TheVariants.{Usage, Script, Load, Put, TooLong, Memory, Log}
+use Rattle.run_outside.specs.declared.status.Status.TheVariants.{Usage, Script, Load, TooLong, Memory, Log}
 
 -- the words behind the program's name end a run with this status: they break the form of the command line
 abbrev pub IsWordsFault : List (List ℕ) → Status → Type 0
@@ -34,13 +33,6 @@ IsLoadFault input content old new (Load named) = (named ≡ input) × HasRisen o
 IsLoadFault input content old new (TooLong named) = (named ≡ input) × IfSome content (λ told. limit_of input < length told)
 IsLoadFault input content old new Memory = Unit {0}
 IsLoadFault input content old new _ = ⊥
-
--- a bind or put of this port ends a run with this status
-abbrev pub IsPutFault : Port → ℕ → ℕ → Status → Type 0
--- the device failed, and counted it
-IsPutFault port old new (Put named) = (named ≡ port) × HasRisen old new
-IsPutFault port old new Memory = Unit {0}
-IsPutFault port old new _ = ⊥
 
 -- the script ends a run with this status: it is refused at this line, for this kind
 abbrev pub IsScriptFault : List ℕ → Status → Type 0

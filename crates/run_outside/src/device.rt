@@ -27,6 +27,11 @@ impl Named {
 }
 
 /// Loads an input of this name.
+///
+/// # Errors
+///
+/// `Load` of the input where the device failed, `TooLong` of it where its content is over the input's limit, `Memory` where
+/// there is no memory.
 pub fn load<O: Outside>(
     alloc: Global,
     outside: &mut O,
@@ -57,6 +62,10 @@ pub fn load<O: Outside>(
 }
 
 /// Keeps what is put to the port under this name, from nothing on.
+///
+/// # Errors
+///
+/// `Put` of the port where the device failed, `Memory` where there is no memory; then the port holds what it held.
 pub fn bind<O: Outside>(outside: &mut O, port: Port, name: &str) -> Result<(), Status>
     ensures empty { OnOk result
         (HoldsAfter (O.holds outside.old port) (O.holds outside.new port) (λ _. [])) }
@@ -76,6 +85,10 @@ pub fn bind<O: Outside>(outside: &mut O, port: Port, name: &str) -> Result<(), S
 }
 
 /// Puts a piece to the port.
+///
+/// # Errors
+///
+/// `Put` of the port where the device failed, `Memory` where there is no memory; then it may hold a first part of the piece.
 pub fn put<O: Outside>(outside: &mut O, port: Port, piece: &[u8]) -> Result<(), Status>
     ensures ok { OnOk result (HoldsAfter (O.holds outside.old port) (O.holds outside.new port)
         (λ held. held ++ piece.now)) }

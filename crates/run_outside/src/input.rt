@@ -144,6 +144,11 @@ pub fn input_of(alloc: Global, contents: Contents) -> Result<Input, Status>
 }
 
 /// What a run of whole turns reads: the script and both files.
+///
+/// # Errors
+///
+/// `Load` or `TooLong` of an input that can't be loaded or is over its limit, where those before it are within theirs;
+/// `Script` where all three are within their limits and the script is refused; `Memory` where there is no memory.
 pub fn load_input<O: Outside>(
     alloc: Global,
     outside: &mut O,
@@ -182,6 +187,12 @@ pub struct Replay {
 }
 
 /// What a run of the steps of a log reads: the script, both files and the log.
+///
+/// # Errors
+///
+/// `Load` or `TooLong` of an input that can't be loaded or is over its limit, where those before it are within theirs;
+/// where all four are within their limits, `Script` where the script is refused, and `Log` where it isn't and a line breaks
+/// the form of a log; `Memory` where there is no memory.
 pub fn load_replay<O: Outside>(
     alloc: Global,
     outside: &mut O,

@@ -14,6 +14,10 @@ use outside_kit::{Outside, Port};
 use run_words::CommandLine;
 
 /// Binds the readers' ports, B's first.
+///
+/// # Errors
+///
+/// Those of the first [`bind`] that fails: `Put` of its port, or `Memory`.
 pub fn bind_readers<O: Outside>(outside: &mut O, line: &CommandLine<'_>) -> Result<(), Status>
     ensures read_by_b { OnOk result (HoldsAfter (O.holds outside.old Port.ReadByB)
         (O.holds outside.new Port.ReadByB) (λ _. [])) }

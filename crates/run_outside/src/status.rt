@@ -8,7 +8,7 @@ use std::alloc::{AllocError, Global};
 /// An input of a run.
 #[derive(Clone, Copy, Debug)]
 pub enum Named {
-    /// What happens on the path.
+    /// The script: how the connection is to run, its paths, and what happens on them.
     Script,
     /// What A sends.
     FileA,

@@ -110,13 +110,6 @@ impl App {
         self
     }
 
-    /// Whose application it is.
-    pub fn side(&self) -> Side
-        ensures { result ≡ self.now.side }
-    {
-        self.side
-    }
-
     /// Whether it was told that the stream ended, or was aborted.
     pub fn is_told(&self) -> bool
         ensures { result ≡ self.now.told }

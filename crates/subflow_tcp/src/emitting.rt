@@ -1,8 +1,8 @@
 //! What an end sends: which segment is next, what it says, and what its sending changes.
-ghost use Rattle.std.specs.Prelude.{◌≡◌, ◌≤◌, length, find, slice_get, IfSome};
+ghost use Rattle.std.specs.Prelude.{◌≡◌, ◌≤◌, length, slice_get, IfSome};
 ghost use Rattle.std.specs.Option.{option_map};
 ghost use Rattle.subflow_send.specs.Records.{record_of};
-ghost use Rattle.subflow_send.specs.Rules.{is_fin, stands_at};
+ghost use Rattle.subflow_send.specs.Rules.{is_fin};
 ghost use Rattle.subflow_tcp.specs.Emitting.{answer_said, is_syn};
 ghost use Rattle.subflow_tcp.specs.declared.segments.Occasion.TheVariants.{SynAck, Unsent};
 
@@ -299,14 +299,6 @@ impl Subflow {
         if self.send.due().is_some() {
             self.send.sent(now);
         }
-    }
-
-    /// The record at this position, lent: its octets, its mapping, and how it was sent.
-    pub fn record_at(&self, pos: Pos) -> Option<RecordRef<'_>>
-        ensures value { option_map record_of result ≡ find (stands_at pos) self.now.send.records }
-        ensures bound { IfSome result (λ found. length found.piece.now ≤ 65475) }
-    {
-        self.send.record_at(pos)
     }
 
     /// The octets of a segment that is to be sent, or was sent and isn't acknowledged, lent: those of the record at its

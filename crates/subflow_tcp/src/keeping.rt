@@ -1,5 +1,5 @@
 //! The payload of a segment: kept at once, or held until it is kept.
-ghost use Rattle.std.specs.Prelude.{◌≡◌, ◌+◌, ◌^◌, ◌≤◌, length, IfOk, OnOk, OnErr, true};
+ghost use Rattle.std.specs.Prelude.{◌≡◌, ◌+◌, ◌^◌, ◌≤◌, length, IfOk, OnOk, OnErr};
 ghost use Rattle.subflow_tcp.specs.Judging.{IsBelow};
 
 use crate::end::Subflow;
@@ -9,21 +9,6 @@ use std::alloc::AllocError;
 
 impl Subflow {
     ghost use Rattle.subflow_tcp.specs.Taking.{after_keeping, kept_new, kept_for, after_keeping_for, after_holding, after_keeping_held, after_dropping_held};
-
-    /// Keeps a payload whose first octet stands at `pos`: one that [`arrive`](Subflow::arrive) was told not to keep. Behind
-    /// the peer's FIN nothing is kept. Answers how many octets are kept that were not kept before.
-    ///
-    /// # Errors
-    ///
-    /// Only where there is no memory for them; then all is as it was.
-    pub fn keep(&mut self, pos: Pos, payload: &[u8]) -> Result<u64, AllocError>
-        requires { pos + length payload.now ≤ 2 ^ 62 }
-        ensures new { IfOk result (λ new. new ≡ kept_new true pos payload.now self.old) }
-        ensures ok { OnOk result (self.new ≡ after_keeping true pos payload.now self.old) }
-        ensures err { OnErr result (self.new ≡ self.old) }
-    {
-        self.keep_if(true, pos, payload)
-    }
 
     /// Keeps a payload whose first octet stands at `pos`, where it is wanted and the peer's FIN isn't passed, and answers
     /// how many octets are kept that were not kept before.
@@ -43,8 +28,8 @@ impl Subflow {
 
     /// Holds a payload whose first octet stands at `pos`, until [`keep_held`](Subflow::keep_held) keeps it: what can fail is
     /// done now. A payload that was held before is let go. It is held as long as nothing else changes the octets that are
-    /// kept or the receive edge: [`keep`](Subflow::keep), [`advance`](Subflow::advance), [`pass_fin`](Subflow::pass_fin),
-    /// [`forget_from`](Subflow::forget_from) and the end's death let go of it.
+    /// kept or the receive edge: what [`treat`](Subflow::treat) keeps, [`advance`](Subflow::advance),
+    /// [`pass_fin`](Subflow::pass_fin), [`forget_from`](Subflow::forget_from) and the end's death let go of it.
     ///
     /// # Errors
     ///
@@ -57,8 +42,8 @@ impl Subflow {
         self.recv.hold(pos, payload)
     }
 
-    /// Keeps the payload that is held, as [`keep`](Subflow::keep) does: behind the peer's FIN nothing is kept. Nothing is
-    /// held any more. Takes no memory; where nothing is held, nothing changes.
+    /// Keeps the payload that is held: behind the peer's FIN nothing is kept. Nothing is held any more. Takes no memory;
+    /// where nothing is held, nothing changes.
     pub fn keep_held(&mut self)
         ensures { self.new ≡ after_keeping_held self.old }
     {

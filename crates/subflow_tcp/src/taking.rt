@@ -94,8 +94,8 @@ impl Subflow {
         Ok(arrival)
     }
 
-    /// Takes a segment by positions that means this for the end. With `keep` of the hint its payload is kept, as by
-    /// [`keep`](Subflow::keep); all else is as [`take_segment`](Subflow::take_segment) has it.
+    /// Takes a segment by positions that means this for the end. With `keep` of the hint its payload is kept, unless the
+    /// peer's FIN was passed; all else is as [`take_segment`](Subflow::take_segment) has it.
     ///
     /// # Errors
     ///
