@@ -27,7 +27,7 @@ use Rattle.path_segments.specs.Laws.{window_told}
 use Rattle.path_core.specs.Addressing.{is_note_due}
 use Rattle.path_core.specs.Duties.{stands, ask_for, answered}
 use Rattle.path_core.specs.Emission.{is_syn_due}
-use Rattle.path_core.specs.declared.infinite_mapping.InfiniteMapping.{InfiniteMapping}
+use Rattle.path_store.specs.declared.infinite_mapping.InfiniteMapping.{InfiniteMapping}
 use Rattle.path_core.specs.Ends.{PathEnd}
 use Rattle.path_core.specs.Infinite.{fin_place, fin_under}
 use Rattle.path_core.specs.FastClosing.{is_fast_close_due, is_silent, leaves_silently, resets_noted}

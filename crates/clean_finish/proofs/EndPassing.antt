@@ -15,8 +15,9 @@ use Rattle.path_agenda.specs.declared.duty.Duty.{Duty}
 use Rattle.path_agenda.specs.declared.duty.Duty.TheVariants as duties
 use Rattle.path_agenda.specs.declared.duty.AskDuty.TheVariants as ask_duties
 use Rattle.path_agenda.specs.declared.duty.StepDuty.TheVariants as step_duties
-use Rattle.path_core.specs.declared.mapped_data_fin.MappedDataFin.{MappedDataFin}
-use Rattle.path_core.specs.Deliver.{after_pieces, breaks_by_unmapped, data_fin_reached, fins_and, mapping_here, times_unmapped, with_data_fin_reached}
+use Rattle.path_store.specs.declared.mapped_data_fin.MappedDataFin.{MappedDataFin}
+use Rattle.path_core.specs.Deliver.{after_pieces, breaks_by_unmapped, fins_and, mapping_here, times_unmapped, with_data_fin_reached}
+use Rattle.path_store.specs.Receiving.{data_fin_reached}
 use Rattle.path_core.specs.Ends.{PathEnd}
 use Rattle.path_core.specs.Infinite.{receives_plainly}
 use Rattle.path_core.specs.Passing.{answered_fin_heard, data_fin_of, fin_ask, is_fin_set}

@@ -9,7 +9,7 @@ use Rattle.path_agenda.specs.Agenda.{emission, heard_and, payload_came}
 use Rattle.path_agenda.specs.declared.duty.Duty.{Duty}
 use Rattle.path_agenda.specs.declared.heard.Heard.{Heard}
 use Rattle.path_agenda.specs.declared.heard.Heard.TheVariants as says
-use Rattle.path_core.specs.declared.mapped_data_fin.MappedDataFin.{MappedDataFin}
+use Rattle.path_store.specs.declared.mapped_data_fin.MappedDataFin.{MappedDataFin}
 use Rattle.path_core.specs.Ends.{PathEnd}
 use Rattle.path_core.specs.Treating.{item_of}
 use Rattle.path_core.specs.Words.{item_at}

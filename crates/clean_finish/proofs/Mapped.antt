@@ -4,10 +4,11 @@ use Rattle.outside_kit.specs.declared.side.Side.{Side}
 use Rattle.path_segments.specs.Options.{PlainOption}
 use Rattle.path_segments.specs.declared.segment.PathOption.TheVariants.{Dss}
 use Rattle.subflow_tcp.specs.Emitting.{ack_at}
-use Rattle.path_core.specs.declared.infinite_mapping.InfiniteMapping.{InfiniteMapping}
+use Rattle.path_store.specs.declared.infinite_mapping.InfiniteMapping.{InfiniteMapping}
 use Rattle.path_core.specs.declared.modes.Modes.{Modes}
 use Rattle.path_core.specs.Ends.{PathEnd}
-use Rattle.path_core.specs.Infinite.{covers, receives_infinite, receives_plainly, sends_plainly}
+use Rattle.path_core.specs.Infinite.{receives_infinite, receives_plainly, sends_plainly}
+use Rattle.path_store.specs.InfiniteMappings.{covers}
 use Rattle.path_core.specs.OptionsOut.{ack_said, fail_beside, fail_options, opening_options, segment_of}
 use Rattle.path_core.specs.State.{Profile}
 use Rattle.clean_finish.specs.Shows.{IsMapping}

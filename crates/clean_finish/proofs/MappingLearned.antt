@@ -11,8 +11,9 @@ use Rattle.dss_mapping.specs.Mappings.{Mappings, after_learn, octets_of, place_a
 use Rattle.dss_mapping.specs.Places.{with_run}
 use Rattle.dss_mapping.specs.Runs.{place_in}
 use Rattle.dss_mapping.proofs.PlacesOf.{get-with_run, behind}
-use Rattle.path_core.specs.declared.mapped_data_fin.MappedDataFin.{MappedDataFin}
-use Rattle.path_core.specs.Deliver.{data_fin_behind, with_learned}
+use Rattle.path_store.specs.declared.mapped_data_fin.MappedDataFin.{MappedDataFin}
+use Rattle.path_core.specs.Deliver.{with_learned}
+use Rattle.path_store.specs.Receiving.{data_fin_behind}
 use Rattle.path_core.specs.Ends.{PathEnd}
 
 module _ (v : Mappings) (edge : ℕ) (beyond : (p : ℕ) → edge ≤ p → place_of v.places p ≡ None) (tail : v.tail ≡ None) where

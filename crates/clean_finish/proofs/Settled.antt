@@ -13,12 +13,12 @@ use Rattle.subflow_tcp.specs.Expiring.{is_timed}
 use Rattle.subflow_tcp.specs.State.{has_records, is_some_record}
 use Rattle.subflow_tcp.specs.States.{is_closed_to_segments}
 use Rattle.subflow_tcp.specs.Segments.{one_if}
-use Rattle.actor_desk.specs.Words.{is_nil}
+use Rattle.path_store.specs.Granted.{is_all_acknowledged}
 use Rattle.path_agenda.specs.declared.duty.Duty.{Duty}
 use Rattle.path_agenda.specs.declared.duty.Duty.TheVariants as duties
 use Rattle.path_agenda.specs.declared.duty.SendDuty.TheVariants as send_duties
 use Rattle.path_agenda.specs.declared.duty.SilentDuty.TheVariants as silent_duties
-use Rattle.path_core.specs.declared.granted_piece.GrantedPiece.{GrantedPiece}
+use Rattle.path_store.specs.declared.granted_piece.GrantedPiece.{GrantedPiece}
 use Rattle.path_core.specs.StreamEnds.{is_waiting, is_data_fin_owed}
 use Rattle.path_core.specs.Emission.{after_timer}
 use Rattle.path_core.specs.Ends.{PathEnd}
@@ -48,7 +48,7 @@ some_ahead : (una nxt : ℕ) (rs : List Record) → is_some_record rs ≡ true �
 some_ahead una nxt [] some tile = absurd (both_ways _ refl some)
 some_ahead una nxt (r ∷ rs) some tile = let rest = follow_up (span_of r).1 nxt rs tile.2 in omega (arith, tile.1, rest)
 
-some_span : (out : Sender) (waiting : ℕ) (spans : List GrantedPiece) → not (is_nil spans) ≡ true → All (IsGranted out waiting) spans
+some_span : (out : Sender) (waiting : ℕ) (spans : List GrantedPiece) → not (is_all_acknowledged spans) ≡ true → All (IsGranted out waiting) spans
     → out.acked < out.granted + waiting
 some_span out waiting [] some all = absurd (both_ways _ refl some)
 some_span out waiting (span ∷ spans) some all =
@@ -139,7 +139,7 @@ module _ {s : Side} {keys : Keys} {k j : Setting} {c : Profile} {begun begun_bac
             by came una finished state (Open some high is) up zero_came not = some_zero some zero_came
 
         not_acked : h.out.control_sent ≤ h.out.control_acked → is_closed_to_segments m.end.tcp.state ≡ false
-            → (is_data_fin_owed m.end ≡ true) ⊎ ((not (is_nil m.end.sending.granted) ≡ true) ⊎ ((m.end.sending.shut ≡ true)
+            → (is_data_fin_owed m.end ≡ true) ⊎ ((not (is_all_acknowledged m.end.sending.granted) ≡ true) ⊎ ((m.end.sending.shut ≡ true)
             ⊎ (has_records m.end.tcp ≡ true))) → Reason k h.out
         not_acked all up (inl owed) =
             let parts = and_parts (not (sends_plainly m.end.modes)) (m.end.sending.fin_sent && not m.end.sending.close.own_acked) owed in
@@ -187,8 +187,8 @@ module _ {s : Side} {keys : Keys} {k j : Setting} {c : Profile} {begun begun_bac
             ⊎_elim (λ less. inl less) (λ all. not_acked all up (which parts.1)) (cases_lt h.out.control_acked h.out.control_sent)
           where
             which : ((is_waiting m.end || (m.end.modes.owes_third || m.end.notices.fast_closed)) || has_records m.end.tcp) ≡ true → (is_data_fin_owed m.end ≡ true)
-                ⊎ ((not (is_nil m.end.sending.granted) ≡ true) ⊎ ((m.end.sending.shut ≡ true) ⊎ (has_records m.end.tcp ≡ true)))
-            which some = by (is_data_fin_owed m.end) (not (is_nil m.end.sending.granted)) m.end.sending.shut (m.end.modes.owes_third || m.end.notices.fast_closed)
+                ⊎ ((not (is_all_acknowledged m.end.sending.granted) ≡ true) ⊎ ((m.end.sending.shut ≡ true) ⊎ (has_records m.end.tcp ≡ true)))
+            which some = by (is_data_fin_owed m.end) (not (is_all_acknowledged m.end.sending.granted)) m.end.sending.shut (m.end.modes.owes_third || m.end.notices.fast_closed)
                 (has_records m.end.tcp) (neither m.end.modes.owes_third m.end.notices.fast_closed h.own.modes.owes_third h.own.notices.fast_closed) some
               where
                 neither : (x y : Bool) → x ≡ false → y ≡ false → (x || y) ≡ false

@@ -2,8 +2,8 @@
 use Rattle.std.proofs.Common.{◌≡◌, refl, sym, subst, ℕ, ◌+◌, ◌<◌, ◌≤◌, max, nat_lt, Bool, true, cond, ◌⊎◌, inl, inr, List, [], ◌∷◌, ◌++◌, filter, arith, ◌||◌}
 use Rattle.std.specs.List.{list_any}
 use Rattle.std.proofs.lemmas.Bool.{cases_lt, lt-ltb, le-ltb}
-use Rattle.path_core.specs.declared.granted_piece.GrantedPiece.{GrantedPiece}
-use Rattle.path_core.specs.StreamEnds.{is_newly_heard, is_open}
+use Rattle.path_store.specs.declared.granted_piece.GrantedPiece.{GrantedPiece}
+use Rattle.path_store.specs.Granted.{is_newly_heard, is_open}
 use Rattle.clean_finish.specs.Shows.{AreSpans}
 
 up : {a b d : ℕ} → a ≤ b → b ≤ d → a ≤ d

@@ -6,7 +6,7 @@ use Rattle.control_book.specs.Control.{Control}
 use Rattle.dss_mapping.specs.Mappings.{Mappings}
 use Rattle.subflow_recv.specs.Receiving.{Receiving as SubflowReceiving}
 use Rattle.path_agenda.specs.declared.duty.Duty.{Duty}
-use Rattle.path_core.specs.declared.mapped_data_fin.MappedDataFin.{MappedDataFin}
+use Rattle.path_store.specs.declared.mapped_data_fin.MappedDataFin.{MappedDataFin}
 use Rattle.path_core.specs.declared.modes.Modes.{Modes}
 use Rattle.path_core.specs.Ends.{PathEnd, Treated}
 use Rattle.path_core.specs.State.{Profile}

@@ -39,7 +39,7 @@ use Rattle.path_core.specs.Deliver.{kept_of}
 use Rattle.path_core.specs.Starts.{PathStart}
 use Rattle.path_core.specs.Emission.{first_unsent}
 use Rattle.path_core.specs.Ends.{PathEnd}
-use Rattle.path_core.specs.declared.mapped_data_fin.MappedDataFin.{MappedDataFin}
+use Rattle.path_store.specs.declared.mapped_data_fin.MappedDataFin.{MappedDataFin}
 use Rattle.path_core.specs.OptionsOut.{mapping_of, bare_mapping, checksum_in}
 use Rattle.path_core.specs.Words.{item_at}
 use Rattle.path_core.specs.State.{PathState, Profile, end_at}
@@ -67,10 +67,6 @@ Has d (x ∷ xs) = (d ≡ x) ⊎ Has d xs
 -- an answer is owed: the SYN/ACK, or an acknowledgement
 abbrev pub Answers : Side → Bool → List Duty → Type 0
 Answers r owes ds = Has (duties.Send (send_duties.SynAck r)) ds ⊎ (Has (duties.Send (send_duties.Acknowledge r)) ds × (owes ≡ true))
-
--- the book was told something that its answer doesn't count yet, or will be told it
-abbrev pub Asks : Side → List Duty → Type 0
-Asks r ds = Has (duties.Ask (ask_duties.Window r)) ds ⊎ Has (duties.Ask (ask_duties.AckOut r)) ds
 
 -- The stage of the lane from s to r says what is still to be done, by these duties: what none of them does is done.
 pub record StageIs (s r : Side) (ds : List Duty) (asked owes : Bool) (p : Stage) : Type 0 where

@@ -29,10 +29,11 @@ use Rattle.subflow_tcp.specs.State.{EndState}
 use Rattle.subflow_tcp.specs.States.{may_finish, is_closed_to_segments, is_half_open, is_opening}
 use Rattle.subflow_tcp.specs.Segments.{one_if}
 use Rattle.actor_desk.specs.Words.{pick, tail_of}
-use Rattle.path_core.specs.declared.granted_piece.GrantedPiece.{GrantedPiece}
-use Rattle.path_core.specs.declared.mapped_data_fin.MappedDataFin.{MappedDataFin}
+use Rattle.path_store.specs.declared.granted_piece.GrantedPiece.{GrantedPiece}
+use Rattle.path_store.specs.declared.mapped_data_fin.MappedDataFin.{MappedDataFin}
 use Rattle.path_core.specs.declared.modes.Modes.{Modes}
-use Rattle.path_core.specs.Ends.{PathEnd, Sending, Receiving, Notices}
+use Rattle.path_core.specs.Ends.{PathEnd, Sending, Notices}
+use Rattle.path_store.specs.Receiving.{Receiving}
 use Rattle.path_core.specs.Standing.{is_connected}
 use Rattle.path_core.specs.State.{Profile}
 use Rattle.path_core.specs.Values.{Carried}

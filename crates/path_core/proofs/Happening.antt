@@ -23,9 +23,9 @@ use Rattle.path_core.specs.declared.event.Event.{Event}
 use Rattle.path_core.specs.declared.event.Event.TheVariants as happenings
 use Rattle.path_core.specs.Ranks.{ticks_left, one_if_due, due_copies, due_lines, due_timer, due_by_now}
 use Rattle.path_core.specs.State.{PathState, end_at, goes_on}
-use Rattle.path_core.specs.declared.lines.LineLeft.{LineLeft}
-use Rattle.path_core.specs.declared.lines.LineAction.{LineAction}
-use Rattle.path_core.specs.declared.lines.LineAction.TheVariants as actions
+use Rattle.path_store.specs.declared.lines.LineLeft.{LineLeft}
+use Rattle.path_store.specs.declared.lines.LineAction.{LineAction}
+use Rattle.path_store.specs.declared.lines.LineAction.TheVariants as actions
 use Rattle.path_core.specs.Turns.{TakesTime}
 use Rattle.actor_desk.specs.Words.{tail_of}
 use Rattle.actor_desk.proofs.Falling.{Then, Less}

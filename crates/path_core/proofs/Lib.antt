@@ -26,7 +26,5 @@ pub mod Sayable
 mod InBounds
 mod Settling
 mod FirstDuty
-mod Ordered
 mod LinesOf
 pub mod SegmentsTold
-mod Rising

@@ -46,9 +46,9 @@ use Rattle.path_core.specs.Passing.{having_asked, piece_of, is_placed, placed, a
 use Rattle.path_core.specs.Passing as passing
 use Rattle.path_core.specs.Deliver.{Piece, some_piece, plain_piece, infinite_piece, piece_by, mapping_here, next_piece, after_piece}
 use Rattle.path_core.specs.FailedChecks.{after_check_failed, answered_check_failed}
-use Rattle.path_core.specs.Infinite.{covers}
+use Rattle.path_store.specs.InfiniteMappings.{covers}
 use Rattle.path_core.specs.InfiniteReceiving.{is_infinite_receive, after_infinite, answered_infinite}
-use Rattle.path_core.specs.declared.infinite_mapping.InfiniteMapping.{InfiniteMapping}
+use Rattle.path_store.specs.declared.infinite_mapping.InfiniteMapping.{InfiniteMapping}
 use Rattle.path_core.specs.InfiniteSending.{may_go_infinite, with_infinite, book_answered, is_infinite_send, after_fail_heard, answered_fail_heard}
 use Rattle.subflow_recv.specs.Receiving.{filled}
 use Rattle.subflow_tcp.specs.State.{EndState}

@@ -33,7 +33,7 @@ use Rattle.actor_desk.specs.declared.ask.Reply.TheVariants as replies
 use Rattle.path_core.specs.Deliver.{is_wrong, forgotten_by, failing_by, mapping_here, with_learned, with_skipped}
 use Rattle.path_core.specs.FailedChecks.{with_failure, after_check_failed}
 use Rattle.path_core.specs.Fallback.{after_fell}
-use Rattle.path_core.specs.declared.infinite_mapping.InfiniteMapping.{InfiniteMapping}
+use Rattle.path_store.specs.declared.infinite_mapping.InfiniteMapping.{InfiniteMapping}
 use Rattle.path_core.specs.InfiniteReceiving.{receiving_infinite}
 use Rattle.path_core.specs.InfiniteSending.{sending_infinite}
 use Rattle.path_core.specs.Ranks.{one_if_due, due_timer}

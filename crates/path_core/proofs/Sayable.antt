@@ -38,7 +38,7 @@ use Rattle.path_agenda.specs.declared.notice.OwnNotice.TheVariants as notes
 use Rattle.path_core.specs.Ends.{PathEnd}
 use Rattle.path_core.specs.Joins.{is_joined, peer_key_of, join_options, third_options}
 use Rattle.path_core.specs.declared.modes.Modes.{Modes}
-use Rattle.path_core.specs.declared.infinite_mapping.InfiniteMapping.{InfiniteMapping}
+use Rattle.path_store.specs.declared.infinite_mapping.InfiniteMapping.{InfiniteMapping}
 use Rattle.path_core.specs.Infinite.{receives_infinite}
 use Rattle.path_core.specs.OptionsOut.{fail_options, fail_beside, infinite_options, infinite_or, mapped_options, broken_options, checksum_told, capable_options, syn_options, key_options, opening_options, data_fin_mapping, ack_options, is_first_piece, first_piece_options, piece_options, owes_mapping, own_reset, plain_options, fin_options, record_options, reset_options, segment_of, piece_mapping, ack_said, noted_said, carried_said, record_or_ack, syn_ack_said, notice_option, dss_and, HasAddress}
 use Rattle.path_core.specs.declared.segment_kind.SegmentKind.{SegmentKind}

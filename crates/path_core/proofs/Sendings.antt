@@ -10,8 +10,8 @@ use Rattle.subflow_send.specs.Records.{Record}
 use Rattle.subflow_send.specs.Rules.{is_unsent, first_unsent_sent, octets_under_way}
 use Rattle.subflow_tcp.specs.State.{EndState}
 use Rattle.path_core.specs.Deliver.{Piece, piece_in, some_piece, is_whole, is_right, count_in, piece_by, piece_at, infinite_piece}
-use Rattle.path_core.specs.declared.infinite_mapping.InfiniteMapping.{InfiniteMapping}
-use Rattle.path_core.specs.Infinite.{place_under}
+use Rattle.path_store.specs.declared.infinite_mapping.InfiniteMapping.{InfiniteMapping}
+use Rattle.path_store.specs.InfiniteMappings.{place_under}
 use Rattle.path_core.specs.Ranks.{outstanding, unsent_count}
 
 pub sent_count : (now : ℕ) (rs : List Record) (r : Record) → find is_unsent rs ≡ Some r → unsent_count (first_unsent_sent now rs) + 1 ≡ unsent_count rs

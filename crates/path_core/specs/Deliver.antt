@@ -3,7 +3,7 @@ use Rattle.std.specs.Prelude.{ℕ, ◌+◌, ◌-◌, ◌^◌, min, Bool, not, �
 use Rattle.dss_checksum.specs.Checksum.{dss_checksum}
 use Rattle.dss_mapping.specs.declared.kept.KeptMapping.{KeptMapping}
 use Rattle.dss_mapping.specs.Learning.{first_held, after_learn_held, after_skip_held}
-use Rattle.dss_mapping.specs.Mappings.{octets_of, run_of, mapping_at, after_forget}
+use Rattle.dss_mapping.specs.Mappings.{octets_of, mapping_at, after_forget}
 use Rattle.outside_kit.specs.declared.side.Side.{Side}
 use Rattle.outside_kit.specs.Side.{peer}
 use Rattle.subflow_recv.specs.Receiving.{filled, after_advance, after_forget_from}
@@ -11,13 +11,14 @@ use Rattle.subflow_tcp.specs.State.{EndState}
 use Rattle.subflow_tcp.specs.Judging.{is_at}
 use Rattle.control_book.specs.Replies.{is_sure}
 use Rattle.path_core.specs.declared.in_order.InOrder.{InOrder}
-use Rattle.path_core.specs.declared.mapped_data_fin.MappedDataFin.{MappedDataFin}
-use Rattle.path_core.specs.declared.infinite_mapping.InfiniteMapping.{InfiniteMapping}
+use Rattle.path_store.specs.declared.infinite_mapping.InfiniteMapping.{InfiniteMapping}
 use Rattle.path_core.specs.Ends.{PathEnd}
-use Rattle.path_core.specs.Infinite.{place_under, covers, receives_plainly}
+use Rattle.path_core.specs.Infinite.{receives_plainly}
+use Rattle.path_store.specs.InfiniteMappings.{place_under, covers}
 use Rattle.path_core.specs.State.{Profile}
 use Rattle.path_core.specs.OptionsOut.{bare_mapping}
-use Rattle.path_core.specs.Words.{one_more}
+use Rattle.path_store.specs.Counts.{one_more}
+use Rattle.path_store.specs.Receiving.{data_fin_behind, data_fin_reached}
 
 -- ---- mappings
 
@@ -29,12 +30,6 @@ kept_of c s place position len fin checksum = record {
   mapping = record (bare_mapping c (peer s) place position len) { checksum = checksum };
   fin = fin;
 }
-
--- a DATA_FIN behind its bytes waits for the edge
-abbrev pub data_fin_behind : Option KeptMapping → Option MappedDataFin → Option MappedDataFin
-data_fin_behind None other = other
-data_fin_behind (Some kept) other =
-    if kept.fin then Some (record { position = (run_of kept).to; place = kept.place + octets_of kept }) else other
 
 -- the first mapping that is held is learned, and a DATA_FIN behind its bytes waits for the edge
 abbrev pub with_learned : PathEnd → PathEnd
@@ -185,11 +180,6 @@ after_unmapped e = record e {
 }
 
 -- ---- a DATA_FIN behind bytes
-
--- the end of the stream, once the edge reached it
-abbrev pub data_fin_reached : Option MappedDataFin → ℕ → Option ℕ
-data_fin_reached None edge = None
-data_fin_reached (Some fin) edge = if nat_le fin.position edge then Some fin.place else None
 
 -- one end of the stream more that is to be told; three at most come together: two DATA_FINs alone, and one behind bytes
 abbrev pub fins_and : Option ℕ → List ℕ → List ℕ

@@ -36,7 +36,7 @@ use Rattle.path_core.specs.Handover.{sends}
 use Rattle.path_core.specs.Standing.{look_ask, answered_look, ack_out_ask, answered_ack_out, is_update_due, ack_segment, acknowledges}
 use Rattle.path_core.specs.State.{PathState, end_at, with_end, left, path_of, with_agenda}
 use Rattle.path_core.specs.Treating.{item_of, item_stands, item_ask, answered_item, item_passed, plain_ack_stands, plain_ack_ask, with_plain_ack, answered_plain_ack, subflow_ack_stands, subflow_ack_ask, answered_subflow_ack, plain_data_stands, after_keep}
-use Rattle.actor_desk.specs.Words.{is_nil}
+use Rattle.path_store.specs.Granted.{is_all_acknowledged}
 use Rattle.path_agenda.specs.Words.{replaced}
 
 -- ---- whether it comes to something
@@ -62,7 +62,7 @@ stands (duties.Ask (ask_duties.HeardFin s index)) p = is_some (data_fin_of index
 stands (duties.Ask (ask_duties.SubflowFin s)) p = is_some (plain_fin (end_at s p))
 stands (duties.Ask (ask_duties.AckOut s)) p = (end_at s p).treated.asked
 stands (duties.Ask (ask_duties.Rate s)) p = is_some (end_at s p).tcp.congestion.pending
-stands (duties.Ask (ask_duties.Return s)) p = not (is_nil (end_at s p).sending.granted)
+stands (duties.Ask (ask_duties.Return s)) p = not (is_all_acknowledged (end_at s p).sending.granted)
 stands (duties.Ask (ask_duties.AbortSend s)) p = true
 stands (duties.Ask (ask_duties.AbortReceive s)) p = true
 stands (duties.Ask (ask_duties.Announce s id)) p = true

@@ -19,7 +19,7 @@ use Rattle.actor_desk.specs.declared.ask.Ask.{Ask}
 use Rattle.actor_desk.specs.declared.ask.Ask.TheVariants as asks
 use Rattle.actor_desk.specs.declared.ask.Reply.{Reply}
 use Rattle.actor_desk.specs.declared.ask.Reply.TheVariants as replies
-use Rattle.path_core.specs.declared.granted_piece.GrantedPiece.{GrantedPiece}
+use Rattle.path_store.specs.declared.granted_piece.GrantedPiece.{GrantedPiece}
 use Rattle.path_core.specs.StreamEnds.{after_granted, after_refusal, with_data_fin_sent, is_waiting, without_news}
 use Rattle.path_core.specs.Codec.{Codec}
 use Rattle.path_core.specs.Ends.{PathEnd, Sending}

@@ -1,16 +1,15 @@
 -- What one end of a path keeps, by concern. The subflow is `subflow_tcp`'s own.
 use Rattle.std.specs.Prelude.{ℕ, Bool, false, Option, None, List, []}
 use Rattle.data_close.specs.declared.close_state.CloseState.{CloseState}
-use Rattle.dss_mapping.specs.Mappings.{Mappings, no_mappings}
 use Rattle.fallback_state.specs.declared.fall.Mode.TheVariants.{Starting}
 use Rattle.subflow_tcp.specs.declared.segments.Outgoing.{Outgoing}
 use Rattle.subflow_tcp.specs.State.{EndState}
 use Rattle.path_agenda.specs.declared.heard.Heard.{Heard}
 use Rattle.path_agenda.specs.declared.notice.OwnNotice.{OwnNotice}
-use Rattle.path_core.specs.declared.granted_piece.GrantedPiece.{GrantedPiece}
-use Rattle.path_core.specs.declared.infinite_mapping.InfiniteMapping.{InfiniteMapping}
-use Rattle.path_core.specs.declared.mapped_data_fin.MappedDataFin.{MappedDataFin}
+use Rattle.path_store.specs.declared.granted_piece.GrantedPiece.{GrantedPiece}
+use Rattle.path_store.specs.declared.infinite_mapping.InfiniteMapping.{InfiniteMapping}
 use Rattle.path_core.specs.declared.modes.Modes.{Modes}
+use Rattle.path_store.specs.Receiving.{Receiving, no_receiving}
 
 -- the side's own stream
 pub record Sending : Type 0 where
@@ -28,28 +27,6 @@ pub record Sending : Type 0 where
   pub granted : List GrantedPiece
   -- one of them, or the DATA_FIN, was acknowledged since the timer was settled last
   pub news : Bool
-
--- the peer's stream
-pub record Receiving : Type 0 where
-  -- what is to be acknowledged, and how much more is taken, as the book told it last
-  pub next : ℕ
-  pub window : ℕ
-  -- the edge of the window that the last segment told
-  pub told_edge : ℕ
-  -- which place each position has
-  pub mappings : Mappings
-  -- so often, up to three times, the byte at this position was the next one and came without a mapping
-  pub unmapped : ℕ
-  pub unmapped_at : ℕ
-  -- the peer's FIN was told as the end of its stream
-  pub fin_told : Bool
-  -- a DATA_FIN behind bytes that the edge hasn't passed yet
-  pub mapped_data_fin : Option MappedDataFin
-
--- the same, and for how many mappings more there is room
-pub record ReceivingStore : Type 0 where
-  pub receiving : Receiving
-  pub ready : ℕ
 
 -- what the last copy said, as far as it is still to be treated; its payload and its mappings are held beside what they are
 -- to be put to
@@ -114,11 +91,6 @@ no_sending = record {
   granted = [];
   news = false;
 }
-
--- nothing was mapped, passed or told yet
-abbrev pub no_receiving : Receiving
-no_receiving =
-    record { next = 0; window = 0; told_edge = 0; mappings = no_mappings; unmapped = 0; unmapped_at = 0; fin_told = false; mapped_data_fin = None }
 
 -- no copy is treated
 abbrev pub nothing_treated : Treated

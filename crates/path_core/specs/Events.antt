@@ -31,9 +31,9 @@ use Rattle.path_core.specs.Ends.{PathEnd, nothing_treated, no_notices}
 use Rattle.path_core.specs.Joining.{join_begin_ask, keys_begun, is_never, with_mode_refused, opened_by}
 use Rattle.path_core.specs.Joins.{is_joined}
 use Rattle.path_core.specs.State.{PathState, end_at, with_agenda, goes_on, left}
-use Rattle.path_core.specs.declared.lines.LineLeft.{LineLeft}
-use Rattle.path_core.specs.declared.lines.LineAction.{LineAction}
-use Rattle.path_core.specs.declared.lines.LineAction.TheVariants as actions
+use Rattle.path_store.specs.declared.lines.LineLeft.{LineLeft}
+use Rattle.path_store.specs.declared.lines.LineAction.{LineAction}
+use Rattle.path_store.specs.declared.lines.LineAction.TheVariants as actions
 use Rattle.actor_desk.specs.Words.{tail_of}
 
 abbrev pub tick_of : Event → ℕ

@@ -33,9 +33,6 @@ abbrev pub mode_in : Reply → Modes → Modes
 mode_in (replies.Control (control_replies.Verdict (verdicts.Went mode))) m = record m { mode = mode }
 mode_in _ m = m
 
-abbrev pub after_verdict : Reply → PathEnd → PathEnd
-after_verdict r e = record e { modes = mode_in r e.modes }
-
 -- the side fell back to plain TCP
 abbrev pub is_fall : Reply → Bool
 is_fall (replies.Control (control_replies.Verdict (verdicts.Went Identity))) = true

@@ -1,10 +1,11 @@
 -- Infinite mappings: places rise with positions, and the subflow's acknowledgements and its FIN take the place of Data ACKs and of
 -- DATA_FIN (RFC 8684, section 3.7).
-use Rattle.std.specs.Prelude.{ℕ, ◌+◌, ◌-◌, ◌^◌, ◌||◌, Bool, true, false, nat_lt, nat_le, is_some, if◌then◌else◌, Option, Some, None}
+use Rattle.std.specs.Prelude.{ℕ, ◌-◌, ◌||◌, Bool, true, false, nat_le, is_some, if◌then◌else◌, Option, Some, None}
 use Rattle.fallback_state.specs.declared.fall.Mode.{Mode}
 use Rattle.fallback_state.specs.declared.fall.Mode.TheVariants.{Starting, Sure, Identity, InfiniteSend, InfiniteReceive, InfiniteBoth, Aborted}
-use Rattle.path_core.specs.declared.infinite_mapping.InfiniteMapping.{InfiniteMapping}
+use Rattle.path_store.specs.declared.infinite_mapping.InfiniteMapping.{InfiniteMapping}
 use Rattle.path_core.specs.declared.modes.Modes.{Modes}
+use Rattle.path_store.specs.InfiniteMappings.{place_under, covers}
 
 -- the peer's infinite mapping came
 abbrev pub receives_infinite : Mode → Bool
@@ -26,14 +27,6 @@ sends_infinite Identity = false
 sends_infinite InfiniteReceive = false
 sends_infinite Aborted = false
 
--- places are below 2^62
-abbrev pub below_limit : ℕ → Option ℕ
-below_limit place = if nat_lt place (2 ^ 62) then Some place else None
-
--- the place of a position; those before the mapping's own have its place
-abbrev pub place_under : InfiniteMapping → ℕ → Option ℕ
-place_under mapping position = below_limit (mapping.place + (position - mapping.position))
-
 -- the side sends without mappings of pieces: it fell back to plain TCP, or the peer's MP_FAIL came
 abbrev pub sends_plainly : Modes → Bool
 sends_plainly m = m.identity || is_some m.own_infinite
@@ -46,11 +39,6 @@ acknowledged_under (Some mapping) position = place_under mapping position
 -- by how the side sends: in plain TCP the place of a position is one less, and with mappings of pieces it stands for nothing
 abbrev pub bytes_acknowledged : Modes → ℕ → Option ℕ
 bytes_acknowledged m position = if m.identity then Some (position - 1) else acknowledged_under m.own_infinite position
-
--- such a mapping is there, and begins at this position or before it
-abbrev pub covers : Option InfiniteMapping → ℕ → Bool
-covers None position = false
-covers (Some mapping) position = nat_le mapping.position position
 
 -- the peer's byte at this position has no mapping of a piece: the side fell back to plain TCP, or the peer's infinite mapping came
 abbrev pub receives_plainly : Modes → ℕ → Bool

@@ -1,6 +1,6 @@
 -- The peer's MP_FAIL came. Where the bytes of this end that aren't acknowledged stand together at the end of its record, in the order
 -- of the stream, the side goes on without mappings of pieces, by one infinite mapping (RFC 8684, section 3.7).
-use Rattle.std.specs.Prelude.{ℕ, ◌+◌, ◌-◌, ◌^◌, min, Bool, true, false, ◌&&◌, ◌==◌, nat_lt, nat_le, is_some, if◌then◌else◌, Option, Some, None, List, [], ◌∷◌, find}
+use Rattle.std.specs.Prelude.{ℕ, Bool, true, false, ◌&&◌, is_some, if◌then◌else◌, Option, Some, None}
 use Rattle.outside_kit.specs.declared.side.Side.{Side}
 use Rattle.send_book.specs.declared.call.SendCall.TheVariants as send_calls
 use Rattle.send_book.specs.declared.call.SendReply.TheVariants as send_replies
@@ -14,45 +14,12 @@ use Rattle.actor_desk.specs.declared.ask.Reply.TheVariants as replies
 use Rattle.path_agenda.specs.Words.{replaced}
 use Rattle.path_agenda.specs.declared.duty.Duty.TheVariants as duties
 use Rattle.path_agenda.specs.declared.duty.AskDuty.TheVariants as ask_duties
-use Rattle.path_core.specs.declared.granted_piece.GrantedPiece.{GrantedPiece}
-use Rattle.path_core.specs.declared.infinite_mapping.InfiniteMapping.{InfiniteMapping}
+use Rattle.path_store.specs.declared.infinite_mapping.InfiniteMapping.{InfiniteMapping}
 use Rattle.path_core.specs.Ends.{PathEnd}
 use Rattle.path_core.specs.Fallback.{fell_ask, after_fell, fell_duties, answered_fell}
 use Rattle.path_core.specs.Infinite.{sends_infinite}
 use Rattle.path_core.specs.State.{PathState, end_at, goes_on, path_of}
-
--- ---- the own record
-
--- the position behind a piece
-abbrev pub behind : GrantedPiece → ℕ
-behind piece = piece.position + (piece.to - piece.from)
-
--- position and place of a piece are those behind the one before it
-abbrev pub follows : GrantedPiece → GrantedPiece → Bool
-follows before piece = piece.position == behind before && piece.from == before.to
-
--- so is each of these, and the last one stands before this position
-abbrev pub rises_from : GrantedPiece → List GrantedPiece → ℕ → Bool
-rises_from before [] end = behind before == end
-rises_from before (piece ∷ pieces) end = follows before piece && rises_from piece pieces end
-
--- from the first byte on that isn't acknowledged, places rise with positions up to the end of the record
-abbrev pub is_tail : List GrantedPiece → ℕ → Bool
-is_tail [] end = true
-is_tail (piece ∷ pieces) end = rises_from piece pieces end
-
--- the place is one of the piece's
-abbrev pub has_place : ℕ → GrantedPiece → Bool
-has_place place piece = nat_le piece.from place && nat_lt place piece.to
-
--- its position there; those from 2^64 - 1 on count as one
-abbrev pub position_in : ℕ → ℕ → Option GrantedPiece → ℕ
-position_in next place None = next
-position_in next place (Some piece) = min (piece.position + (place - piece.from)) (2 ^ 64 - 1)
-
--- the position of a place; the next position, where the record doesn't have it
-abbrev pub position_of : ℕ → ℕ → List GrantedPiece → ℕ
-position_of next place pieces = position_in next place (find (has_place place) pieces)
+use Rattle.path_store.specs.Granted.{is_tail, position_of}
 
 -- ---- MP_FAIL
 

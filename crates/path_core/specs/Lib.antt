@@ -7,7 +7,6 @@ pub mod Joins
 pub mod OptionsOut
 pub mod Handover
 pub mod StreamEnds
-pub mod Rising
 pub mod Deliver
 pub mod Arriving
 pub mod FewThings

@@ -197,8 +197,3 @@ first_arrival _ p = None
 -- the copy that arrives by the next step, if one does
 abbrev pub next_arrival : PathState (List ℕ) → Option Arrived
 next_arrival p = first_arrival p.agenda p
-
--- the step of an arrival
-abbrev pub is_arrival_ask : Option Ask → Bool
-is_arrival_ask (Some (asks.Local (steps.Arrive to copy))) = true
-is_arrival_ask _ = false

@@ -24,7 +24,7 @@ use Rattle.subflow_tcp.specs.States.{is_opening}
 use Rattle.path_agenda.specs.declared.notice.OwnNotice.{OwnNotice}
 use Rattle.path_agenda.specs.declared.notice.OwnNotice.TheVariants as notes
 use Rattle.path_core.specs.declared.modes.Modes.{Modes}
-use Rattle.path_core.specs.declared.infinite_mapping.InfiniteMapping.{InfiniteMapping}
+use Rattle.path_store.specs.declared.infinite_mapping.InfiniteMapping.{InfiniteMapping}
 use Rattle.path_core.specs.Ends.{PathEnd}
 use Rattle.path_core.specs.Infinite.{receives_infinite}
 use Rattle.path_core.specs.Joins.{is_joined, peer_key_of, join_options, third_options}

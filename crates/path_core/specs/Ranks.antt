@@ -8,7 +8,7 @@ use Rattle.subflow_send.specs.Rules.{is_unsent}
 use Rattle.path_core.specs.Ends.{PathEnd, Notices}
 use Rattle.path_core.specs.Noticing.{is_carried}
 use Rattle.path_core.specs.State.{PathState}
-use Rattle.path_core.specs.declared.lines.LineLeft.{LineLeft}
+use Rattle.path_store.specs.declared.lines.LineLeft.{LineLeft}
 
 abbrev pub ticks_left : {C : Type 0} → PathState C → ℕ
 ticks_left p = p.until - p.clock

@@ -15,8 +15,8 @@ use Rattle.path_core.specs.Emission.{Grant, first_unsent, grant_in}
 use Rattle.path_core.specs.Events.{next_event}
 use Rattle.path_core.specs.Standing.{queues_in}
 use Rattle.path_core.specs.State.{PathState, end_at}
-use Rattle.path_core.specs.declared.lines.LineAction.{LineAction}
-use Rattle.path_core.specs.declared.lines.LineAction.TheVariants as actions
+use Rattle.path_store.specs.declared.lines.LineAction.{LineAction}
+use Rattle.path_store.specs.declared.lines.LineAction.TheVariants as actions
 
 -- what is to be acknowledged is a place, and how much more is taken a window
 abbrev pub IsAckBounded : Reply → Type 0

@@ -18,7 +18,8 @@ use Rattle.actor_desk.specs.declared.ask.Reply.TheVariants as replies
 use Rattle.path_agenda.specs.declared.duty.Duty.{Duty}
 use Rattle.path_core.specs.Codec.{Codec}
 use Rattle.path_core.specs.declared.modes.Modes.{Modes}
-use Rattle.path_core.specs.Ends.{PathEnd, Receiving, Notices}
+use Rattle.path_core.specs.Ends.{PathEnd, Notices}
+use Rattle.path_store.specs.Receiving.{Receiving}
 use Rattle.path_core.specs.Noticing.{after_notice, queues}
 use Rattle.path_core.specs.OptionsOut.{ack_said}
 use Rattle.path_core.specs.Handover.{having_sent, sent_on}

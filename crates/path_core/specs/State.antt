@@ -4,7 +4,7 @@ use Rattle.outside_kit.specs.declared.side.Side.{Side}
 use Rattle.link_model.specs.State.{LinkState}
 use Rattle.path_segments.specs.declared.spelling.Spelling.{Spelling}
 use Rattle.path_agenda.specs.declared.duty.Duty.{Duty}
-use Rattle.path_core.specs.declared.lines.LineLeft.{LineLeft}
+use Rattle.path_store.specs.declared.lines.LineLeft.{LineLeft}
 use Rattle.path_core.specs.Ends.{PathEnd}
 use Rattle.actor_desk.specs.Words.{pick, is_nil, tail_of}
 

@@ -1,21 +1,17 @@
 -- Data ACKs, and when DATA_FIN and FIN go out (RFC 8684, sections 3.3.2 and 3.3.3).
-use Rattle.std.specs.Prelude.{ℕ, max, min, Bool, true, false, not, ◌&&◌, ◌||◌, ◌==◌, nat_lt, is_some, if◌then◌else◌, Option, Some, None, List, ◌++◌, [], ◌∷◌, filter}
+use Rattle.std.specs.Prelude.{ℕ, max, min, Bool, true, false, not, ◌&&◌, ◌||◌, ◌==◌, is_some, if◌then◌else◌, Option, Some, None, ◌++◌, [], ◌∷◌, filter}
 use Rattle.std.specs.List.{list_any}
 use Rattle.send_book.specs.declared.call.Why.{Why}
 use Rattle.send_book.specs.declared.call.Why.TheVariants.{Ended, Backup, NothingFree, WindowShut}
 use Rattle.data_close.specs.Closing as closing
 use Rattle.subflow_tcp.specs.States.{may_finish}
-use Rattle.path_core.specs.declared.granted_piece.GrantedPiece.{GrantedPiece}
+use Rattle.path_store.specs.declared.granted_piece.GrantedPiece.{GrantedPiece}
 use Rattle.path_core.specs.Ends.{Sending, PathEnd}
 use Rattle.path_core.specs.Infinite.{sends_plainly}
-use Rattle.actor_desk.specs.Words.{is_nil}
 use Rattle.path_core.specs.Words.{told_last}
+use Rattle.path_store.specs.Granted.{is_newly_heard, is_open, granted_to, is_all_acknowledged}
 
 -- ---- what the peer acknowledged
-
--- a place of the piece wasn't acknowledged before, and is now
-abbrev pub is_newly_heard : ℕ → ℕ → GrantedPiece → Bool
-is_newly_heard before next piece = nat_lt (max piece.from before) next
 
 -- the own DATA_FIN that was sent is acknowledged for the first time
 abbrev pub is_data_fin_news : Bool → Sending → Bool
@@ -24,10 +20,6 @@ is_data_fin_news fin v = fin && (v.fin_sent && not v.close.own_acked)
 -- an acknowledgement of so many bytes, with the DATA_FIN or without, covers something that this end sent for the first time
 abbrev pub is_news : ℕ → Bool → Sending → Bool
 is_news next fin v = list_any (is_newly_heard v.heard next) v.granted || is_data_fin_news fin v
-
--- a piece that isn't acknowledged whole
-abbrev pub is_open : ℕ → GrantedPiece → Bool
-is_open heard piece = nat_lt heard piece.to
 
 -- so many bytes of the stream are acknowledged, the DATA_FIN among them or not
 abbrev pub after_acked : ℕ → Bool → Sending → Sending
@@ -75,11 +67,6 @@ is_data_fin_due e =
     may_finish e.tcp.state && (not (sends_plainly e.modes) && (e.modes.clear
     && (is_some e.sending.known_end && (not e.sending.fin_sent && not e.sending.close.own_acked))))
 
--- the place behind the last byte that was granted and isn't acknowledged
-abbrev pub granted_to : List GrantedPiece → ℕ
-granted_to [] = 0
-granted_to (piece ∷ pieces) = max piece.to (granted_to pieces)
-
 -- the end is known, and no byte before it waits for its grant
 abbrev pub is_all_granted : Option ℕ → Sending → Bool
 is_all_granted None v = false
@@ -95,7 +82,7 @@ is_fin_due e =
 
 -- what the timer runs for beside the records and a join: a byte or a DATA_FIN that isn't acknowledged, or a window that is shut
 abbrev pub is_waiting : PathEnd → Bool
-is_waiting e = is_data_fin_owed e || (not (is_nil e.sending.granted) || e.sending.shut)
+is_waiting e = is_data_fin_owed e || (not (is_all_acknowledged e.sending.granted) || e.sending.shut)
 
 abbrev pub with_data_fin_sent : Sending → Sending
 with_data_fin_sent v = record v { fin_sent = true }

@@ -34,9 +34,10 @@ use Rattle.path_core.specs.InfiniteSending.{fail_ask, answered_fail}
 use Rattle.path_core.specs.Joins.{is_joined}
 use Rattle.path_core.specs.State.{PathState, Profile, end_at, goes_on, left, with_agenda}
 use Rattle.path_agenda.specs.Words.{replaced}
-use Rattle.path_core.specs.Words.{is_side_a, item_at, one_more}
+use Rattle.path_core.specs.Words.{is_side_a, item_at}
+use Rattle.path_store.specs.Counts.{one_more}
 -- what is told of the mode
-pub use Rattle.path_core.specs.Fallback.{fell_ask, mode_in, after_verdict, after_fell, fell_duties, answered_fell}
+pub use Rattle.path_core.specs.Fallback.{fell_ask, mode_in, after_fell, fell_duties, answered_fell}
 
 -- ---- one thing that was heard
 

@@ -1,15 +1,11 @@
 -- Words on choices and lists that the rules of a path share.
-use Rattle.std.specs.Prelude.{ℕ, zero, suc, ◌+◌, nat_lt, if◌then◌else◌, Bool, true, false, Option, Some, None, List, [], ◌∷◌}
+use Rattle.std.specs.Prelude.{ℕ, zero, suc, Bool, true, false, Option, Some, None, List, [], ◌∷◌}
 use Rattle.outside_kit.specs.declared.side.Side.{Side}
 use Rattle.outside_kit.specs.declared.side.Side.TheVariants.{A, B}
 
 abbrev pub is_side_a : Side → Bool
 is_side_a A = true
 is_side_a B = false
-
--- one more, up to three
-abbrev pub one_more : ℕ → ℕ
-one_more n = if nat_lt n 3 then n + 1 else n
 
 -- the item of this number, the first being 0
 abbrev pub item_at : {X : Type 0} → ℕ → List X → Option X

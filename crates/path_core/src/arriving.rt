@@ -25,6 +25,7 @@ use crate::modes::Modes;
 use crate::options_in::{
     asks_capable, edge_held, fill_items, has_option, is_plain_ack, opens_by, options_heard, owes_by,
 };
+use crate::reset_reason::MPTCP_SPECIFIC;
 use crate::treated::Treated;
 use dss_mapping::KeptMapping;
 use link_model::Due;
@@ -34,9 +35,6 @@ use path_segments::{Expected, HeardPosition, HeardSegment, Spelling, parse_segme
 use seq_units::Pos;
 use std::alloc::AllocError;
 use subflow_tcp::{Arrival, Arriving, Meaning, Outgoing, Subflow};
-
-/// A copy that joins the path by a wrong HMAC breaks it with this reason: an unspecific one (RFC 8684, section 3.6).
-const FORGED: u8 = 1;
 
 /// What octets say, where they are a segment: 37 things at most.
 fn heard_of<'a>(
@@ -113,7 +111,7 @@ fn template_judged(joined: bool, side: Side, count: usize, judged: Judged) -> Ag
         Judged::As(meaning) => template_by(joined, side, count, meaning),
         Judged::Asks => Agenda::join_came(side),
         Judged::Lacks => Agenda::refuses(side),
-        Judged::Forged => Agenda::resets(side, FORGED),
+        Judged::Forged => Agenda::resets(side, MPTCP_SPECIFIC),
     }
 }
 

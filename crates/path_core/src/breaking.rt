@@ -7,7 +7,7 @@ ghost use Rattle.path_agenda.specs.Agenda.{leaves};
 ghost use Rattle.path_agenda.specs.Words.{replaced};
 ghost use Rattle.path_agenda.specs.declared.duty.Duty.TheVariants as duties;
 ghost use Rattle.path_agenda.specs.declared.duty.AskDuty.TheVariants as ask_duties;
-ghost use Rattle.path_core.specs.Breaking.{reset_of, reset_on, break_ask, answered_break, return_ask, dead_ask};
+ghost use Rattle.path_core.specs.Breaking.{reset_on, break_ask, answered_break, return_ask, dead_ask};
 ghost use Rattle.path_core.specs.Events.{died};
 ghost use Rattle.path_core.specs.Octets.{octets};
 ghost use Rattle.path_core.specs.Replies.{IsAckBounded};

@@ -17,13 +17,14 @@ ghost use Rattle.path_core.specs.Replies.{IsSendable, IsGrantSendable, IsGrantFi
 ghost use Rattle.path_core.specs.State.{end_at, with_end, goes_on, left};
 
 use crate::end::PathEnd;
-use crate::granted_piece::GrantedPiece;
+use crate::handover::Handed;
 use crate::machine::Machine;
 use crate::modes::Modes;
 use crate::profile::Profile;
 use crate::segment_kind::SegmentKind;
 use actor_desk::{Ask, Reply};
 use outside_kit::Side;
+use path_store::GrantedPiece;
 use send_book::{SendCall, SendReply, Span};
 use seq_units::Mapping;
 use std::alloc::AllocError;
@@ -251,9 +252,12 @@ impl Machine {
         ensures ok { OnOk result (self.new ≡ answered_fin octets side self.old) }
         ensures err { OnErr result (self.new ≡ self.old) }
     {
-        let told_edge = self.edge_told(side, SegmentKind::Fin);
-        let modes = self.modes_after(side, SegmentKind::Fin);
-        self.hand(side, SegmentKind::Fin)?;
+        let Handed {
+            octets,
+            told_edge,
+            modes,
+        } = self.handed(side, SegmentKind::Fin)?;
+        self.hand_octets(side, SegmentKind::Fin, octets.as_slice())?;
         let now = self.clock.now();
         self.end_mut(side).having_sent_fin(now, told_edge, modes);
         self.done();

@@ -4,9 +4,9 @@ ghost use Rattle.std.specs.Prelude.{◌≡◌};
 
 use crate::modes::Modes;
 use crate::notices::Notices;
-use crate::receiving::Receiving;
 use crate::sending::Sending;
 use crate::treated::Treated;
+use path_store::Receiving;
 use std::alloc::Global;
 use std::marker::Model;
 use subflow_tcp::Subflow;

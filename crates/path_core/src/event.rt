@@ -1,8 +1,8 @@
 //! What happens on a path by itself.
 
-use crate::lines::LineLeft;
 use link_model::Due;
 use outside_kit::Side;
+use path_store::LineLeft;
 
 /// What happens on a path by itself, at a tick.
 #[derive(Clone, Copy)]

@@ -1,6 +1,6 @@
 //! What happens on a path by itself: its join, lines of the script, copies that arrive, timers that run out.
 
-ghost use Rattle.std.specs.Prelude.{◌≡◌, ◌&&◌, ◌∷◌, ◌++◌, ◌<◌, ◌^◌, ◌-◌, [], false, max, if◌then◌else◌, IfSome, IsSome, IsOk, OnOk, OnErr};
+ghost use Rattle.std.specs.Prelude.{◌≡◌, ◌&&◌, ◌∷◌, ◌++◌, ◌<◌, ◌^◌, ◌-◌, [], false, if◌then◌else◌, IfSome, IsSome, IsOk, OnOk, OnErr};
 ghost use Rattle.actor_desk.specs.Kinds.{CanBeAsked};
 ghost use Rattle.actor_desk.specs.Words.{tail_of};
 ghost use Rattle.link_model.specs.Steps.{next_due};
@@ -12,18 +12,18 @@ ghost use Rattle.path_agenda.specs.declared.duty.AskDuty.TheVariants as ask_duti
 ghost use Rattle.path_core.specs.declared.event.Event.TheVariants as event;
 ghost use Rattle.path_agenda.specs.Agenda.{rest_of_turn};
 ghost use Rattle.path_core.specs.Replies.{notes_by, event_needs_memory};
-ghost use Rattle.path_core.specs.Events.{is_dead_or_listening, is_dead_path, tick_of, next_join, next_line, next_copy, next_fire, earlier, earliest, before, next_event, step_of, step_for, died_unless_dead, path_died, with_priority, line_taken, after_firing, template_fired, timer_fired, at_tick, copy_taken, joins_at_tick, happens_if, CanHappen};
+ghost use Rattle.path_core.specs.Events.{is_dead_or_listening, is_dead_path, tick_of, next_join, next_line, next_copy, next_fire, earlier, earliest, before, next_event, step_of, step_for, died_unless_dead, path_died, with_priority, line_taken, after_firing, timer_fired, at_tick, joins_at_tick, happens_if, CanHappen};
 ghost use Rattle.path_core.specs.Octets.{octets};
 ghost use Rattle.path_core.specs.State.{end_at, path_of};
 
 use crate::end::PathEnd;
 use crate::event::Event;
 use crate::joining::join_begin_ask;
-use crate::lines::{LineAction, LineLeft};
 use crate::machine::Machine;
 use actor_desk::{Ask, LocalStep, Reply};
 use outside_kit::Side;
 use path_agenda::{Agenda, AskDuty, Duty, OwnNotice, StepDuty};
+use path_store::{LineAction, LineLeft};
 use std::alloc::AllocError;
 use subflow_tcp::{Fired, State};
 

@@ -30,7 +30,8 @@ impl PathEnd {
     pub fn check_failed_stands(&self, profile: &Profile) -> bool
         ensures { result ≡ check_failed_stands profile.now self.now }
     {
-        self.failing_mapping(profile.spelling().checksums).is_some() && self.reads_mappings()
+        self.failing_mapping(profile.spelling().checksums).is_some()
+            && self.modes.mode.reads_mappings()
     }
 
     /// Where the side goes on, acknowledgements tell this mapping; where the path is broken, its reset does.
@@ -69,7 +70,7 @@ impl PathEnd {
 }
 
 impl Machine {
-    /// It was told.
+    /// The control book answered to the failed check, and the side goes by its verdict.
     pub(crate) fn answer_check_failed(&mut self, side: Side, reply: &Reply)
         ensures { self.new ≡ answered_check_failed side reply.now self.old }
     {

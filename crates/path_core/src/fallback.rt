@@ -4,7 +4,7 @@
 ghost use Rattle.std.specs.Prelude.{◌≡◌};
 ghost use Rattle.actor_desk.specs.Kinds.{CanBeAsked};
 ghost use Rattle.actor_desk.specs.declared.ask.Reply.TheVariants as replies;
-ghost use Rattle.path_core.specs.Fallback.{fell_ask, mode_in, after_verdict, is_fall, fell_in, after_fell, breaks_by, fell_duties, answered_fell, answered_identity};
+ghost use Rattle.path_core.specs.Fallback.{fell_ask, mode_in, is_fall, fell_in, after_fell, breaks_by, fell_duties, answered_fell, answered_identity};
 ghost use Rattle.path_core.specs.State.{end_at, with_agenda};
 
 use crate::end::PathEnd;
@@ -125,7 +125,7 @@ impl Machine {
         self.go_by_verdict(side, reply);
     }
 
-    /// It was told.
+    /// The send book was told that the side fell back to plain TCP, which the end knows from now on.
     pub(crate) fn answer_identity(&mut self, side: Side)
         ensures { self.new ≡ answered_identity side self.old }
     {

@@ -41,7 +41,7 @@ pub(crate) fn abort_send_ask(side: Side) -> Ask
     Ask::Send(side, SendCall::Abort)
 }
 
-/// So is the reassembly book.
+/// The reassembly book is told that the peer aborted the connection.
 pub(crate) fn abort_receive_ask(side: Side) -> Ask
     ensures value { result ≡ abort_receive_ask side }
     ensures able { CanBeAsked result }

@@ -10,7 +10,7 @@ ghost use Rattle.path_segments.specs.Laws.{window_told};
 ghost use Rattle.subflow_tcp.specs.Emitting.{after_sending};
 ghost use Rattle.path_core.specs.Said.{plain_said, said_by, sent_kind, CanBeSaid};
 ghost use Rattle.path_core.specs.declared.modes.Modes.{Modes};
-ghost use Rattle.path_core.specs.Handover.{edge_told, has_mapping, end_of, least, with_mapping_told, sends, handed};
+ghost use Rattle.path_core.specs.Handover.{edge_told, has_mapping, end_of, least, with_mapping_told, sends, sent_on, handed};
 ghost use Rattle.path_core.specs.State.{end_at, left, path_of, with_agenda};
 ghost use Rattle.path_core.specs.Steps.{passable, settles_down};
 
@@ -27,10 +27,10 @@ use subflow_tcp::Occasion;
 
 /// A segment as it is handed over: its octets, the edge of the window that it tells, and what the end knows after it.
 #[derive(Drop)]
-struct Handed {
-    octets: Vec<u8>,
-    told_edge: u64,
-    modes: Modes,
+pub(crate) struct Handed {
+    pub octets: Vec<u8>,
+    pub told_edge: u64,
+    pub modes: Modes,
 }
 
 /// The position behind a segment of data or FIN.
@@ -137,25 +137,6 @@ impl Machine {
         })
     }
 
-    /// The edge of the window that the segment tells.
-    pub(crate) fn edge_told(&self, side: Side, kind: SegmentKind) -> u64
-        ensures value { result ≡
-            edge_told (said_by kind self.now.profile side (end_at side self.now))
-            (end_at side self.now) }
-        ensures bound { result ≤ 2 ^ 62 + 2 ^ 21 }
-    {
-        self.end(side).edge_told(&self.said(side, kind))
-    }
-
-    /// What the end of a side knows after the segment.
-    pub(crate) fn modes_after(&self, side: Side, kind: SegmentKind) -> Modes
-        ensures { result ≡
-            (with_mapping_told (said_by kind self.now.profile side (end_at side self.now))
-            (end_at side self.now)).modes }
-    {
-        self.end(side).modes_after(&self.said(side, kind))
-    }
-
     /// The octets of the segment of this kind, which mean that segment.
     #[tactic(auto, using(crate::proofs::SegmentsTold::made_whole))]
     pub(crate) fn octets_of(&self, side: Side, kind: SegmentKind) -> Result<Vec<u8>, AllocError>
@@ -172,7 +153,7 @@ impl Machine {
     }
 
     /// What is handed over with the segment of this kind.
-    fn handed(&self, side: Side, kind: SegmentKind) -> Result<Handed, AllocError>
+    pub(crate) fn handed(&self, side: Side, kind: SegmentKind) -> Result<Handed, AllocError>
         ensures octets { IfOk result (λ handed. handed.octets.items ≡
             made self.now.profile.spelling side
             (said_by kind self.now.profile side (end_at side self.now))) }
@@ -196,7 +177,12 @@ impl Machine {
     }
 
     /// The link takes the octets of the segment of this kind. At an error all is as it was.
-    fn hand_octets(&mut self, side: Side, kind: SegmentKind, text: &[u8]) -> Result<(), AllocError>
+    pub(crate) fn hand_octets(
+        &mut self,
+        side: Side,
+        kind: SegmentKind,
+        text: &[u8],
+    ) -> Result<(), AllocError>
         requires { text.now ≡
             made self.old.profile.spelling side
             (said_by kind self.old.profile side (end_at side self.old)) }
@@ -222,6 +208,18 @@ impl Machine {
     {
         let handed = self.handed(side, kind)?;
         self.hand_octets(side, kind, handed.octets.as_slice())
+    }
+
+    /// The link takes the segment of this kind, the end stays, and the first duty is done. At an error all is as it was.
+    pub(crate) fn hand_and_leave(&mut self, side: Side, kind: SegmentKind) -> Result<(), AllocError>
+        ensures ok { OnOk result (self.new ≡
+            sent_on octets side (said_by kind self.old.profile side (end_at side self.old))
+            (end_at side self.old) (left self.old) self.old) }
+        ensures err { OnErr result (self.new ≡ self.old) }
+    {
+        self.hand(side, kind)?;
+        self.done();
+        Ok(())
     }
 
     /// The link takes octets from a side at the path's tick, as a segment that the side's end doesn't know of. At an error all is
@@ -272,7 +270,7 @@ impl Machine {
         Ok(())
     }
 
-    /// So it is, and the first duty is done. At an error all is as it was.
+    /// The segment of this kind is sent on this occasion, and the first duty is done. At an error all is as it was.
     pub(crate) fn send_and_leave(
         &mut self,
         side: Side,

@@ -5,12 +5,12 @@ ghost use Rattle.std.specs.Prelude.{◌≡◌};
 ghost use Rattle.path_core.specs.InfiniteReceiving.{is_infinite_receive, after_infinite, answered_infinite};
 
 use crate::end::PathEnd;
-use crate::infinite_mapping::InfiniteMapping;
 use crate::machine::Machine;
 use actor_desk::Reply;
 use control_book::ControlReply;
 use fallback_state::{Event, Mode, Verdict};
 use outside_kit::Side;
+use path_store::InfiniteMapping;
 use seq_units::Pos;
 
 /// The side receives by an infinite mapping from now on.

@@ -3,16 +3,16 @@
 
 ghost use Rattle.std.specs.Prelude.{◌≡◌, is_some};
 ghost use Rattle.actor_desk.specs.Kinds.{CanBeAsked};
-ghost use Rattle.path_core.specs.InfiniteSending.{may_go_infinite, fail_ask, infinite_from, infinite_in, with_infinite, answered_fail, fail_heard_ask, is_infinite_send, with_own_infinite, sending_infinite, after_fail_heard, answered_fail_heard};
+ghost use Rattle.path_core.specs.InfiniteSending.{may_go_infinite, fail_ask, infinite_from, infinite_in, with_infinite, answered_fail, fail_heard_ask, is_infinite_send, with_own_infinite, after_fail_heard, answered_fail_heard};
 
 use crate::end::PathEnd;
-use crate::infinite_mapping::InfiniteMapping;
 use crate::machine::Machine;
 use actor_desk::{Ask, Reply};
 use control_book::ControlReply;
 use fallback_state::{Event, Mode, Verdict};
 use outside_kit::Side;
 use path_agenda::{AskDuty, Duty};
+use path_store::InfiniteMapping;
 use send_book::{SendCall, SendReply};
 
 /// The side sends by an infinite mapping from now on.
@@ -118,7 +118,7 @@ impl Machine {
         self.fell_ask(side, Event::FailHeard { contiguous })
     }
 
-    /// It was told.
+    /// The control book was told of the MP_FAIL, and the side goes by its verdict.
     pub(crate) fn answer_fail_heard(&mut self, side: Side, reply: &Reply)
         ensures { self.new ≡ answered_fail_heard side reply.now self.old }
     {

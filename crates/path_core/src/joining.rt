@@ -1,12 +1,11 @@
 //! What the control books say to a path that joins the connection, and what follows from it (RFC 8684, section 3.2).
 
-ghost use Rattle.std.specs.Prelude.{◌≡◌, ◌<◌, if◌then◌else◌, OnOk, OnErr};
+ghost use Rattle.std.specs.Prelude.{◌≡◌, ◌<◌, if◌then◌else◌};
 ghost use Rattle.subflow_tcp.specs.Opening.{after_begin};
 ghost use Rattle.subflow_tcp.specs.States.{is_waiting};
 ghost use Rattle.actor_desk.specs.Kinds.{CanBeAsked};
 ghost use Rattle.path_core.specs.Events.{answered_join_again, join_begun, joins_at_tick};
-ghost use Rattle.path_core.specs.Joining.{keys_begun, mode_refused, with_mode_refused, with_keys, join_begin_ask, is_never, is_join_pending, opened_by, join_heard_ask, after_joining_syn, joined_by, join_taken, asked_at, answered_join_heard, answered_refusal};
-ghost use Rattle.path_core.specs.Octets.{octets};
+ghost use Rattle.path_core.specs.Joining.{keys_begun, mode_refused, with_mode_refused, with_keys, join_begin_ask, is_never, is_join_pending, opened_by, join_heard_ask, after_joining_syn, joined_by, join_taken, asked_at, answered_join_heard};
 
 use crate::end::PathEnd;
 use crate::joins::join_asked;
@@ -221,15 +220,5 @@ impl Machine {
         ensures { self.new ≡ answered_join_heard side reply.now self.old }
     {
         self.take_join(side, self.asked_at(side), reply);
-    }
-
-    /// The reset that refuses the path is sent; the end listens on.
-    pub(crate) fn send_refusal(&mut self, side: Side) -> Result<(), AllocError>
-        ensures ok { OnOk result (self.new ≡ answered_refusal octets side self.old) }
-        ensures err { OnErr result (self.new ≡ self.old) }
-    {
-        self.hand(side, SegmentKind::Refusal)?;
-        self.done();
-        Ok(())
     }
 }

@@ -1,7 +1,7 @@
 //! What a copy is to an end of a path.
 
 ghost use Rattle.std.specs.Prelude.{◌≡◌};
-ghost use Rattle.path_core.specs.Arriving.{is_passed_over, is_forged, unless_passed_over, join_judged, judged_of, taken_as, with_answer, answered_in, cleared_in, after_join};
+ghost use Rattle.path_core.specs.Arriving.{is_passed_over, is_forged, join_judged, judged_of, taken_as, with_answer, after_join};
 
 use crate::end::PathEnd;
 use crate::joins::{has_third, join_asked};

@@ -11,6 +11,7 @@ ghost use Rattle.path_core.specs.Treating.{item_of};
 
 use crate::event::Event;
 use crate::machine::Machine;
+use crate::reset_reason::{MIDDLEBOX, MPTCP_SPECIFIC};
 use crate::segment_kind::SegmentKind;
 use link_model::{Due, SegmentFate};
 use outside_kit::Side;
@@ -107,7 +108,7 @@ impl Machine {
         ensures { result ≡ mapping_sends side self.now }
     {
         if self.end(side).is_clash() {
-            self.broken_by(side, 1)
+            self.broken_by(side, MPTCP_SPECIFIC)
         } else {
             None
         }
@@ -138,7 +139,7 @@ impl Machine {
         ensures { result ≡ ack_sends side self.now }
     {
         if self.end(side).breaks_by_ack(&self.profile) {
-            self.broken_by(side, 6)
+            self.broken_by(side, MIDDLEBOX)
         } else {
             None
         }
@@ -152,7 +153,7 @@ impl Machine {
             StepDuty::Data(side) => self.unsent_sends(side),
             StepDuty::Heard { side, index } => self.heard_sends(side, index),
             StepDuty::PlainAck(side) => self.ack_sends(side),
-            StepDuty::Unmapped(side) => self.broken_by(side, 6),
+            StepDuty::Unmapped(side) => self.broken_by(side, MIDDLEBOX),
             _ => None,
         }
     }

@@ -1,17 +1,17 @@
 //! The state of a path: its two ends, its link, and what is still to be done in its turn.
 
-ghost use Rattle.std.specs.Prelude.{◌≡◌, ◌<◌, [], Some};
+ghost use Rattle.std.specs.Prelude.{◌≡◌, ◌<◌};
 ghost use Rattle.std.specs.Borrow.{sem};
 ghost use Rattle.actor_desk.specs.Words.{tail_of};
 ghost use Rattle.path_agenda.specs.Words.{replaced};
 ghost use Rattle.path_core.specs.Turns.{TakesTime};
 
 use crate::end::PathEnd;
-use crate::lines::LineLeft;
 use crate::profile::Profile;
 use link_model::Link;
 use outside_kit::Side;
 use path_agenda::{Agenda, Clock, Duty, Items};
+use path_store::LineLeft;
 use std::alloc::Global;
 use std::collections::VecDeque;
 use std::marker::Model;

@@ -2,8 +2,8 @@
 
 ghost use Rattle.std.specs.Prelude.{◌≡◌, ◌<◌, ◌≤◌, ◌^◌, IfSome};
 
-use crate::infinite_mapping::{InfiniteMapping, covers, place_under};
 use fallback_state::Mode;
+use path_store::{InfiniteMapping, covers, place_under};
 use seq_units::Pos;
 
 /// What an end knows of its side, and of the keys.

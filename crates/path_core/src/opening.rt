@@ -4,7 +4,7 @@ ghost use Rattle.std.specs.Prelude.{◌≡◌, Some};
 ghost use Rattle.actor_desk.specs.Kinds.{CanBeAsked};
 ghost use Rattle.path_agenda.specs.Items.{key_heard, keys_heard};
 ghost use Rattle.path_core.specs.Opening.{keys_in, is_plain_syn, is_opened_by_keys, is_opened_plainly, syn_window_ask, peer_key_stands, peer_key_ask, answered_peer_key, keys_ask, after_keys, opened_ask, answered_opened, live_ask};
-ghost use Rattle.path_core.specs.State.{end_at, goes_on, left};
+ghost use Rattle.path_core.specs.State.{end_at, left};
 
 use crate::end::PathEnd;
 use crate::machine::Machine;
@@ -121,7 +121,7 @@ impl Machine {
         }
     }
 
-    /// That was told.
+    /// The control book was told the peer's key.
     pub(crate) fn answer_peer_key(&mut self, side: Side, reply: &Reply)
         ensures { self.new ≡
             answered_peer_key side (key_heard (end_at side self.old).treated.items) reply.now
@@ -148,7 +148,7 @@ impl Machine {
         }
     }
 
-    /// That was told.
+    /// The control book was told how the connection was opened.
     pub(crate) fn answer_opened(&mut self, side: Side, reply: &Reply)
         ensures { self.new ≡
             answered_opened side (keys_heard (end_at side self.old).treated.items) reply.now

@@ -10,12 +10,12 @@ ghost use Rattle.path_agenda.specs.declared.heard.Heard.TheVariants as says;
 ghost use Rattle.path_agenda.specs.Items.{IsFair};
 ghost use Rattle.path_core.specs.Arriving.{ack_items, is_mapping, mapping_items, infinite_items, map_items, data_fin_items, key_items, join_items, address_items, item_removed, items_in, items_of, SaysFew, owes_by, opens_by, asks_capable, edge_held, has_data_ack, octets_acked, is_plain_ack};
 
-use crate::places::PLACE_LIMIT;
 use key_material::Address;
 use mptcp_options::{CapableKeys, JoinForm};
 use outside_kit::Side;
 use path_agenda::{Heard, Items, PeerNotice, one_wants_ack};
 use path_segments::{HeardMapping, HeardOption, HeardSegment, PathMapping, PathOption};
+use path_store::PLACE_LIMIT;
 use seq_units::Pos;
 use subflow_tcp::{AckKind, Arrival, Meaning, State};
 

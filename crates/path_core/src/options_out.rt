@@ -7,15 +7,15 @@ ghost use Rattle.path_segments.specs.declared.segment.PathOption.TheVariants.{Ca
 ghost use Rattle.subflow_send.specs.Records.{record_of};
 ghost use Rattle.path_core.specs.declared.segment_kind.SegmentKind.TheVariants.{DeadAnswer, Refusal};
 ghost use Rattle.path_agenda.specs.Words.{first_of};
-ghost use Rattle.path_core.specs.OptionsOut.{owes_mapping, bare_mapping, checksum_in, mapping_of, place_numbered, checksum_told, plain_options, infinite_options, infinite_or, mapped_options, fail_options, fail_beside, capable_options, syn_options, key_options, opening_options, data_fin_mapping, ack_options, piece_mapping, first_piece_options, piece_options, fin_options, record_options, reset_options, broken_options, announcement, notice_option, dss_and, noted_said, carried_said, HasAddress, segment_of, ack_said, record_said, record_or_ack, syn_ack_said, fin_said, own_reset, reset_said};
+ghost use Rattle.path_core.specs.OptionsOut.{owes_mapping, bare_mapping, checksum_in, mapping_of, place_numbered, checksum_told, plain_options, infinite_options, mapped_options, fail_beside, capable_options, syn_options, key_options, opening_options, data_fin_mapping, ack_options, piece_mapping, first_piece_options, piece_options, fin_options, record_options, reset_options, broken_options, announcement, notice_option, dss_and, noted_said, carried_said, HasAddress, segment_of, ack_said, record_said, record_or_ack, syn_ack_said, fin_said, own_reset, reset_said};
 ghost use Rattle.path_core.specs.Infinite.{receives_infinite};
 ghost use Rattle.path_core.specs.Passing.{answer_said, ack_resent, resend_said};
 ghost use Rattle.path_core.specs.Said.{options_by, said_options, plain_said, said_by, CanBeSaid};
 
 use crate::end::PathEnd;
-use crate::infinite_mapping::InfiniteMapping;
 use crate::modes::Modes;
 use crate::profile::Profile;
+use crate::reset_reason::MPTCP_SPECIFIC;
 use crate::said::{Said, SaidOptions, Saying};
 use crate::segment_kind::SegmentKind;
 use dss_checksum::DssSum;
@@ -25,6 +25,7 @@ use mptcp_options::CapableKeys;
 use outside_kit::Side;
 use path_agenda::OwnNotice;
 use path_segments::{PathMapping, PathOption, relative_number};
+use path_store::InfiniteMapping;
 use seq_units::{Mapping, Pos};
 use subflow_tcp::{Outgoing, RecordKind, RecordRef};
 
@@ -542,7 +543,7 @@ impl PathEnd {
         self.segment_of(profile, outgoing, SaidOptions::Nothing, &[])
     }
 
-    /// The reset that refuses a path which joins, with the reason 1 (RFC 8684, section 3.6).
+    /// The reset that refuses a path which joins: an error specific to Multipath TCP (RFC 8684, section 3.6).
     fn refusal_said(&self, profile: &Profile) -> Said<'_>
         ensures { plain_said result ≡ said_by Refusal profile.now A self.now }
     {
@@ -550,7 +551,7 @@ impl PathEnd {
             Some(outgoing) => outgoing,
             None => self.tcp.reset_segment(),
         };
-        let options = SaidOptions::One(reset_option(1));
+        let options = SaidOptions::One(reset_option(MPTCP_SPECIFIC));
         self.segment_of(profile, outgoing, options, &[])
     }
 

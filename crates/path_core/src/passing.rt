@@ -1,18 +1,18 @@
 //! What the payload of a copy makes of an end: ends that are told, the window's growth, answers, and what an expiry sends
 //! again.
 
-ghost use Rattle.std.specs.Prelude.{◌≡◌, ◌&&◌, ◌≤◌, ◌<◌, ◌^◌, ◌-◌, min, All, Contains, Some, find, OnOk, OnErr, IfSome};
+ghost use Rattle.std.specs.Prelude.{◌≡◌, ◌&&◌, ◌≤◌, ◌<◌, ◌^◌, ◌-◌, min, All, Contains, Some, find, IfSome};
 ghost use Rattle.actor_desk.specs.Kinds.{CanBeAsked};
 ghost use Rattle.linked_increase.specs.Paths.{IsInRange};
 ghost use Rattle.subflow_tcp.specs.State.{has_records};
 ghost use Rattle.path_core.specs.Octets.{octets};
-ghost use Rattle.path_core.specs.Passing.{having_asked, refused, data_fin_of, fin_ask, with_peer_data_fin, is_fin_set, fin_set, answered_fin_heard, after_pass_fin, rate_ask, is_row_of, growth_by, growth_in, after_rate, answered_rate, answer_occasion, answered_answer, dead_answer, answered_dead, resend_occasion, answered_resend};
+ghost use Rattle.path_core.specs.Passing.{having_asked, refused, data_fin_of, fin_ask, with_peer_data_fin, is_fin_set, answered_fin_heard, after_pass_fin, rate_ask, is_row_of, growth_by, growth_in, after_rate, answered_rate, answer_occasion, resend_occasion};
 ghost use Rattle.path_core.specs.Replies.{AreRowsInRange};
-ghost use Rattle.path_core.specs.State.{end_at, goes_on, left, path_of};
+ghost use Rattle.path_core.specs.State.{end_at};
 
 use crate::end::PathEnd;
 use crate::machine::Machine;
-use crate::segment_kind::SegmentKind;
+use crate::reset_reason::MPTCP_SPECIFIC;
 use actor_desk::{Ask, LocalStep, Reply};
 use control_book::{ControlCall, ControlReply};
 use linked_increase::{Row, Rows, growth};
@@ -21,9 +21,6 @@ use path_agenda::Agenda;
 use reassembly_book::{ReassemblyCall, ReassemblyReply};
 use std::alloc::AllocError;
 use subflow_tcp::{Occasion, Pending};
-
-/// What the book refuses breaks the path with this reason: an unspecific one (RFC 8684, section 3.6).
-const REFUSED: u8 = 1;
 
 /// The end of the stream was set.
 pub(crate) fn is_fin_set(reply: &Reply) -> bool
@@ -109,7 +106,7 @@ impl PathEnd {
     }
 
     /// An end whose SYN isn't acknowledged answers by its SYN/ACK.
-    fn answer_occasion(&self) -> Occasion
+    pub fn answer_occasion(&self) -> Occasion
         ensures { result ≡ answer_occasion self.now }
     {
         if self.tcp.owes_syn_ack() {
@@ -121,7 +118,7 @@ impl PathEnd {
 
     /// An expiry sends the first record again, or else the third MP_JOIN or the DATA_FIN, or else what a peer that is there
     /// answers.
-    fn resend_occasion(&self) -> Occasion
+    pub fn resend_occasion(&self) -> Occasion
         ensures { result ≡ resend_occasion self.now }
     {
         if self.tcp.has_records() {
@@ -140,7 +137,7 @@ impl Machine {
         ensures { self.new ≡ refused side self.old }
     {
         self.end_mut(side).have_asked();
-        self.sets_about(Agenda::breaks(side, REFUSED));
+        self.sets_about(Agenda::breaks(side, MPTCP_SPECIFIC));
     }
 
     /// The end of the stream that the DATA_FIN of this number told.
@@ -175,8 +172,8 @@ impl Machine {
         match self.end(side).tcp.pending() {
             Some(Pending { window, rtt, .. }) => {
                 let path = self.number();
-                let window = window.min(1_048_576).max(1);
-                let rtt = rtt.min(60_000).max(1);
+                let window = window.clamp(1, 1_048_576);
+                let rtt = rtt.clamp(1, 60_000);
                 Ask::Control(side, ControlCall::Rate { path, window, rtt })
             }
             None => Ask::Local(LocalStep::End),
@@ -191,33 +188,5 @@ impl Machine {
         let (path, mss) = (self.number(), self.profile.mss());
         self.end_mut(side).take_rate_reply(path, mss, reply);
         self.done();
-    }
-
-    /// The answer to a segment that is passed over is sent.
-    pub(crate) fn send_answer(&mut self, side: Side) -> Result<(), AllocError>
-        ensures ok { OnOk result (self.new ≡ answered_answer octets side self.old) }
-        ensures err { OnErr result (self.new ≡ self.old) }
-    {
-        let occasion = self.end(side).answer_occasion();
-        self.send_and_leave(side, SegmentKind::Answer, occasion)
-    }
-
-    /// The reset that answers a copy at a dead end is sent.
-    pub(crate) fn send_dead_answer(&mut self, side: Side) -> Result<(), AllocError>
-        ensures ok { OnOk result (self.new ≡ answered_dead octets side self.old) }
-        ensures err { OnErr result (self.new ≡ self.old) }
-    {
-        self.hand(side, SegmentKind::DeadAnswer)?;
-        self.done();
-        Ok(())
-    }
-
-    /// What an expiry sends again is sent.
-    pub(crate) fn resend(&mut self, side: Side) -> Result<(), AllocError>
-        ensures ok { OnOk result (self.new ≡ answered_resend octets side self.old) }
-        ensures err { OnErr result (self.new ≡ self.old) }
-    {
-        let occasion = self.end(side).resend_occasion();
-        self.send_and_leave(side, SegmentKind::Resend, occasion)
     }
 }

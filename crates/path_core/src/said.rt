@@ -58,8 +58,6 @@ pub(crate) struct Said<'a> {
 impl<'a> Said<'a> {
     ghost use Rattle.path_core.specs.Octets.{made, sum_of};
     ghost use Rattle.path_core.specs.Said.{plain_said, CanBeSaid};
-    ghost use Rattle.path_segments.specs.Spelled.{plain};
-    ghost use Rattle.std.specs.Prelude.{map};
 
     /// The same segment, with its options lent.
     fn with_options<'b>(

@@ -2,8 +2,8 @@
 
 ghost use Rattle.std.specs.Prelude.{◌≡◌, ◌<◌, ◌^◌, ◌&&◌, ◌||◌, false, not, is_some};
 
-use crate::granted::GrantedPieces;
 use data_close::CloseState;
+use path_store::GrantedPieces;
 use send_book::Why;
 use std::alloc::Global;
 use std::marker::Model;

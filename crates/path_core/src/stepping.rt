@@ -8,7 +8,7 @@ ghost use Rattle.path_core.specs.Duties.{stands, ask_for, passed, answered};
 ghost use Rattle.path_core.specs.Replies.{IsAckBounded, IsGrantFit, needs_memory};
 
 use crate::machine::Machine;
-use crate::stripped::STRIPPED;
+use crate::reset_reason::MIDDLEBOX;
 use actor_desk::{Ask, Reply};
 use path_agenda::{SilentDuty, StepDuty};
 use std::alloc::AllocError;
@@ -39,7 +39,7 @@ impl Machine {
             StepDuty::Events => self.event_ask(),
             StepDuty::Heard { side, index } => self.item_ask(side, index),
             StepDuty::PlainAck(side) => self.plain_ack_ask(side),
-            StepDuty::Unmapped(side) => self.break_ask(side, STRIPPED),
+            StepDuty::Unmapped(side) => self.break_ask(side, MIDDLEBOX),
         }
     }
 
@@ -73,7 +73,7 @@ impl Machine {
             StepDuty::Events => self.answer_event(reply),
             StepDuty::Heard { side, index } => self.answer_item(side, index, reply),
             StepDuty::PlainAck(side) => self.answer_plain_ack(side, reply),
-            StepDuty::Unmapped(side) => self.answer_break(side, STRIPPED, reply),
+            StepDuty::Unmapped(side) => self.answer_break(side, MIDDLEBOX, reply),
         }
     }
 

@@ -1,7 +1,7 @@
 //! Options that are missed: acknowledgements without a Data ACK, bytes without a mapping; and the acknowledgements and the FIN of
 //! the subflow, which take the place of Data ACK and DATA_FIN after a fallback (RFC 8684, sections 3.6 and 3.7).
 
-ghost use Rattle.std.specs.Prelude.{◌≡◌, ◌-◌, ◌≤◌, ◌<◌, ◌^◌, is_some, IfSome, OnOk, OnErr};
+ghost use Rattle.std.specs.Prelude.{◌≡◌, ◌-◌, ◌<◌, ◌^◌, is_some, IfSome, OnOk, OnErr};
 ghost use Rattle.actor_desk.specs.Kinds.{CanBeAsked};
 ghost use Rattle.fallback_state.specs.declared.fall.Event.TheVariants as events;
 ghost use Rattle.path_core.specs.Fallback.{after_fell};
@@ -12,20 +12,18 @@ ghost use Rattle.path_core.specs.Replies.{IsAckBounded};
 ghost use Rattle.path_core.specs.State.{end_at};
 ghost use Rattle.path_core.specs.Treating.{lacks_data_ack, breaks_by_ack, plain_ack_stands, plain_ack_ask, with_plain_ack, answered_plain_ack, plain_next, subflow_ack_stands, subflow_ack_ask, with_plain_acked, answered_subflow_ack, plain_data_stands};
 
-use crate::counts::one_more;
 use crate::end::PathEnd;
 use crate::machine::Machine;
 use crate::passing::is_fin_set;
 use crate::profile::Profile;
+use crate::reset_reason::MIDDLEBOX;
 use actor_desk::{Ask, LocalStep, Reply};
 use fallback_state::{Event, Mode};
 use outside_kit::Side;
+use path_store::one_more;
 use reassembly_book::ReassemblyCall;
 use send_book::SendCall;
 use std::alloc::AllocError;
-
-/// A path on which options are lost is broken with this reason: a middlebox interferes (RFC 8684, section 3.6).
-pub(crate) const STRIPPED: u8 = 6;
 
 impl PathEnd {
     /// The copy acknowledges data without a Data ACK, which the side wants.
@@ -166,7 +164,7 @@ impl PathEnd {
         }
     }
 
-    /// It was told.
+    /// The peer's FIN was told as the end of its stream.
     fn take_plain_fin_reply(&mut self)
         ensures { self.new ≡ having_asked (with_peer_data_fin (with_fin_told self.old)) }
     {
@@ -182,7 +180,7 @@ impl Machine {
         ensures able { CanBeAsked result }
     {
         if self.end(side).breaks_by_ack(&self.profile) {
-            self.break_ask(side, STRIPPED)
+            self.break_ask(side, MIDDLEBOX)
         } else {
             self.fell_ask(side, Event::PlainAck)
         }
@@ -195,7 +193,7 @@ impl Machine {
         ensures err { OnErr result (self.new ≡ self.old) }
     {
         if self.end(side).breaks_by_ack(&self.profile) {
-            return self.answer_break(side, STRIPPED, reply);
+            return self.answer_break(side, MIDDLEBOX, reply);
         }
         self.end_mut(side).take_plain_ack_reply(reply);
         self.go_by_verdict(side, reply);
@@ -215,7 +213,7 @@ impl Machine {
         }
     }
 
-    /// It was told.
+    /// The send book was told what the subflow acknowledged.
     pub(crate) fn answer_subflow_ack(&mut self, side: Side, reply: &Reply)
         ensures { self.new ≡ answered_subflow_ack side reply.now self.old }
     {

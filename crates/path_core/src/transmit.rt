@@ -69,13 +69,19 @@ impl Machine {
             SendDuty::SynAck(side) => {
                 self.send_and_leave(side, SegmentKind::SynAck, Occasion::SynAck)
             }
-            SendDuty::Refuse(side) => self.send_refusal(side),
+            SendDuty::Refuse(side) => self.hand_and_leave(side, SegmentKind::Refusal),
             SendDuty::Again(side) => {
                 self.send_and_leave(side, SegmentKind::First, Occasion::First)
             }
-            SendDuty::Answer(side) => self.send_answer(side),
-            SendDuty::ResetAnswer(side) => self.send_dead_answer(side),
-            SendDuty::Resend(side) => self.resend(side),
+            SendDuty::Answer(side) => {
+                let occasion = self.end(side).answer_occasion();
+                self.send_and_leave(side, SegmentKind::Answer, occasion)
+            }
+            SendDuty::ResetAnswer(side) => self.hand_and_leave(side, SegmentKind::DeadAnswer),
+            SendDuty::Resend(side) => {
+                let occasion = self.end(side).resend_occasion();
+                self.send_and_leave(side, SegmentKind::Resend, occasion)
+            }
             SendDuty::BreakReset { side, reason } => self.send_reset(side, Some(reason)),
             SendDuty::Reset(side) => self.give_up(side),
             SendDuty::ResetNoted(side) => self.give_up(side),

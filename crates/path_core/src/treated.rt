@@ -4,9 +4,9 @@ ghost use Rattle.std.specs.Prelude.{◌≡◌, false, ◌≤◌, ◌^◌, All, I
 ghost use Rattle.path_agenda.specs.Items.{IsFair};
 ghost use Rattle.path_core.specs.Words.{item_at};
 
-use crate::infinite_mapping::InfiniteMapping;
 use arrayvec::ArrayVec;
 use path_agenda::{Heard, Items};
+use path_store::InfiniteMapping;
 use seq_units::Pos;
 use std::marker::Model;
 use subflow_tcp::Outgoing;

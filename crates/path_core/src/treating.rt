@@ -1,21 +1,21 @@
 //! What the options of a copy make of an end, one thing after the other (RFC 8684, section 3.3).
 
-ghost use Rattle.std.specs.Prelude.{◌≡◌, ◌<◌, ◌≤◌, ◌^◌, ◌&&◌, not, is_some, if◌then◌else◌, nat_lt, Some, IfSome, OnOk, OnErr};
+ghost use Rattle.std.specs.Prelude.{◌≡◌, ◌<◌, ◌≤◌, ◌^◌, ◌&&◌, is_some, if◌then◌else◌, Some, IfSome, OnOk, OnErr};
 ghost use Rattle.actor_desk.specs.Kinds.{CanBeAsked};
 ghost use Rattle.fallback_state.specs.declared.fall.Event.TheVariants as events;
-ghost use Rattle.fallback_state.specs.Modes.{reads_mappings, writes_mappings};
 ghost use Rattle.path_agenda.specs.Items.{IsFair};
 ghost use Rattle.path_core.specs.Octets.{octets};
 ghost use Rattle.path_core.specs.Opening.{after_keys};
 ghost use Rattle.path_core.specs.Deliver.{with_learned, with_skipped};
 ghost use Rattle.path_core.specs.Replies.{IsAckBounded};
-ghost use Rattle.path_core.specs.State.{end_at, goes_on, left, with_agenda};
+ghost use Rattle.path_core.specs.State.{end_at, goes_on, left};
 ghost use Rattle.path_core.specs.Fallback.{after_fell, fell_duties};
-ghost use Rattle.path_core.specs.Treating.{counts, is_clash, mapping_stands, heard_stands, mapping_ask, heard_ask, is_acked, told_next, acked_in, with_acked, with_data_ack, answered_ack, answered_mapping, with_data_fin, answered_heard, after_dss, heard_passed, item_stands, item_ask, answered_item, item_passed, item_of, is_dropped, is_not_kept, after_keep};
+ghost use Rattle.path_core.specs.Treating.{counts, is_clash, heard_stands, mapping_ask, heard_ask, is_acked, acked_in, with_acked, with_data_ack, answered_ack, answered_mapping, with_data_fin, answered_heard, after_dss, heard_passed, item_stands, item_ask, answered_item, item_passed, item_of, is_dropped, is_not_kept, after_keep};
 
 use crate::end::PathEnd;
 use crate::machine::Machine;
 use crate::opening::keys_ask;
+use crate::reset_reason::MPTCP_SPECIFIC;
 use crate::sending::Sending;
 use actor_desk::{Ask, LocalStep, Reply};
 use control_book::ControlCall;
@@ -24,10 +24,6 @@ use outside_kit::Side;
 use path_agenda::{AskDuty, Duty, Heard, KeyPair};
 use send_book::{SendCall, SendReply};
 use std::alloc::AllocError;
-
-/// A mapping that gives a position another place breaks the path with this reason: an unspecific one (RFC 8684,
-/// section 3.6).
-const CLASH: u8 = 1;
 
 /// A Data ACK was taken.
 fn is_acked(reply: &Reply) -> bool
@@ -71,34 +67,14 @@ impl PathEnd {
         match item {
             Heard::Dss | Heard::PeerKey { .. } | Heard::Join { .. } => false,
             Heard::DataAck { .. } => self.modes.own_infinite.is_none(),
-            Heard::Fail => self.writes_mappings(),
+            Heard::Fail => self.modes.mode.writes_mappings(),
             Heard::Notice { .. } => true,
             Heard::FastClose { .. } => true,
             Heard::Mapping { .. } => self.counts() && (self.is_clash() || starting),
             Heard::DataFin { .. } => self.counts() && starting,
-            Heard::InfiniteMapping { .. } => self.counts() && self.reads_mappings(),
+            Heard::InfiniteMapping { .. } => self.counts() && self.modes.mode.reads_mappings(),
             Heard::Keys { .. } => !self.treated.keys_told,
         }
-    }
-
-    /// The peer's mappings count in the mode that was told.
-    pub fn reads_mappings(&self) -> bool
-        ensures { result ≡ reads_mappings self.now.modes.mode }
-    {
-        matches!(
-            self.modes.mode,
-            Mode::Starting | Mode::Sure | Mode::InfiniteSend
-        )
-    }
-
-    /// The side's own mappings count in the mode that was told.
-    fn writes_mappings(&self) -> bool
-        ensures { result ≡ writes_mappings self.now.modes.mode }
-    {
-        matches!(
-            self.modes.mode,
-            Mode::Starting | Mode::Sure | Mode::InfiniteReceive
-        )
     }
 
     /// The thing of this number; after a fallback nothing more is heard.
@@ -233,7 +209,7 @@ impl Machine {
         ensures able { CanBeAsked result }
     {
         if self.end(side).is_clash() {
-            self.break_ask(side, CLASH)
+            self.break_ask(side, MPTCP_SPECIFIC)
         } else {
             self.fell_ask(side, Event::MappingHeard)
         }
@@ -293,7 +269,7 @@ impl Machine {
         ensures err { OnErr result (self.new ≡ self.old) }
     {
         if self.end(side).is_clash() {
-            return self.answer_break(side, CLASH, reply);
+            return self.answer_break(side, MPTCP_SPECIFIC, reply);
         }
         self.end_mut(side)
             .take_fell_reply(Event::MappingHeard, reply);

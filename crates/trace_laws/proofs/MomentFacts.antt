@@ -32,7 +32,7 @@ use Rattle.link_trace.specs.declared.sent.Sent.{Sent}
 use Rattle.link_trace.specs.Carrying.{carried_in, carried_of, initial_at, initial_in}
 use Rattle.link_trace.specs.FirstOctets.{EndsBy}
 use Rattle.link_trace.specs.Meanings.{meaning_in}
-use Rattle.path_core.specs.declared.infinite_mapping.InfiniteMapping.{InfiniteMapping}
+use Rattle.path_store.specs.declared.infinite_mapping.InfiniteMapping.{InfiniteMapping}
 use Rattle.path_core.specs.declared.looking.Departing.{Departing}
 use Rattle.path_agenda.specs.declared.duty.Duty.{Duty}
 use Rattle.path_core.specs.Emission.{first_unsent}

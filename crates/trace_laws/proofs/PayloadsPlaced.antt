@@ -35,7 +35,7 @@ use Rattle.link_trace.specs.Carrying.{carried_in, carried_of, first_byte, first_
 use Rattle.link_trace.specs.FirstOctets.{EndsBy}
 use Rattle.link_trace.specs.Meanings.{meaning_in}
 use Rattle.path_agenda.specs.Words.{first_of}
-use Rattle.path_core.specs.declared.infinite_mapping.InfiniteMapping.{InfiniteMapping}
+use Rattle.path_store.specs.declared.infinite_mapping.InfiniteMapping.{InfiniteMapping}
 use Rattle.path_core.specs.declared.looking.Departing.{Departing}
 use Rattle.path_core.specs.Emission.{first_unsent}
 use Rattle.path_core.specs.Ends.{PathEnd}

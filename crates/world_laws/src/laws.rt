@@ -58,7 +58,7 @@ pub fn rounds_end_on_time()
 
 /// A law: where all turns of a round are over, in whatever order the actors went, its end is as it has to be. It is at its tick;
 /// nothing that was due before it is left; each end of a path that may still ask for bytes was refused its last grant, and asked
-/// for all; and each reader was told the end, or read as much as a side buffers, or found nothing more. So it is at
+/// for all; and each reader was told the end or an abort, or read as much as a side buffers, or found nothing more. So it is at
 /// each end of a round in lawful turns, and serial turns are lawful.
 pub fn rounds_are_done()
     ensures octets { RoundsAreDone octets }
@@ -146,19 +146,18 @@ pub fn nothing_due_is_left()
     ensures values { Always values (λ start w. NothingDueIsLeft w) }
 {}
 
-/// A law: no control book is told another key for its own, as each key that an end hears is one that was drawn (RFC 8684, section
-/// 3.1). This holds whatever the script does; over octets where the numbers of the start fit.
+/// A law: no control book is told another key for its own (RFC 8684, section 3.1). This holds whatever the script does; over octets
+/// where the numbers of the start fit.
 pub fn keys_never_differ()
     ensures values { Always values (λ start w. KeysNeverDiffer w) }
     ensures octets { AfterFreshTurns (λ w. KeysNeverDiffer w) }
     ensures fits { HoldsAnywayOfOctets KeysNeverDiffer }
 {}
 
-/// A law: no control book is told a token that isn't that of its key: each join begins with both keys, as they were drawn, and
-/// shows the token of the peer's (RFC 8684, section 3.2).
+/// A law: no control book is told a token that isn't that of its key (RFC 8684, section 3.2).
 ///
-/// Nor does an end of a path that joins refuse the copy that arrives next, unless its options were taken away: each SYN asks to join,
-/// and each HMAC is the one that its end demands. Both hold whatever the script does; over octets where the numbers of the start fit.
+/// Nor does an end of a path that joins refuse the copy that arrives next, unless its options were taken away: that copy lacks no
+/// MP_JOIN, and has no wrong HMAC. Both hold whatever the script does; over octets where the numbers of the start fit.
 pub fn joins_are_right()
     ensures values { Always values (λ start w. JoinsAreRight w) }
     ensures octets { HoldsAnywayOfOctets JoinsAreRight }
@@ -166,9 +165,8 @@ pub fn joins_are_right()
     ensures heard { HoldsAnywayOfOctets (EachCopyIsWelcome octets) }
 {}
 
-/// A law: no control book is told of an address whose HMAC is wrong by an announcement of its peer: each shows that of both keys, as
-/// they were drawn, and comes to a side that has the peer's key (RFC 8684, section 3.4.1). This holds whatever the script does; over
-/// octets where the numbers of the start fit.
+/// A law: no control book is told of an address whose HMAC is wrong by an announcement of its peer (RFC 8684, section 3.4.1). This
+/// holds whatever the script does; over octets where the numbers of the start fit.
 pub fn addresses_are_right()
     ensures values { Always values (λ start w. AddressesAreRight w) }
     ensures octets { HoldsAnywayOfOctets AddressesAreRight }

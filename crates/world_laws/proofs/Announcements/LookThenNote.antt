@@ -38,8 +38,8 @@ use Rattle.path_core.specs.Emission.{first_unsent, Grant, grant_in, answered_gra
 use Rattle.path_core.specs.declared.judged.Judged.{Judged}
 use Rattle.path_core.specs.declared.judged.Judged.TheVariants as judged
 use Rattle.path_core.specs.Events.{next_event, heard_in, at_tick, join_begun, after_line, copy_heard, template_fired, happens_if, never_joined}
-use Rattle.path_core.specs.declared.lines.LineAction.{LineAction}
-use Rattle.path_core.specs.declared.lines.LineAction.TheVariants as actions
+use Rattle.path_store.specs.declared.lines.LineAction.{LineAction}
+use Rattle.path_store.specs.declared.lines.LineAction.TheVariants as actions
 use Rattle.path_core.specs.Joining.{is_never, keys_begun, opened_by, asked_at, join_taken}
 use Rattle.path_core.specs.Joins.{is_joined}
 use Rattle.join_handshake.specs.declared.hearing.JoinSyn.{JoinSyn}

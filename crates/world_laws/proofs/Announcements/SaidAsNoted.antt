@@ -26,7 +26,7 @@ use Rattle.path_agenda.specs.Words.{first_of}
 use Rattle.path_core.specs.Emission.{first_unsent}
 use Rattle.path_core.specs.Ends.{PathEnd}
 use Rattle.path_core.specs.Joins.{is_joined, join_options, third_options}
-use Rattle.path_core.specs.declared.infinite_mapping.InfiniteMapping.{InfiniteMapping}
+use Rattle.path_store.specs.declared.infinite_mapping.InfiniteMapping.{InfiniteMapping}
 use Rattle.path_core.specs.Infinite.{receives_infinite}
 use Rattle.path_core.specs.OptionsOut.{owes_mapping, plain_options, infinite_or, capable_options, syn_options, key_options, opening_options, fail_options, fail_beside, ack_options, is_first_piece, first_piece_options, mapped_options, piece_options, fin_options, record_options, broken_options, notice_option, ack_said, syn_ack_said, noted_said, carried_said, record_or_ack, fin_said, reset_said}
 use Rattle.path_core.specs.Passing.{first_record, answer_said, ack_resent, resend_said}

@@ -7,7 +7,7 @@ use Rattle.std.specs.Option.{IfSome}
 use Rattle.outside_kit.specs.declared.side.Side.{Side}
 use Rattle.outside_kit.specs.declared.side.Side.TheVariants.{A, B}
 use Rattle.outside_kit.specs.Side.{peer}
-use Rattle.path_core.specs.declared.granted_piece.GrantedPiece.{GrantedPiece}
+use Rattle.path_store.specs.declared.granted_piece.GrantedPiece.{GrantedPiece}
 use Rattle.send_book.specs.State.{Sending}
 use Rattle.stream_lanes.specs.Holding.{Holds, IsEndless, LaneHolds}
 use Rattle.stream_lanes.specs.Lane.{Cell, Pair, Lane}
@@ -19,7 +19,8 @@ use Rattle.stream_lanes.proofs.Duos.{fallen_ab}
 use Rattle.stream_lanes.specs.Duo.{Modes}
 use Rattle.actor_desk.specs.Desk.{SixBooks, send_of, reassembly_of}
 use Rattle.actor_desk.specs.Words.{pick}
-use Rattle.path_core.specs.StreamEnds.{granted_to, is_all_granted}
+use Rattle.path_core.specs.StreamEnds.{is_all_granted}
+use Rattle.path_store.specs.Granted.{granted_to}
 use Rattle.path_core.specs.Ends.{PathEnd}
 use Rattle.world_laws.proofs.Lanes.OfAWorld.{flags_of, Others, duo_at}
 use Rattle.world_laws.proofs.Lanes.Records.{every_first, every_rest}

@@ -37,11 +37,12 @@ use Rattle.path_agenda.specs.Words.{replaced}
 use Rattle.path_agenda.specs.declared.duty.Duty.{Duty}
 use Rattle.path_agenda.specs.declared.duty.Duty.TheVariants as duties
 use Rattle.path_agenda.specs.declared.duty.AskDuty.TheVariants as ask_duties
-use Rattle.path_core.specs.declared.granted_piece.GrantedPiece.{GrantedPiece}
-use Rattle.path_core.specs.declared.infinite_mapping.InfiniteMapping.{InfiniteMapping}
+use Rattle.path_store.specs.declared.granted_piece.GrantedPiece.{GrantedPiece}
+use Rattle.path_store.specs.declared.infinite_mapping.InfiniteMapping.{InfiniteMapping}
 use Rattle.path_core.specs.Ends.{PathEnd}
-use Rattle.path_core.specs.Infinite.{place_under}
-use Rattle.path_core.specs.InfiniteSending.{is_tail, position_of, may_go_infinite, infinite_from, with_infinite, book_answered, sending_infinite}
+use Rattle.path_store.specs.InfiniteMappings.{place_under}
+use Rattle.path_core.specs.InfiniteSending.{may_go_infinite, infinite_from, with_infinite, book_answered, sending_infinite}
+use Rattle.path_store.specs.Granted.{is_tail, position_of}
 use Rattle.path_core.specs.State.{PathState, Profile, end_at, goes_on, path_of}
 use Rattle.path_core.specs.Values.{Carried}
 use Rattle.world_laws.proofs.Lanes.Answering.{IsReady, Steps, shows_at}

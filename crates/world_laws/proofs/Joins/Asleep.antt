@@ -34,15 +34,15 @@ use Rattle.path_core.specs.declared.event.Event.{Event}
 use Rattle.path_core.specs.declared.event.Event.TheVariants as happenings
 use Rattle.path_agenda.specs.Agenda.{rest_of_turn, emission, leaves, start_of_turn}
 use Rattle.path_agenda.specs.Words.{replaced}
-use Rattle.path_core.specs.declared.lines.LineLeft.{LineLeft}
+use Rattle.path_store.specs.declared.lines.LineLeft.{LineLeft}
 use Rattle.path_core.specs.StreamEnds.{is_waiting}
 use Rattle.path_core.specs.Codec.{Codec}
 use Rattle.path_core.specs.Duties.{stands, ask_for, passed, answered}
 use Rattle.path_core.specs.Emission.{first_unsent, data_stands, data_ask, after_timer}
 use Rattle.path_core.specs.Ends.{PathEnd}
 use Rattle.path_core.specs.Events.{tick_of, next_join, next_line, next_copy, next_fire, earlier, before, next_event, step_for, died, died_unless_dead, leaves_unless_dead, join_begun, after_line, at_tick, happens, happens_if, never_joined, with_priority}
-use Rattle.path_core.specs.declared.lines.LineAction.{LineAction}
-use Rattle.path_core.specs.declared.lines.LineAction.TheVariants as actions
+use Rattle.path_store.specs.declared.lines.LineAction.{LineAction}
+use Rattle.path_store.specs.declared.lines.LineAction.TheVariants as actions
 use Rattle.path_core.specs.Joining.{keys_begun, is_never, opened_by}
 use Rattle.path_core.specs.Standing.{after_look, after_ack_out, is_connected, may_note}
 use Rattle.path_core.specs.Starts.{PathStart, first_state, waiting_path, first_turn}

@@ -52,8 +52,8 @@ use Rattle.path_core.specs.Duties.{stands, passed}
 use Rattle.path_core.specs.Emission.{after_timer}
 use Rattle.path_core.specs.Ends.{PathEnd}
 use Rattle.path_core.specs.Events.{heard_at, heard_in, at_tick, died, after_line, copy_heard, happens_if, join_begun, timer_fired, template_fired, never_joined, step_for, with_priority}
-use Rattle.path_core.specs.declared.lines.LineAction.{LineAction}
-use Rattle.path_core.specs.declared.lines.LineAction.TheVariants as actions
+use Rattle.path_store.specs.declared.lines.LineAction.{LineAction}
+use Rattle.path_store.specs.declared.lines.LineAction.TheVariants as actions
 use Rattle.path_core.specs.Joining.{is_never, keys_begun, opened_by, mode_refused}
 use Rattle.path_core.specs.Joins.{is_joined}
 use Rattle.path_core.specs.Passing.{after_pass_fin}

@@ -54,8 +54,8 @@ use Rattle.path_core.specs.Emission.{Grant, grant_in, answered_grant, answered_d
 use Rattle.path_core.specs.Ends.{PathEnd, Notices as OwnNotices}
 use Rattle.path_core.specs.Noticing.{after_notice}
 use Rattle.path_core.specs.Events.{next_event, step_for, at_tick, died, path_died, after_line, happens_if, join_begun, timer_fired, template_fired, never_joined, with_priority}
-use Rattle.path_core.specs.declared.lines.LineAction.{LineAction}
-use Rattle.path_core.specs.declared.lines.LineAction.TheVariants as actions
+use Rattle.path_store.specs.declared.lines.LineAction.{LineAction}
+use Rattle.path_store.specs.declared.lines.LineAction.TheVariants as actions
 use Rattle.path_agenda.specs.Items.{key_heard, keys_heard}
 use Rattle.path_agenda.specs.Words.{replaced}
 use Rattle.path_core.specs.Joining.{asked_at, is_never, join_heard_ask, join_taken, joined_by, keys_begun, opened_by, refusal_of, with_mode_refused}

@@ -39,7 +39,7 @@ use Rattle.path_core.specs.Emission.{after_timer}
 use Rattle.path_core.specs.Ends.{PathEnd}
 use Rattle.path_core.specs.Events.{tick_of, next_join, next_line, next_copy, next_fire, earlier, earliest, before, next_event}
 use Rattle.path_core.specs.declared.event.Event.TheVariants as happenings
-use Rattle.path_core.specs.declared.lines.LineLeft.{LineLeft}
+use Rattle.path_store.specs.declared.lines.LineLeft.{LineLeft}
 use Rattle.link_model.specs.declared.flight.Due.{Due}
 use Rattle.link_model.specs.Steps.{next_due}
 use Rattle.path_core.specs.declared.event.Event.{Event}

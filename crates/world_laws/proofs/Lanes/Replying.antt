@@ -56,7 +56,7 @@ use Rattle.path_core.specs.State.{PathState, Profile, end_at, goes_on, left, pat
 use Rattle.path_core.specs.Treating.{fell_ask, is_clash, mapping_ask, answered_mapping, heard_ask, answered_heard, answered_ack, with_acked, with_data_fin, item_ask, answered_item, subflow_ack_stands, after_fell, fell_duties, item_stands, plain_ack_ask, subflow_ack_ask, item_of, answered_plain_ack, answered_subflow_ack, with_plain_ack, acked_in, plain_next, plain_ack_in, plainly_acked, breaks_by_ack}
 use Rattle.path_core.specs.Infinite.{acknowledged_under}
 use Rattle.path_core.specs.InfiniteSending.{may_go_infinite, fail_ask, answered_fail, book_answered, fail_heard_ask, answered_fail_heard, after_fail_heard, is_infinite_send}
-use Rattle.path_core.specs.declared.infinite_mapping.InfiniteMapping.{InfiniteMapping}
+use Rattle.path_store.specs.declared.infinite_mapping.InfiniteMapping.{InfiniteMapping}
 use Rattle.path_core.specs.Values.{Carried, values}
 use Rattle.path_core.specs.Words.{item_at}
 use Rattle.path_core.specs.Fallback.{identity_ask, answered_identity, answered_fell}

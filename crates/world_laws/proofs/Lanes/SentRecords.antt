@@ -13,9 +13,9 @@ use Rattle.stream_lanes.specs.Streams.{rises}
 use Rattle.stream_lanes.specs.Words.{Every, Has}
 use Rattle.stream_lanes.specs.Holding.{HasPlace}
 use Rattle.stream_lanes.proofs.Lists.{Every-map, Every-push, IfSome-map, Has-more, in_append, in_more, in_take, in_drop}
-use Rattle.path_core.specs.declared.granted_piece.GrantedPiece.{GrantedPiece}
-use Rattle.path_core.specs.StreamEnds.{is_open}
-use Rattle.path_core.specs.InfiniteSending.{behind, follows, rises_from, is_tail, has_place, position_in, position_of}
+use Rattle.path_store.specs.declared.granted_piece.GrantedPiece.{GrantedPiece}
+use Rattle.path_store.specs.Granted.{is_open}
+use Rattle.path_store.specs.Granted.{behind, follows, rises_from, is_tail, has_place, position_in, position_of}
 
 -- the record has the piece at its position, which counts the SYN
 pub record IsPieceOf (sent : List Cell) (piece : GrantedPiece) : Type 0 where

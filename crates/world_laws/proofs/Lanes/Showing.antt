@@ -14,7 +14,7 @@ use Rattle.path_segments.specs.declared.segment.PathOption.TheVariants.{Capable,
 use Rattle.path_segments.specs.Laws.{window_told}
 use Rattle.path_segments.specs.Options.{PlainOption}
 use Rattle.path_segments.specs.Spelled.{PlainSegment}
-use Rattle.path_core.specs.declared.granted_piece.GrantedPiece.{GrantedPiece}
+use Rattle.path_store.specs.declared.granted_piece.GrantedPiece.{GrantedPiece}
 use Rattle.subflow_send.specs.declared.record.RecordKind.{RecordKind}
 use Rattle.subflow_send.specs.declared.record.RecordKind.TheVariants.{Syn, Data, Fin}
 use Rattle.subflow_send.specs.Records.{Record, SendState}
@@ -28,7 +28,7 @@ use Rattle.stream_lanes.specs.Moves.{bytes_of}
 use Rattle.path_agenda.specs.declared.heard.Heard.{Heard}
 use Rattle.path_agenda.specs.declared.heard.Heard.TheVariants as says
 use Rattle.path_core.specs.Ends.{PathEnd, Treated}
-use Rattle.path_core.specs.declared.infinite_mapping.InfiniteMapping.{InfiniteMapping}
+use Rattle.path_store.specs.declared.infinite_mapping.InfiniteMapping.{InfiniteMapping}
 use Rattle.path_core.specs.declared.modes.Modes.{Modes}
 use Rattle.path_core.specs.Joins.{join_asked}
 use Rattle.path_core.specs.OptionsOut.{place_numbered, bare_mapping}
@@ -38,7 +38,7 @@ use Rattle.link_script.specs.declared.script.ScriptLine.{ScriptLine}
 use Rattle.link_model.specs.Fate.{is_altered}
 use Rattle.path_core.specs.Values.{Carried}
 use Rattle.dss_mapping.specs.Mappings.{octets_of}
-use Rattle.path_core.specs.declared.mapped_data_fin.MappedDataFin.{MappedDataFin}
+use Rattle.path_store.specs.declared.mapped_data_fin.MappedDataFin.{MappedDataFin}
 use Rattle.path_core.specs.Arriving.{checksum_heard}
 use Rattle.dss_checksum.specs.Checksum.{dss_checksum}
 use Rattle.world_laws.proofs.Lanes.SentRecords.{SentShows}

@@ -24,7 +24,7 @@ use Rattle.path_agenda.specs.declared.duty.StepDuty.TheVariants as step_duties
 use Rattle.path_agenda.specs.Agenda.{leaves, resets}
 use Rattle.path_core.specs.Duties.{stands, ask_for, answered}
 use Rattle.path_core.specs.Emission.{first_unsent, data_stands, data_ask, answered_data, payload_size}
-use Rattle.path_core.specs.declared.infinite_mapping.InfiniteMapping.{InfiniteMapping}
+use Rattle.path_store.specs.declared.infinite_mapping.InfiniteMapping.{InfiniteMapping}
 use Rattle.path_core.specs.Ends.{PathEnd}
 use Rattle.std.specs.Option.{IfSome}
 use Rattle.path_core.specs.Events.{next_event, step_for, died}

@@ -16,7 +16,7 @@ use Rattle.stream_lanes.specs.Moves.{clashes, keeps, learns, learns_mapping, pla
 use Rattle.stream_lanes.specs.Moves.Move.{Forget, Hear, Learn, WantPlace, HearFin, SendAck, WantPlacePlain, WantPlacePair, WantFinPair}
 use Rattle.stream_lanes.specs.Words.{Has}
 use Rattle.stream_lanes.proofs.Lists.{in_drop}
-use Rattle.path_core.specs.declared.infinite_mapping.InfiniteMapping.{InfiniteMapping}
+use Rattle.path_store.specs.declared.infinite_mapping.InfiniteMapping.{InfiniteMapping}
 use Rattle.world_laws.proofs.Lanes.Doing.{has_last, least}
 use Rattle.world_laws.proofs.Lanes.Growing.{ReceiverGoes, receiver_stays}
 use Rattle.world_laws.proofs.Lanes.Roads.{Strolls, one_move, stays, then_strolls}

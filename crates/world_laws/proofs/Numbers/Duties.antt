@@ -104,7 +104,7 @@ use Rattle.path_core.specs.InfiniteReceiving.{after_infinite as after_infinite_h
 use Rattle.path_core.specs.InfiniteSending.{may_go_infinite, fail_ask, with_infinite, book_answered, answered_fail, fail_heard_ask, after_fail_heard, answered_fail_heard}
 use Rattle.path_core.specs.FailedChecks.{check_failed_ask, after_check_failed, answered_check_failed}
 use Rattle.path_core.specs.Infinite.{receives_plainly}
-use Rattle.path_core.specs.declared.infinite_mapping.InfiniteMapping.{InfiniteMapping}
+use Rattle.path_store.specs.declared.infinite_mapping.InfiniteMapping.{InfiniteMapping}
 use Rattle.dss_mapping.specs.declared.kept.KeptMapping.{KeptMapping}
 use Rattle.dss_mapping.specs.Mappings.{mapping_at, run_of}
 use Rattle.dss_mapping.specs.Runs.{covers}

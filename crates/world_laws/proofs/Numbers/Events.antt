@@ -31,8 +31,8 @@ use Rattle.path_core.specs.Joining.{is_never, keys_begun, opened_by}
 use Rattle.path_core.specs.Joins.{is_joined}
 use Rattle.path_core.specs.Ends.{PathEnd}
 use Rattle.path_core.specs.Events.{at_tick, died, join_begun, after_line, told_at, heard_in, copy_heard, copy_taken, after_firing, template_fired, timer_fired, happens, happens_if, never_joined, with_priority}
-use Rattle.path_core.specs.declared.lines.LineAction.{LineAction}
-use Rattle.path_core.specs.declared.lines.LineAction.TheVariants as actions
+use Rattle.path_store.specs.declared.lines.LineAction.{LineAction}
+use Rattle.path_store.specs.declared.lines.LineAction.TheVariants as actions
 use Rattle.path_core.specs.State.{PathState, Profile, end_at, goes_on}
 use Rattle.path_core.specs.Values.{Carried, as_arrived, values}
 use Rattle.world_laws.proofs.Lanes.Happening.{without_kept, found_due, side_is}

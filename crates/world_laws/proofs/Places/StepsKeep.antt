@@ -48,10 +48,11 @@ use Rattle.path_core.specs.Arriving.{held_of}
 use Rattle.path_core.specs.Breaking.{reset_of, reset_on, answered_break}
 use Rattle.path_core.specs.Duties.{stands, passed, answered}
 use Rattle.path_core.specs.Emission.{Grant, grant_in, answered_grant, answered_data, first_unsent}
-use Rattle.path_core.specs.Ends.{PathEnd, Receiving}
+use Rattle.path_core.specs.Ends.{PathEnd}
+use Rattle.path_store.specs.Receiving.{Receiving}
 use Rattle.path_core.specs.Events.{next_event, heard_in, at_tick, died, died_unless_dead, after_line, copy_heard, happens_if, join_begun, told_at, never_joined}
-use Rattle.path_core.specs.declared.lines.LineAction.{LineAction}
-use Rattle.path_core.specs.declared.lines.LineAction.TheVariants as actions
+use Rattle.path_store.specs.declared.lines.LineAction.{LineAction}
+use Rattle.path_store.specs.declared.lines.LineAction.TheVariants as actions
 use Rattle.path_core.specs.Joining.{asked_at, is_never, join_taken, keys_begun, opened_by}
 use Rattle.path_core.specs.Passing.{is_placed, piece_of, answered_piece, is_fin_set, answered_fin_heard, answered_plain_fin}
 use Rattle.path_core.specs.Deliver.{Piece, with_learned, with_skipped, is_wrong, forgotten_by, mapping_here}

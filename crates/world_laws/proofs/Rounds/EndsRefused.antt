@@ -45,8 +45,8 @@ use Rattle.path_core.specs.declared.judged.Judged.TheVariants as judged
 use Rattle.path_core.specs.Joining.{is_never, keys_begun, opened_by, asked_at, join_taken}
 use Rattle.path_core.specs.Joins.{is_joined}
 use Rattle.path_core.specs.Events.{next_event, heard_in, at_tick, join_begun, died, died_unless_dead, path_died, after_line, copy_heard, template_fired, happens_if, never_joined, with_priority}
-use Rattle.path_core.specs.declared.lines.LineAction.{LineAction}
-use Rattle.path_core.specs.declared.lines.LineAction.TheVariants as actions
+use Rattle.path_store.specs.declared.lines.LineAction.{LineAction}
+use Rattle.path_store.specs.declared.lines.LineAction.TheVariants as actions
 use Rattle.path_core.specs.Passing.{piece_of, is_placed, answered_piece, is_fin_set, answered_fin_heard, answered_plain_fin}
 use Rattle.path_core.specs.Deliver.{Piece, with_learned}
 use Rattle.path_core.specs.Handover.{sent_on}

@@ -47,8 +47,8 @@ use Rattle.path_core.specs.Duties.{stands, passed, answered, ask_for}
 use Rattle.path_core.specs.Emission.{Grant, grant_in, answered_grant, answered_data, first_unsent}
 use Rattle.path_core.specs.Ends.{PathEnd}
 use Rattle.path_core.specs.Events.{next_event, after_line, at_tick, died, join_begun, copy_heard, heard_in, happens_if, told_at, never_joined}
-use Rattle.path_core.specs.declared.lines.LineAction.{LineAction}
-use Rattle.path_core.specs.declared.lines.LineAction.TheVariants as actions
+use Rattle.path_store.specs.declared.lines.LineAction.{LineAction}
+use Rattle.path_store.specs.declared.lines.LineAction.TheVariants as actions
 use Rattle.path_core.specs.Joining.{keys_begun, is_never, opened_by, join_taken, asked_at}
 use Rattle.path_core.specs.Joins.{is_joined, join_answer}
 use Rattle.path_core.specs.Opening.{keys_in, answered_peer_key, answered_opened}
