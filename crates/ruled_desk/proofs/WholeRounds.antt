@@ -1,10 +1,11 @@
 -- A round over six books, from what its desk promises of each rider.
-use Rattle.std.proofs.Common.{◌≡◌, refl, sym, ◌∙◌, ap, subst, ℕ, zero, suc, ◌-◌, ◌^◌, ◌<◌, ◌≤◌, ◌⊎◌, inl, inr, Bool, true, false, ◌||◌, List, [], ◌∷◌, ◌++◌, length, map, take, drop, Option, Some, None, Result, Ok, Err, arith}
+use Rattle.std.proofs.Common.{◌≡◌, refl, sym, ◌∙◌, ap, subst, ℕ, zero, suc, ◌-◌, ◌^◌, ◌<◌, ◌≤◌, ◌⊎◌, ◌↔◌, inl, inr, Bool, true, false, ◌||◌, List, [], ◌∷◌, ◌++◌, length, map, take, drop, Option, Some, None, Result, Ok, Err, arith}
 use Rattle.std.proofs.Math.Seq.{take-append_seam}
-use Rattle.std.proofs.lemmas.List.{get_or-map, length-map}
+use Rattle.std.proofs.lemmas.List.{append-nil, get_or-map, length-map}
 use Rattle.std.specs.Prelude.{All, OnOk}
 use Rattle.stamped_book.specs.declared.stamped.Refusal.{Refusal}
-use Rattle.std.specs.List.{slice_index_or}
+use Rattle.stamped_book.specs.declared.stamped.Refusal.TheVariants.{Memory, Stamps}
+use Rattle.std.specs.List.{list_any, slice_index_or}
 use Rattle.outside_kit.specs.declared.side.Side.TheVariants as side
 use Rattle.stamped_book.specs.declared.stamped.Entry.{Entry}
 use Rattle.actor_desk.specs.declared.actor.Crew.{Crew}
@@ -15,14 +16,14 @@ use Rattle.actor_desk.specs.declared.ask.Reply.{Reply}
 use Rattle.actor_desk.specs.Books.{StampedBooks}
 use Rattle.actor_desk.specs.Journals.{send_note, reassembly_note, control_note}
 use Rattle.subflow_worker.specs.Extending.{Extends, BooksExtend}
-use Rattle.subflow_worker.specs.Turns.{Turned}
+use Rattle.subflow_worker.specs.Turns.{Turned, is_refused}
 use Rattle.ruled_desk.specs.declared.rider.Rider.{Rider}
 use Rattle.ruled_lock.specs.Growing.{HasLastStamp}
-use Rattle.ruled_desk.specs.Riding.{AreNumbered, HasPass, NotesFull, OneIsUsedUp, Rode, all_joined, given_pass, known_with, pass_taken}
+use Rattle.ruled_desk.specs.Riding.{AreNumbered, HasPass, NotesFull, OneIsUsedUp, Rode, all_joined, given_pass, is_rider_refused, known_with, pass_taken}
 use Rattle.ruled_lock.specs.Seats.{GainsJust}
 use Rattle.stamped_book.specs.Journal.{Journaled}
 use Rattle.ruled_desk.specs.SixSeats.{SixLocked, SixKnown, Passed, AllGainJust, all_known, nothing_known, notes_full}
-use Rattle.ruled_desk.specs.WholeRounds.{AreActors, IsWholeRound, OneIsFull, OneKnowsLast, crew_of, without_pass}
+use Rattle.ruled_desk.specs.WholeRounds.{AllTurned, AreActors, EndsAsTurns, IsWholeRound, OneIsFull, OneKnowsLast, crew_of, without_pass}
 use Rattle.ruled_desk.proofs.Gaining.{In, any_of, gain_alike, in_contains}
 
 module _ {A : Type 0} where
@@ -73,6 +74,21 @@ all_extend before after known gains = record {
   control_b = extends before.control_b after.control_b known.control_b.own known.control_b.full gains.control_b;
 }
 
+stays : {O C R : Type 0} (old : Journaled O C R) → Extends old old
+stays old = record { more = []; opening = refl; journal = sym (append-nil old.journal) }
+
+-- books that are as they were
+pub same_extend : (before after : StampedBooks) → after ≡ before → BooksExtend before after
+same_extend before after same =
+    subst (λ books. BooksExtend before books) (sym same) (record {
+      send_a = stays before.send_a;
+      send_b = stays before.send_b;
+      reassembly_a = stays before.reassembly_a;
+      reassembly_b = stays before.reassembly_b;
+      control_a = stays before.control_a;
+      control_b = stays before.control_b;
+    })
+
 module _ {A : Type 0} (asks : A → Option Ask) (takes : Reply → A → A) (desk : SixLocked) where
   abbrev Rides : List (Rider A) → List (Rider A) → Type 0
   Rides old new = (i : ℕ) (d : Rider A) → i < length old → Rode asks takes desk (slice_index_or old i d) (slice_index_or new i d)
@@ -116,6 +132,26 @@ module _ {A : Type 0} (asks : A → Option Ask) (takes : Reply → A → A) (des
   pub lists_again : (riders : List (Rider A)) → map (λ (c : Crew A). c.list) (crew_of riders) ≡ map (λ (r : Rider A). r.crew.list) riders
   lists_again [] = refl
   lists_again (rider ∷ riders) = ap (λ rest. rider.crew.list ∷ rest) (lists_again riders)
+
+  -- their refusals are those of the riders
+  refused_again : (kind : Refusal) (riders : List (Rider A)) → list_any (is_rider_refused kind) riders ≡ list_any (is_refused kind) (crew_of riders)
+  refused_again kind [] = refl
+  refused_again kind (rider ∷ riders) = ap (λ b. is_refused kind rider.crew || b) (refused_again kind riders)
+
+  -- whatever the round answered
+  pub ends_then : {T : Type 0} (r : Result T Refusal) (old given new taken : List (Rider A)) → given ≡ map (given_pass desk) old
+      → length new ≡ length given → Rides given new → taken ≡ map pass_taken new → ((r ≡ Err Memory) ↔ (list_any (is_rider_refused Memory) new ≡ true))
+      → ((r ≡ Err Stamps) ↔ ((list_any (is_rider_refused Memory) new ≡ false) × (list_any (is_rider_refused Stamps) new ≡ true)))
+      → EndsAsTurns asks takes (crew_of old) (crew_of taken) r
+  ends_then r old given new taken given_is long rides taken_is memory stamps =
+      let many : length new ≡ length old = long ∙ ap (λ l. length l) given_is ∙ length-map old (given_pass desk) in
+      let rode : Rides (map (given_pass desk) old) new = subst (λ l. Rides l new) given_is rides in
+      subst (λ crew. EndsAsTurns asks takes (crew_of old) crew r) (sym (ap (λ l. crew_of l) taken_is ∙ crew_taken new)) (record {
+        turned = all_turned old new many (rode_given old new rode);
+        memory = subst (λ b. (r ≡ Err Memory) ↔ (b ≡ true)) (refused_again Memory new) memory;
+        stamps = subst (λ b. (r ≡ Err Stamps) ↔ ((list_any (is_refused Memory) (crew_of new) ≡ false) × (b ≡ true))) (refused_again Stamps new)
+            (subst (λ b. (r ≡ Err Stamps) ↔ ((b ≡ false) × (list_any (is_rider_refused Stamps) new ≡ true))) (refused_again Memory new) stamps);
+      })
 
   -- the whole round
   pub whole_round : (old new : List (Rider A)) (before after : StampedBooks) → length new ≡ length old → Rides (map (given_pass desk) old) new

@@ -15,7 +15,8 @@ ghost use Rattle.actor_desk.specs.Noted.{note_of, with_note};
 ghost use Rattle.ruled_desk.specs.declared.rider.Rider.{Rider};
 ghost use Rattle.ruled_desk.specs.Riding.{AreNumbered, HasPass, OneIsUsedUp, Rode, is_rider_refused};
 ghost use Rattle.ruled_desk.specs.SixSeats.{AreOf, given_to, nobody_out, nothing_known, notes_by, notes_full};
-ghost use Rattle.ruled_desk.specs.WholeRounds.{AreActors, IsWholeRound, OneIsFull, OneKnowsLast, crew_of};
+ghost use Rattle.ruled_desk.specs.WholeRounds.{AreActors, EndsAsTurns, IsWholeRound, NoTurnMade, OneIsFull, OneKnowsLast, crew_of};
+ghost use Rattle.subflow_worker.specs.Extending.{BooksExtend};
 
 use crate::desk::{OpenFault, RootPass, RuledDesk, RuledPass};
 use crate::mounting::{dismount, mount};
@@ -335,6 +336,9 @@ fn ride_at<A: Actor + Send, G: Gate + Sync, R: Threads + Wait + Sync>(
     ensures used_up { result.0 ≡ Err Stamps →
         OneKnowsLast (crew_of riders.new) ⊎ OneIsFull result.1 }
     ensures many { length riders.new ≡ length riders.old }
+    ensures turned { EndsAsTurns A.asks A.takes
+        (crew_of riders.old) (crew_of riders.new) result.0 }
+    ensures extend { BooksExtend (given_to desk) result.1 }
 {
     let mut root = root;
     desk.split_all(&mut root, riders);
@@ -357,6 +361,9 @@ fn ride_all<A: Actor + Send, G: Gate + Sync, R: Threads + Wait + Sync>(
     ensures used_up { result.0 ≡ Err Stamps →
         OneKnowsLast (crew_of riders.new) ⊎ OneIsFull result.1 }
     ensures many { length riders.new ≡ length riders.old }
+    ensures turned { EndsAsTurns A.asks A.takes (crew_of riders.old) (crew_of riders.new) result.0 ⊎
+        NoTurnMade (crew_of riders.old) (crew_of riders.new) books result.1 result.0 }
+    ensures extend { BooksExtend books result.1 }
 {
     match RuledDesk::open(alloc, books) {
         Ok((desk, root)) => ride_at(rt, alloc, riders, desk, root, gate),
@@ -365,13 +372,15 @@ fn ride_all<A: Actor + Send, G: Gate + Sync, R: Threads + Wait + Sync>(
 }
 
 /// A round over these books, each in a table of its own for as long as the round takes: how [`ruled_round`] ended, and the books.
-/// The actors are those from 0 on, and they are there again afterwards. At Ok each made its turn to its end, and each entry that a journal gained is a note of an
-/// actor's list, and each note of a call at a book that a list gained is an entry.
+/// The actors are those from 0 on, and they are there again afterwards. At Ok each made its turn to its end, and each entry
+/// that a journal gained is a note of an actor's list, and each note of a call at a book that a list gained is an entry.
+/// Whatever the answer, each journal goes on from the one that was given, and the steps that were made stand.
 ///
 /// # Errors
 ///
-/// `Memory` where there is none for the tables, for the passes or for a step; else `Stamps` where stamps were used up: then an
-/// actor knows the last stamp, 2^62 - 1, or an entry of a journal has it.
+/// `Memory` where there is none for the tables, and then actors and books are as they were, or where a turn stopped for want of
+/// it; else `Stamps` where one stopped since stamps were used up: then an actor knows the last stamp, 2^62 - 1, or an entry of a
+/// journal has it.
 pub fn round_at_tables<A: Actor + Drop + Send, G: Gate + Sync, R: Threads + Wait + Sync>(
     rt: &R,
     alloc: Global,
@@ -384,6 +393,9 @@ pub fn round_at_tables<A: Actor + Drop + Send, G: Gate + Sync, R: Threads + Wait
     ensures ok { OnOk result.0
         (IsWholeRound A.asks A.takes crew.old.items crew.new.items books result.1) }
     ensures used_up { result.0 ≡ Err Stamps → OneKnowsLast crew.new.items ⊎ OneIsFull result.1 }
+    ensures turned { EndsAsTurns A.asks A.takes crew.old.items crew.new.items result.0 ⊎
+        NoTurnMade crew.old.items crew.new.items books result.1 result.0 }
+    ensures extend { BooksExtend books result.1 }
 {
     let mut riders = match mount(alloc, crew) {
         Ok(riders) => riders,

@@ -126,7 +126,8 @@ impl<N: Naming, G: Gate, R: Wait> Desk for LockedSeat<'_, N, G, R> {
 
     ghost root = { λ seat. [] };
 
-    /// Asks a book, which may wait for its lock. Every actor is served. After a refusal the pass is as before.
+    /// Asks a book, which may wait for its lock. Every actor is served. After a refusal the pass is as before; no clause says
+    /// what it was refused for.
     fn call(&mut self, pass: &mut Pass, ask: &Ask) -> Result<Reply, Refusal>
         requires book { is_local ask.now ≡ false }
         requires conditions { CanBeAsked ask.now }
@@ -187,7 +188,8 @@ fn turn_at<A: Actor, N: Naming, G: Gate, R: Wait>(
 ///
 /// # Errors
 ///
-/// `Memory` where a turn stopped for want of memory; else `Stamps` where one stopped since stamps were used up.
+/// `Memory` where a turn was refused with it; else `Stamps` where one was. No clause says that stamps were used up then: what a
+/// seat saw of a book can't be named once its lock is free.
 pub fn round<A: Actor + Send, N: Naming + Send + Sync, G: Gate + Sync, R: Threads + Wait + Sync>(
     rt: &R,
     alloc: Global,

@@ -141,8 +141,8 @@ fn steps<A: Actor, D: Desk>(alloc: Global, crew: &mut Crew<A>, desk: &mut D) -> 
 ///
 /// # Errors
 ///
-/// `Memory` where there is none for a step, and `Stamps` where the next stamp would be 2^62 or more. The steps made so far
-/// stand; the desk may have noted one more. `refused` is told which it was.
+/// `Memory` where there is none for a step, and `Stamps` where the pass stands at 2^62 - 1 or more, or the desk is full for what
+/// the actor asks. The steps made so far stand; the desk may have noted one more. `refused` is told which it was.
 pub fn turn<A: Actor, D: Desk, G: Gate>(
     alloc: Global,
     crew: &mut Crew<A>,

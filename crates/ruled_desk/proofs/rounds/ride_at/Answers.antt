@@ -4,7 +4,7 @@ use Rattle.std.specs.Prelude.{All}
 use Rattle.ruled_desk.specs.Riding.{AreNumbered, HasPass, given_pass}
 use Rattle.ruled_desk.specs.SixSeats.{AreOf, is_out}
 use Rattle.ruled_desk.proofs.PassesGiven.{nobody_is_out, of_nothing}
-use Rattle.ruled_desk.proofs.WholeRounds.{all_given, all_have, numbered_given, still_numbered, used_up_then, whole_ok}
+use Rattle.ruled_desk.proofs.WholeRounds.{all_extend, all_given, all_have, ends_then, numbered_given, still_numbered, used_up_then, whole_ok}
 use Rattle.ruled_desk.proofs.rounds.ride_at.Goals as goal
 
 pub split_all-requires-clause-root : goal.split_all-requires-clause-root
@@ -48,3 +48,12 @@ pub returns-clause-used_up : goal.returns-clause-used_up
 returns-clause-used_up g c is =
     used_up_then c.ruled_round-told.new.riders c.join_all.new.riders _ c.close.result c.join_all.new.root.books c.split_all.new.root.books
     c.join_all.ensures.riders c.join_all.ensures.books c.close.ensures (c.ruled_round-told.ensures.used_up is)
+
+pub returns-clause-turned : goal.returns-clause-turned
+returns-clause-turned g c =
+    ends_then g.A.Actor.asks g.A.Actor.takes c.args.desk c.ruled_round-told.result c.args.riders.now c.split_all.new.riders c.ruled_round-told.new.riders
+    c.join_all.new.riders c.split_all.ensures.riders c.ruled_round-told.ensures.many c.ruled_round-told.ensures.rode c.join_all.ensures.riders
+    c.ruled_round-told.ensures.memory c.ruled_round-told.ensures.stamps
+
+pub returns-clause-extend : goal.returns-clause-extend
+returns-clause-extend g c = all_extend _ c.close.result c.join_all.new.root.books c.close.ensures

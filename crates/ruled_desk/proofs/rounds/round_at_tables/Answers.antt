@@ -1,9 +1,9 @@
-use Rattle.std.proofs.Common.{◌≡◌, ◌⊎◌, sym, ◌∙◌, ap, subst, List, length, OnOk, arith}
+use Rattle.std.proofs.Common.{◌≡◌, refl, inr, ◌⊎◌, sym, ◌∙◌, ap, subst, List, length, OnOk, arith}
 use Rattle.std.proofs.lemmas.List.{length-map}
 use Rattle.actor_desk.specs.declared.actor.Crew.{Crew}
 use Rattle.ruled_desk.specs.Riding.{AreNumbered}
-use Rattle.ruled_desk.specs.WholeRounds.{IsWholeRound, OneIsFull, OneKnowsLast, crew_of, without_pass}
-use Rattle.ruled_desk.proofs.WholeRounds.{crew_again, lent_riders, numbered_riders}
+use Rattle.ruled_desk.specs.WholeRounds.{EndsAsTurns, IsWholeRound, NoTurnMade, OneIsFull, OneKnowsLast, crew_of, without_pass}
+use Rattle.ruled_desk.proofs.WholeRounds.{crew_again, lent_riders, numbered_riders, same_extend}
 use Rattle.ruled_desk.proofs.rounds.round_at_tables.Goals as goal
 
 pub ride_all-told-requires-after_bounds : goal.ride_all-told-requires-after_bounds
@@ -33,3 +33,19 @@ returns-clause-many g c =
     c.in-Ok.riders.items c.dismount.new.crew.items (omega (arith, c.deref_mut.ensures.len, c.ride_all-told.ensures.many)) c.dismount.ensures
     (length-map c.ride_all-told.new.riders (λ rider. rider.crew) ∙ c.ride_all-told.ensures.many
     ∙ ap (λ l. length l) (c.deref_mut.ensures.value ∙ c.in-Ok.ensures.riders) ∙ length-map c.args.crew.now.items without_pass)
+
+pub returns-clause-turned : goal.returns-clause-turned
+returns-clause-turned g c =
+    lent_riders (λ (crew : List (Crew g.row.A.Denot)). EndsAsTurns g.A.Actor.asks g.A.Actor.takes c.args.crew.now.items crew c.ride_all-told.result.0
+    ⊎ NoTurnMade c.args.crew.now.items crew c.args.books c.ride_all-told.result.1 c.ride_all-told.result.0)
+    c.in-Ok.riders.len c.ride_all-told.new.riders c.in-Ok.riders.items c.dismount.new.crew.items
+    (omega (arith, c.deref_mut.ensures.len, c.ride_all-told.ensures.many)) c.dismount.ensures
+    (subst (λ (crew : List (Crew g.row.A.Denot)). EndsAsTurns g.A.Actor.asks g.A.Actor.takes crew (crew_of c.ride_all-told.new.riders) c.ride_all-told.result.0
+    ⊎ NoTurnMade crew (crew_of c.ride_all-told.new.riders) c.args.books c.ride_all-told.result.1 c.ride_all-told.result.0)
+    (ap (λ l. crew_of l) (c.deref_mut.ensures.value ∙ c.in-Ok.ensures.riders) ∙ crew_again c.args.crew.now.items) c.ride_all-told.ensures.turned)
+
+pub returns-in-Err-clause-turned : goal.returns-in-Err-clause-turned
+returns-in-Err-clause-turned g c = inr (record { memory = refl; crew = c.in-Err.ensures.err; books = refl })
+
+pub returns-in-Err-clause-extend : goal.returns-in-Err-clause-extend
+returns-in-Err-clause-extend g c = same_extend c.args.books c.args.books refl
