@@ -1,5 +1,5 @@
 -- The connections of a list, loaded and admitted one after the other.
-use Rattle.std.proofs.Common.{◌≡◌, refl, sym, ◌∙◌, ap, subst, ℕ, zero, suc, ◌+◌, ◌<◌, ◌≤◌, ◌⊎◌, inl, inr, List, [], ◌∷◌, ◌++◌, length, get_or, map, take, drop, arith}
+use Rattle.std.proofs.Common.{◌≡◌, refl, sym, ◌∙◌, ap, subst, ℕ, zero, suc, ◌+◌, ◌<◌, ◌≤◌, ◌⊎◌, inl, inr, List, [], ◌∷◌, ◌++◌, length, get_or, map, take, drop, None, arith}
 use Rattle.std.specs.Prelude.{IfSome}
 use Rattle.std.specs.List.{All}
 use Rattle.std.proofs.lemmas.List.{length-append, length-map, map-append, take_more}
@@ -11,9 +11,10 @@ use Rattle.connection_list.specs.declared.list.Listed.{Listed}
 use Rattle.listed_inputs.specs.declared.many.Many.{Many}
 use Rattle.listed_inputs.specs.declared.many.Many.TheVariants.{Done, Usage, Load, TooLong, List as Listing, Script, SameToken, Put, Memory}
 use Rattle.listed_inputs.specs.Causes.{IsInputFault}
-use Rattle.listed_inputs.specs.Inputs.{Contents, IsInput, IsLong}
+use Rattle.listed_inputs.specs.Inputs.{AreWithin, Contents, IsInput, IsLong}
 use Rattle.connection_table.specs.ManyEnds.{AreAdmitted, AreInputs, AtFault, IsAdmitFault, IsListedFault}
 use Rattle.connection_table.specs.Tables.{Entry, Stands, holder_of, key_token, opened_entry}
+use Rattle.connection_table.proofs.OwnTokens.{apart_more}
 
 -- ---- a connection more
 
@@ -26,13 +27,14 @@ module _ (content : Contents) where
   inputs_more (n ∷ names) (x ∷ inputs) at input are is = (are.0, inputs_more names inputs at input are.1 is)
 
   pub admitted_none : AreAdmitted content [] []
-  admitted_none = record { inputs = []; are = tt; table_is = refl }
+  admitted_none = record { inputs = []; are = tt; apart = tt; table_is = refl }
 
   pub admitted_more : (names : List Names) (table : List Entry) (at : Names) (input : Input) → AreAdmitted content names table → IsInput content at input
-      → AreAdmitted content (names ++ at ∷ []) (table ++ opened_entry input ∷ [])
-  admitted_more names table at input are is = record {
+      → holder_of (key_token input.script) table ≡ None → AreAdmitted content (names ++ at ∷ []) (table ++ opened_entry input ∷ [])
+  admitted_more names table at input are is new = record {
     inputs = are.inputs ++ input ∷ [];
     are = inputs_more names are.inputs at input are.are is;
+    apart = apart_more are.inputs input are.apart (ap (holder_of (key_token input.script)) (sym are.table_is) ∙ new);
     table_is = ap (λ es. es ++ opened_entry input ∷ []) are.table_is ∙ sym (map-append opened_entry are.inputs (input ∷ []));
   }
 
@@ -45,8 +47,10 @@ module _ (c d : Contents) (same : (name : List ℕ) → c name ≡ d name) where
   pub input_of_same : (names : Names) (input : Input) → IsInput c names input → IsInput d names input
   input_of_same names input is = record {
     script = if_told names.script _ is.script;
+    within = if_told names.script _ is.within;
     file_a = if_told names.file_a _ is.file_a;
     file_b = if_told names.file_b _ is.file_b;
+    short = is.short;
   }
 
   inputs_of_same : (names : List Names) (inputs : List Input) → AreInputs c names inputs → AreInputs d names inputs
@@ -56,16 +60,23 @@ module _ (c d : Contents) (same : (name : List ℕ) → c name ≡ d name) where
   inputs_of_same (n ∷ names) (x ∷ inputs) are = (input_of_same n x are.0, inputs_of_same names inputs are.1)
 
   pub admitted_of_same : (names : List Names) (table : List Entry) → AreAdmitted c names table → AreAdmitted d names table
-  admitted_of_same names table are = record { inputs = are.inputs; are = inputs_of_same names are.inputs are.are; table_is = are.table_is }
+  admitted_of_same names table are = record { inputs = are.inputs; are = inputs_of_same names are.inputs are.are; apart = are.apart; table_is = are.table_is }
 
   long_of_same : (names : Names) → IsLong c names → IsLong d names
   long_of_same names long = record { name = long.name; among = long.among; long = if_told long.name _ long.long }
+
+  within_of_same : (names : Names) → AreWithin c names → AreWithin d names
+  within_of_same names are = record {
+    script = if_told names.script _ are.script;
+    file_a = if_told names.file_a _ are.file_a;
+    file_b = if_told names.file_b _ are.file_b;
+  }
 
   module _ (old middle new : ℕ) (few : old ≤ middle) where
     fault_of_same : (entry : ℕ) (names : Names) (many : Many) → IsInputFault entry c names middle new many → IsInputFault entry d names old new many
     fault_of_same entry names (Load line) fault = (fault.0, risen_later old middle new few fault.1)
     fault_of_same entry names (TooLong line) fault = (fault.0, long_of_same names fault.1)
-    fault_of_same entry names (Script named line kind) fault = (fault.0, if_told names.script _ fault.1)
+    fault_of_same entry names (Script named line kind) fault = (fault.0, (within_of_same names fault.1.0, if_told names.script _ fault.1.1))
     fault_of_same entry names Memory fault = tt
     fault_of_same entry names Done fault = absurd fault
     fault_of_same entry names Usage fault = absurd fault
@@ -89,6 +100,7 @@ module _ (c d : Contents) (same : (name : List ℕ) → c name ≡ d name) where
       before = fault.before;
       inputs = fault.inputs;
       admitted = inputs_of_same fault.before fault.inputs fault.admitted;
+      apart = fault.apart;
       cause = by fault.cause;
     }
       where
@@ -105,7 +117,7 @@ module _ (content : Contents) (before behind : List Names) (at : Names) (table :
 
   module _ (old new : ℕ) where
     pub listed_fault : (many : Many) → AtFault content are.inputs at old new many → IsListedFault content (before ++ at ∷ behind) old new many
-    listed_fault many fault = record { before = before; inputs = are.inputs; admitted = are.are; cause = inr (at, (behind, (refl, fault))) }
+    listed_fault many fault = record { before = before; inputs = are.inputs; admitted = are.are; apart = are.apart; cause = inr (at, (behind, (refl, fault))) }
 
     at_input : (entry : ℕ) (many : Many) → entry ≡ length are.inputs → IsInputFault entry content at old new many → AtFault content are.inputs at old new many
     at_input entry (Load line) is fault = subst (λ n. IsInputFault n content at old new (Load line)) is fault
@@ -174,13 +186,14 @@ module _ (c d : Contents) (same : (name : List ℕ) → c name ≡ d name) (list
         whole_list (refused c (map as_names (take i listed)) (map as_names (drop (suc i) listed)) at_i table are_now middle new input many is
         (subst (λ n. IsAdmitFault n (holder_of (key_token input.script) table) many) entry_is fault))
 
-  pub entry_admitted : (input : Input) (new : List Entry) → IsInput c at_i input → new ≡ table ++ opened_entry input ∷ [] → AreAdmitted d (map as_names (take (i + 1) listed)) new
-  entry_admitted input new is new_is =
+  pub entry_admitted : (input : Input) (new : List Entry) → IsInput c at_i input → holder_of (key_token input.script) table ≡ None
+      → new ≡ table ++ opened_entry input ∷ [] → AreAdmitted d (map as_names (take (i + 1) listed)) new
+  entry_admitted input new is apart new_is =
       let names_are : map as_names (take (i + 1) listed) ≡ map as_names (take i listed) ++ at_i ∷ [] =
       ap (map as_names) (take_more listed i e within) ∙ map-append as_names (take i listed) (get_or listed i e ∷ []) in
       subst (λ ns. AreAdmitted d ns new) (sym names_are)
       (subst (λ t. AreAdmitted d (map as_names (take i listed) ++ at_i ∷ []) t) (sym new_is)
-      (admitted_more d (map as_names (take i listed)) table at_i input are (input_of_same c d same at_i input is)))
+      (admitted_more d (map as_names (take i listed)) table at_i input are (input_of_same c d same at_i input is) apart))
 
 pub count_more : (table new : List Entry) (e : Entry) (i : ℕ) → length table ≡ i → new ≡ table ++ e ∷ [] → length new ≡ i + 1
 count_more table new e i count is =

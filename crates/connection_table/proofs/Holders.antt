@@ -21,7 +21,7 @@ module _ {X : Type 0} (test : X → Bool) where
       let inside : nat_lt (position_or_len test xs) (length xs) ≡ true = lt-ltb (position_or_len test xs) (length xs) (omega (arith, first)) in
       ap (λ b. cond b (Some (position_or_len test xs)) None) inside ∙ ap (λ n. Some n) first
 
-  no_place : (xs : List X) → position test xs ≡ None → length xs ≤ position_or_len test xs
+  pub no_place : (xs : List X) → position test xs ≡ None → length xs ≤ position_or_len test xs
   no_place xs none = by (nat_lt (position_or_len test xs) (length xs)) refl none
     where
       by : (b : Bool) → nat_lt (position_or_len test xs) (length xs) ≡ b → cond b (Some (position_or_len test xs)) None ≡ None → length xs ≤ position_or_len test xs

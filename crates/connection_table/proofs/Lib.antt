@@ -8,6 +8,8 @@ mod Isolation
 mod RoundMore
 mod EachMade
 mod LinesPut
+mod LoadsMade
+mod OwnTokens
 mod Admitted
 mod RunEnds
 mod ValidLists

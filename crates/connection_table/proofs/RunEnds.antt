@@ -1,15 +1,17 @@
 -- How a run of a list ends: from its loads, its rounds and its lines.
-use Rattle.std.proofs.Common.{◌≡◌, subst, ℕ, ◌⊎◌, inl, inr, Option, Ok, List, [], ◌∷◌, ◌++◌, map}
+use Rattle.std.proofs.Common.{◌≡◌, subst, ℕ, ◌⊎◌, inl, inr, Option, List, [], ◌∷◌, ◌++◌, map}
+use Rattle.std.specs.List.{All}
 use Rattle.std.specs.Prelude.{IfSome, ◌≢◌}
+use Rattle.std.proofs.lemmas.List.Elements.{All-nil, All-cons}
 use Rattle.std.proofs.lemmas.Option.{IfSome_then}
 use Rattle.outside_kit.specs.Outside.{HasRisen, HoldsPrefix}
 use Rattle.run_outside.specs.declared.input.Input.{Input}
-use Rattle.connection_list.specs.Lists.{Names, list_reading}
+use Rattle.connection_list.specs.Lists.{Names}
 use Rattle.connection_list.specs.Words.{NamedList}
 use Rattle.listed_inputs.specs.declared.many.Many.{Many}
 use Rattle.listed_inputs.specs.declared.many.Many.TheVariants.{Done, Usage, Load, TooLong, List as Listing, Script, SameToken, Put, Memory}
-use Rattle.listed_inputs.specs.Inputs.{Contents}
-use Rattle.connection_table.specs.ManyEnds.{AreAdmitted, AreOfList, AreSerial, AtFault, IsEnd, IsListedFault, IsLoadingFault, IsOfListed, IsPutFault, IsTableOf}
+use Rattle.listed_inputs.specs.Inputs.{Contents, IsShort}
+use Rattle.connection_table.specs.ManyEnds.{AreAdmitted, AreInputs, AreOfList, AreSerial, AtFault, IsEnd, IsListedFault, IsLoadingFault, IsOfListed, IsPutFault, IsTableOf, Says}
 use Rattle.connection_table.specs.ManyLines.{lines_of, state_of}
 use Rattle.connection_table.specs.ManyRounds.{EachRound, IsSerialEnd}
 use Rattle.connection_table.specs.Tables.{Entry, opened_entry}
@@ -17,9 +19,9 @@ use Rattle.connection_table.specs.Tables.{Entry, opened_entry}
 -- ---- before any line is put
 
 module _ (content : Contents) (words : NamedList) (old new : ℕ) (bytes : List ℕ) (whole : IfSome (content words.list) (λ told. bytes ≡ told)) (names : List Names)
-    (read : list_reading bytes ≡ Ok names) where
+    (read : Says bytes names) where
   of_listed : (many : Many) → IsListedFault content names old new many → IsOfListed content words old new many
-  of_listed many fault = IfSome_then (content words.list) whole (λ told is. (names, (subst (λ xs. list_reading xs ≡ Ok names) is read, fault)))
+  of_listed many fault = IfSome_then (content words.list) whole (λ told is. (names, (subst (λ xs. Says xs names) is read, fault)))
 
   -- what holds of the cause of one of its connections
   caused : (many : Many) (P : Type 0) → many ≢ Memory → ((inputs : List Input) (at : Names) → AtFault content inputs at old new many → P)
@@ -45,12 +47,21 @@ module _ (content : Contents) (words : NamedList) (old new : ℕ) (bytes : List 
   one_refused Usage fault = caused Usage ⊥ (λ e. cc) (λ inputs at h. h) fault
   one_refused Put fault = caused Put ⊥ (λ e. cc) (λ inputs at h. h) fault
 
+-- what they begin with is within the limit
+all_short : (content : Contents) (names : List Names) (inputs : List Input) → AreInputs content names inputs → All IsShort inputs
+all_short content [] [] are = All-nil IsShort
+all_short content [] (x ∷ inputs) are = absurd are
+all_short content (n ∷ names) [] are = absurd are
+all_short content (n ∷ names) (x ∷ inputs) are = All-cons IsShort x inputs are.0.short (all_short content names inputs are.1)
+
 -- all of them were admitted
 pub table_of : (content : Contents) (words : NamedList) (bytes : List ℕ) (names : List Names) (table : List Entry) → IfSome (content words.list) (λ told. bytes ≡ told)
-    → list_reading bytes ≡ Ok names → AreAdmitted content names table → IsTableOf content words table
+    → Says bytes names → AreAdmitted content names table → IsTableOf content words table
 table_of content words bytes names table whole read are = record {
   inputs = are.inputs;
-  are = IfSome_then (content words.list) whole (λ told is. (names, (subst (λ xs. list_reading xs ≡ Ok names) is read, are.are)));
+  are = IfSome_then (content words.list) whole (λ told is. (names, (subst (λ xs. Says xs names) is read, are.are)));
+  short = all_short content names are.inputs are.are;
+  apart = are.apart;
   table_is = are.table_is;
 }
 
@@ -67,6 +78,8 @@ pub of_list : (content : Contents) (words : NamedList) (before after : List Entr
 of_list content words before after of each = record {
   inputs = of.inputs;
   are = of.are;
+  short = of.short;
+  apart = of.apart;
   serial = serial_of words.rounds of.inputs after (subst (λ es. EachRound (IsSerialEnd words.rounds) es after) of.table_is each);
 }
 

@@ -16,7 +16,7 @@ use Rattle.connection_list.specs.Words.{NamedList}
 use Rattle.listed_inputs.specs.declared.many.Many.{Many}
 use Rattle.listed_inputs.specs.declared.many.Many.TheVariants.{Done, Usage, Load, TooLong, List as Listing, Script, SameToken, Put, Memory}
 use Rattle.listed_inputs.specs.Inputs.{Contents, IsInput, IsLong}
-use Rattle.connection_table.specs.ManyEnds.{AreApart, AreInputs, AreValidInputs, AtFault, IsEnd, IsListedFault, IsOfListed, IsValid, IsValidInput}
+use Rattle.connection_table.specs.ManyEnds.{AreApart, AreInputs, AreValidInputs, AtFault, IsEnd, IsListedFault, IsOfListed, IsValid, IsValidInput, Says}
 use Rattle.connection_table.specs.Tables.{Entry, holder_of, key_token, opened_entry}
 
 abbrev token_in : Input → ℕ
@@ -124,14 +124,14 @@ module _ (content : Contents) (words : NamedList) (valid : IsValid content words
   of_valid : (many : Many) → many ≢ Memory → IsSound many → IsOfListed content words old new many → ⊥
   of_valid many not sound of = by fault.cause
     where
-      read : (names : List Names) × ((list_reading valid.list ≡ Ok names) × IsListedFault content names old new many)
+      read : (names : List Names) × (Says valid.list names × IsListedFault content names old new many)
       read = told _ of
 
       fault : IsListedFault content read.0 old new many
       fault = read.1.1
 
       names_is : read.0 ≡ valid.names
-      names_is = let both : Ok read.0 ≡ Ok valid.names = sym read.1.0 ∙ valid.read in cc
+      names_is = let both : Ok read.0 ≡ Ok valid.names = sym read.1.0.1 ∙ valid.read in cc
 
       at_one : (at : Names) (behind : List Names) → read.0 ≡ fault.before ++ at ∷ behind → AtFault content fault.inputs at old new many → ⊥
       at_one at behind is cause =
@@ -148,15 +148,15 @@ module _ (content : Contents) (words : NamedList) (valid : IsValid content words
   not_too_long line (inr of) =
       of_valid (TooLong line) (λ e. cc) (λ before behind at p fault. not_long content at p.input p.at_valid fault.1) of
 
-  not_listing : (line : ℕ) → IfSome (content words.list) (λ list. list_reading list ≡ Err line) → ⊥
+  not_listing : (line : ℕ) → IfSome (content words.list) (λ list. (length list ≤ 65536) × (list_reading list ≡ Err line)) → ⊥
   not_listing line h =
-      let reads : list_reading valid.list ≡ Err line = told _ h in
+      let reads : list_reading valid.list ≡ Err line = (told _ h).1 in
       let both : Ok valid.names ≡ Err line = sym valid.read ∙ reads in
       cc
 
   not_script : (entry line : ℕ) (kind : ScriptKind) → IsOfListed content words old new (Script entry line kind) → ⊥
   not_script entry line kind of =
-      of_valid (Script entry line kind) (λ e. cc) (λ before behind at p fault. not_refused content at p.input line kind p.at_valid fault.1) of
+      of_valid (Script entry line kind) (λ e. cc) (λ before behind at p fault. not_refused content at p.input line kind p.at_valid fault.1.1) of
 
   not_same : (line holder : ℕ) → IsOfListed content words old new (SameToken line holder) → ⊥
   not_same line holder of = of_valid (SameToken line holder) (λ e. cc) (λ before behind at p fault. one before at p fault.1.0 fault.1.1.0 fault.1.1.1) of

@@ -1,6 +1,6 @@
 -- How a run of many connections ends, and why.
 use Rattle.std.specs.Prelude.{ℕ, ◌≡◌, ◌≢◌, ◌⊎◌, ◌+◌, ◌<◌, ◌≤◌, List, [], ◌∷◌, ◌++◌, length, map, Option, Some, Ok, Err, IfSome}
-use Rattle.std.specs.List.{AllZip}
+use Rattle.std.specs.List.{All, AllZip}
 use Rattle.outside_kit.specs.Outside.{HasRisen, HoldsAfter, HoldsPrefix}
 use Rattle.run_outside.specs.declared.input.Input.{Input}
 use Rattle.link_script.specs.Reading.{reading}
@@ -15,7 +15,18 @@ use Rattle.connection_table.specs.ManyLines.{lines_from}
 use Rattle.connection_table.specs.ManyRounds.{IsSerialEnd}
 use Rattle.connection_table.specs.Tables.{Connection, Entry, first_of, holder_of, key_token, opened_entry}
 
--- ---- a connection of the list
+-- ---- tokens
+
+-- no two of these are equal
+abbrev pub AreApart : List ℕ → Type 0
+AreApart [] = Unit {0}
+AreApart (token ∷ tokens) = Every (λ other. token ≢ other) tokens × AreApart tokens
+
+-- each connection of these inputs has a token of its own
+abbrev pub HaveOwnTokens : List Input → Type 0
+HaveOwnTokens inputs = AreApart (map (λ (input : Input). key_token input.script) inputs)
+
+-- ---- the connections of the list
 
 -- these are the inputs of these names, one for one
 abbrev pub AreInputs : Contents → List Names → List Input → Type 0
@@ -28,17 +39,23 @@ AreInputs content (names ∷ more) (input ∷ inputs) = IsInput content names in
 pub record AreAdmitted (content : Contents) (names : List Names) (table : List Entry) : Type 0 where
   pub inputs : List Input
   pub are : AreInputs content names inputs
+  pub apart : HaveOwnTokens inputs
   pub table_is : table ≡ map opened_entry inputs
+
+-- the list is within its limit, and says these names
+abbrev pub Says : List ℕ → List Names → Type 0
+Says list names = (length list ≤ 65536) × (list_reading list ≡ Ok names)
 
 -- the list, where it is told, names these
 abbrev pub AreListed : Contents → NamedList → List Input → Type 0
-AreListed content words inputs =
-    IfSome (content words.list) (λ list. (names : List Names) × ((list_reading list ≡ Ok names) × AreInputs content names inputs))
+AreListed content words inputs = IfSome (content words.list) (λ list. (names : List Names) × (Says list names × AreInputs content names inputs))
 
 -- the table of a list, before the first step of any connection
 pub record IsTableOf (content : Contents) (words : NamedList) (table : List Entry) : Type 0 where
   pub inputs : List Input
   pub are : AreListed content words inputs
+  pub short : All IsShort inputs
+  pub apart : HaveOwnTokens inputs
   pub table_is : table ≡ map opened_entry inputs
 
 -- ---- causes
@@ -55,11 +72,12 @@ AtFault content inputs names old new (ends.SameToken line holder) =
     (line ≡ length inputs + 1) × ((input : Input) × (IsInput content names input × (holder_of (key_token input.script) (map opened_entry inputs) ≡ Some holder)))
 AtFault content inputs names old new many = IsInputFault (length inputs) content names old new many
 
--- the first connection of a list that can't be loaded, read or admitted: those before it can
+-- the first connection of a list that can't be loaded, read or admitted: those before it can, each within its limits and with its own token
 pub record IsListedFault (content : Contents) (names : List Names) (old new : ℕ) (many : Many) : Type 0 where
   pub before : List Names
   pub inputs : List Input
   pub admitted : AreInputs content before inputs
+  pub apart : HaveOwnTokens inputs
   pub cause : (many ≡ ends.Memory) ⊎ ((at : Names) × ((behind : List Names) × ((names ≡ before ++ at ∷ behind) × AtFault content inputs at old new many)))
 
 -- ---- the lines
@@ -68,10 +86,12 @@ pub record IsListedFault (content : Contents) (names : List Names) (old new : �
 abbrev pub AreSerial : ℕ → List Input → List Connection → Type 0
 AreSerial most inputs ws = AllZip (λ (input : Input) (w : Connection). IsSerialEnd most (first_of input) w) inputs ws
 
--- the connections of a list as they end, each by itself
+-- the connections of a list as they end, each by itself: their files are within the limit, and each has its own token
 pub record AreOfList (content : Contents) (words : NamedList) (worlds : List Connection) : Type 0 where
   pub inputs : List Input
   pub are : AreListed content words inputs
+  pub short : All IsShort inputs
+  pub apart : HaveOwnTokens inputs
   pub serial : AreSerial words.rounds inputs worlds
 
 -- of each connection the line of its own serial run was put
@@ -88,7 +108,7 @@ SomePut content words old new = (worlds : List Connection) × (AreOfList content
 -- where the list is told and read, what comes of its connections
 abbrev pub IsOfListed : Contents → NamedList → ℕ → ℕ → Many → Type 0
 IsOfListed content words old new many =
-    IfSome (content words.list) (λ list. (names : List Names) × ((list_reading list ≡ Ok names) × IsListedFault content names old new many))
+    IfSome (content words.list) (λ list. (names : List Names) × (Says list names × IsListedFault content names old new many))
 
 -- the list, or one of its connections, ends a run before any line is put
 abbrev pub IsLoadingFault : Contents → NamedList → ℕ → ℕ → Many → Type 0
@@ -96,7 +116,8 @@ abbrev pub IsLoadingFault : Contents → NamedList → ℕ → ℕ → Many → 
 IsLoadingFault content words old new (ends.Load line) = HasRisen old new × ((line ≡ 0) ⊎ IsOfListed content words old new (ends.Load line))
 IsLoadingFault content words old new (ends.TooLong line) =
     ((line ≡ 0) × IfSome (content words.list) (λ told. 65536 < length told)) ⊎ IsOfListed content words old new (ends.TooLong line)
-IsLoadingFault content words old new (ends.List line) = IfSome (content words.list) (λ list. list_reading list ≡ Err line)
+IsLoadingFault content words old new (ends.List line) =
+    IfSome (content words.list) (λ list. (length list ≤ 65536) × (list_reading list ≡ Err line))
 IsLoadingFault content words old new (ends.Script entry line kind) = IsOfListed content words old new (ends.Script entry line kind)
 IsLoadingFault content words old new (ends.SameToken line holder) = IsOfListed content words old new (ends.SameToken line holder)
 IsLoadingFault content words old new ends.Memory = Unit {0}
@@ -136,11 +157,6 @@ AreValidInputs content [] (input ∷ inputs) = ⊥
 AreValidInputs content (names ∷ more) [] = ⊥
 AreValidInputs content (names ∷ more) (input ∷ inputs) = IsValidInput content names input × AreValidInputs content more inputs
 
--- no two of these tokens are equal
-abbrev pub AreApart : List ℕ → Type 0
-AreApart [] = Unit {0}
-AreApart (token ∷ tokens) = Every (λ other. token ≢ other) tokens × AreApart tokens
-
 -- the list is told, within its limit and in form; so is all that it names, and the tokens differ
 pub record IsValid (content : Contents) (words : NamedList) : Type 0 where
   pub list : List ℕ
@@ -150,4 +166,4 @@ pub record IsValid (content : Contents) (words : NamedList) : Type 0 where
   pub read : list_reading list ≡ Ok names
   pub inputs : List Input
   pub valid : AreValidInputs content names inputs
-  pub apart : AreApart (map (λ (input : Input). key_token input.script) inputs)
+  pub apart : HaveOwnTokens inputs

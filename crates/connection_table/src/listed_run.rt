@@ -4,7 +4,9 @@ ghost use Rattle.std.specs.Prelude.{◌≡◌, ◌≢◌, ◌⊎◌, ◌<◌, �
 ghost use Rattle.outside_kit.specs.declared.port.Port.{Port};
 ghost use Rattle.outside_kit.specs.Outside.{HasRisen, HoldsAfter, HoldsPrefix};
 ghost use Rattle.connection_list.specs.Words.{as_words, words_in};
+ghost use Rattle.run_outside.specs.Ports.{IsUntouched};
 ghost use Rattle.listed_inputs.specs.Causes.{OnlyLoads};
+ghost use Rattle.listed_inputs.specs.Loads.{ListAdds};
 ghost use Rattle.connection_table.specs.ManyEnds.{IsEnd, IsLoadingFault, IsPutFault, IsTableOf, IsValid};
 ghost use Rattle.connection_table.specs.ManyLines.{line_at, lines_of};
 
@@ -34,6 +36,8 @@ fn put_line<O: Outside>(
     ensures loads { O.load_faults outside.new ≡ O.load_faults outside.old }
     ensures other_ports { (other : Port) → other ≢ Port.Log →
         O.holds outside.new other ≡ O.holds outside.old other }
+    ensures other_counts { (other : Port) → other ≢ Port.Log →
+        O.port_faults outside.new other ≡ O.port_faults outside.old other }
 {
     let line = line(alloc, table, connection)?;
     match outside.put(Port::Log, line.as_bytes()) {
@@ -58,6 +62,8 @@ fn put_lines<O: Outside>(
     ensures loads { O.load_faults outside.new ≡ O.load_faults outside.old }
     ensures other_ports { (other : Port) → other ≢ Port.Log →
         O.holds outside.new other ≡ O.holds outside.old other }
+    ensures other_counts { (other : Port) → other ≢ Port.Log →
+        O.port_faults outside.new other ≡ O.port_faults outside.old other }
 {
     for connection in 0..table.len() {
         put_line(alloc, outside, table, connection)?;
@@ -79,6 +85,8 @@ fn admit_listed<O: Outside>(
     ensures only { OnlyLoads (O.load_faults outside.old) (O.load_faults outside.new)
         (O.port_faults outside.old) (O.port_faults outside.new)
         (O.holds outside.old) (O.holds outside.new) }
+    ensures calls { IfErr result (ListAdds (O.content outside.old) (as_words words.now)
+        (O.calls outside.old) (O.calls outside.new)) }
 {
     let list = load(alloc, outside, 0, words.list)?;
     let listed = connections_of(alloc, &list)?;
@@ -98,6 +106,10 @@ fn run<O: Outside>(alloc: Global, outside: &mut O, words: &ListWords<'_>) -> Res
         (O.holds outside.old Port.Log, O.holds outside.new Port.Log)) }
     ensures other_ports { (other : Port) → other ≢ Port.Log →
         O.holds outside.new other ≡ O.holds outside.old other }
+    ensures other_counts { (other : Port) → other ≢ Port.Log →
+        O.port_faults outside.new other ≡ O.port_faults outside.old other }
+    ensures calls { IfErr result (ListAdds (O.content outside.old) (as_words words.now)
+        (O.calls outside.old) (O.calls outside.new)) }
 {
     let mut table = ConnectionTable::new(alloc);
     admit_listed(alloc, outside, words, &mut table)?;
@@ -115,21 +127,34 @@ pub fn run_many<O: Outside>(alloc: Global, words: &[String], outside: &mut O) ->
     // The words are refused exactly where they break the form.
     ensures usage { (result ≡ Many.Usage) ↔ (words_in (map string_bytes words.now) ≡ None) }
     // Where each connection has its line, it is that of the serial run of the connection alone. After a fault at a line, or want
-    // of memory, the log has a prefix of these lines; at every other answer nothing was put, and each answer has its cause.
+    // of memory, the log has a prefix of these lines; at every other answer nothing was put, and each answer has its cause. What
+    // was run is within its limits, and each connection has its own token; so are those before the one that is refused.
     ensures ends { IfSome (words_in (map string_bytes words.now)) (λ named. IsEnd
         (O.content outside.old) named
         (O.load_faults outside.old, O.load_faults outside.new)
         (O.port_faults outside.old Port.Log, O.port_faults outside.new Port.Log)
         (O.holds outside.old Port.Log, O.holds outside.new Port.Log) result) }
-    ensures refused { result ≡ Many.Usage →
-        O.holds outside.new Port.Log ≡ O.holds outside.old Port.Log }
+    // Which loads were made where one of them fails, or the list or a connection is refused: those of the lines before, and no more
+    // of its own than up to the one that failed.
+    ensures calls { IfSome (words_in (map string_bytes words.now)) (λ named. ListAdds
+        (O.content outside.old) named (O.calls outside.old) (O.calls outside.new) result) }
+    // At `Usage` no call was made, and nothing changed.
+    ensures unasked { result ≡ Many.Usage → O.calls outside.new ≡ O.calls outside.old }
+    ensures unloaded { result ≡ Many.Usage →
+        O.load_faults outside.new ≡ O.load_faults outside.old }
+    ensures refused { result ≡ Many.Usage → IsUntouched
+        (O.holds outside.old) (O.holds outside.new)
+        (O.port_faults outside.old) (O.port_faults outside.new) }
     // Of a valid list each connection has its line, unless the outside fails or memory runs out.
     ensures valid { IfSome (words_in (map string_bytes words.now)) (λ named.
         IsValid (O.content outside.old) named → (result ≡ Many.Done) ⊎ ((result ≡ Many.Memory)
         ⊎ (HasRisen (O.load_faults outside.old) (O.load_faults outside.new)
         ⊎ HasRisen (O.port_faults outside.old Port.Log) (O.port_faults outside.new Port.Log)))) }
+    // Whatever the answer, the other ports are as they were.
     ensures other_ports { (other : Port) → other ≢ Port.Log →
         O.holds outside.new other ≡ O.holds outside.old other }
+    ensures other_counts { (other : Port) → other ≢ Port.Log →
+        O.port_faults outside.new other ≡ O.port_faults outside.old other }
 {
     let Some(words) = read_list_words(words) else {
         return Many::Usage;

@@ -1,9 +1,10 @@
 //! The connections of a list, loaded and admitted.
 
-ghost use Rattle.std.specs.Prelude.{◌≡◌, ◌<◌, ◌≤◌, ◌++◌, ◌∷◌, ℕ, List, [], IfErr, OnOk, length, map};
+ghost use Rattle.std.specs.Prelude.{◌≡◌, ◌<◌, ◌≤◌, ◌++◌, ◌∷◌, ℕ, List, [], None, IfErr, OnOk, length, map};
 ghost use Rattle.link_script.specs.Scripts.{HasRanges};
 ghost use Rattle.connection_list.specs.Lists.{as_names};
 ghost use Rattle.listed_inputs.specs.Causes.{OnlyLoads};
+ghost use Rattle.listed_inputs.specs.Loads.{LinesAdd, loads_of};
 ghost use Rattle.connection_table.specs.ManyEnds.{AreAdmitted, IsAdmitFault, IsListedFault};
 ghost use Rattle.connection_table.specs.Tables.{holder_of, key_token, opened_entry};
 
@@ -20,6 +21,7 @@ fn admit(table: &mut ConnectionTable, entry: u8, input: &Input) -> Result<(), Ma
     requires ranges { HasRanges input.now.script }
     requires few { length table.old < 64 }
     ensures ok { OnOk result (table.new ≡ table.old ++ opened_entry input.now ∷ []) }
+    ensures new { OnOk result (holder_of (key_token input.now.script) table.old ≡ None) }
     ensures fault { IfErr result
         (IsAdmitFault entry (holder_of (key_token input.now.script) table.old)) }
 {
@@ -52,6 +54,8 @@ pub(crate) fn admit_all<O: Outside>(
         (O.holds outside.old) (O.holds outside.new) }
     ensures same_contents { (other : List ℕ) →
         O.content outside.new other ≡ O.content outside.old other }
+    ensures calls_cut { IfErr result (LinesAdd ([] ∷ map loads_of (map as_names listed.now))
+        (O.calls outside.old) (O.calls outside.new)) }
 {
     for entry in listed {
         let number = table.len();

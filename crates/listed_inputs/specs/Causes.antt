@@ -7,7 +7,7 @@ use Rattle.link_script.specs.Reading.{reading}
 use Rattle.connection_list.specs.Lists.{Names, list_reading}
 use Rattle.listed_inputs.specs.declared.many.Many.{Many}
 use Rattle.listed_inputs.specs.declared.many.Many.TheVariants as ends
-use Rattle.listed_inputs.specs.Inputs.{Contents, IsLong}
+use Rattle.listed_inputs.specs.Inputs.{AreWithin, Contents, IsLong}
 
 -- loads alone were made: what ports hold and their counts are as they were, and the count of loads doesn't fall
 pub record OnlyLoads (old new : ℕ) (ports_old ports_new : Port → ℕ) (held_old held_new : Port → Option (List ℕ)) : Type 0 where
@@ -34,11 +34,11 @@ IsScriptFault entry text (ends.Script named line kind) = (named ≡ entry) × (r
 IsScriptFault entry text ends.Memory = Unit {0}
 IsScriptFault entry text _ = ⊥
 
--- what this connection begins with: its loads, and then its script
+-- what this connection begins with: its loads, and then its script, all contents being within their limit
 abbrev pub IsInputFault : ℕ → Contents → Names → ℕ → ℕ → Many → Type 0
 IsInputFault entry content names old new (ends.Load line) = (line ≡ entry + 1) × HasRisen old new
 IsInputFault entry content names old new (ends.TooLong line) = (line ≡ entry + 1) × IsLong content names
 IsInputFault entry content names old new (ends.Script named line kind) =
-    (named ≡ entry) × IfSome (content names.script) (λ told. reading told ≡ Err (Line line kind))
+    (named ≡ entry) × (AreWithin content names × IfSome (content names.script) (λ told. reading told ≡ Err (Line line kind)))
 IsInputFault entry content names old new ends.Memory = Unit {0}
 IsInputFault entry content names old new _ = ⊥

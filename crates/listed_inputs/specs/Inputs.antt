@@ -8,18 +8,30 @@ use Rattle.connection_list.specs.Lists.{Names}
 abbrev pub Contents : Type 0
 Contents = List ℕ → Option (List ℕ)
 
--- this is what a connection of these names begins with, as far as the contents are told
-pub record IsInput (content : Contents) (names : Names) (input : Input) : Type 0 where
-  pub script : IfSome (content names.script) (λ told. reading told ≡ Ok input.script)
-  pub file_a : IfSome (content names.file_a) (λ told. input.file_a ≡ told)
-  pub file_b : IfSome (content names.file_b) (λ told. input.file_b ≡ told)
-
 -- its files have 65,536 octets at most
 pub record IsShort (input : Input) : Type 0 where
   pub file_a : length input.file_a ≤ 65536
   pub file_b : length input.file_b ≤ 65536
 
--- one of its contents is longer than that
+-- what is told of this name has so many at most
+abbrev pub IsWithin : Contents → List ℕ → Type 0
+IsWithin content name = IfSome (content name) (λ told. length told ≤ 65536)
+
+-- so has each content of a connection of these names
+pub record AreWithin (content : Contents) (names : Names) : Type 0 where
+  pub script : IsWithin content names.script
+  pub file_a : IsWithin content names.file_a
+  pub file_b : IsWithin content names.file_b
+
+-- this is what a connection of these names begins with, as far as the contents are told; none is longer than its limit
+pub record IsInput (content : Contents) (names : Names) (input : Input) : Type 0 where
+  pub script : IfSome (content names.script) (λ told. reading told ≡ Ok input.script)
+  pub within : IsWithin content names.script
+  pub file_a : IfSome (content names.file_a) (λ told. input.file_a ≡ told)
+  pub file_b : IfSome (content names.file_b) (λ told. input.file_b ≡ told)
+  pub short : IsShort input
+
+-- one of its contents is longer
 pub record IsLong (content : Contents) (names : Names) : Type 0 where
   pub name : List ℕ
   pub among : (name ≡ names.script) ⊎ ((name ≡ names.file_a) ⊎ (name ≡ names.file_b))

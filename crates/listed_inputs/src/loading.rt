@@ -1,12 +1,15 @@
 //! The inputs of the connections of a list.
 
-ghost use Rattle.std.specs.Prelude.{◌≡◌, ◌<◌, ◌≤◌, ℕ, List, Ok, IfErr, IfOk, IfSome, length, map, vec_len};
+ghost use Rattle.std.specs.Prelude.{◌≡◌, ◌<◌, ◌≤◌, ◌∷◌, [], ℕ, List, Ok, IfErr, IfOk, IfSome, OnErr, OnOk, length, map, vec_len};
+ghost use Rattle.outside_kit.specs.Calls as call;
 ghost use Rattle.outside_kit.specs.declared.port.Port.{Port};
 ghost use Rattle.link_script.specs.Reading.{reading};
 ghost use Rattle.link_script.specs.Scripts.{HasRanges};
+ghost use Rattle.run_outside.specs.Plan.{Adds, AddsAll, failed};
 ghost use Rattle.connection_list.specs.Lists.{as_names, list_reading};
 ghost use Rattle.listed_inputs.specs.Causes.{IsInputFault, IsListFault, IsLoadFault, IsScriptFault, OnlyLoads};
-ghost use Rattle.listed_inputs.specs.Inputs.{IsInput, IsShort};
+ghost use Rattle.listed_inputs.specs.Inputs.{IsInput, IsWithin};
+ghost use Rattle.listed_inputs.specs.Loads.{InputAdds, loads_of};
 ghost use Rattle.listed_inputs.specs.declared.many.Many.TheVariants.{Memory};
 
 use crate::many::Many;
@@ -34,6 +37,7 @@ pub fn load<O: Outside>(
     ensures whole { IfOk result
         (λ bytes. IfSome (O.content outside.old name.now) (λ told. bytes.items ≡ told)) }
     ensures within { IfOk result (λ bytes. vec_len bytes ≤ 65536) }
+    ensures told_within { OnOk result (IsWithin (O.content outside.old) name.now) }
     ensures fault { IfErr result (IsLoadFault line (O.content outside.old name.now)
         (O.load_faults outside.old) (O.load_faults outside.new)) }
     ensures only { OnlyLoads (O.load_faults outside.old) (O.load_faults outside.new)
@@ -41,6 +45,10 @@ pub fn load<O: Outside>(
         (O.holds outside.old) (O.holds outside.new) }
     ensures same_contents { (other : List ℕ) →
         O.content outside.new other ≡ O.content outside.old other }
+    ensures calls { OnOk result
+        (AddsAll (call.Load name.now ∷ []) (O.calls outside.old) (O.calls outside.new)) }
+    ensures calls_cut { OnErr result
+        (Adds (failed (call.Load name.now) ∷ []) (O.calls outside.old) (O.calls outside.new)) }
 {
     match outside.load(alloc, name, MOST_OCTETS) {
         Ok(content) => Ok(content),
@@ -130,7 +138,6 @@ pub fn load_input<O: Outside>(
 ) -> Result<Input, Many>
     ensures input { IfOk result (IsInput (O.content outside.old) (as_names listed.now)) }
     ensures ranges { IfOk result (λ input. HasRanges input.script) }
-    ensures short { IfOk result IsShort }
     ensures fault { IfErr result (IsInputFault entry (O.content outside.old) (as_names listed.now)
         (O.load_faults outside.old) (O.load_faults outside.new)) }
     ensures only { OnlyLoads (O.load_faults outside.old) (O.load_faults outside.new)
@@ -138,6 +145,10 @@ pub fn load_input<O: Outside>(
         (O.holds outside.old) (O.holds outside.new) }
     ensures same_contents { (other : List ℕ) →
         O.content outside.new other ≡ O.content outside.old other }
+    ensures calls { OnOk result
+        (AddsAll (loads_of (as_names listed.now)) (O.calls outside.old) (O.calls outside.new)) }
+    ensures calls_cut { IfErr result
+        (InputAdds (loads_of (as_names listed.now)) (O.calls outside.old) (O.calls outside.new)) }
 {
     let line = u64::from(entry) + 1;
     let script = load(alloc, outside, line, listed.script)?;

@@ -13,6 +13,7 @@ loop-connection-init g c = record {
   held = none_put (g.O.Outside.holds c.args.outside.now Port.Log);
   counted = omega arith;
   loads = refl;
+  other_counts = λ other not. refl;
   other_ports = λ other not. refl;
 }
 
@@ -36,6 +37,7 @@ loop-connection-preserved g c =
           c.loop-connection.invariant.held c.in_ok-put_line.ensures.ok (line_more c.loop-connection.connection c.args.table.now within);
       counted = (let first = c.loop-connection.invariant.counted in let second = c.put_line.ensures.counted in omega (arith, first, second));
       loads = c.put_line.ensures.loads ∙ c.loop-connection.invariant.loads;
+      other_counts = λ other not. c.put_line.ensures.other_counts other not ∙ c.loop-connection.invariant.other_counts other not;
       other_ports = λ other not. c.put_line.ensures.other_ports other not ∙ c.loop-connection.invariant.other_ports other not;
     }
 

@@ -11,5 +11,6 @@ invariant-loop-connection g l = record {
   held : HoldsAfter (g.O.Outside.holds l.initial.outside Port.Log) (g.O.Outside.holds l.outside Port.Log) (λ text. text ++ lines_upto 0 l.connection l.table);
   counted : g.O.Outside.port_faults l.initial.outside Port.Log ≤ g.O.Outside.port_faults l.outside Port.Log;
   loads : g.O.Outside.load_faults l.outside ≡ g.O.Outside.load_faults l.initial.outside;
+  other_counts : (other : Port) → other ≢ Port.Log → g.O.Outside.port_faults l.outside other ≡ g.O.Outside.port_faults l.initial.outside other;
   other_ports : (other : Port) → other ≢ Port.Log → g.O.Outside.holds l.outside other ≡ g.O.Outside.holds l.initial.outside other;
 }

@@ -1,6 +1,8 @@
 use Rattle.std.proofs.Common.{◌≡◌, ℕ, List, length, map, take}
 use Rattle.connection_list.specs.Lists.{as_names}
+use Rattle.run_outside.specs.Plan.{AddsAll}
 use Rattle.listed_inputs.specs.Causes.{OnlyLoads}
+use Rattle.listed_inputs.specs.Loads.{joined, loads_of}
 use Rattle.connection_table.specs.ManyEnds.{AreAdmitted}
 use Rattle.connection_table.proofs.loading.admit_all.Given as goal
 
@@ -12,5 +14,6 @@ invariant-loop-entry g l = record {
   only : OnlyLoads (g.O.Outside.load_faults l.initial.outside) (g.O.Outside.load_faults l.outside)
       (g.O.Outside.port_faults l.initial.outside) (g.O.Outside.port_faults l.outside)
       (g.O.Outside.holds l.initial.outside) (g.O.Outside.holds l.outside);
+  calls : AddsAll (joined (map loads_of (map as_names (take l.entry-index l.listed)))) (g.O.Outside.calls l.initial.outside) (g.O.Outside.calls l.outside);
   same_contents : (other : List ℕ) → g.O.Outside.content l.outside other ≡ g.O.Outside.content l.initial.outside other;
 }
