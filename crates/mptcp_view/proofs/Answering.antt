@@ -1,5 +1,5 @@
 -- What is answered is put together of what its parts answer.
-use Rattle.std.proofs.Common.{◌≡◌, sym, subst, ℕ, List, Option, Result, Ok, Err, IfSome, IfOk, OnOk}
+use Rattle.std.proofs.Common.{◌≡◌, sym, subst, ℕ, List, Option, Result, Ok, Err, IfSome, IfOk, IfErr, OnOk, OnErr}
 use Rattle.std.specs.Prelude.{option_and_then}
 use Rattle.world_core.specs.Logged.{all_turns}
 use Rattle.link_script.specs.declared.script.Script.{Script}
@@ -9,21 +9,26 @@ use Rattle.link_trace.specs.declared.carried.Carried.{Carried}
 use Rattle.link_trace.specs.declared.rows.Rates.{Rates}
 use Rattle.link_trace.specs.declared.sent.Sent.{Sent}
 use Rattle.outside_kit.specs.Outside.{HoldsAfter}
+use Rattle.outside_kit.specs.declared.port.Port.{Port}
+use Rattle.outside_kit.specs.declared.port.Port.TheVariants.{ReadByB}
 use Rattle.path_core.specs.Octets.{octets}
 use Rattle.run_log.specs.declared.turn.Turn as logged
-use Rattle.run_outside.specs.Inputs.{opening_count, order_of}
+use Rattle.run_outside.specs.Inputs.{AreWithinLimits, opening_count, order_of}
+use Rattle.run_outside.specs.Plan.{AddsAll, AddsCut, loads_of}
+use Rattle.run_outside.specs.Ports.{Ports}
+use Rattle.run_outside.proofs.Calls.{Told, all_then, cut_then}
 use Rattle.run_outside.specs.Reading.{log_reading}
 use Rattle.link_script.specs.Reading.{reading}
 use Rattle.run_outside.specs.declared.input.Input.{Input}
 use Rattle.run_outside.specs.declared.status.Status.{Status}
 use Rattle.run_trace.specs.Initials.{initials_in}
 use Rattle.run_trace.specs.Rates.{rates_of}
-use Rattle.run_words.specs.Lines.{Line, Work, replay}
+use Rattle.run_words.specs.Lines.{Work, replay}
 use Rattle.world_laws.specs.Worlds.{AreLawful, WorldState}
-use Rattle.mptcp_view.specs.Views.{AreInputs, IsViewFrom, IsViewOf, Shows, base_in, first_world}
+use Rattle.mptcp_view.specs.Views.{AreInputs, Asking, HoldsCut, IsOutFault, IsViewFault, IsViewFrom, IsViewOf, Shows, base_in, first_world, out_calls}
 use Rattle.mptcp_view.specs.declared.showing.View.{View}
 use Rattle.mptcp_view.specs.declared.showing.View.TheVariants.{Summary}
-use Rattle.mptcp_view.proofs.Refusing.{holds_one}
+use Rattle.mptcp_view.proofs.Refusing.{out_refused}
 
 -- the table of what a trace carries
 pub table_shown : {V E : Type 0} (items : V → List ℕ) (view : View) (script : Script) (w : WorldState (List ℕ)) (trace : List Sent) (rates : List Rates) (carried : List Carried)
@@ -32,12 +37,14 @@ pub table_shown : {V E : Type 0} (items : V → List ℕ) (view : View) (script 
 table_shown items view script w trace rates carried is rates_are carried_are (Err e) h = tt
 table_shown items view script w trace rates carried is rates_are carried_are (Ok text) h = rw (is, ← rates_are, ← carried_are) h
 
-module _ (content : List ℕ → Option (List ℕ)) (line : Line) (log : List ℕ) (input : Input) (turns : List logged.Turn) (lines : ℕ) where
-  pub are_inputs : line.work ≡ replay log → IfSome (content line.names.script) (λ told. reading told ≡ Ok input.script)
-      → IfSome (content line.names.file_a) (λ told. input.file_a ≡ told) → IfSome (content line.names.file_b) (λ told. input.file_b ≡ told)
+module _ (content : List ℕ → Option (List ℕ)) (asked : Asking) (log : List ℕ) (input : Input) (turns : List logged.Turn) (lines : ℕ) where
+  pub are_inputs : asked.line.work ≡ replay log → AreWithinLimits content asked.line
+      → IfSome (content asked.line.names.script) (λ told. reading told ≡ Ok input.script)
+      → IfSome (content asked.line.names.file_a) (λ told. input.file_a ≡ told) → IfSome (content asked.line.names.file_b) (λ told. input.file_b ≡ told)
       → IfSome (content log) (λ told. log_reading input.script told ≡ Ok turns) → IfSome (content log) (λ told. lines ≡ opening_count told)
-      → AreInputs content line input turns lines
-  are_inputs named script file_a file_b read opened = record {
+      → AreInputs content asked.line input turns lines
+  are_inputs named within script file_a file_b read opened = record {
+    within = within;
     script = script;
     file_a = file_a;
     file_b = file_b;
@@ -45,12 +52,25 @@ module _ (content : List ℕ → Option (List ℕ)) (line : Line) (log : List �
     opening = subst (λ (work : Work). IfSome (option_and_then content (order_of work)) (λ told. lines ≡ opening_count told)) (sym named) opened;
   }
 
-  -- OUT held this before the inputs were read, and holds the view now
-  pub shown_where_ok : {X : Type 0} (view : View) (before middle after : Option (List ℕ)) (shown : List ℕ) → AreInputs content line input turns lines
-      → AreLawful octets (all_turns turns) (first_world input) → IsViewOf view input (all_turns turns) shown
-      → middle ≡ before → (r : Result X Status) → OnOk r (HoldsAfter middle after (λ _. shown)) → OnOk r (Shows content view line before after)
-  shown_where_ok view before middle after shown are lawful is same (Err s) holds = tt
-  shown_where_ok view before middle after shown are lawful is same (Ok x) holds =
-      let then = subst (λ (o : Option (List ℕ)). HoldsAfter o after (λ _. shown)) same holds in
-      let held = holds_one before after shown (IsViewOf view input (all_turns turns)) then is in
-      (input, (turns, (lines, (are, (lawful, held)))))
+  -- OUT held this before the inputs were read, and holds the view now, or isn't written whole
+  module _ (held middle holds : Ports) (told read tells : Told) (shown : List ℕ) (are : AreInputs content asked.line input turns lines)
+      (lawful : AreLawful octets (all_turns turns) (first_world input)) (is : IsViewOf asked.view input (all_turns turns) shown)
+      (same : middle ReadByB ≡ held ReadByB) (loaded : AddsAll (loads_of asked.line) told read) where
+    pub shown_where_ok : {X : Type 0} (r : Result X Status) → OnOk r (HoldsAfter (middle ReadByB) (holds ReadByB) (λ _. shown))
+        → OnOk r (AddsAll (out_calls asked.line.names.read_by_b shown) read tells) → OnOk r (Shows content asked held holds told tells)
+    shown_where_ok (Err s) put made = tt
+    shown_where_ok (Ok x) put made =
+        let then = subst (λ (o : Option (List ℕ)). HoldsAfter o (holds ReadByB) (λ _. shown)) same put in
+        let calls = all_then (loads_of asked.line) (out_calls asked.line.names.read_by_b shown) told read tells loaded made in
+        (input, (turns, (lines, (are, (lawful, (shown, (is, (then, calls))))))))
+
+    pub refused_where_cut : {X : Type 0} (loads_old loads_new : ℕ) (old new : Port → ℕ) (middle_count : ℕ) → middle_count ≡ old ReadByB → (r : Result X Status)
+        → OnErr r (HoldsCut (middle ReadByB) (holds ReadByB) shown) → IfErr r (IsOutFault middle_count (new ReadByB))
+        → IfErr r (λ s. AddsCut (out_calls asked.line.names.read_by_b shown) s read tells)
+        → IfErr r (IsViewFault content asked held holds told tells loads_old loads_new old new)
+    refused_where_cut loads_old loads_new old new middle_count counts (Ok x) put fault cut = tt
+    refused_where_cut loads_old loads_new old new middle_count counts (Err s) put fault cut =
+        let then = subst (λ (o : Option (List ℕ)). HoldsCut o (holds ReadByB) shown) same put in
+        let calls = cut_then (loads_of asked.line) (out_calls asked.line.names.read_by_b shown) s told read tells loaded cut in
+        out_refused content asked held holds told tells loads_old loads_new old new middle_count counts s fault
+        (input, (turns, (lines, (are, (lawful, (shown, (is, (then, calls))))))))

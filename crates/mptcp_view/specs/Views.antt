@@ -1,9 +1,12 @@
 -- What the words ask for, what OUT then shows, and why it doesn't.
-use Rattle.std.specs.Prelude.{◌≡◌, ◌⊎◌, Ok, ℕ, ◌+◌, ◌^◌, ◌≤◌, if◌then◌else◌, Option, Some, None, option_map, IfSome, List, [], ◌∷◌, length, codes}
+use Rattle.std.specs.Prelude.{◌≡◌, ◌⊎◌, Ok, ℕ, ◌+◌, ◌^◌, ◌≤◌, if◌then◌else◌, Option, Some, None, option_map, IfSome, List, [], ◌∷◌, ◌++◌, length, take, codes}
 use Rattle.std.specs.Str.{bytes_eq}
 use Rattle.world_core.specs.Logged.{all_turns}
+use Rattle.outside_kit.specs.Calls.{Call, Made}
+use Rattle.outside_kit.specs.Calls as call
+use Rattle.outside_kit.specs.declared.port.Port.{Port}
 use Rattle.outside_kit.specs.declared.port.Port.TheVariants as port
-use Rattle.outside_kit.specs.Outside.{HasRisen}
+use Rattle.outside_kit.specs.Outside.{HasRisen, HoldsAfter}
 use Rattle.link_script.specs.declared.script.Script.{Script}
 use Rattle.link_trace.specs.Captures.{blocks_of}
 use Rattle.link_trace.specs.Carrying.{all_carried, base_of}
@@ -15,7 +18,10 @@ use Rattle.path_core.specs.Octets.{octets}
 use Rattle.path_core.specs.Starts.{key_of}
 use Rattle.pcap_text.specs.Blocks.{capture_text}
 use Rattle.run_log.specs.declared.turn.Turn as logged
-use Rattle.run_outside.specs.Inputs.{IsReplayInputFault, content_of, opening_count}
+use Rattle.run_outside.specs.Inputs.{AreWithinLimits, IsReplayInputFault, content_of, opening_count}
+use Rattle.run_outside.specs.Loading.{InputAdds}
+use Rattle.run_outside.specs.Plan.{AddsAll, AddsCut, loads_of}
+use Rattle.run_outside.specs.Ports.{IsUntouched, Ports}
 use Rattle.run_outside.specs.Reading.{log_reading}
 use Rattle.link_script.specs.Reading.{reading}
 use Rattle.run_outside.specs.declared.input.Input.{Input}
@@ -87,14 +93,12 @@ abbrev pub IsViewOf : View → Input → List Turn → List ℕ → Type 0
 IsViewOf view input turns shown =
     IsViewFrom view input.script (world_run octets turns (first_world input)) (trace_of turns (first_world input)) shown
 
--- where a port told what it held, it holds such a text instead
-abbrev pub HoldsOne : Option (List ℕ) → Option (List ℕ) → (List ℕ → Type 0) → Type 0
-HoldsOne old new P = IfSome old (λ held. (shown : List ℕ) × ((new ≡ Some shown) × P shown))
-
 -- ---- the inputs
 
--- these are the inputs of the line, as far as they are told: the turns of the log stand behind so many lines
+-- these are the inputs of the line, as far as they are told, and each is within its limit: the turns of the log stand behind so
+-- many lines
 pub record AreInputs (content : List ℕ → Option (List ℕ)) (line : Line) (input : Input) (turns : List logged.Turn) (lines : ℕ) : Type 0 where
+  pub within : AreWithinLimits content line
   pub script : IfSome (content line.names.script) (λ told. reading told ≡ Ok input.script)
   pub file_a : IfSome (content line.names.file_a) (λ told. input.file_a ≡ told)
   pub file_b : IfSome (content line.names.file_b) (λ told. input.file_b ≡ told)
@@ -106,10 +110,30 @@ abbrev pub WithInputs : (List ℕ → Option (List ℕ)) → Line → (Input →
 WithInputs content line P =
     (input : Input) × ((turns : List logged.Turn) × ((lines : ℕ) × (AreInputs content line input turns lines × P input (all_turns turns) lines)))
 
--- the turns of the log can be made, and OUT holds the view of what they send
-abbrev pub Shows : (List ℕ → Option (List ℕ)) → View → Line → Option (List ℕ) → Option (List ℕ) → Type 0
-Shows content view line old new =
-    WithInputs content line (λ input turns lines. AreLawful octets turns (first_world input) × HoldsOne old new (IsViewOf view input turns))
+-- the turns of the log can be made, and this holds of a view of what they send
+abbrev pub WithView : (List ℕ → Option (List ℕ)) → Asking → (List ℕ → Type 0) → Type 0
+WithView content asked P = WithInputs content asked.line (λ input turns lines.
+    AreLawful octets turns (first_world input) × ((shown : List ℕ) × (IsViewOf asked.view input turns shown × P shown)))
+
+-- ---- OUT
+
+-- OUT is made anew, and this is put
+abbrev pub out_calls : List ℕ → List ℕ → List Call
+out_calls out shown = call.Bind port.ReadByB out ∷ call.Put port.ReadByB shown ∷ []
+
+-- behind the loads of all inputs
+abbrev pub view_calls : Line → List ℕ → List Call
+view_calls line shown = loads_of line ++ out_calls line.names.read_by_b shown
+
+-- a port holds what it held, or, where it told that, the first octets of this text
+abbrev pub HoldsCut : Option (List ℕ) → Option (List ℕ) → List ℕ → Type 0
+HoldsCut old new shown = (new ≡ old) ⊎ IfSome old (λ _. (count : ℕ) × (new ≡ Some (take count shown)))
+
+-- OUT can't be written
+abbrev pub IsOutFault : ℕ → ℕ → Status → Type 0
+IsOutFault old new (status.Put at) = (at ≡ port.ReadByB) × HasRisen old new
+IsOutFault old new status.Memory = Unit {0}
+IsOutFault old new _ = ⊥
 
 -- ---- why nothing is shown
 
@@ -124,16 +148,34 @@ abbrev pub stopped_at : ℕ → TraceFault → Status
 stopped_at lines (fault.Turn place) = status.Log (lines + place + 1)
 stopped_at lines fault.Memory = status.Memory
 
--- OUT can't be written
-abbrev pub IsOutFault : ℕ → ℕ → Status → Type 0
-IsOutFault old new (status.Put at) = (at ≡ port.ReadByB) × HasRisen old new
-IsOutFault old new status.Memory = Unit {0}
-IsOutFault old new _ = ⊥
+-- it comes before OUT is made anew; want of memory may come at any time
+abbrev pub IsBeforeOut : Status → Type 0
+IsBeforeOut (status.Put at) = ⊥
+IsBeforeOut status.Memory = ⊥
+IsBeforeOut _ = Unit {0}
 
--- what replay refuses, or OUT; what is refused of a log is its form or the first turn that can't be made
-abbrev pub IsViewFault : (List ℕ → Option (List ℕ)) → Line → ℕ → ℕ → ℕ → ℕ → Status → Type 0
-IsViewFault content line loads_old loads_new old new (status.Put at) = IsOutFault old new (status.Put at)
-IsViewFault content line loads_old loads_new old new (status.Log at) =
-    IsReplayInputFault content line loads_old loads_new (status.Log at)
-    ⊎ WithInputs content line (λ input turns lines. IsTurnsFault turns input lines (status.Log at))
-IsViewFault content line loads_old loads_new old new status = IsReplayInputFault content line loads_old loads_new status
+-- ---- what is answered
+
+module _ (content : List ℕ → Option (List ℕ)) (asked : Asking) (held holds : Ports) (told tells : Option (List Made)) where
+  -- OUT holds the view of what the log's turns send: it was put, all inputs being loaded
+  abbrev pub Shows : Type 0
+  Shows = WithView content asked (λ shown.
+      HoldsAfter (held port.ReadByB) (holds port.ReadByB) (λ _. shown) × AddsAll (view_calls asked.line shown) told tells)
+
+  -- such a view was made, and not written whole
+  abbrev pub IsCut : Status → Type 0
+  IsCut s = WithView content asked (λ shown.
+      HoldsCut (held port.ReadByB) (holds port.ReadByB) shown × AddsCut (view_calls asked.line shown) s told tells)
+
+  -- what replay refuses, or OUT; what is refused of a log is its form or the first turn that can't be made
+  abbrev pub IsViewFault : ℕ → ℕ → (Port → ℕ) → (Port → ℕ) → Status → Type 0
+  IsViewFault loads_old loads_new old new (status.Put at) =
+      IsOutFault (old port.ReadByB) (new port.ReadByB) (status.Put at) × IsCut (status.Put at)
+  IsViewFault loads_old loads_new old new status.Memory =
+      (IsUntouched held holds old new × AddsCut (loads_of asked.line) status.Memory told tells) ⊎ IsCut status.Memory
+  IsViewFault loads_old loads_new old new (status.Log at) =
+      (IsReplayInputFault content asked.line loads_old loads_new (status.Log at)
+      ⊎ WithInputs content asked.line (λ input turns lines. IsTurnsFault turns input lines (status.Log at)))
+      × AddsAll (loads_of asked.line) told tells
+  IsViewFault loads_old loads_new old new s =
+      IsReplayInputFault content asked.line loads_old loads_new s × InputAdds asked.line (loads_of asked.line) told tells s

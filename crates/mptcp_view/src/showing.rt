@@ -1,18 +1,22 @@
 //! What the words of a command line ask for: the log's steps made again, and one view of what was sent.
 
-ghost use Rattle.std.specs.Prelude.{◌≡◌, ◌++◌, ◌↔◌, ◌<◌, ◌≤◌, ◌^◌, Err, None, map, option_map, IfOk, IfErr, IfSome, OnOk, string_bytes};
-ghost use Rattle.outside_kit.specs.Outside.{HoldsAfter};
+ghost use Rattle.std.specs.Prelude.{◌≡◌, ◌≢◌, ◌++◌, ◌↔◌, ◌<◌, ◌≤◌, ◌^◌, Err, None, [], ◌∷◌, map, option_map, IfOk, IfErr, IfSome, OnOk, OnErr, string_bytes};
+ghost use Rattle.outside_kit.specs.Calls as call;
+ghost use Rattle.outside_kit.specs.Outside.{HoldsAfter, HoldsPrefix};
+ghost use Rattle.outside_kit.specs.declared.port.Port.{Port};
 ghost use Rattle.link_script.specs.Scripts.{HasRanges};
 ghost use Rattle.path_core.specs.Octets.{octets};
 ghost use Rattle.link_trace.specs.Carrying.{all_carried};
 ghost use Rattle.run_trace.specs.Initials.{initials_in};
 ghost use Rattle.run_trace.specs.Trace.{place_of};
 ghost use Rattle.run_words.specs.Lines.{as_line, replay};
+ghost use Rattle.run_outside.specs.Plan.{AddsAll, AddsCut};
+ghost use Rattle.run_outside.specs.Ports.{IsUntouched};
 ghost use Rattle.run_outside.specs.declared.status.Status.TheVariants.{Usage};
 ghost use Rattle.world_core.specs.Kept.{standing};
 ghost use Rattle.world_core.specs.Logged.{all_turns};
 ghost use Rattle.world_laws.specs.Worlds.{AreLawful};
-ghost use Rattle.mptcp_view.specs.Views.{IsOutFault, IsTurnsFault, IsViewFault, IsViewFrom, IsViewOf, Shows, as_asked, asked_in, base_in, first_world, stopped_at, view_named};
+ghost use Rattle.mptcp_view.specs.Views.{HoldsCut, IsBeforeOut, IsOutFault, IsTurnsFault, IsViewFault, IsViewFrom, IsViewOf, Shows, as_asked, asked_in, base_in, first_world, out_calls, stopped_at, view_named};
 
 use link_script::Script;
 use link_trace::{Base, Carried, Sent, all_carried, capture, lines, picture, summary};
@@ -111,8 +115,18 @@ fn stopped(fault: TraceFault, lines: u64) -> Status
 fn put_out<O: Outside>(outside: &mut O, shown: &[u8]) -> Result<(), Status>
     ensures ok { OnOk result (HoldsAfter (O.holds outside.old Port.ReadByB)
         (O.holds outside.new Port.ReadByB) (λ held. held ++ shown.now)) }
+    ensures err { OnErr result (HoldsPrefix (O.holds outside.old Port.ReadByB)
+        (O.holds outside.new Port.ReadByB) shown.now) }
     ensures fault { IfErr result (IsOutFault
         (O.port_faults outside.old Port.ReadByB) (O.port_faults outside.new Port.ReadByB)) }
+    ensures other_ports { (port : Port) → port ≢ Port.ReadByB →
+        O.holds outside.new port ≡ O.holds outside.old port }
+    ensures other_counts { (port : Port) → port ≢ Port.ReadByB →
+        O.port_faults outside.new port ≡ O.port_faults outside.old port }
+    ensures made { OnOk result (AddsAll (call.Put Port.ReadByB shown.now ∷ [])
+        (O.calls outside.old) (O.calls outside.new)) }
+    ensures cut { IfErr result (λ status. AddsCut (call.Put Port.ReadByB shown.now ∷ []) status
+        (O.calls outside.old) (O.calls outside.new)) }
 {
     match outside.put(Port::ReadByB, shown) {
         Ok(()) => Ok(()),
@@ -127,8 +141,18 @@ fn put_out<O: Outside>(outside: &mut O, shown: &[u8]) -> Result<(), Status>
 fn write_out<O: Outside>(outside: &mut O, out: &str, shown: &[u8]) -> Result<(), Status>
     ensures ok { OnOk result (HoldsAfter (O.holds outside.old Port.ReadByB)
         (O.holds outside.new Port.ReadByB) (λ _. shown.now)) }
+    ensures err { OnErr result (HoldsCut (O.holds outside.old Port.ReadByB)
+        (O.holds outside.new Port.ReadByB) shown.now) }
     ensures fault { IfErr result (IsOutFault
         (O.port_faults outside.old Port.ReadByB) (O.port_faults outside.new Port.ReadByB)) }
+    ensures other_ports { (port : Port) → port ≢ Port.ReadByB →
+        O.holds outside.new port ≡ O.holds outside.old port }
+    ensures other_counts { (port : Port) → port ≢ Port.ReadByB →
+        O.port_faults outside.new port ≡ O.port_faults outside.old port }
+    ensures made { OnOk result (AddsAll (out_calls out.now shown.now)
+        (O.calls outside.old) (O.calls outside.new)) }
+    ensures cut { IfErr result (λ status. AddsCut (out_calls out.now shown.now) status
+        (O.calls outside.old) (O.calls outside.new)) }
 {
     match outside.bind(Port::ReadByB, out) {
         Ok(()) => put_out(outside, shown),
@@ -234,13 +258,19 @@ fn show<O: Outside, P: Progress>(
     asked: &Asked<'_>,
 ) -> Result<(), Status>
     requires { (as_line asked.now.line).work ≡ replay asked.now.log.now }
-    ensures shown { OnOk result
-        (Shows (O.content outside.old) asked.now.view (as_line asked.now.line)
-        (O.holds outside.old Port.ReadByB) (O.holds outside.new Port.ReadByB)) }
-    ensures fault { IfErr result
-        (IsViewFault (O.content outside.old) (as_line asked.now.line)
+    ensures shown { OnOk result (Shows (O.content outside.old) (as_asked asked.now)
+        (O.holds outside.old) (O.holds outside.new) (O.calls outside.old) (O.calls outside.new)) }
+    ensures fault { IfErr result (IsViewFault (O.content outside.old) (as_asked asked.now)
+        (O.holds outside.old) (O.holds outside.new) (O.calls outside.old) (O.calls outside.new)
         (O.load_faults outside.old) (O.load_faults outside.new)
-        (O.port_faults outside.old Port.ReadByB) (O.port_faults outside.new Port.ReadByB)) }
+        (O.port_faults outside.old) (O.port_faults outside.new)) }
+    ensures untouched { IfErr result (λ status. IsBeforeOut status → IsUntouched
+        (O.holds outside.old) (O.holds outside.new)
+        (O.port_faults outside.old) (O.port_faults outside.new)) }
+    ensures other_ports { (port : Port) → port ≢ Port.ReadByB →
+        O.holds outside.new port ≡ O.holds outside.old port }
+    ensures other_counts { (port : Port) → port ≢ Port.ReadByB →
+        O.port_faults outside.new port ≡ O.port_faults outside.old port }
 {
     let replay = load_replay(alloc, outside, &asked.line, asked.log)?;
     let shown = view_of(alloc, asked.view, &replay, progress)?;
@@ -248,12 +278,13 @@ fn show<O: Outside, P: Progress>(
 }
 
 /// Writes the view that the words ask for: six words, of which the first is `capture`, `summary`, `picture` or `text`. It tells how far
-/// the turns of the log are made.
+/// the turns of the log are made. Of the ports only that of OUT, `ReadByB`, is touched.
 ///
 /// # Errors
 ///
-/// `Usage` exactly where the words break this form; else what a replay of the log is refused by, where OUT isn't touched; and what
-/// a write of OUT is refused by, whose port is `ReadByB`.
+/// `Usage` exactly where the words break this form, and then nothing is called; else what a replay of the log is refused by, where
+/// OUT isn't touched; and what a write of OUT is refused by, whose port is `ReadByB`: OUT then holds what it held, or the first
+/// octets of the view.
 pub fn view_words<O: Outside, P: Progress>(
     alloc: Global,
     words: &[String],
@@ -262,12 +293,22 @@ pub fn view_words<O: Outside, P: Progress>(
 ) -> Result<(), Status>
     ensures usage { (result ≡ Err Usage) ↔ (asked_in (map string_bytes words.now) ≡ None) }
     ensures shown { OnOk result (IfSome (asked_in (map string_bytes words.now)) (λ asked.
-        Shows (O.content outside.old) asked.view asked.line
-        (O.holds outside.old Port.ReadByB) (O.holds outside.new Port.ReadByB))) }
+        Shows (O.content outside.old) asked (O.holds outside.old) (O.holds outside.new)
+        (O.calls outside.old) (O.calls outside.new))) }
     ensures fault { IfErr result (λ status. IfSome (asked_in (map string_bytes words.now)) (λ asked.
-        IsViewFault (O.content outside.old) asked.line
+        IsViewFault (O.content outside.old) asked (O.holds outside.old) (O.holds outside.new)
+        (O.calls outside.old) (O.calls outside.new)
         (O.load_faults outside.old) (O.load_faults outside.new)
-        (O.port_faults outside.old Port.ReadByB) (O.port_faults outside.new Port.ReadByB) status)) }
+        (O.port_faults outside.old) (O.port_faults outside.new) status)) }
+    ensures untouched { IfErr result (λ status. IsBeforeOut status → IsUntouched
+        (O.holds outside.old) (O.holds outside.new)
+        (O.port_faults outside.old) (O.port_faults outside.new)) }
+    ensures other_ports { (port : Port) → port ≢ Port.ReadByB →
+        O.holds outside.new port ≡ O.holds outside.old port }
+    ensures other_counts { (port : Port) → port ≢ Port.ReadByB →
+        O.port_faults outside.new port ≡ O.port_faults outside.old port }
+    ensures unloaded { result ≡ Err Usage → O.load_faults outside.new ≡ O.load_faults outside.old }
+    ensures uncalled { result ≡ Err Usage → O.calls outside.new ≡ O.calls outside.old }
 {
     match asked_by(words) {
         None => Err(Status::Usage),

@@ -1,12 +1,14 @@
 -- Turns that are made one after the other, with what they hand to the links.
-use Rattle.std.proofs.Common.{◌≡◌, ◌∙◌, ℕ, suc, ◌+◌, true, false, List, [], ◌∷◌, ◌++◌, refl, sym, subst, arith, Option, Some, None, IfSome, All, option_to_list}
+use Rattle.std.proofs.Common.{◌≡◌, ◌∙◌, inl, inr, ℕ, suc, ◌+◌, true, false, List, [], ◌∷◌, ◌++◌, take, refl, sym, ap, subst, arith, Option, Some, None, IfSome, All, option_to_list}
 use Rattle.std.proofs.lemmas.List.{append-nil}
 use Rattle.std.proofs.lemmas.List.Elements.{All-append, All-cons, All-nil}
 use mathlib.Core.List.{append_assoc}
 use Rattle.path_core.specs.Octets.{octets}
 use Rattle.link_trace.specs.declared.sent.Sent.{Sent}
 use Rattle.world_laws.specs.Worlds.{AreLawful, IsLawfulTurn, Turn, WorldState, after_turn, world_run}
-use Rattle.run_trace.specs.Trace.{IsWhole, StopsAt, can_be_made, sent_at, trace_of}
+use Rattle.world_core.specs.Kept.{Kept}
+use Rattle.run_trace.specs.declared.making.TraceFault.TheVariants as fault
+use Rattle.run_trace.specs.Trace.{FailedOrIs, IsWhole, StandsAtFault, StandsBehind, StopsAt, can_be_made, sent_at, trace_of}
 
 lawful_turn : (t : Turn) (w : WorldState (List ℕ)) → can_be_made t w ≡ true → IsLawfulTurn t w
 lawful_turn (Turn.Step actor) w h = h
@@ -18,6 +20,7 @@ pub record Gathers (order left : List Turn) (start w : WorldState (List ℕ)) (t
   pub run : world_run octets left w ≡ world_run octets order start
   pub lawful : AreLawful octets left w → AreLawful octets order start
   pub stops : (n : ℕ) → StopsAt n left w → StopsAt (place + n) order start
+  pub behind : (n : ℕ) → world_run octets (take n left) w ≡ world_run octets (take (place + n) order) start
   pub whole : All IsWhole trace
 
 pub nothing_gathered : (order : List Turn) (start : WorldState (List ℕ)) → Gathers order order start start [] 0
@@ -26,6 +29,7 @@ nothing_gathered order start = record {
   run = refl;
   lawful = λ lawful. lawful;
   stops = λ n stops. let P : ℕ → Type 0 = λ m. StopsAt m order start in let e : n ≡ 0 + n = omega arith in subst P e stops;
+  behind = λ n. let e : n ≡ 0 + n = omega arith in ap (λ (m : ℕ). world_run octets (take m order) start) e;
   whole = All-nil IsWhole;
 }
 
@@ -43,6 +47,8 @@ module _ (order rest : List Turn) (start w : WorldState (List ℕ)) (trace : Lis
     lawful = λ lawful. g.lawful (lawful_turn t w made, lawful);
     stops = λ n stops. let P : ℕ → Type 0 = λ m. StopsAt m order start in let e : place + suc n ≡ place + 1 + n = omega arith in
         subst P e (g.stops (suc n) (made, stops));
+    behind = λ n. let e : place + suc n ≡ place + 1 + n = omega arith in
+        g.behind (suc n) ∙ ap (λ (m : ℕ). world_run octets (take m order) start) e;
     whole = All-append IsWhole trace (sent_at t w) g.whole whole;
   }
 
@@ -67,3 +73,24 @@ module _ (order left : List Turn) (start w : WorldState (List ℕ)) (trace : Lis
 
   pub all_made : left ≡ [] → Gathers order left start w trace place → w ≡ world_run octets order start
   all_made is g = let h = subst (λ (ts : List Turn). Gathers order ts start w trace place) is g in h.run
+
+module _ (order left : List Turn) (start : WorldState (List ℕ)) (old : Kept) (trace : List Sent) (place : ℕ) where
+  -- so many turns were made
+  pub stands_here : Gathers order left start old.state trace place → old.failed ≡ false → StandsBehind place order start old
+  stands_here g stands =
+      let e : place + 0 ≡ place = omega arith in
+      let here : old.state ≡ world_run octets (take place order) start = g.behind 0 ∙ ap (λ (m : ℕ). world_run octets (take m order) start) e in
+      rw (← stands, ← here) refl
+
+  -- the next one left the world as it was
+  pub stands_still : (new : Kept) → Gathers order left start old.state trace place → new.failed ≡ false → new.state ≡ old.state → StandsBehind place order start new
+  stands_still new g stands same =
+      let e : place + 0 ≡ place = omega arith in
+      let here : new.state ≡ world_run octets (take place order) start = same ∙ g.behind 0 ∙ ap (λ (m : ℕ). world_run octets (take m order) start) e in
+      rw (← stands, ← here) refl
+
+  -- memory was wanting in the next one
+  pub stands_cut : (new : Kept) → Gathers order left start old.state trace place → old.failed ≡ false → FailedOrIs new old
+      → StandsAtFault fault.Memory order start new
+  stands_cut new g stands (inl failed) = inl failed
+  stands_cut new g stands (inr same) = inr (place, same ∙ stands_here g stands)

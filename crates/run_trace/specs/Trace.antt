@@ -1,5 +1,5 @@
 -- The trace of turns: the segments that they hand to the links, in order.
-use Rattle.std.specs.Prelude.{◌≡◌, IsOk, ℕ, zero, suc, Bool, true, false, Option, option_map, option_and_then, List, [], ◌∷◌, ◌++◌}
+use Rattle.std.specs.Prelude.{◌≡◌, ◌⊎◌, IsOk, ℕ, zero, suc, Bool, true, false, Option, option_map, option_and_then, List, [], ◌∷◌, ◌++◌, take}
 use Rattle.std.specs.Option.{option_to_list}
 use Rattle.path_core.specs.Looking.{departing}
 use Rattle.path_core.specs.declared.looking.Departing.{Departing}
@@ -10,8 +10,9 @@ use Rattle.segment_wire.specs.Paths.{addresses_from}
 use Rattle.run_trace.specs.declared.making.TraceFault.{TraceFault}
 use Rattle.run_trace.specs.declared.making.TraceFault.TheVariants as fault
 use Rattle.link_trace.specs.declared.sent.Sent.{Sent}
+use Rattle.world_core.specs.Kept.{Kept, standing}
 use Rattle.world_core.specs.Looking.{path_at}
-use Rattle.world_laws.specs.Worlds.{WorldState, Turn, after_turn, all_over, is_going}
+use Rattle.world_laws.specs.Worlds.{WorldState, Turn, after_turn, all_over, is_going, world_run}
 
 -- at the path's tick
 abbrev pub sent_as : PathState (List ℕ) → Departing → Sent
@@ -66,3 +67,17 @@ place_of fault.Memory = 0
 abbrev pub IsTraceFault : List Turn → WorldState (List ℕ) → TraceFault → Type 0
 IsTraceFault turns w (fault.Turn place) = StopsAt place turns w
 IsTraceFault turns w fault.Memory = Unit {0}
+
+-- the world failed for want of memory, or is this one
+abbrev pub FailedOrIs : Kept → Kept → Type 0
+FailedOrIs new old = (new.failed ≡ true) ⊎ (new ≡ old)
+
+-- it stands behind so many of these turns
+abbrev pub StandsBehind : ℕ → List Turn → WorldState (List ℕ) → Kept → Type 0
+StandsBehind count turns w v = v ≡ standing (world_run octets (take count turns) w)
+
+-- how the world stands that turns were made in, where these weren't all made: behind those before the one that can't be made;
+-- where memory was wanting, it has failed, or stands behind some first ones
+abbrev pub StandsAtFault : TraceFault → List Turn → WorldState (List ℕ) → Kept → Type 0
+StandsAtFault (fault.Turn place) turns w v = StandsBehind place turns w v
+StandsAtFault fault.Memory turns w v = (v.failed ≡ true) ⊎ ((count : ℕ) × StandsBehind count turns w v)

@@ -1,12 +1,12 @@
 //! The turns of a log, made again, and what they hand to the links.
 
-ghost use Rattle.std.specs.Prelude.{◌≡◌, ◌<◌, ◌^◌, ◌++◌, true, false, OnOk, IfOk, IfErr, All};
+ghost use Rattle.std.specs.Prelude.{◌≡◌, ◌<◌, ◌^◌, ◌++◌, false, OnOk, OnErr, IfOk, IfErr, All};
 ghost use Rattle.std.specs.Option.{option_to_list};
 ghost use Rattle.path_core.specs.Octets.{octets};
 ghost use Rattle.world_core.specs.Kept.{standing};
 ghost use Rattle.world_core.specs.Logged.{turn_of, all_turns};
 ghost use Rattle.world_laws.specs.Worlds.{AreLawful, after_turn, is_going, world_run, world_step};
-ghost use Rattle.run_trace.specs.Trace.{IsTraceFault, IsWhole, can_be_made, place_of, sent_at, sent_next, trace_of};
+ghost use Rattle.run_trace.specs.Trace.{FailedOrIs, IsTraceFault, IsWhole, StandsAtFault, can_be_made, place_of, sent_at, sent_next, trace_of};
 
 use crate::next::sent_next;
 use crate::progress::Progress;
@@ -35,21 +35,21 @@ fn keep(trace: &mut Vec<Sent>, sent: Option<Sent>) -> Result<(), AllocError>
     Ok(())
 }
 
-/// Makes the step of an actor, and keeps the segment that it hands to a link. Answers whether the actor's turn hadn't ended.
+/// Keeps the segment that the next step of an actor hands to a link, and makes the step. Answers whether the actor's turn hadn't
+/// ended.
 fn make_step(world: &mut World, actor: u8, trace: &mut Vec<Sent>) -> Result<bool, AllocError>
     ensures made { IfOk result (λ made. made ≡ is_going actor world.old.state) }
     ensures world { OnOk result (world.new ≡ standing (world_step octets actor world.old.state)) }
-    ensures trace { IfOk result (λ made. made ≡ true →
-        trace.new.items ≡ trace.old.items ++ option_to_list (sent_next actor world.old.state)) }
+    ensures still { IfOk result (λ made. made ≡ false → world.new.state ≡ world.old.state) }
+    ensures trace { OnOk result (trace.new.items ≡
+        trace.old.items ++ option_to_list (sent_next actor world.old.state)) }
     ensures whole { IfOk result (λ made.
         All IsWhole (option_to_list (sent_next actor world.old.state))) }
+    ensures err { OnErr result (FailedOrIs world.new world.old) }
 {
     let sent = sent_next(world, actor)?;
-    if !world.go(actor)? {
-        return Ok(false);
-    }
     keep(trace, sent)?;
-    Ok(true)
+    world.go(actor)
 }
 
 /// Makes a turn, and keeps the segment that it hands to a link. Answers whether it could be made.
@@ -58,9 +58,11 @@ fn make_turn(world: &mut World, turn: Turn, trace: &mut Vec<Sent>) -> Result<boo
     ensures made { IfOk result (λ made. made ≡ can_be_made (turn_of turn) world.old.state) }
     ensures world { OnOk result (world.new ≡
         standing (after_turn octets (turn_of turn) world.old.state)) }
-    ensures trace { IfOk result (λ made. made ≡ true →
-        trace.new.items ≡ trace.old.items ++ sent_at (turn_of turn) world.old.state) }
+    ensures still { IfOk result (λ made. made ≡ false → world.new.state ≡ world.old.state) }
+    ensures trace { OnOk result
+        (trace.new.items ≡ trace.old.items ++ sent_at (turn_of turn) world.old.state) }
     ensures whole { IfOk result (λ made. All IsWhole (sent_at (turn_of turn) world.old.state)) }
+    ensures err { OnErr result (FailedOrIs world.new world.old) }
 {
     match turn {
         Turn::Step(actor) => make_step(world, actor, trace),
@@ -73,7 +75,8 @@ fn make_turn(world: &mut World, turn: Turn, trace: &mut Vec<Sent>) -> Result<boo
 ///
 /// # Errors
 ///
-/// The first turn that can't be made, or that memory ran out.
+/// The first turn that can't be made, where the world stands as the turns before it lead to; or that memory ran out, where the
+/// world has failed, or stands behind some first turns of the order.
 pub fn gather<P: Progress>(
     alloc: Global,
     world: &mut World,
@@ -89,6 +92,8 @@ pub fn gather<P: Progress>(
         (world.new ≡ standing (world_run octets (all_turns order.now) world.old.state)) }
     ensures fault { IfErr result (IsTraceFault (all_turns order.now) world.old.state) }
     ensures within { IfErr result (λ fault. place_of fault < 2 ^ 63) }
+    ensures stopped { IfErr result
+        (λ fault. StandsAtFault fault (all_turns order.now) world.old.state world.new) }
 {
     let mut trace = Vec::new(alloc);
     let mut place = 0;
