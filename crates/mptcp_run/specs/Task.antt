@@ -8,7 +8,6 @@ use Rattle.run_outside.specs.declared.input.Input.{Input}
 use Rattle.world_laws.specs.Openings.{start_of, opened_world}
 use Rattle.world_laws.specs.Serial.{IsSerial}
 use Rattle.world_laws.specs.Worlds.{WorldState, Turn, AreLawful}
-use Rattle.mptcp_run.specs.Asked.{asked_in}
 use Rattle.run_outside.specs.Reading.{script_of, log_reading}
 use Rattle.world_core.specs.Logged.{turn_of}
 use Rattle.mptcp_run.specs.WovenRounds.{AreWovenRounds}
@@ -76,7 +75,3 @@ task_of content line = do
   file_b ← content line.names.file_b
   course ← course_of content script line.work
   Some (record { script = script; file_a = file_a; file_b = file_b; course = course; report = Log })
-
--- the task of the words, where they ask for one
-abbrev pub task_in : (List ℕ → Option (List ℕ)) → List (List ℕ) → Option Task
-task_in content words = option_and_then (task_of content) (asked_in words)

@@ -19,7 +19,7 @@ use std::marker::Brand;
 use std::sync::Wait;
 use std::thread::Threads;
 
-/// Whether the mode is run.
+/// Whether the mode takes a script and files: `run`, `serial` or `replay`.
 fn is_run(mode: Mode<'_>) -> bool
     ensures { result ≡ is_run (shown_work mode.entry) }
 {

@@ -1,6 +1,6 @@
-//! Sends a file through a Multipath TCP connection over simulated links: `mptcp_sim --mode serial SCRIPT FILE_A FILE_B
-//! READ_BY_B READ_BY_A`. Behind a first word `messages` each line of a file goes as one message; behind `many` a list names up to 64
-//! connections that share one listener.
+//! Sends two files, one each way, through a Multipath TCP connection over simulated links: `mptcp_sim --mode serial SCRIPT FILE_A
+//! FILE_B READ_BY_B READ_BY_A`. Behind a first word `messages` each line of a file goes as one message; behind `many` a list names up
+//! to 64 connections that share one listener.
 #![tactic(auto)]
 
 use connection_table::run_many;

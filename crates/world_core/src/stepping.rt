@@ -93,7 +93,7 @@ impl World {
     ///
     /// # Errors
     ///
-    /// Where there is no memory. The world has failed then.
+    /// Where there is no memory. The world has failed then, and its actors and books are of no use.
     pub fn go(&mut self, actor: u8) -> Result<bool, AllocError>
         ensures going { IfOk result (λ went. went ≡ is_going actor self.old.state) }
         ensures ok { OnOk result (self.new ≡ standing (world_step octets actor self.old.state)) }
@@ -124,7 +124,7 @@ impl World {
     ///
     /// # Errors
     ///
-    /// Where there is no memory. The world has failed then.
+    /// Where there is no memory. The world has failed then, and its actors and books are of no use.
     pub fn run(&mut self, order: &[u8]) -> Result<u64, AllocError>
         ensures ok { IfOk result (λ count.
             RunTo octets order.now count self.old.state self.new.state) }

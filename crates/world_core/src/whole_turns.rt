@@ -12,7 +12,7 @@ use std::alloc::AllocError;
 ///
 /// # Errors
 ///
-/// Where there is no memory. The world has failed then.
+/// Where there is no memory. The world has failed then, and its actors and books are of no use.
 pub fn turn(world: &mut World, actor: u8) -> Result<(), AllocError>
     requires { world.old.failed ≡ false }
     ensures ok { OnOk result (TurnTo octets actor world.old.state world.new.state) }
@@ -41,7 +41,7 @@ fn turns(world: &mut World) -> Result<(), AllocError>
 ///
 /// # Errors
 ///
-/// Where there is no memory. The world has failed then.
+/// Where there is no memory. The world has failed then, and its actors and books are of no use.
 pub fn round(world: &mut World) -> Result<(), AllocError>
     requires { world.old.failed ≡ false }
     ensures ok { OnOk result (RoundTo octets world.old.state world.new.state) }
