@@ -5,6 +5,7 @@ mod StepMade
 mod Reported
 mod Ending
 mod Opening
+mod CutMade
 pub mod RoundsMade
 pub mod Gathering
 pub mod SinceRound

@@ -3,6 +3,7 @@ pub mod Kept
 pub mod Steps
 pub mod Hearing
 pub mod Rounds
+pub mod Cuts
 pub mod AsValues
 pub mod RoundEnds
 pub mod Weaving

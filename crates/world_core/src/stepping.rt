@@ -3,6 +3,7 @@
 ghost use Rattle.std.specs.Prelude.{◌≡◌, ◌^◌, ◌<◌, length, true, false, is_some, None, IfOk, OnOk, OnErr, option_map};
 ghost use Rattle.path_core.specs.Octets.{octets};
 ghost use Rattle.world_core.specs.AsValues.{StepsAsValues};
+ghost use Rattle.world_core.specs.Cuts.{RunCut};
 ghost use Rattle.world_core.specs.Hearing.{ShowsTheSame, heard_by, heard_report};
 ghost use Rattle.world_core.specs.Kept.{IsSound, standing, world};
 ghost use Rattle.world_core.specs.Steps.{StampRises, next_note, stepped_by, is_made};
@@ -93,7 +94,7 @@ impl World {
     ///
     /// # Errors
     ///
-    /// Where there is no memory. The world has failed then, and its actors and books are of no use.
+    /// Where there is no memory. The world has failed then, and the outcome stays, and the list of each actor.
     pub fn go(&mut self, actor: u8) -> Result<bool, AllocError>
         ensures going { IfOk result (λ went. went ≡ is_going actor self.old.state) }
         ensures ok { OnOk result (self.new ≡ standing (world_step octets actor self.old.state)) }
@@ -101,6 +102,9 @@ impl World {
         ensures rises { OnOk result (StampRises actor self.old.state self.new.state) }
         ensures was { OnOk result (self.old.failed ≡ false) }
         ensures err { OnErr result (self.new.failed ≡ true) }
+        ensures outcome { OnErr result (outcome_of self.new.state.crew ≡
+            outcome_of self.old.state.crew) }
+        ensures lists { OnErr result (lists_of self.new.state.crew ≡ lists_of self.old.state.crew) }
     {
         if self.failed {
             return Err(AllocError);
@@ -124,13 +128,15 @@ impl World {
     ///
     /// # Errors
     ///
-    /// Where there is no memory. The world has failed then, and its actors and books are of no use.
+    /// Where there is no memory. The world has failed then, and the outcome and the list of each actor are as after some first
+    /// steps of the order.
     pub fn run(&mut self, order: &[u8]) -> Result<u64, AllocError>
         ensures ok { IfOk result (λ count.
             RunTo octets order.now count self.old.state self.new.state) }
         ensures was { OnOk result (self.old.failed ≡ false) }
         ensures stands { OnOk result (self.new.failed ≡ false) }
         ensures err { OnErr result (self.new.failed ≡ true) }
+        ensures cut { OnErr result (RunCut octets order.now self.old.state self.new.state) }
     {
         if self.failed {
             return Err(AllocError);

@@ -1,6 +1,7 @@
 use Rattle.std.proofs.Common.{◌≡◌, sym, ◌∙◌, ap, subst, suc, ◌+◌, arith}
 use Rattle.path_core.specs.Octets.{octets}
 use Rattle.world_laws.specs.Worlds.{RunTo}
+use Rattle.world_core.proofs.CutMade.{at_err, run_cut_now, run_cut_more}
 use Rattle.world_core.proofs.RoundsMade.{run_goes, run_stops, run_ends}
 use Rattle.world_core.proofs.world.World.run.Goals as goal
 
@@ -22,6 +23,9 @@ loop-actor-preserved c = (
       (c.loop-actor.invariant.2 (suc n) v
       (run_goes octets c.args.order.now c.loop-actor.actor-index 0 n c.loop-actor.self.state c.go.new.self.state v c.loop-actor-test.true
       (sym c.in_ok-go.ensures.going ∙ c.if-not-branch.false) (ap (λ w. w.state) c.in_ok-go.ensures.ok) h)),
+  λ v h. c.loop-actor.invariant.3 v
+      (run_cut_more octets c.args.order.now c.loop-actor.actor-index 0 c.loop-actor.self.state c.go.new.self.state v c.loop-actor-test.true
+      (sym c.in_ok-go.ensures.going ∙ c.if-not-branch.false) (ap (λ w. w.state) c.in_ok-go.ensures.ok) h),
 )
 
 pub returns-clause-ok : goal.returns-clause-ok
@@ -30,3 +34,8 @@ returns-clause-ok c =
     subst (λ n. RunTo octets c.args.order.now n c.args.self.now.state c.loop-actor.self.state) count
     (c.loop-actor.invariant.2 0 c.loop-actor.self.state
     (run_ends octets c.args.order.now c.loop-actor.actor-index c.loop-actor.self.state (omega (arith, c.loop-actor-test.false))))
+
+pub returns-in_err-go-clause-cut : goal.returns-in_err-go-clause-cut
+returns-in_err-go-clause-cut c = at_err c.from_residual.result (c.loop-actor.invariant.3 c.go.new.self.state
+    (run_cut_now octets _ c.loop-actor.self.state c.go.new.self.state
+    (record { outcome = c.in_err-go.ensures.outcome; lists = c.in_err-go.ensures.lists })))
