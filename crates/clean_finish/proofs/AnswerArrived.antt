@@ -10,9 +10,9 @@ use Rattle.path_agenda.specs.declared.duty.AskDuty.TheVariants as ask_duties
 use Rattle.path_agenda.specs.declared.duty.SendDuty.TheVariants as send_duties
 use Rattle.path_agenda.specs.declared.duty.StepDuty.TheVariants as step_duties
 use Rattle.path_agenda.specs.Agenda.{syn_ack_came}
-use Rattle.path_core.specs.Ends.{PathEnd}
-use Rattle.path_core.specs.State.{Profile}
-use Rattle.path_core.specs.Values.{Carried}
+use Rattle.path_rules.specs.Ends.{PathEnd}
+use Rattle.path_rules.specs.State.{Profile}
+use Rattle.path_rules.specs.Values.{Carried}
 use Rattle.pace.specs.Lane.{Setting, Copy, Lane}
 use Rattle.pace.specs.Rules.{hears_data, rested}
 use Rattle.pace.specs.Moves.{MayHearData, IsBefore}

@@ -13,10 +13,10 @@ use Rattle.path_agenda.specs.declared.duty.AskDuty.TheVariants as ask_duties
 use Rattle.path_agenda.specs.declared.duty.SendDuty.TheVariants as send_duties
 use Rattle.path_agenda.specs.declared.duty.StepDuty.TheVariants as step_duties
 use Rattle.path_agenda.specs.Agenda.{syn_came}
-use Rattle.path_core.specs.Ends.{PathEnd}
-use Rattle.path_core.specs.Standing.{is_connected}
-use Rattle.path_core.specs.State.{Profile}
-use Rattle.path_core.specs.Values.{Carried}
+use Rattle.path_rules.specs.Ends.{PathEnd}
+use Rattle.path_rules.specs.Standing.{is_connected}
+use Rattle.path_rules.specs.State.{Profile}
+use Rattle.path_rules.specs.Values.{Carried}
 use Rattle.pace.specs.Lane.{Setting, Copy, Lane}
 use Rattle.pace.specs.Rules.{hears_data}
 use Rattle.pace.specs.Moves.{MayHearData, IsBefore}

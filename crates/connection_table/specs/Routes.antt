@@ -2,7 +2,7 @@
 use Rattle.std.specs.Prelude.{ℕ, ◌≡◌, if◌then◌else◌, List, Option, Some, None, option_and_then}
 use Rattle.outside_kit.specs.declared.side.Side.{Side}
 use Rattle.outside_kit.specs.declared.side.Side.TheVariants.{A, B}
-use Rattle.path_core.specs.Looking.{Arrived}
+use Rattle.path_rules.specs.Looking.{Arrived}
 use Rattle.world_core.specs.Looking.{arriving_at}
 use Rattle.world_laws.specs.Actors.{ActorCrew}
 use Rattle.join_route.specs.Routing.{join_token}

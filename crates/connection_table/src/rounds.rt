@@ -1,7 +1,7 @@
 //! Serial rounds of many connections.
 
 ghost use Rattle.std.specs.Prelude.{◌≡◌, ◌≤◌, All, OnOk, map};
-ghost use Rattle.path_core.specs.Octets.{octets};
+ghost use Rattle.path_rules.specs.Octets.{octets};
 ghost use Rattle.world_core.specs.Rounds.{RoundTo};
 ghost use Rattle.connection_table.specs.ManyRounds.{EachRound, IsSerialEnd, Made, RoundIfGoing, RoundMade, TurnMade, TurnsMade};
 ghost use Rattle.connection_table.specs.Tables.{Stands, input_of};

@@ -4,7 +4,7 @@ use Rattle.std.proofs.lemmas.Bool.{both_ways}
 use Rattle.std.proofs.lemmas.List.{append-nil, drop_more}
 use Rattle.actor_desk.specs.declared.ask.Note.{Note}
 use Rattle.actor_desk.specs.Journals.{order_of}
-use Rattle.path_core.specs.Octets.{octets}
+use Rattle.path_rules.specs.Octets.{octets}
 use Rattle.world_laws.specs.Fine.{lists_of}
 use Rattle.world_laws.specs.Serial.{after_turns}
 use Rattle.world_laws.specs.Weaving.{Worked, steps_by}

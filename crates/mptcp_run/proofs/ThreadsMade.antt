@@ -3,7 +3,7 @@ use Rattle.std.proofs.Common.{◌≡◌, refl, sym, ◌∙◌, ap, subst, ℕ, �
 use Rattle.std.specs.Prelude.{Ok, Err, IfOk, IfErr, OnOk}
 use Rattle.std.proofs.lemmas.Bool.{both_ways}
 use Rattle.actor_desk.specs.Books.{StampedBooks}
-use Rattle.path_core.specs.Octets.{octets}
+use Rattle.path_rules.specs.Octets.{octets}
 use Rattle.world_laws.specs.Actors.{ActorCrew}
 use Rattle.world_laws.specs.Fine.{IsFine}
 use Rattle.world_laws.specs.Weaving as weaving

@@ -1,30 +1,6 @@
-mod AcksTaken
-pub mod Ranking
-pub mod Resting
-pub mod Joined
-pub mod Passed
-pub mod Fair
-pub mod Meanings
-pub mod Judgements
-pub mod Parts
-pub mod Mapped
-pub mod Filling
-pub mod FewThings
-pub mod Sendings
-pub mod Handshakes
-pub mod Happening
 mod Grants
 mod PathTurns
-pub mod Fallen
-pub mod Lowering
-pub mod TurnEnds
-pub mod FarResets
-mod ChangedCopies
-pub mod CopiesRead
-pub mod Showing
-pub mod Sayable
 mod InBounds
 mod Settling
 mod FirstDuty
 mod LinesOf
-pub mod SegmentsTold

@@ -3,9 +3,9 @@ use Rattle.std.specs.Prelude.{ℕ, List}
 use Rattle.std.specs.Borrow.{Lends, MutBor, Fml}
 use Rattle.outside_kit.specs.declared.side.Side.{Side}
 use Rattle.path_core.specs.contracts.machine.Machine as machine
-use Rattle.path_core.specs.contracts.end.PathEnd as path_end
-use Rattle.path_core.specs.Ends.{PathEnd}
-use Rattle.path_core.specs.State.{PathState, with_end}
+use Rattle.path_rules.specs.contracts.end.PathEnd as path_end
+use Rattle.path_rules.specs.Ends.{PathEnd}
+use Rattle.path_rules.specs.State.{PathState, with_end}
 
 -- the end of a side becomes what is left behind the reference
 abbrev pub LendsEnd : MutBor (PathState (List ℕ)) → Side → MutBor PathEnd → Fml

@@ -1,9 +1,10 @@
 //! The path as an actor of its connection.
+
 ghost use Rattle.std.specs.Prelude.{◌≡◌, ◌≤◌, ◌*◌, ◌^◌, None, IfOk, IfSome, OnOk, OnErr};
 ghost use Rattle.actor_desk.specs.Bounds.{TakesReply};
 ghost use Rattle.actor_desk.specs.Kinds.{CanBeAsked};
-ghost use Rattle.path_core.specs.Octets.{octets};
-ghost use Rattle.path_core.specs.Steps.{asks_of, takes, next_round};
+ghost use Rattle.path_rules.specs.Octets.{octets};
+ghost use Rattle.path_rules.specs.Steps.{asks_of, takes, next_round};
 
 use crate::path::Path;
 use actor_desk::{Actor, Ask, Reply};

@@ -1,32 +1,20 @@
-//! Addresses and priority (RFC 8684, sections 3.3.8 and 3.4): what an end has to note to its peer goes out, what the peer notes is told
-//! to the side, and so is an address that is to be announced or taken back.
+//! What the peer notes is told to the side, and so is an address that is to be announced or taken back; what an end has to note to its
+//! peer goes out (RFC 8684, sections 3.3.8 and 3.4).
 
 ghost use Rattle.std.specs.Prelude.{◌≡◌, ◌<◌, OnOk, OnErr};
 ghost use Rattle.actor_desk.specs.Kinds.{CanBeAsked};
 ghost use Rattle.control_book.specs.Calls.{can_ask};
-ghost use Rattle.path_core.specs.Addressing.{is_note_due, answered_note, notice_call, notice_ask, is_kept, with_echo, answered_notice, announce_ask, withdraw_ask};
-ghost use Rattle.path_core.specs.Octets.{octets};
+ghost use Rattle.path_rules.specs.Addressing.{answered_note, notice_call, notice_ask, answered_notice, announce_ask, withdraw_ask};
+ghost use Rattle.path_rules.specs.Octets.{octets};
 
-use crate::end::PathEnd;
 use crate::machine::Machine;
-use crate::notices::Notices;
-use crate::segment_kind::SegmentKind;
 use actor_desk::{Ask, Reply};
-use control_book::{ControlCall, ControlReply};
+use control_book::ControlCall;
 use outside_kit::Side;
-use path_agenda::{OwnNotice, PeerNotice};
+use path_agenda::PeerNotice;
+use path_rules::SegmentKind;
 use std::alloc::AllocError;
 use subflow_tcp::Occasion;
-
-/// The side keeps the address, now or since before.
-fn is_kept(reply: &Reply) -> bool
-    ensures { result ≡ is_kept reply.now }
-{
-    matches!(
-        reply,
-        Reply::Control(ControlReply::Echo) | Reply::Control(ControlReply::Known)
-    )
-}
 
 /// What the peer noted on the path of this number; an address without a port has port 0.
 fn notice_call(path: u8, notice: PeerNotice) -> ControlCall
@@ -66,38 +54,6 @@ pub(crate) fn withdraw_ask(side: Side, id: u8) -> Ask
     ensures able { CanBeAsked result }
 {
     Ask::Control(side, ControlCall::Withdraw { id })
-}
-
-impl Notices {
-    /// An announcement that the side keeps is to be echoed, with the id, the address and the port of the copy. At an error all is as it
-    /// was.
-    pub fn echo(&mut self, notice: PeerNotice, reply: &Reply) -> Result<(), AllocError>
-        ensures ok { OnOk result (self.new ≡
-            record self.old { queue = with_echo notice reply.now self.old.queue }) }
-        ensures err { OnErr result (self.new ≡ self.old) }
-    {
-        match notice {
-            PeerNotice::AddAddr {
-                id,
-                address,
-                port,
-                ..
-            } if is_kept(reply) => self.push(OwnNotice::AddEcho { id, address, port }),
-            PeerNotice::AddAddr { .. }
-            | PeerNotice::AddEcho { .. }
-            | PeerNotice::Removed { .. }
-            | PeerNotice::Prio { .. } => Ok(()),
-        }
-    }
-}
-
-impl PathEnd {
-    /// There is something to be noted, and the end can note it now.
-    pub fn is_note_due(&self) -> bool
-        ensures { result ≡ is_note_due self.now }
-    {
-        self.may_note() && self.notices.first().is_some()
-    }
 }
 
 impl Machine {

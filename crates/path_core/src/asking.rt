@@ -4,19 +4,19 @@ ghost use Rattle.std.specs.Prelude.{◌≡◌, false, IfOk, IsOk};
 ghost use Rattle.actor_desk.specs.Kinds.{CanBeAsked};
 ghost use Rattle.path_agenda.specs.declared.duty.Duty.TheVariants as duties;
 ghost use Rattle.path_agenda.specs.declared.duty.AskDuty.TheVariants as ask_duties;
-ghost use Rattle.path_core.specs.Octets.{octets};
-ghost use Rattle.path_core.specs.Duties.{stands, ask_for, passed, answered};
-ghost use Rattle.path_core.specs.Replies.{IsAckBounded, AreRowsInRange, asks_bytes};
+ghost use Rattle.path_rules.specs.Octets.{octets};
+ghost use Rattle.path_rules.specs.Duties.{stands, ask_for, passed, answered};
+ghost use Rattle.path_rules.specs.Replies.{IsAckBounded, AreRowsInRange, asks_bytes};
 
 use crate::addressing::{announce_ask, withdraw_ask};
 use crate::fast_closing::{abort_receive_ask, abort_send_ask};
-use crate::joining::join_begin_ask;
 use crate::machine::Machine;
 use crate::standing::ack_out_ask;
 use actor_desk::{Ask, Reply};
 use fallback_state::{Event, Mode};
 use outside_kit::Side;
 use path_agenda::{AskDuty, Duty};
+use path_rules::join_begin_ask;
 use send_book::SendCall;
 use std::alloc::AllocError;
 

@@ -2,38 +2,23 @@
 
 ghost use Rattle.std.specs.Prelude.{◌≡◌, Some, None, OnOk, OnErr};
 ghost use Rattle.actor_desk.specs.Kinds.{CanBeAsked};
-ghost use Rattle.path_core.specs.declared.segment_kind.SegmentKind.TheVariants as to_say;
 ghost use Rattle.path_agenda.specs.Agenda.{leaves};
 ghost use Rattle.path_agenda.specs.Words.{replaced};
 ghost use Rattle.path_agenda.specs.declared.duty.Duty.TheVariants as duties;
 ghost use Rattle.path_agenda.specs.declared.duty.AskDuty.TheVariants as ask_duties;
-ghost use Rattle.path_core.specs.Breaking.{reset_on, break_ask, answered_break, return_ask, dead_ask};
-ghost use Rattle.path_core.specs.Events.{died};
-ghost use Rattle.path_core.specs.Octets.{octets};
-ghost use Rattle.path_core.specs.Replies.{IsAckBounded};
+ghost use Rattle.path_rules.specs.Breaking.{reset_on, break_ask, answered_break, return_ask, dead_ask};
+ghost use Rattle.path_rules.specs.Octets.{octets};
+ghost use Rattle.path_rules.specs.Replies.{IsAckBounded};
 
-use crate::end::PathEnd;
 use crate::machine::Machine;
-use crate::segment_kind::SegmentKind;
 use crate::standing::ack_out_ask;
-use crate::treated::Treated;
 use actor_desk::{Ask, Reply};
 use control_book::ControlCall;
 use outside_kit::Side;
 use path_agenda::{Agenda, AskDuty, Duty};
+use path_rules::SegmentKind;
 use send_book::SendCall;
 use std::alloc::AllocError;
-
-impl PathEnd {
-    /// Nothing is sent, kept, noted or awaited any more.
-    pub fn die(&mut self)
-        ensures { self.new ≡ died self.old }
-    {
-        self.tcp.kill(false);
-        self.treated = Treated::nothing();
-        self.notices.let_go();
-    }
-}
 
 impl Machine {
     /// What the end holds is given back.

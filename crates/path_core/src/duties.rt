@@ -3,9 +3,9 @@
 
 ghost use Rattle.std.specs.Prelude.{◌≡◌, true, false, IfOk, IsOk, OnOk, OnErr};
 ghost use Rattle.actor_desk.specs.Kinds.{CanBeAsked};
-ghost use Rattle.path_core.specs.Octets.{octets};
-ghost use Rattle.path_core.specs.Duties.{stands, ask_for, passed, answered};
-ghost use Rattle.path_core.specs.Replies.{IsAckBounded, AreRowsInRange, IsGrantFit, asks_bytes, needs_memory};
+ghost use Rattle.path_rules.specs.Octets.{octets};
+ghost use Rattle.path_rules.specs.Duties.{stands, ask_for, passed, answered};
+ghost use Rattle.path_rules.specs.Replies.{IsAckBounded, AreRowsInRange, IsGrantFit, asks_bytes, needs_memory};
 
 use crate::machine::Machine;
 use actor_desk::{Ask, LocalStep, Reply};

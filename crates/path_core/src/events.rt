@@ -1,62 +1,28 @@
 //! What happens on a path by itself: its join, lines of the script, copies that arrive, timers that run out.
 
-ghost use Rattle.std.specs.Prelude.{◌≡◌, ◌&&◌, ◌∷◌, ◌++◌, ◌<◌, ◌^◌, ◌-◌, [], false, if◌then◌else◌, IfSome, IsSome, IsOk, OnOk, OnErr};
+ghost use Rattle.std.specs.Prelude.{◌≡◌, ◌&&◌, ◌∷◌, ◌++◌, ◌<◌, ◌-◌, [], false, if◌then◌else◌, IfSome, IsOk, OnOk, OnErr};
 ghost use Rattle.actor_desk.specs.Kinds.{CanBeAsked};
 ghost use Rattle.actor_desk.specs.Words.{tail_of};
 ghost use Rattle.link_model.specs.Steps.{next_due};
 ghost use Rattle.outside_kit.specs.declared.side.Side.TheVariants.{A, B};
-ghost use Rattle.subflow_tcp.specs.Expiring.{is_sixth};
 ghost use Rattle.subflow_tcp.specs.States.{is_dead};
 ghost use Rattle.path_agenda.specs.declared.duty.Duty.TheVariants as duties;
 ghost use Rattle.path_agenda.specs.declared.duty.AskDuty.TheVariants as ask_duties;
-ghost use Rattle.path_core.specs.declared.event.Event.TheVariants as event;
+ghost use Rattle.path_rules.specs.declared.event.Event.TheVariants as event;
 ghost use Rattle.path_agenda.specs.Agenda.{rest_of_turn};
-ghost use Rattle.path_core.specs.Replies.{notes_by, event_needs_memory};
-ghost use Rattle.path_core.specs.Events.{is_dead_or_listening, is_dead_path, tick_of, next_join, next_line, next_copy, next_fire, earlier, earliest, before, next_event, step_of, step_for, died_unless_dead, path_died, with_priority, line_taken, after_firing, timer_fired, at_tick, joins_at_tick, happens_if, CanHappen};
-ghost use Rattle.path_core.specs.Octets.{octets};
-ghost use Rattle.path_core.specs.State.{end_at, path_of};
+ghost use Rattle.path_rules.specs.Replies.{notes_by, event_needs_memory};
+ghost use Rattle.path_rules.specs.Events.{is_dead_or_listening, is_dead_path, next_join, next_line, next_copy, next_fire, earlier, earliest, before, next_event, step_for, path_died, line_taken, timer_fired, at_tick, joins_at_tick, happens_if, CanHappen};
+ghost use Rattle.path_rules.specs.Octets.{octets};
+ghost use Rattle.path_rules.specs.State.{end_at, path_of};
 
-use crate::end::PathEnd;
-use crate::event::Event;
-use crate::joining::join_begin_ask;
 use crate::machine::Machine;
 use actor_desk::{Ask, LocalStep, Reply};
 use outside_kit::Side;
-use path_agenda::{Agenda, AskDuty, Duty, OwnNotice, StepDuty};
+use path_agenda::{Agenda, AskDuty, Duty, StepDuty};
+use path_rules::Event;
 use path_store::{LineAction, LineLeft};
 use std::alloc::AllocError;
-use subflow_tcp::{Fired, State};
-
-impl Event {
-    /// The tick at which it happens.
-    fn tick(self) -> u64
-        ensures { result ≡ tick_of self }
-    {
-        match self {
-            Event::Joins(tick) => tick,
-            Event::Takes(line) => line.tick,
-            Event::Arrives(due) => due.tick,
-            Event::Fires(_, tick) => tick,
-        }
-    }
-
-    /// Its step on the path of this number.
-    fn step(self, path: u8) -> Ask
-        requires { path < 16 }
-        ensures value { result ≡ step_of path self }
-        ensures able { CanBeAsked result }
-    {
-        match self {
-            Event::Joins(_) => join_begin_ask(path),
-            Event::Takes(line) => Ask::Local(LocalStep::Line(line.number)),
-            Event::Arrives(due) => Ask::Local(LocalStep::Arrive {
-                to: due.to,
-                copy: due.copy,
-            }),
-            Event::Fires(side, _) => Ask::Local(LocalStep::Fire(side)),
-        }
-    }
-}
+use subflow_tcp::State;
 
 /// The earlier of two events; at one tick the first.
 fn earlier(first: Option<Event>, second: Option<Event>) -> Option<Event>
@@ -90,52 +56,6 @@ fn all_leave(a_is_dead: bool, b_is_dead: bool) -> Agenda
         (false, true) => Agenda::of(&[a, Duty::Step(StepDuty::Events), Duty::End]),
         (true, false) => Agenda::of(&[b, Duty::Step(StepDuty::Events), Duty::End]),
         (true, true) => Agenda::rest_of_turn(),
-    }
-}
-
-impl PathEnd {
-    /// Whether it is dead.
-    fn is_dead(&self) -> bool
-        ensures { result ≡ is_dead self.now.tcp.state }
-    {
-        matches!(self.tcp.state(), State::Dead)
-    }
-
-    /// Whether it is dead, or never heard anything.
-    fn is_dead_or_listening(&self) -> bool
-        ensures { result ≡ is_dead_or_listening self.now.tcp.state }
-    {
-        matches!(self.tcp.state(), State::Dead | State::Listen)
-    }
-
-    /// Nothing is sent, kept or awaited any more, unless it was dead before.
-    fn die_unless_dead(&mut self)
-        ensures { self.new ≡ died_unless_dead self.old }
-    {
-        if !self.is_dead() {
-            self.die();
-        }
-    }
-
-    /// The priority is to be told to the peer, unless the end is dead. At an error all is as it was.
-    fn note_priority(&mut self, backup: bool) -> Result<(), AllocError>
-        ensures ok { OnOk result (self.new ≡ with_priority backup self.old) }
-        ensures err { OnErr result (self.new ≡ self.old) }
-    {
-        if self.is_dead() {
-            return Ok(());
-        }
-        self.notices.push(OwnNotice::Prio { backup })
-    }
-
-    /// Its timer ran out. Answers whether it was the sixth time in a row, which ends the end.
-    fn fire(&mut self, now: u64) -> bool
-        requires now { now < 2 ^ 64 - 2 ^ 20 }
-        requires running { IsSome self.old.tcp.timing.timer }
-        ensures sixth { result ≡ is_sixth self.old.tcp }
-        ensures after { self.new ≡ after_firing now self.old }
-    {
-        matches!(self.tcp.fire(now), Fired::Died)
     }
 }
 
@@ -192,7 +112,7 @@ impl Machine {
     }
 
     /// The earliest event before the round's end.
-    #[tactic(auto, using(crate::proofs::Happening::can_happen))]
+    #[tactic(auto, using(path_rules::proofs::Happening::can_happen))]
     pub(crate) fn next_event(&self) -> Option<Event>
         ensures value { result ≡ next_event self.now }
         ensures can { IfSome result (λ event. CanHappen event self.now) }

@@ -1,73 +1,11 @@
-//! A mapping whose checksum isn't that of its octets: the side is told of it, and tells the peer by MP_FAIL (RFC 8684, section 3.7).
+//! The side is told of a mapping whose checksum isn't that of its octets (RFC 8684, section 3.7).
 
-ghost use Rattle.std.specs.Prelude.{◌≡◌, Some};
-ghost use Rattle.path_core.specs.Deliver.{mapping_here, failing_by};
-ghost use Rattle.path_core.specs.FailedChecks.{check_failed_stands, with_failure, after_check_failed, answered_check_failed};
+ghost use Rattle.std.specs.Prelude.{◌≡◌};
+ghost use Rattle.path_rules.specs.FailedChecks.{answered_check_failed};
 
-use crate::end::PathEnd;
 use crate::machine::Machine;
-use crate::profile::Profile;
 use actor_desk::Reply;
-use control_book::ControlReply;
-use dss_mapping::KeptMapping;
-use fallback_state::{Event, Verdict};
 use outside_kit::Side;
-
-impl PathEnd {
-    /// The mapping at the edge, where its octets are all there and aren't those that it was made for.
-    fn failing_mapping(&self, checksums: bool) -> Option<KeptMapping>
-        ensures { result ≡ failing_by checksums (mapping_here self.now) self.now.tcp }
-    {
-        let kept = self.mapping_at_edge()?;
-        if checksums && self.is_whole(kept) && !self.is_right(kept) {
-            Some(kept)
-        } else {
-            None
-        }
-    }
-
-    /// It is told as long as the peer's mappings count.
-    pub fn check_failed_stands(&self, profile: &Profile) -> bool
-        ensures { result ≡ check_failed_stands profile.now self.now }
-    {
-        self.failing_mapping(profile.spelling().checksums).is_some()
-            && self.modes.mode.reads_mappings()
-    }
-
-    /// Where the side goes on, acknowledgements tell this mapping; where the path is broken, its reset does.
-    fn note_failed(&mut self, kept: KeptMapping, reply: &Reply)
-        ensures { self.new ≡ with_failure (Some kept) reply.now self.old }
-    {
-        match *reply {
-            Reply::Control(ControlReply::Verdict(Verdict::SendFail)) => {
-                self.modes.failed_mapping = Some(kept.place);
-            }
-            Reply::Control(ControlReply::Verdict(Verdict::BreakPath(_))) => {
-                self.treated.failed_mapping = Some(kept.place);
-            }
-            _ => {}
-        }
-    }
-
-    /// So it is with the mapping whose check failed, if any.
-    fn note_failure(&mut self, failing: Option<KeptMapping>, reply: &Reply)
-        ensures { self.new ≡ with_failure failing reply.now self.old }
-    {
-        if let Some(kept) = failing {
-            self.note_failed(kept, reply);
-        }
-    }
-
-    /// The verdict was told; the mapping's octets are forgotten.
-    fn take_check_reply(&mut self, checksums: bool, reply: &Reply)
-        ensures { self.new ≡ after_check_failed checksums reply.now self.old }
-    {
-        let failing = self.failing_mapping(checksums);
-        self.take_fell_reply(Event::CheckFailed, reply);
-        self.note_failure(failing, reply);
-        self.check(checksums);
-    }
-}
 
 impl Machine {
     /// The control book answered to the failed check, and the side goes by its verdict.

@@ -3,28 +3,19 @@
 
 ghost use Rattle.std.specs.Prelude.{◌≡◌, OnOk, OnErr};
 ghost use Rattle.actor_desk.specs.Kinds.{CanBeAsked};
-ghost use Rattle.path_core.specs.FastClosing.{is_silent, leaves_silently, resets_noted, answered_leave_noted, is_fast_close_due, answered_fast_close, is_stopped_by, answered_fast_heard, abort_send_ask, abort_receive_ask};
-ghost use Rattle.path_core.specs.Octets.{octets};
+ghost use Rattle.path_rules.specs.FastClosing.{answered_leave_noted, answered_fast_close, is_stopped_by, answered_fast_heard, abort_send_ask, abort_receive_ask};
+ghost use Rattle.path_rules.specs.Octets.{octets};
 
-use crate::end::PathEnd;
 use crate::machine::Machine;
-use crate::segment_kind::SegmentKind;
-use crate::standing::is_connected;
 use actor_desk::{Ask, Reply};
 use control_book::ControlReply;
 use outside_kit::Side;
 use path_agenda::{Agenda, AskDuty, Duty};
+use path_rules::SegmentKind;
 use reassembly_book::ReassemblyCall;
 use send_book::SendCall;
 use std::alloc::AllocError;
-use subflow_tcp::{Occasion, State};
-
-/// An end that never sent a segment.
-fn is_silent(state: State) -> bool
-    ensures { result ≡ is_silent state }
-{
-    matches!(state, State::Waiting | State::Listen)
-}
+use subflow_tcp::Occasion;
 
 /// The key that the peer showed is the side's own.
 fn is_stopped_by(reply: &Reply) -> bool
@@ -47,31 +38,6 @@ pub(crate) fn abort_receive_ask(side: Side) -> Ask
     ensures able { CanBeAsked result }
 {
     Ask::Reassembly(side, ReassemblyCall::Abort { by_peer: true })
-}
-
-impl PathEnd {
-    /// The side told that the end is to be reset, and it never sent a segment.
-    pub fn leaves_silently(&self) -> bool
-        ensures { result ≡ leaves_silently self.now }
-    {
-        is_silent(self.tcp.state()) && self.notices.reset
-    }
-
-    /// The side told that the end is to be reset, and it sent a segment.
-    pub fn resets_noted(&self) -> bool
-        ensures { result ≡ resets_noted self.now }
-    {
-        !self.tcp.state().is_closed_to_segments() && self.notices.reset
-    }
-
-    /// MP_FASTCLOSE is due: it was never sent, both SYNs are acknowledged, and the end may send a DSS, or fell back.
-    pub fn is_fast_close_due(&self) -> bool
-        ensures { result ≡ is_fast_close_due self.now }
-    {
-        is_connected(self.tcp.state())
-            && self.notices.is_carried()
-            && (self.modes.clear || self.modes.identity)
-    }
 }
 
 impl Machine {

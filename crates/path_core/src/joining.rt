@@ -1,25 +1,18 @@
 //! What the control books say to a path that joins the connection, and what follows from it (RFC 8684, section 3.2).
 
-ghost use Rattle.std.specs.Prelude.{◌≡◌, ◌<◌, if◌then◌else◌};
-ghost use Rattle.subflow_tcp.specs.Opening.{after_begin};
-ghost use Rattle.subflow_tcp.specs.States.{is_waiting};
+ghost use Rattle.std.specs.Prelude.{◌≡◌, ◌<◌};
 ghost use Rattle.actor_desk.specs.Kinds.{CanBeAsked};
-ghost use Rattle.path_core.specs.Events.{answered_join_again, join_begun, joins_at_tick};
-ghost use Rattle.path_core.specs.Joining.{keys_begun, mode_refused, with_mode_refused, with_keys, join_begin_ask, is_never, is_join_pending, opened_by, join_heard_ask, after_joining_syn, joined_by, join_taken, asked_at, answered_join_heard};
+ghost use Rattle.path_rules.specs.Events.{answered_join_again, join_begun, joins_at_tick};
+ghost use Rattle.path_rules.specs.Joining.{keys_begun, is_never, is_join_pending, join_heard_ask, join_taken, asked_at, answered_join_heard};
 
-use crate::end::PathEnd;
-use crate::joins::join_asked;
 use crate::machine::Machine;
-use crate::modes::Modes;
-use crate::segment_kind::SegmentKind;
 use actor_desk::{Ask, LocalStep, Reply};
 use control_book::{ControlCall, ControlReply};
-use fallback_state::Mode;
 use join_handshake::JoinSyn;
 use outside_kit::Side;
 use path_agenda::{Agenda, AskDuty, Duty, KeyPair, SendDuty};
-use std::alloc::AllocError;
-use subflow_tcp::{Arriving, Meaning, State, Subflow};
+use path_rules::join_asked;
+use subflow_tcp::State;
 
 /// A path that may join goes on by these keys.
 fn keys_begun(reply: &Reply) -> Option<KeyPair>
@@ -36,96 +29,6 @@ fn is_never(reply: &Reply) -> bool
     ensures { result ≡ is_never reply.now }
 {
     matches!(reply, Reply::Control(ControlReply::Never(_)))
-}
-
-/// The mode that a refusal tells, or else this one.
-fn mode_refused(reply: &Reply, other: Mode) -> Mode
-    ensures { result ≡ mode_refused reply.now other }
-{
-    match *reply {
-        Reply::Control(ControlReply::Never(mode)) => mode,
-        Reply::Control(ControlReply::Fallen(mode)) => mode,
-        _ => other,
-    }
-}
-
-/// It is asked whether the path of this number may join the connection.
-pub(crate) fn join_begin_ask(path: u8) -> Ask
-    requires { path < 16 }
-    ensures value { result ≡ join_begin_ask path }
-    ensures able { CanBeAsked result }
-{
-    Ask::Control(Side::A, ControlCall::JoinBegin { path })
-}
-
-/// The waiting end opens.
-fn begin(tcp: &mut Subflow)
-    ensures { tcp.new ≡ (if is_waiting tcp.old.state then after_begin tcp.old else tcp.old) }
-{
-    match tcp.state() {
-        State::Waiting => tcp.begin(),
-        _ => {}
-    }
-}
-
-/// The listening end takes the SYN of a path that joins, which told this window.
-fn take_joining_syn(tcp: &mut Subflow, window: u32, now: u64)
-    ensures { tcp.new ≡ after_joining_syn window tcp.old }
-{
-    let arriving = Arriving {
-        position: Some(0),
-        acknowledged: None,
-        syn: true,
-        fin: false,
-        rst: false,
-        window,
-        payload: &[],
-    };
-    match tcp.state() {
-        State::Listen => {
-            tcp.take_segment(Meaning::Opens, &arriving, None, now);
-        }
-        _ => {}
-    }
-}
-
-impl Modes {
-    /// The control book told both keys.
-    fn begin(&mut self, keys: KeyPair)
-        ensures { self.new ≡ with_keys keys self.old }
-    {
-        self.own_key = keys.own;
-        self.peer_key = Some(keys.peer);
-    }
-}
-
-impl PathEnd {
-    /// A refusal tells the mode that keeps the side from joining.
-    fn take_refusal_reply(&mut self, reply: &Reply)
-        ensures { self.new ≡ with_mode_refused reply.now self.old }
-    {
-        self.modes.mode = mode_refused(reply, self.modes.mode);
-    }
-
-    /// The waiting end opens.
-    fn open(&mut self, keys: Option<KeyPair>)
-        ensures { self.new ≡ opened_by keys self.old }
-    {
-        if let Some(keys) = keys {
-            begin(&mut self.tcp);
-            self.modes.begin(keys);
-        }
-    }
-
-    /// The path may join: the SYN is taken, and B has A's nonce and flag, and both keys.
-    fn join(&mut self, keys: KeyPair, asked: JoinSyn, now: u64)
-        ensures { self.new ≡ joined_by keys asked self.old }
-    {
-        take_joining_syn(&mut self.tcp, self.treated.window, now);
-        self.modes.begin(keys);
-        self.modes.peer_nonce = asked.nonce;
-        self.modes.backup_heard = asked.backup;
-    }
 }
 
 impl Machine {

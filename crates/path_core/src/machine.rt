@@ -4,13 +4,12 @@ ghost use Rattle.std.specs.Prelude.{◌≡◌, ◌<◌};
 ghost use Rattle.std.specs.Borrow.{sem};
 ghost use Rattle.actor_desk.specs.Words.{tail_of};
 ghost use Rattle.path_agenda.specs.Words.{replaced};
-ghost use Rattle.path_core.specs.Turns.{TakesTime};
+ghost use Rattle.path_rules.specs.Turns.{TakesTime};
 
-use crate::end::PathEnd;
-use crate::profile::Profile;
 use link_model::Link;
 use outside_kit::Side;
 use path_agenda::{Agenda, Clock, Duty, Items};
+use path_rules::{PathEnd, Profile};
 use path_store::LineLeft;
 use std::alloc::Global;
 use std::collections::VecDeque;
@@ -38,7 +37,7 @@ impl Model for Machine {
     ghost use Rattle.std.specs.Prelude.{ℕ, ◌≡◌, List};
     ghost use Rattle.std.specs.Coded.{codes};
     ghost use Rattle.dss_mapping.specs.Mappings.{mappings_code};
-    ghost use Rattle.path_core.specs.State.{PathState};
+    ghost use Rattle.path_rules.specs.State.{PathState};
 
     ghost Value = { PathState (List ℕ) };
 
@@ -61,7 +60,7 @@ impl Model for Machine {
 
 impl Machine {
     ghost use Rattle.path_core.specs.Lending.{LendsEnd};
-    ghost use Rattle.path_core.specs.State.{end_at, with_agenda, path_of};
+    ghost use Rattle.path_rules.specs.State.{end_at, with_agenda, path_of};
 
     /// The end of a side.
     pub(crate) fn end(&self, side: Side) -> &PathEnd

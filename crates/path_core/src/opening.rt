@@ -3,16 +3,13 @@
 ghost use Rattle.std.specs.Prelude.{◌≡◌, Some};
 ghost use Rattle.actor_desk.specs.Kinds.{CanBeAsked};
 ghost use Rattle.path_agenda.specs.Items.{key_heard, keys_heard};
-ghost use Rattle.path_core.specs.Opening.{keys_in, is_plain_syn, is_opened_by_keys, is_opened_plainly, syn_window_ask, peer_key_stands, peer_key_ask, answered_peer_key, keys_ask, after_keys, opened_ask, answered_opened, live_ask};
-ghost use Rattle.path_core.specs.State.{end_at, left};
+ghost use Rattle.path_rules.specs.Opening.{syn_window_ask, peer_key_ask, answered_peer_key, keys_ask, opened_ask, answered_opened, live_ask};
+ghost use Rattle.path_rules.specs.State.{end_at};
 
-use crate::end::PathEnd;
 use crate::machine::Machine;
-use crate::modes::Modes;
-use crate::treated::Treated;
 use actor_desk::{Ask, LocalStep, Reply};
-use control_book::{ControlCall, ControlReply};
-use fallback_state::{Event, Mode};
+use control_book::ControlCall;
+use fallback_state::Event;
 use outside_kit::Side;
 use path_agenda::{KeyPair, key_heard, keys_heard};
 use send_book::SendCall;
@@ -25,72 +22,6 @@ pub(crate) fn keys_ask(side: Side, keys: Option<KeyPair>) -> Ask
     match keys {
         Some(KeyPair { own, peer }) => Ask::Control(side, ControlCall::Keys { own, peer }),
         None => Ask::Local(LocalStep::End),
-    }
-}
-
-impl Treated {
-    /// The peer's key, where the copy told it alone.
-    pub fn key_heard(&self) -> Option<u64>
-        ensures { result ≡ key_heard self.now.items }
-    {
-        key_heard(self.items())
-    }
-
-    /// Both keys, where the copy told them.
-    pub fn keys_heard(&self) -> Option<KeyPair>
-        ensures { result ≡ keys_heard self.now.items }
-    {
-        keys_heard(self.items())
-    }
-}
-
-impl Modes {
-    /// Where the control book noted the keys, the peer's is kept, and the end may send a DSS from now on.
-    fn take_keys_reply(&mut self, reply: &Reply, keys: Option<KeyPair>)
-        ensures { self.new ≡ keys_in reply.now keys self.old }
-    {
-        if let (Reply::Control(ControlReply::Noted), Some(keys)) = (reply, keys) {
-            self.peer_key = Some(keys.peer);
-            self.clear = true;
-        }
-    }
-}
-
-impl PathEnd {
-    /// The end left SynReceived by a copy with both keys.
-    pub fn is_opened_by_keys(&self) -> bool
-        ensures { result ≡ is_opened_by_keys self.now }
-    {
-        self.treated.opened && self.treated.keys_heard().is_some()
-    }
-
-    /// The keys of the copy were told.
-    pub fn take_keys_reply(&mut self, reply: &Reply, keys: Option<KeyPair>)
-        ensures { self.new ≡ after_keys reply.now keys self.old }
-    {
-        self.modes.take_keys_reply(reply, keys);
-        self.treated.keys_told = true;
-    }
-
-    /// The end left SynReceived by a copy without any option, and the side isn't sure.
-    pub fn is_opened_plainly(&self) -> bool
-        ensures { result ≡ is_opened_plainly self.now }
-    {
-        self.treated.opened && !self.treated.has_option && self.modes.mode == Mode::Starting
-    }
-
-    /// The SYN doesn't ask for Multipath TCP.
-    pub fn is_plain_syn(&self) -> bool
-        ensures { result ≡ is_plain_syn self.now }
-    {
-        !self.modes.capable_asked && self.modes.mode == Mode::Starting
-    }
-
-    /// The SYN/ACK tells the peer's key, or that there is none.
-    pub fn peer_key_stands(&self) -> bool
-        ensures { result ≡ peer_key_stands self.now }
-    {
-        self.treated.key_heard().is_some() || self.modes.mode == Mode::Starting
     }
 }
 

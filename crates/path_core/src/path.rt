@@ -5,20 +5,20 @@ ghost use Rattle.actor_desk.specs.Bounds.{TakesReply};
 ghost use Rattle.actor_desk.specs.Kinds.{CanBeAsked};
 ghost use Rattle.link_model.specs.Octets.{after_octets};
 ghost use Rattle.link_script.specs.Scripts.{HasRanges};
-ghost use Rattle.path_core.specs.Events.{is_dead_path};
-ghost use Rattle.path_core.specs.Looking.{departing, next_arrival, shown_arriving, smoothed_rtt, congestion_window, IsSegmentOn, IsTold};
-ghost use Rattle.path_core.specs.Octets.{octets};
-ghost use Rattle.path_core.specs.Replies.{asks_bytes_first, needs_memory_first};
-ghost use Rattle.path_core.specs.Starts.{first_turn_of};
-ghost use Rattle.path_core.specs.State.{path_of, has_ended};
-ghost use Rattle.path_core.specs.Steps.{settles_down, asks_of, takes, next_round};
-ghost use Rattle.path_core.specs.Turns.{Ends};
+ghost use Rattle.path_rules.specs.Events.{is_dead_path};
+ghost use Rattle.path_rules.specs.Looking.{departing, next_arrival, shown_arriving, smoothed_rtt, congestion_window, IsSegmentOn, IsTold};
+ghost use Rattle.path_rules.specs.Octets.{octets};
+ghost use Rattle.path_rules.specs.Replies.{asks_bytes_first, needs_memory_first};
+ghost use Rattle.path_rules.specs.Starts.{first_turn_of};
+ghost use Rattle.path_rules.specs.State.{path_of, has_ended};
+ghost use Rattle.path_rules.specs.Steps.{settles_down, asks_of, takes, next_round};
+ghost use Rattle.path_rules.specs.Turns.{Ends};
 
-use crate::looking::{Arriving, Departing};
 use crate::machine::Machine;
 use actor_desk::{Ask, Reply};
 use link_script::Script;
 use outside_kit::Side;
+use path_rules::{Arriving, Departing};
 use std::alloc::{AllocError, Global};
 use std::marker::Model;
 
@@ -33,9 +33,9 @@ impl Model for Path {
     ghost use Rattle.std.specs.Prelude.{ℕ, ◌≡◌, true, is_none, List};
     ghost use Rattle.std.specs.Coded.{codes};
     ghost use Rattle.dss_mapping.specs.Mappings.{mappings_code};
-    ghost use Rattle.path_core.specs.State.{PathState};
-    ghost use Rattle.path_core.specs.Steps.{passable};
-    ghost use Rattle.path_core.specs.Turns.{TakesTime};
+    ghost use Rattle.path_rules.specs.State.{PathState};
+    ghost use Rattle.path_rules.specs.Steps.{passable};
+    ghost use Rattle.path_rules.specs.Turns.{TakesTime};
 
     ghost Value = { PathState (List ℕ) };
 

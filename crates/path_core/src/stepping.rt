@@ -3,14 +3,14 @@
 ghost use Rattle.std.specs.Prelude.{◌≡◌, true, false, IsOk, OnOk, OnErr};
 ghost use Rattle.actor_desk.specs.Kinds.{CanBeAsked};
 ghost use Rattle.path_agenda.specs.declared.duty.Duty.TheVariants as duties;
-ghost use Rattle.path_core.specs.Octets.{octets};
-ghost use Rattle.path_core.specs.Duties.{stands, ask_for, passed, answered};
-ghost use Rattle.path_core.specs.Replies.{IsAckBounded, IsGrantFit, needs_memory};
+ghost use Rattle.path_rules.specs.Octets.{octets};
+ghost use Rattle.path_rules.specs.Duties.{stands, ask_for, passed, answered};
+ghost use Rattle.path_rules.specs.Replies.{IsAckBounded, IsGrantFit, needs_memory};
 
 use crate::machine::Machine;
-use crate::reset_reason::MIDDLEBOX;
 use actor_desk::{Ask, Reply};
 use path_agenda::{SilentDuty, StepDuty};
+use path_rules::MIDDLEBOX;
 use std::alloc::AllocError;
 
 impl Machine {

@@ -1,177 +1,23 @@
-//! Options that are missed: acknowledgements without a Data ACK, bytes without a mapping; and the acknowledgements and the FIN of
-//! the subflow, which take the place of Data ACK and DATA_FIN after a fallback (RFC 8684, sections 3.6 and 3.7).
+//! Options that are missed are told to the side, and after a fallback the acknowledgements and the FIN of the subflow are (RFC 8684,
+//! sections 3.6 and 3.7).
 
-ghost use Rattle.std.specs.Prelude.{◌≡◌, ◌-◌, ◌<◌, ◌^◌, is_some, IfSome, OnOk, OnErr};
+ghost use Rattle.std.specs.Prelude.{◌≡◌, ◌-◌, ◌<◌, OnOk, OnErr};
 ghost use Rattle.actor_desk.specs.Kinds.{CanBeAsked};
-ghost use Rattle.fallback_state.specs.declared.fall.Event.TheVariants as events;
-ghost use Rattle.path_core.specs.Fallback.{after_fell};
-ghost use Rattle.path_core.specs.Octets.{octets};
-ghost use Rattle.path_core.specs.Passing.{is_fin_set, fin_ask, having_asked, with_peer_data_fin, plain_fin, with_fin_told, answered_plain_fin};
-ghost use Rattle.path_core.specs.Deliver.{is_unmapped, times_unmapped, breaks_by_unmapped, after_unmapped, with_data_fin_reached, after_pieces};
-ghost use Rattle.path_core.specs.Replies.{IsAckBounded};
-ghost use Rattle.path_core.specs.State.{end_at};
-ghost use Rattle.path_core.specs.Treating.{lacks_data_ack, breaks_by_ack, plain_ack_stands, plain_ack_ask, with_plain_ack, answered_plain_ack, plain_next, subflow_ack_stands, subflow_ack_ask, with_plain_acked, answered_subflow_ack, plain_data_stands};
+ghost use Rattle.path_rules.specs.Octets.{octets};
+ghost use Rattle.path_rules.specs.Passing.{is_fin_set, fin_ask, plain_fin, answered_plain_fin};
+ghost use Rattle.path_rules.specs.Replies.{IsAckBounded};
+ghost use Rattle.path_rules.specs.State.{end_at};
+ghost use Rattle.path_rules.specs.Treating.{breaks_by_ack, plain_ack_ask, answered_plain_ack, plain_next, subflow_ack_ask, answered_subflow_ack};
 
-use crate::end::PathEnd;
 use crate::machine::Machine;
 use crate::passing::is_fin_set;
-use crate::profile::Profile;
-use crate::reset_reason::MIDDLEBOX;
 use actor_desk::{Ask, LocalStep, Reply};
-use fallback_state::{Event, Mode};
+use fallback_state::Event;
 use outside_kit::Side;
-use path_store::one_more;
+use path_rules::MIDDLEBOX;
 use reassembly_book::ReassemblyCall;
 use send_book::SendCall;
 use std::alloc::AllocError;
-
-impl PathEnd {
-    /// The copy acknowledges data without a Data ACK, which the side wants.
-    fn lacks_data_ack(&self) -> bool
-        ensures { result ≡ lacks_data_ack self.now }
-    {
-        self.treated.plain_ack && !self.modes.sends_plainly()
-    }
-
-    /// It breaks a path that joined, as long as no Data ACK covered something on it; and the third without a Data ACK between
-    /// them breaks the path of a side that is sure.
-    pub fn breaks_by_ack(&self, profile: &Profile) -> bool
-        ensures { result ≡ breaks_by_ack profile.now self.now }
-    {
-        let joins = profile.is_joined() && !self.modes.covered;
-        let third = self.modes.mode == Mode::Sure && 2 <= self.modes.plain_acks;
-        self.lacks_data_ack() && (joins || third)
-    }
-
-    /// The path is broken, or the side isn't sure and is told.
-    pub fn plain_ack_stands(&self, profile: &Profile) -> bool
-        ensures { result ≡ plain_ack_stands profile.now self.now }
-    {
-        self.breaks_by_ack(profile) || self.lacks_data_ack() && self.modes.mode == Mode::Starting
-    }
-
-    /// One more acknowledgement without a Data ACK, where the copy is one.
-    pub fn count_plain_ack(&mut self)
-        ensures { self.new ≡ with_plain_ack self.old }
-    {
-        if self.lacks_data_ack() {
-            self.modes.plain_acks = one_more(self.modes.plain_acks);
-        }
-    }
-
-    /// That such a copy came was told.
-    fn take_plain_ack_reply(&mut self, reply: &Reply)
-        ensures { self.new ≡ with_plain_ack (after_fell events.PlainAck reply.now self.old) }
-    {
-        self.take_fell_reply(Event::PlainAck, reply);
-        self.count_plain_ack();
-    }
-
-    /// Where the side sends without mappings the acknowledgement of the subflow is told.
-    pub fn subflow_ack_stands(&self) -> bool
-        ensures { result ≡ subflow_ack_stands self.now }
-    {
-        self.plain_next().is_some() && !self.treated.data_ack_taken
-    }
-
-    /// It acknowledges so many bytes.
-    fn plain_next(&self) -> Option<u64>
-        ensures value { result ≡ plain_next self.now }
-        ensures bound { IfSome result (λ next. next < 2 ^ 62) }
-    {
-        self.modes.bytes_acknowledged(self.treated.acknowledged())
-    }
-
-    /// So many bytes of the stream are acknowledged, where that was taken.
-    fn take_subflow_ack_reply(&mut self, reply: &Reply)
-        ensures { self.new ≡ with_plain_acked reply.now self.old }
-    {
-        if let Some(next) = self.plain_next() {
-            self.sending.take_ack_reply(next, reply);
-        }
-    }
-
-    /// The next byte came without any option, and the side isn't sure.
-    pub fn plain_data_stands(&self) -> bool
-        ensures { result ≡ plain_data_stands self.now }
-    {
-        self.treated.held_edge.is_some()
-            && !self.treated.has_option
-            && self.modes.mode == Mode::Starting
-    }
-
-    /// The copy has the byte at the edge, which has no mapping.
-    fn is_unmapped(&self) -> bool
-        ensures { result ≡ is_unmapped self.now }
-    {
-        self.treated.held_edge == Some(self.tcp.edge())
-            && !self.modes.receives_plainly(self.tcp.edge())
-            && self.mapping_at_edge().is_none()
-    }
-
-    /// How often it came so, this copy among them.
-    fn times_unmapped(&self) -> u64
-        ensures { result ≡ times_unmapped self.now }
-    {
-        self.receiving.times_unmapped(self.tcp.edge())
-    }
-
-    /// The third time breaks the path of a side that is sure.
-    pub fn breaks_by_unmapped(&self) -> bool
-        ensures { result ≡ breaks_by_unmapped self.now }
-    {
-        self.is_unmapped() && self.modes.mode == Mode::Sure && 3 <= self.times_unmapped()
-    }
-
-    /// It is counted.
-    fn count_unmapped(&mut self)
-        ensures { self.new ≡ after_unmapped self.old }
-    {
-        if self.is_unmapped() {
-            let (times, edge) = (self.times_unmapped(), self.tcp.edge());
-            self.receiving.note_unmapped(times, edge);
-        }
-    }
-
-    /// A DATA_FIN behind bytes is told next, where the edge reached it.
-    fn reach_data_fin(&mut self)
-        ensures { self.new ≡ with_data_fin_reached self.old }
-    {
-        if let Some(place) = self.receiving.take_reached(self.tcp.edge()) {
-            self.treated.note_data_fin(place);
-        }
-    }
-
-    /// No more bytes can be placed.
-    pub fn pass_pieces(&mut self)
-        ensures { self.new ≡ after_pieces self.old }
-    {
-        self.count_unmapped();
-        self.reach_data_fin();
-    }
-
-    /// Where the peer sends without mappings: the end of the stream by its FIN, where the edge passed it and it wasn't told.
-    pub fn plain_fin(&self) -> Option<u64>
-        ensures value { result ≡ plain_fin self.now }
-        ensures bound { IfSome result (λ place. place < 2 ^ 62) }
-    {
-        if self.receiving.fin_told {
-            return None;
-        }
-        match self.tcp.fin_at() {
-            Some(position) if position < self.tcp.edge() => self.modes.fin_place(position),
-            _ => None,
-        }
-    }
-
-    /// The peer's FIN was told as the end of its stream.
-    fn take_plain_fin_reply(&mut self)
-        ensures { self.new ≡ having_asked (with_peer_data_fin (with_fin_told self.old)) }
-    {
-        self.receiving.fin_told = true;
-        self.take_peer_data_fin();
-    }
-}
 
 impl Machine {
     /// What an acknowledgement without a Data ACK asks: the first step of a break, or it is told.

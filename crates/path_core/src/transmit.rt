@@ -3,14 +3,14 @@
 ghost use Rattle.std.specs.Prelude.{◌≡◌, true, OnOk, OnErr};
 ghost use Rattle.actor_desk.specs.Kinds.{CanBeAsked};
 ghost use Rattle.path_agenda.specs.declared.duty.Duty.TheVariants as duties;
-ghost use Rattle.path_core.specs.Octets.{octets};
-ghost use Rattle.path_core.specs.Duties.{stands, ask_for, sent_for};
+ghost use Rattle.path_rules.specs.Octets.{octets};
+ghost use Rattle.path_rules.specs.Duties.{stands, ask_for, sent_for};
 
-use crate::looking::{ToSend, send_of};
+use crate::looking::send_of;
 use crate::machine::Machine;
-use crate::segment_kind::SegmentKind;
 use actor_desk::Ask;
 use path_agenda::SendDuty;
+use path_rules::{SegmentKind, ToSend};
 use std::alloc::AllocError;
 use subflow_tcp::Occasion;
 

@@ -18,22 +18,22 @@ use Rattle.path_agenda.specs.declared.duty.SilentDuty.TheVariants as silent_duti
 use Rattle.path_agenda.specs.declared.duty.StepDuty.TheVariants as step_duties
 use Rattle.path_agenda.specs.declared.heard.Heard.{Heard}
 use Rattle.path_agenda.specs.declared.heard.Heard.TheVariants as says
-use Rattle.path_core.specs.Breaking.{answered_break}
-use Rattle.path_core.specs.Codec.{Codec}
-use Rattle.path_core.specs.Duties.{stands, passed, answered}
-use Rattle.path_core.specs.Emission.{Grant, grant_in, answered_grant, answered_data, first_unsent}
-use Rattle.path_core.specs.Events.{tick_of, earliest, before, next_event, join_begun, after_line, at_tick, copy_heard, heard_in, happens_if}
+use Rattle.path_rules.specs.Breaking.{answered_break}
+use Rattle.path_rules.specs.Codec.{Codec}
+use Rattle.path_rules.specs.Duties.{stands, passed, answered}
+use Rattle.path_rules.specs.Emission.{Grant, grant_in, answered_grant, answered_data, first_unsent}
+use Rattle.path_rules.specs.Events.{tick_of, earliest, before, next_event, join_begun, after_line, at_tick, copy_heard, heard_in, happens_if}
 use Rattle.path_store.specs.declared.lines.LineAction.{LineAction}
 use Rattle.path_store.specs.declared.lines.LineAction.TheVariants as actions
-use Rattle.path_core.specs.declared.event.Event.{Event}
-use Rattle.path_core.specs.declared.event.Event.TheVariants as happenings
-use Rattle.path_core.specs.Joining.{is_never, keys_begun, asked_at, join_taken}
-use Rattle.path_core.specs.Passing.{answered_piece, is_placed, is_fin_set, piece_of}
-use Rattle.path_core.specs.Deliver.{Piece}
-use Rattle.path_core.specs.State.{PathState, end_at, with_agenda, left}
-use Rattle.path_core.specs.Steps.{settled, answers, takes, begins_turn}
-use Rattle.path_core.specs.Opening.{answered_peer_key, answered_opened}
-use Rattle.path_core.specs.Treating.{answered_heard, answered_item, item_of, breaks_by_ack}
+use Rattle.path_rules.specs.declared.event.Event.{Event}
+use Rattle.path_rules.specs.declared.event.Event.TheVariants as happenings
+use Rattle.path_rules.specs.Joining.{is_never, keys_begun, asked_at, join_taken}
+use Rattle.path_rules.specs.Passing.{answered_piece, is_placed, is_fin_set, piece_of}
+use Rattle.path_rules.specs.Deliver.{Piece}
+use Rattle.path_rules.specs.State.{PathState, end_at, with_agenda, left}
+use Rattle.path_rules.specs.Steps.{settled, answers, takes, begins_turn}
+use Rattle.path_rules.specs.Opening.{answered_peer_key, answered_opened}
+use Rattle.path_rules.specs.Treating.{answered_heard, answered_item, item_of, breaks_by_ack}
 use Rattle.path_agenda.specs.Items.{key_heard, keys_heard}
 use Rattle.subflow_send.specs.Records.{Record}
 use Rattle.link_model.specs.Steps.{arriving, after_delivery}

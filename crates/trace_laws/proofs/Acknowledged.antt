@@ -47,34 +47,34 @@ use Rattle.path_agenda.specs.declared.duty.StepDuty.TheVariants as step_duties
 use Rattle.path_agenda.specs.declared.heard.Heard.{Heard}
 use Rattle.path_agenda.specs.declared.heard.Heard.TheVariants as says
 use Rattle.path_agenda.specs.declared.keys.KeyPair.{KeyPair}
-use Rattle.path_core.specs.FastClosing.{is_stopped_by}
-use Rattle.path_core.specs.declared.event.Event.{Event}
-use Rattle.path_core.specs.declared.event.Event.TheVariants as happenings
-use Rattle.path_core.specs.declared.judged.Judged.{Judged}
-use Rattle.path_core.specs.declared.judged.Judged.TheVariants as judged
-use Rattle.path_core.specs.Arriving.{after_judged, copy_judged, copy_of, held_of, hint_of, is_forged, is_passed_over, items_of, judged_in, judged_of, options_heard, owes_by, owing_if, reset_for, taken_as, template_of, with_payload}
-use Rattle.path_core.specs.Breaking.{reset_of, reset_on, answered_break}
-use Rattle.path_core.specs.Codec.{Codec}
-use Rattle.path_core.specs.Duties.{stands, passed, answered}
-use Rattle.path_core.specs.Emission.{Grant, after_timer, fin_segment_of, grant_in, answered_grant, answered_data, first_unsent, having_sent_fin}
-use Rattle.path_core.specs.Ends.{PathEnd}
-use Rattle.path_core.specs.Events.{next_event, heard_in, at_tick, died, died_unless_dead, after_line, copy_heard, happens_if, join_begun, timer_fired, template_fired, never_joined, with_priority}
+use Rattle.path_rules.specs.FastClosing.{is_stopped_by}
+use Rattle.path_rules.specs.declared.event.Event.{Event}
+use Rattle.path_rules.specs.declared.event.Event.TheVariants as happenings
+use Rattle.path_rules.specs.declared.judged.Judged.{Judged}
+use Rattle.path_rules.specs.declared.judged.Judged.TheVariants as judged
+use Rattle.path_rules.specs.Arriving.{after_judged, copy_judged, copy_of, held_of, hint_of, is_forged, is_passed_over, items_of, judged_in, judged_of, options_heard, owes_by, owing_if, reset_for, taken_as, template_of, with_payload}
+use Rattle.path_rules.specs.Breaking.{reset_of, reset_on, answered_break}
+use Rattle.path_rules.specs.Codec.{Codec}
+use Rattle.path_rules.specs.Duties.{stands, passed, answered}
+use Rattle.path_rules.specs.Emission.{Grant, after_timer, fin_segment_of, grant_in, answered_grant, answered_data, first_unsent, having_sent_fin}
+use Rattle.path_rules.specs.Ends.{PathEnd}
+use Rattle.path_rules.specs.Events.{next_event, heard_in, at_tick, died, died_unless_dead, after_line, copy_heard, happens_if, join_begun, timer_fired, template_fired, never_joined, with_priority}
 use Rattle.path_store.specs.declared.lines.LineAction.{LineAction}
 use Rattle.path_store.specs.declared.lines.LineAction.TheVariants as actions
-use Rattle.path_core.specs.Fallback.{after_fell, fell_duties, answered_fell}
-use Rattle.path_core.specs.InfiniteSending.{with_infinite}
-use Rattle.path_core.specs.Joining.{asked_at, is_listening, is_never, join_taken, joined_by, keys_begun, opened_by, refusal_of, syn_alone, with_mode_refused}
-use Rattle.path_core.specs.Joins.{is_joined, join_answer, join_asked}
-use Rattle.path_core.specs.Opening.{after_keys, answered_opened, answered_peer_key, with_peer_key}
-use Rattle.path_core.specs.Passing.{after_pass_fin, answer_occasion, answer_of, resend_occasion, answered_fin_heard, answered_plain_fin, answered_piece, dead_answer, is_fin_set, is_placed, piece_of, resend_of}
-use Rattle.path_core.specs.Deliver.{Piece, after_check, after_pieces, mapping_here, is_wrong, with_learned, with_skipped, forgotten_by}
-use Rattle.path_core.specs.OptionsOut.{syn_ack_said}
-use Rattle.path_core.specs.Handover.{having_sent, sent_on}
-use Rattle.path_core.specs.Standing.{after_ack_out, answered_ack_out}
-use Rattle.path_core.specs.State.{PathState, end_at, goes_on, left, with_agenda, with_end}
-use Rattle.path_core.specs.Steps.{settled, answers, takes, begins_turn}
-use Rattle.path_core.specs.Treating.{after_keep, answered_heard, answered_item, answered_plain_ack, breaks_by_ack, counts, is_clash, is_dropped, item_of, item_passed, with_acked, with_data_fin, with_plain_ack}
-use Rattle.path_core.specs.Addressing.{after_peer_notice}
+use Rattle.path_rules.specs.Fallback.{after_fell, fell_duties, answered_fell}
+use Rattle.path_rules.specs.InfiniteSending.{with_infinite}
+use Rattle.path_rules.specs.Joining.{asked_at, is_listening, is_never, join_taken, joined_by, keys_begun, opened_by, refusal_of, syn_alone, with_mode_refused}
+use Rattle.path_rules.specs.Joins.{is_joined, join_answer, join_asked}
+use Rattle.path_rules.specs.Opening.{after_keys, answered_opened, answered_peer_key, with_peer_key}
+use Rattle.path_rules.specs.Passing.{after_pass_fin, answer_occasion, answer_of, resend_occasion, answered_fin_heard, answered_plain_fin, answered_piece, dead_answer, is_fin_set, is_placed, piece_of, resend_of}
+use Rattle.path_rules.specs.Deliver.{Piece, after_check, after_pieces, mapping_here, is_wrong, with_learned, with_skipped, forgotten_by}
+use Rattle.path_rules.specs.OptionsOut.{syn_ack_said}
+use Rattle.path_rules.specs.Handover.{having_sent, sent_on}
+use Rattle.path_rules.specs.Standing.{after_ack_out, answered_ack_out}
+use Rattle.path_rules.specs.State.{PathState, end_at, goes_on, left, with_agenda, with_end}
+use Rattle.path_rules.specs.Steps.{settled, answers, takes, begins_turn}
+use Rattle.path_rules.specs.Treating.{after_keep, answered_heard, answered_item, answered_plain_ack, breaks_by_ack, counts, is_clash, is_dropped, item_of, item_passed, with_acked, with_data_fin, with_plain_ack}
+use Rattle.path_rules.specs.Addressing.{after_peer_notice}
 use Rattle.world_laws.proofs.Falls.FailedChecks.{check_failed_so, checked_so, fail_answered_so, fail_heard_so, failed_so, infinite_came_so, infinite_so}
 
 -- ---- an end of a subflow

@@ -1,7 +1,7 @@
 -- Turns, rounds and steps in a given order, one after the other.
 use Rattle.std.proofs.Common.{◌≡◌, refl, sym, ◌∙◌, ap, subst, ℕ, suc, ◌+◌, ◌<◌, ◌≤◌, true, false, List, [], ◌∷◌, length, drop, get_or}
 use Rattle.std.proofs.lemmas.List.{drop_more, at_drop_all}
-use Rattle.path_core.specs.Codec.{Codec}
+use Rattle.path_rules.specs.Codec.{Codec}
 use Rattle.world_laws.specs.Serial.{TurnTo, AreTurns, after_turns}
 use Rattle.world_laws.specs.Worlds.{WorldState, is_going, world_step, end_round, RunTo}
 use Rattle.world_core.specs.Rounds.{TurnsFrom, TurnsTo, RoundTo}

@@ -6,11 +6,12 @@ use Rattle.actor_desk.specs.declared.ask.Reply.{Reply}
 use Rattle.actor_desk.specs.Words.{is_nil}
 use Rattle.stream_apps.specs.Apps.{AppState}
 use Rattle.stream_apps.specs.AppSteps.{app_asks_of, app_takes, app_next_round}
-use Rattle.path_core.specs.Codec.{Codec}
-use Rattle.path_core.specs.State.{PathState}
-use Rattle.path_core.specs.Steps.{asks_of, takes, next_round}
+use Rattle.path_rules.specs.Codec.{Codec}
+use Rattle.path_rules.specs.State.{PathState}
+use Rattle.path_rules.specs.Steps.{asks_of, takes, next_round}
 use Rattle.world_laws.specs.declared.member.Member.{Member}
 use Rattle.world_laws.specs.declared.member.Member.TheVariants.{App, Path}
+use Rattle.world_laws.specs.Members.{of_kind, within_kind}
 
 -- an application or a path
 abbrev pub Actor : Type 0 → Type 0
@@ -23,8 +24,7 @@ ActorCrew C = Crew (Actor C)
 module _ {C : Type 0} where
   -- what it asks: nothing where its turn ended
   abbrev pub member_asks : Codec C → Actor C → Option Ask
-  member_asks k (App a) = app_asks_of a
-  member_asks k (Path p) = asks_of k p
+  member_asks k = of_kind app_asks_of (asks_of k)
 
   -- its turn ended
   abbrev pub is_over : Actor C → Bool
@@ -33,10 +33,8 @@ module _ {C : Type 0} where
 
   -- it takes a reply
   abbrev pub member_takes : Codec C → Reply → Actor C → Actor C
-  member_takes k r (App a) = App (app_takes r a)
-  member_takes k r (Path p) = Path (takes k r p)
+  member_takes k r = within_kind (app_takes r) (takes k r)
 
   -- the next round begins
   abbrev pub member_next : Actor C → Actor C
-  member_next (App a) = App (app_next_round a)
-  member_next (Path p) = Path (next_round p)
+  member_next = within_kind app_next_round next_round

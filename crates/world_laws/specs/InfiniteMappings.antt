@@ -12,10 +12,10 @@ use Rattle.subflow_send.specs.declared.record.RecordKind.{RecordKind}
 use Rattle.subflow_send.specs.declared.record.RecordKind.TheVariants.{Syn, Data, Fin}
 use Rattle.subflow_send.specs.Records.{Record}
 use Rattle.stream_lanes.specs.Words.{Every}
-use Rattle.path_core.specs.Ends.{PathEnd}
-use Rattle.path_core.specs.OptionsOut.{place_numbered}
-use Rattle.path_core.specs.State.{PathState, Profile, end_at}
-use Rattle.path_core.specs.Values.{Carried}
+use Rattle.path_rules.specs.Ends.{PathEnd}
+use Rattle.path_rules.specs.OptionsOut.{place_numbered}
+use Rattle.path_rules.specs.State.{PathState, Profile, end_at}
+use Rattle.path_rules.specs.Values.{Carried}
 use Rattle.world_laws.specs.declared.member.Member.TheVariants.{App, Path}
 use Rattle.world_laws.specs.Actors.{Actor, ActorCrew}
 use Rattle.world_laws.specs.Worlds.{WorldState}

@@ -1,3 +1,4 @@
+pub mod Members
 pub mod Actors
 pub mod StampedBooks
 pub mod Worlds

@@ -11,8 +11,8 @@ use Rattle.actor_desk.specs.declared.ask.Note.{Note}
 use Rattle.actor_desk.specs.declared.ask.Reply.{Reply}
 use Rattle.actor_desk.specs.declared.ask.Reply.TheVariants as replies
 use Rattle.stream_apps.specs.Apps.{AppState}
-use Rattle.path_core.specs.Emission.{first_unsent, may_ask}
-use Rattle.path_core.specs.State.{PathState, end_at}
+use Rattle.path_rules.specs.Emission.{first_unsent, may_ask}
+use Rattle.path_rules.specs.State.{PathState, end_at}
 use Rattle.world_laws.specs.declared.member.Member.TheVariants.{App, Path}
 use Rattle.world_laws.specs.Actors.{Actor, ActorCrew}
 use Rattle.world_laws.specs.Worlds.{WorldState}

@@ -1,8 +1,9 @@
 -- How many rounds a path has begun: each leaves its actor a step at least.
 use Rattle.std.specs.Prelude.{ℕ, ◌≡◌, ◌+◌, ◌*◌, ◌^◌, ◌≤◌, true, Some, length, slice_get}
 use Rattle.actor_desk.specs.Words.{is_nil}
-use Rattle.path_core.specs.State.{PathState}
+use Rattle.path_rules.specs.State.{PathState}
 use Rattle.world_laws.specs.declared.member.Member.TheVariants.{App, Path}
+use Rattle.world_laws.specs.Members.{HoldsOfKind}
 use Rattle.world_laws.specs.Actors.{Actor, ActorCrew}
 use Rattle.world_laws.specs.Worlds.{WorldState}
 
@@ -19,8 +20,7 @@ module _ {C : Type 0} where
 
   -- 2^57 rounds at most were begun
   abbrev pub CanBegin : Actor C → Type 0
-  CanBegin (App a) = Unit {0}
-  CanBegin (Path p) = p.until ≤ 100 * 2 ^ 57
+  CanBegin = HoldsOfKind (λ app. Unit {0}) (λ path. path.until ≤ 100 * 2 ^ 57)
 
   -- so it is with each actor and the steps that it made
   pub record EachRoundHasAStep (w : WorldState C) : Type 0 where

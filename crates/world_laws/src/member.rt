@@ -2,61 +2,58 @@
 ghost use Rattle.std.specs.Prelude.{◌≡◌, None, IfOk, IfSome, OnOk, OnErr};
 ghost use Rattle.actor_desk.specs.Bounds.{TakesReply};
 ghost use Rattle.actor_desk.specs.Kinds.{CanBeAsked};
-ghost use Rattle.path_core.specs.Octets.{octets};
 
 use actor_desk::{Actor, Ask, Reply};
-use path_core::Path;
 use std::alloc::{AllocError, Global};
-use stream_apps::App;
 
-/// An actor: an application, or a path.
+/// An actor of one of two kinds: an application, or a path. It does what that one does.
 #[derive(Drop)]
 pub enum Member<A, P> {
     App(A),
     Path(P),
 }
 
-impl Actor for Member<App, Path> {
-    ghost use Rattle.world_laws.specs.Actors.{member_asks, member_takes, member_next};
-    ghost use Rattle.world_laws.specs.Timely.{CanBegin};
+impl<A: Actor, P: Actor> Actor for Member<A, P> {
+    ghost use Rattle.world_laws.specs.Members.{of_kind, within_kind, HoldsOfKind};
 
-    ghost asks = { member_asks octets };
+    ghost asks = { of_kind A.asks P.asks };
 
-    ghost takes = { member_takes octets };
+    ghost takes = { λ reply. within_kind (A.takes reply) (P.takes reply) };
 
-    ghost next = { member_next };
+    ghost next = { within_kind A.next P.next };
 
-    ghost can_begin = { CanBegin };
+    ghost can_begin = { HoldsOfKind A.can_begin P.can_begin };
 
     fn ask(&self, alloc: Global) -> Result<Option<Ask>, AllocError>
-        ensures ask { IfOk result (λ ask. ask ≡ member_asks octets self.now) }
+        ensures ask { IfOk result (λ ask. ask ≡ of_kind A.asks P.asks self.now) }
         ensures able { IfOk result (λ ask. IfSome ask CanBeAsked) }
     {
         match self {
-            Member::App(app) => Actor::ask(app, alloc),
-            Member::Path(path) => Actor::ask(path, alloc),
+            Member::App(app) => app.ask(alloc),
+            Member::Path(path) => path.ask(alloc),
         }
     }
 
     fn take(&mut self, reply: &Reply) -> Result<(), AllocError>
-        requires { TakesReply (member_asks octets self.old) reply.now }
-        ensures ok { OnOk result (self.new ≡ member_takes octets reply.now self.old) }
+        requires { TakesReply (of_kind A.asks P.asks self.old) reply.now }
+        ensures ok { OnOk result (self.new ≡
+            within_kind (A.takes reply.now) (P.takes reply.now) self.old) }
         ensures err { OnErr result (self.new ≡ self.old) }
     {
         match self {
-            Member::App(app) => Actor::take(app, reply),
-            Member::Path(path) => Actor::take(path, reply),
+            Member::App(app) => app.take(reply),
+            Member::Path(path) => path.take(reply),
         }
     }
 
     fn next_round(&mut self)
-        requires over { member_asks octets self.old ≡ None }
-        requires rounds { CanBegin self.old }
-        ensures { self.new ≡ member_next self.old }
+        requires over { of_kind A.asks P.asks self.old ≡ None }
+        requires rounds { HoldsOfKind A.can_begin P.can_begin self.old }
+        ensures { self.new ≡ within_kind A.next P.next self.old }
     {
         match self {
-            Member::App(app) => Actor::next_round(app),
-            Member::Path(path) => Actor::next_round(path),
+            Member::App(app) => app.next_round(),
+            Member::Path(path) => path.next_round(),
         }
     }
 }

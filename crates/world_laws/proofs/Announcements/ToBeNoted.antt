@@ -31,28 +31,28 @@ use Rattle.path_agenda.specs.declared.notice.OwnNotice.{OwnNotice}
 use Rattle.path_agenda.specs.declared.notice.OwnNotice.TheVariants as notes
 use Rattle.path_agenda.specs.declared.notice.PeerNotice.{PeerNotice}
 use Rattle.path_agenda.specs.declared.notice.PeerNotice.TheVariants as peer_notes
-use Rattle.path_core.specs.Addressing.{is_kept, after_peer_notice, having_noted}
-use Rattle.path_core.specs.Standing.{may_note, is_connected}
+use Rattle.path_rules.specs.Addressing.{is_kept, after_peer_notice, having_noted}
+use Rattle.path_rules.specs.Standing.{may_note, is_connected}
 use Rattle.subflow_tcp.specs.States.{after_finish}
-use Rattle.path_core.specs.Arriving.{judged_in, options_heard, after_judged}
-use Rattle.path_core.specs.Breaking.{answered_break}
-use Rattle.path_core.specs.Codec.{Codec}
-use Rattle.path_core.specs.declared.event.Event.{Event}
-use Rattle.path_core.specs.declared.event.Event.TheVariants as happenings
-use Rattle.path_core.specs.Duties.{stands, passed, answered}
-use Rattle.path_core.specs.Emission.{having_sent_fin, Grant, grant_in, answered_grant, answered_data, first_unsent}
-use Rattle.path_core.specs.Ends.{PathEnd}
-use Rattle.path_core.specs.Events.{with_priority, next_event, after_line, at_tick, died, join_begun, copy_heard, heard_in, happens_if, told_at, never_joined}
+use Rattle.path_rules.specs.Arriving.{judged_in, options_heard, after_judged}
+use Rattle.path_rules.specs.Breaking.{answered_break}
+use Rattle.path_rules.specs.Codec.{Codec}
+use Rattle.path_rules.specs.declared.event.Event.{Event}
+use Rattle.path_rules.specs.declared.event.Event.TheVariants as happenings
+use Rattle.path_rules.specs.Duties.{stands, passed, answered}
+use Rattle.path_rules.specs.Emission.{having_sent_fin, Grant, grant_in, answered_grant, answered_data, first_unsent}
+use Rattle.path_rules.specs.Ends.{PathEnd}
+use Rattle.path_rules.specs.Events.{with_priority, next_event, after_line, at_tick, died, join_begun, copy_heard, heard_in, happens_if, told_at, never_joined}
 use Rattle.path_store.specs.declared.lines.LineAction.{LineAction}
 use Rattle.path_store.specs.declared.lines.LineAction.TheVariants as actions
-use Rattle.path_core.specs.Joining.{keys_begun, is_never, opened_by, join_taken, asked_at}
-use Rattle.path_core.specs.Joins.{is_joined}
-use Rattle.path_core.specs.Opening.{answered_peer_key, answered_opened}
-use Rattle.path_core.specs.Passing.{answered_piece, is_placed, is_fin_set, piece_of}
-use Rattle.path_core.specs.Deliver.{Piece, is_wrong, forgotten_by, mapping_here}
-use Rattle.path_core.specs.State.{PathState, end_at, goes_on, left, with_agenda}
-use Rattle.path_core.specs.Steps.{settled}
-use Rattle.path_core.specs.Treating.{counts, is_clash, heard_passed, item_passed, answered_heard, answered_item, item_of, breaks_by_ack}
+use Rattle.path_rules.specs.Joining.{keys_begun, is_never, opened_by, join_taken, asked_at}
+use Rattle.path_rules.specs.Joins.{is_joined}
+use Rattle.path_rules.specs.Opening.{answered_peer_key, answered_opened}
+use Rattle.path_rules.specs.Passing.{answered_piece, is_placed, is_fin_set, piece_of}
+use Rattle.path_rules.specs.Deliver.{Piece, is_wrong, forgotten_by, mapping_here}
+use Rattle.path_rules.specs.State.{PathState, end_at, goes_on, left, with_agenda}
+use Rattle.path_rules.specs.Steps.{settled}
+use Rattle.path_rules.specs.Treating.{counts, is_clash, heard_passed, item_passed, answered_heard, answered_item, item_of, breaks_by_ack}
 use Rattle.world_laws.proofs.Falls.FailedChecks.{check_failed_so, fail_heard_so, infinite_came_so, fail_answered_so}
 use Rattle.world_laws.proofs.Standby.OneDutyLooks.{MayNotLook}
 

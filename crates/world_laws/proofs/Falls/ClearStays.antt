@@ -32,29 +32,29 @@ use Rattle.path_agenda.specs.declared.duty.StepDuty.TheVariants as step_duties
 use Rattle.path_agenda.specs.declared.heard.Heard.{Heard}
 use Rattle.path_agenda.specs.declared.heard.Heard.TheVariants as says
 use Rattle.path_agenda.specs.declared.keys.KeyPair.{KeyPair}
-use Rattle.path_core.specs.Arriving.{items_of, judged_in, taken_as, answered_in, cleared_in, with_answer, options_heard, asked_in, after_judged, HeardOption, with_held, held_of, after_join}
-use Rattle.path_core.specs.Breaking.{answered_break}
-use Rattle.path_core.specs.Codec.{Codec}
-use Rattle.path_core.specs.declared.event.Event.{Event}
-use Rattle.path_core.specs.declared.event.Event.TheVariants as happenings
-use Rattle.path_core.specs.declared.modes.Modes.{Modes}
-use Rattle.path_core.specs.Duties.{stands, passed, answered}
-use Rattle.path_core.specs.Emission.{Grant, grant_in, answered_grant, answered_data, first_unsent}
-use Rattle.path_core.specs.Ends.{PathEnd}
-use Rattle.path_core.specs.Events.{next_event, after_line, at_tick, died, join_begun, copy_heard, heard_in, happens_if, told_at, never_joined}
+use Rattle.path_rules.specs.Arriving.{items_of, judged_in, taken_as, answered_in, cleared_in, with_answer, options_heard, asked_in, after_judged, HeardOption, with_held, held_of, after_join}
+use Rattle.path_rules.specs.Breaking.{answered_break}
+use Rattle.path_rules.specs.Codec.{Codec}
+use Rattle.path_rules.specs.declared.event.Event.{Event}
+use Rattle.path_rules.specs.declared.event.Event.TheVariants as happenings
+use Rattle.path_rules.specs.declared.modes.Modes.{Modes}
+use Rattle.path_rules.specs.Duties.{stands, passed, answered}
+use Rattle.path_rules.specs.Emission.{Grant, grant_in, answered_grant, answered_data, first_unsent}
+use Rattle.path_rules.specs.Ends.{PathEnd}
+use Rattle.path_rules.specs.Events.{next_event, after_line, at_tick, died, join_begun, copy_heard, heard_in, happens_if, told_at, never_joined}
 use Rattle.path_store.specs.declared.lines.LineAction.{LineAction}
 use Rattle.path_store.specs.declared.lines.LineAction.TheVariants as actions
-use Rattle.path_core.specs.Joining.{keys_begun, is_never, opened_by, join_taken, asked_at}
-use Rattle.path_core.specs.Joins.{is_joined, join_answer}
-use Rattle.path_core.specs.Opening.{keys_in, answered_peer_key, answered_opened}
-use Rattle.path_core.specs.Passing.{answered_piece, is_placed, is_fin_set, piece_of}
-use Rattle.path_core.specs.Deliver.{Piece, is_wrong, forgotten_by, mapping_here}
-use Rattle.path_core.specs.Standing.{modes_told}
-use Rattle.path_core.specs.State.{PathState, end_at, goes_on, left, with_agenda}
-use Rattle.path_core.specs.Steps.{settled, settles_down, answers, takes, begins_turn, next_round}
-use Rattle.path_core.specs.Treating.{counts, is_clash, mode_in, heard_passed, item_passed, answered_heard, answered_item, item_of, breaks_by_ack, after_fell}
-use Rattle.path_core.specs.Words.{is_side_a}
-use Rattle.path_core.specs.Fallback.{fell_in}
+use Rattle.path_rules.specs.Joining.{keys_begun, is_never, opened_by, join_taken, asked_at}
+use Rattle.path_rules.specs.Joins.{is_joined, join_answer}
+use Rattle.path_rules.specs.Opening.{keys_in, answered_peer_key, answered_opened}
+use Rattle.path_rules.specs.Passing.{answered_piece, is_placed, is_fin_set, piece_of}
+use Rattle.path_rules.specs.Deliver.{Piece, is_wrong, forgotten_by, mapping_here}
+use Rattle.path_rules.specs.Standing.{modes_told}
+use Rattle.path_rules.specs.State.{PathState, end_at, goes_on, left, with_agenda}
+use Rattle.path_rules.specs.Steps.{settled, settles_down, answers, takes, begins_turn, next_round}
+use Rattle.path_rules.specs.Treating.{counts, is_clash, mode_in, heard_passed, item_passed, answered_heard, answered_item, item_of, breaks_by_ack, after_fell}
+use Rattle.path_rules.specs.Words.{is_side_a}
+use Rattle.path_rules.specs.Fallback.{fell_in}
 use Rattle.world_laws.proofs.Falls.FailedChecks.{check_failed_so, fail_heard_so, infinite_came_so, fail_answered_so}
 
 -- what is clear was clear, or became so

@@ -44,34 +44,34 @@ use Rattle.path_agenda.specs.declared.duty.StepDuty.TheVariants as step_duties
 use Rattle.path_agenda.specs.declared.heard.Heard.{Heard}
 use Rattle.path_agenda.specs.declared.heard.Heard.TheVariants as says
 use Rattle.path_agenda.specs.declared.keys.KeyPair.{KeyPair}
-use Rattle.path_core.specs.declared.event.Event.{Event}
-use Rattle.path_core.specs.declared.event.Event.TheVariants as happenings
-use Rattle.path_core.specs.declared.judged.Judged.{Judged}
-use Rattle.path_core.specs.declared.judged.Judged.TheVariants as judged
-use Rattle.path_core.specs.declared.modes.Modes.{Modes}
-use Rattle.path_core.specs.Arriving.{after_judged, answered_in, asked_in, cleared_in, copy_judged, copy_of, held_of, hint_of, items_of, judged_in, options_heard, owes_by, reset_for, taken_as, template_by, template_judged, template_of, with_answer, with_held, HeardOption}
-use Rattle.path_core.specs.Breaking.{break_ask, reset_of, reset_on, answered_break}
-use Rattle.path_core.specs.Codec.{Codec}
-use Rattle.path_core.specs.Duties.{stands, passed, answered, ask_for}
-use Rattle.path_core.specs.Emission.{Grant, after_timer, fin_segment_of, grant_in, answered_grant, answered_data, first_unsent, having_sent_fin}
-use Rattle.path_core.specs.Ends.{PathEnd}
-use Rattle.path_core.specs.Events.{next_event, step_for, heard_in, at_tick, died, after_line, copy_heard, happens_if, join_begun, timer_fired, template_fired, never_joined, with_priority}
+use Rattle.path_rules.specs.declared.event.Event.{Event}
+use Rattle.path_rules.specs.declared.event.Event.TheVariants as happenings
+use Rattle.path_rules.specs.declared.judged.Judged.{Judged}
+use Rattle.path_rules.specs.declared.judged.Judged.TheVariants as judged
+use Rattle.path_rules.specs.declared.modes.Modes.{Modes}
+use Rattle.path_rules.specs.Arriving.{after_judged, answered_in, asked_in, cleared_in, copy_judged, copy_of, held_of, hint_of, items_of, judged_in, options_heard, owes_by, reset_for, taken_as, template_by, template_judged, template_of, with_answer, with_held, HeardOption}
+use Rattle.path_rules.specs.Breaking.{break_ask, reset_of, reset_on, answered_break}
+use Rattle.path_rules.specs.Codec.{Codec}
+use Rattle.path_rules.specs.Duties.{stands, passed, answered, ask_for}
+use Rattle.path_rules.specs.Emission.{Grant, after_timer, fin_segment_of, grant_in, answered_grant, answered_data, first_unsent, having_sent_fin}
+use Rattle.path_rules.specs.Ends.{PathEnd}
+use Rattle.path_rules.specs.Events.{next_event, step_for, heard_in, at_tick, died, after_line, copy_heard, happens_if, join_begun, timer_fired, template_fired, never_joined, with_priority}
 use Rattle.path_store.specs.declared.lines.LineAction.{LineAction}
 use Rattle.path_store.specs.declared.lines.LineAction.TheVariants as actions
-use Rattle.path_core.specs.Fallback.{is_fall, fell_ask, fell_in, after_fell, fell_duties, answered_fell, in_identity}
-use Rattle.path_core.specs.Joining.{asked_at, is_never, join_heard_ask, join_taken, keys_begun, opened_by, refusal_of, with_mode_refused}
-use Rattle.path_core.specs.Joins.{is_joined, join_answer}
-use Rattle.path_core.specs.Opening.{after_keys, keys_in, opened_ask, answered_opened, peer_key_ask, answered_peer_key, with_peer_key}
-use Rattle.path_core.specs.Passing.{after_pass_fin, answer_occasion, answer_of, resend_occasion, answered_fin_heard, answered_plain_fin, answered_piece, dead_answer, is_fin_set, is_placed, piece_of, resend_of}
-use Rattle.path_core.specs.Deliver.{Piece, after_check, after_pieces, mapping_here, is_wrong, with_learned, with_skipped, forgotten_by}
-use Rattle.path_core.specs.Handover.{sent_on}
-use Rattle.path_core.specs.InfiniteSending.{may_go_infinite, with_infinite, book_answered}
-use Rattle.path_core.specs.Standing.{after_ack_out, after_look, answered_ack_out, modes_told}
-use Rattle.path_core.specs.State.{PathState, end_at, goes_on, left, path_of, with_agenda, with_end}
-use Rattle.path_core.specs.Steps.{settled, answers, asks_of, asks_first, takes, begins_turn}
-use Rattle.path_core.specs.Treating.{heard_ask, item_ask, plain_ack_ask, after_keep, answered_heard, answered_item, answered_plain_ack, breaks_by_ack, counts, is_acked, is_clash, is_dropped, item_of, item_passed, with_acked, with_data_fin, with_plain_ack}
-use Rattle.path_core.specs.FastClosing.{is_stopped_by}
-use Rattle.path_core.specs.Addressing.{after_peer_notice}
+use Rattle.path_rules.specs.Fallback.{is_fall, fell_ask, fell_in, after_fell, fell_duties, answered_fell, in_identity}
+use Rattle.path_rules.specs.Joining.{asked_at, is_never, join_heard_ask, join_taken, keys_begun, opened_by, refusal_of, with_mode_refused}
+use Rattle.path_rules.specs.Joins.{is_joined, join_answer}
+use Rattle.path_rules.specs.Opening.{after_keys, keys_in, opened_ask, answered_opened, peer_key_ask, answered_peer_key, with_peer_key}
+use Rattle.path_rules.specs.Passing.{after_pass_fin, answer_occasion, answer_of, resend_occasion, answered_fin_heard, answered_plain_fin, answered_piece, dead_answer, is_fin_set, is_placed, piece_of, resend_of}
+use Rattle.path_rules.specs.Deliver.{Piece, after_check, after_pieces, mapping_here, is_wrong, with_learned, with_skipped, forgotten_by}
+use Rattle.path_rules.specs.Handover.{sent_on}
+use Rattle.path_rules.specs.InfiniteSending.{may_go_infinite, with_infinite, book_answered}
+use Rattle.path_rules.specs.Standing.{after_ack_out, after_look, answered_ack_out, modes_told}
+use Rattle.path_rules.specs.State.{PathState, end_at, goes_on, left, path_of, with_agenda, with_end}
+use Rattle.path_rules.specs.Steps.{settled, answers, asks_of, asks_first, takes, begins_turn}
+use Rattle.path_rules.specs.Treating.{heard_ask, item_ask, plain_ack_ask, after_keep, answered_heard, answered_item, answered_plain_ack, breaks_by_ack, counts, is_acked, is_clash, is_dropped, item_of, item_passed, with_acked, with_data_fin, with_plain_ack}
+use Rattle.path_rules.specs.FastClosing.{is_stopped_by}
+use Rattle.path_rules.specs.Addressing.{after_peer_notice}
 use Rattle.world_laws.proofs.Falls.FailedChecks.{check_failed_so, checked_so, fail_heard_so, failed_so, infinite_came_so, infinite_so}
 use Rattle.world_laws.proofs.Falls.Verdicts.{fell_cases}
 use Rattle.world_laws.proofs.Keys.AreDrawn.{Known}

@@ -44,34 +44,34 @@ use Rattle.path_agenda.specs.declared.duty.StepDuty.TheVariants as step_duties
 use Rattle.path_agenda.specs.declared.heard.Heard.{Heard}
 use Rattle.path_agenda.specs.declared.heard.Heard.TheVariants as says
 use Rattle.path_agenda.specs.declared.keys.KeyPair.{KeyPair}
-use Rattle.path_core.specs.FastClosing.{is_stopped_by}
-use Rattle.path_core.specs.declared.event.Event.{Event}
-use Rattle.path_core.specs.declared.event.Event.TheVariants as happenings
-use Rattle.path_core.specs.declared.judged.Judged.{Judged}
-use Rattle.path_core.specs.Arriving.{after_judged, copy_judged, copy_of, held_of, hint_of, items_of, judged_in, options_heard, owes_by, reset_for, taken_as, template_of}
-use Rattle.path_core.specs.Breaking.{reset_of, reset_on, answered_break}
-use Rattle.path_core.specs.StreamEnds.{is_data_fin_owed}
-use Rattle.path_core.specs.Duties.{stands, passed, answered}
-use Rattle.path_core.specs.Emission.{Grant, after_timer, fin_segment_of, grant_in, answered_grant, answered_data, first_unsent, having_sent_fin}
-use Rattle.path_core.specs.Ends.{PathEnd}
-use Rattle.path_core.specs.Events.{next_event, heard_at, heard_in, at_tick, died, died_unless_dead, after_line, copy_heard, happens_if, join_begun, timer_fired, template_fired, never_joined, with_priority}
+use Rattle.path_rules.specs.FastClosing.{is_stopped_by}
+use Rattle.path_rules.specs.declared.event.Event.{Event}
+use Rattle.path_rules.specs.declared.event.Event.TheVariants as happenings
+use Rattle.path_rules.specs.declared.judged.Judged.{Judged}
+use Rattle.path_rules.specs.Arriving.{after_judged, copy_judged, copy_of, held_of, hint_of, items_of, judged_in, options_heard, owes_by, reset_for, taken_as, template_of}
+use Rattle.path_rules.specs.Breaking.{reset_of, reset_on, answered_break}
+use Rattle.path_rules.specs.StreamEnds.{is_data_fin_owed}
+use Rattle.path_rules.specs.Duties.{stands, passed, answered}
+use Rattle.path_rules.specs.Emission.{Grant, after_timer, fin_segment_of, grant_in, answered_grant, answered_data, first_unsent, having_sent_fin}
+use Rattle.path_rules.specs.Ends.{PathEnd}
+use Rattle.path_rules.specs.Events.{next_event, heard_at, heard_in, at_tick, died, died_unless_dead, after_line, copy_heard, happens_if, join_begun, timer_fired, template_fired, never_joined, with_priority}
 use Rattle.path_store.specs.declared.lines.LineAction.{LineAction}
 use Rattle.path_store.specs.declared.lines.LineAction.TheVariants as actions
-use Rattle.path_core.specs.Fallback.{after_fell, fell_duties, answered_fell}
-use Rattle.path_core.specs.Joining.{asked_at, is_listening, is_never, join_taken, joined_by, keys_begun, opened_by, refusal_of, syn_alone, with_mode_refused}
-use Rattle.path_core.specs.Joins.{is_joined}
-use Rattle.path_core.specs.Opening.{after_keys, answered_opened, answered_peer_key, with_peer_key}
-use Rattle.path_core.specs.Passing.{after_pass_fin, answer_occasion, answer_of, resend_occasion, answered_fin_heard, answered_plain_fin, answered_piece, dead_answer, first_record, is_fin_set, is_placed, piece_of, resend_of}
-use Rattle.path_core.specs.Deliver.{Piece, after_check, after_pieces, mapping_here, is_wrong, with_learned, with_skipped, forgotten_by}
-use Rattle.path_core.specs.OptionsOut.{ack_said, carried_said, reset_options, record_or_ack, syn_ack_said}
-use Rattle.path_core.specs.Handover.{having_sent, sent_on}
-use Rattle.path_core.specs.Standing.{after_ack_out, answered_ack_out}
-use Rattle.path_core.specs.State.{PathState, end_at, goes_on, left, with_agenda, with_end}
-use Rattle.path_core.specs.Steps.{settled, answers, takes, begins_turn}
-use Rattle.path_core.specs.Treating.{after_keep, answered_heard, answered_item, answered_plain_ack, breaks_by_ack, counts, is_clash, is_dropped, item_of, item_passed, with_acked, with_data_fin, with_plain_ack, with_data_ack}
-use Rattle.path_core.specs.Values.{Carried, as_arrived, carried_by, stripped, altered, values}
-use Rattle.path_core.specs.OptionsOut.{noted_said}
-use Rattle.path_core.specs.Addressing.{after_peer_notice}
+use Rattle.path_rules.specs.Fallback.{after_fell, fell_duties, answered_fell}
+use Rattle.path_rules.specs.Joining.{asked_at, is_listening, is_never, join_taken, joined_by, keys_begun, opened_by, refusal_of, syn_alone, with_mode_refused}
+use Rattle.path_rules.specs.Joins.{is_joined}
+use Rattle.path_rules.specs.Opening.{after_keys, answered_opened, answered_peer_key, with_peer_key}
+use Rattle.path_rules.specs.Passing.{after_pass_fin, answer_occasion, answer_of, resend_occasion, answered_fin_heard, answered_plain_fin, answered_piece, dead_answer, first_record, is_fin_set, is_placed, piece_of, resend_of}
+use Rattle.path_rules.specs.Deliver.{Piece, after_check, after_pieces, mapping_here, is_wrong, with_learned, with_skipped, forgotten_by}
+use Rattle.path_rules.specs.OptionsOut.{ack_said, carried_said, reset_options, record_or_ack, syn_ack_said}
+use Rattle.path_rules.specs.Handover.{having_sent, sent_on}
+use Rattle.path_rules.specs.Standing.{after_ack_out, answered_ack_out}
+use Rattle.path_rules.specs.State.{PathState, end_at, goes_on, left, with_agenda, with_end}
+use Rattle.path_rules.specs.Steps.{settled, answers, takes, begins_turn}
+use Rattle.path_rules.specs.Treating.{after_keep, answered_heard, answered_item, answered_plain_ack, breaks_by_ack, counts, is_clash, is_dropped, item_of, item_passed, with_acked, with_data_fin, with_plain_ack, with_data_ack}
+use Rattle.path_rules.specs.Values.{Carried, as_arrived, carried_by, stripped, altered, values}
+use Rattle.path_rules.specs.OptionsOut.{noted_said}
+use Rattle.path_rules.specs.Addressing.{after_peer_notice}
 use Rattle.path_agenda.specs.declared.notice.OwnNotice.{OwnNotice}
 use Rattle.path_agenda.specs.Words.{first_of}
 use Rattle.world_laws.proofs.Keys.Held.{in_removed}
@@ -79,7 +79,7 @@ use Rattle.world_laws.proofs.Keys.WhatWakes.{WakesNone, joined_wakes_none}
 use Rattle.world_laws.proofs.Keys.AnswerHeardFirst.{is_apart, finish_apart, passed_apart, apart_stays, arrived_state, TellsKey, no_syn, record_or_ack_tells, syn_ack_tells, IsNoSyn, reset_answers, outgoing_tells}
 use Rattle.world_laws.proofs.Lanes.Saying.{flights_kept}
 use Rattle.world_laws.proofs.Falls.FailedChecks.{check_failed_so, fail_heard_so, infinite_came_so, fail_answered_so}
-use Rattle.path_core.specs.InfiniteSending.{with_infinite}
+use Rattle.path_rules.specs.InfiniteSending.{with_infinite}
 
 abbrev pub CopyTells : Bool → Flight Carried → Type 0
 CopyTells joined f = TellsKey joined f.to f.carried.segment

@@ -43,28 +43,28 @@ use Rattle.path_agenda.specs.declared.duty.StepDuty.TheVariants as step_duties
 use Rattle.path_agenda.specs.declared.heard.Heard.{Heard}
 use Rattle.path_agenda.specs.declared.heard.Heard.TheVariants as says
 use Rattle.path_agenda.specs.declared.keys.KeyPair.{KeyPair}
-use Rattle.path_core.specs.declared.event.Event.{Event}
-use Rattle.path_core.specs.declared.event.Event.TheVariants as happenings
-use Rattle.path_core.specs.declared.judged.Judged.TheVariants as judged
-use Rattle.path_core.specs.declared.modes.Modes.{Modes}
-use Rattle.path_core.specs.Arriving.{after_judged, asked_in, copy_judged, copy_of, held_of, hint_of, items_of, judged_in, options_heard, owes_by, reset_for, taken_as, template_of, HeardOption}
-use Rattle.path_core.specs.Duties.{stands, passed}
-use Rattle.path_core.specs.Emission.{after_timer}
-use Rattle.path_core.specs.Ends.{PathEnd}
-use Rattle.path_core.specs.Events.{heard_at, heard_in, at_tick, died, after_line, copy_heard, happens_if, join_begun, timer_fired, template_fired, never_joined, step_for, with_priority}
+use Rattle.path_rules.specs.declared.event.Event.{Event}
+use Rattle.path_rules.specs.declared.event.Event.TheVariants as happenings
+use Rattle.path_rules.specs.declared.judged.Judged.TheVariants as judged
+use Rattle.path_rules.specs.declared.modes.Modes.{Modes}
+use Rattle.path_rules.specs.Arriving.{after_judged, asked_in, copy_judged, copy_of, held_of, hint_of, items_of, judged_in, options_heard, owes_by, reset_for, taken_as, template_of, HeardOption}
+use Rattle.path_rules.specs.Duties.{stands, passed}
+use Rattle.path_rules.specs.Emission.{after_timer}
+use Rattle.path_rules.specs.Ends.{PathEnd}
+use Rattle.path_rules.specs.Events.{heard_at, heard_in, at_tick, died, after_line, copy_heard, happens_if, join_begun, timer_fired, template_fired, never_joined, step_for, with_priority}
 use Rattle.path_store.specs.declared.lines.LineAction.{LineAction}
 use Rattle.path_store.specs.declared.lines.LineAction.TheVariants as actions
-use Rattle.path_core.specs.Joining.{is_never, keys_begun, opened_by, mode_refused}
-use Rattle.path_core.specs.Joins.{is_joined}
-use Rattle.path_core.specs.Passing.{after_pass_fin}
-use Rattle.path_core.specs.Deliver.{after_check, after_pieces, mapping_here, is_wrong, with_learned, with_skipped, forgotten_by}
-use Rattle.path_core.specs.Handover.{sent_on}
-use Rattle.path_core.specs.Standing.{modes_told}
-use Rattle.path_core.specs.State.{PathState, end_at, goes_on, with_agenda, with_end, path_of}
-use Rattle.path_core.specs.Steps.{settled}
-use Rattle.path_core.specs.Treating.{after_keep, counts, is_dropped, item_of, item_passed, mode_in, with_data_fin, with_plain_ack}
-use Rattle.path_core.specs.Fallback.{fell_in}
-use Rattle.path_core.specs.Values.{Carried, values}
+use Rattle.path_rules.specs.Joining.{is_never, keys_begun, opened_by, mode_refused}
+use Rattle.path_rules.specs.Joins.{is_joined}
+use Rattle.path_rules.specs.Passing.{after_pass_fin}
+use Rattle.path_rules.specs.Deliver.{after_check, after_pieces, mapping_here, is_wrong, with_learned, with_skipped, forgotten_by}
+use Rattle.path_rules.specs.Handover.{sent_on}
+use Rattle.path_rules.specs.Standing.{modes_told}
+use Rattle.path_rules.specs.State.{PathState, end_at, goes_on, with_agenda, with_end, path_of}
+use Rattle.path_rules.specs.Steps.{settled}
+use Rattle.path_rules.specs.Treating.{after_keep, counts, is_dropped, item_of, item_passed, mode_in, with_data_fin, with_plain_ack}
+use Rattle.path_rules.specs.Fallback.{fell_in}
+use Rattle.path_rules.specs.Values.{Carried, values}
 use Rattle.world_laws.proofs.Keys.AnswerHeardFirst.{is_met, passed_met_state, is_accepts, Fits, fits, is_calm, signs, Fewer, same_duties, tail_fewer, new_duties, b_template, arrived_state, unmet_stays, a_template, a_signs}
 
 -- ---- what is told

@@ -18,8 +18,8 @@ use Rattle.stream_lanes.proofs.Lists.{Has-more}
 use Rattle.ones_sum.specs.Words.{with_bit_turned}
 use Rattle.segment_wire.specs.Changes.{with_turned_bit}
 use Rattle.path_segments.specs.Spelling.{numbers_of}
-use Rattle.path_core.specs.OptionsOut.{bare_mapping, place_numbered, mapping_of}
-use Rattle.path_core.specs.State.{Profile}
+use Rattle.path_rules.specs.OptionsOut.{bare_mapping, place_numbered, mapping_of}
+use Rattle.path_rules.specs.State.{Profile}
 use Rattle.world_laws.proofs.Lanes.Growing.{SenderGoes, ReceiverGoes}
 use Rattle.world_laws.proofs.Lanes.Roads.{moves, Strolls, one_move, then_strolls}
 use Rattle.world_laws.proofs.Lanes.Showing.{HasPair, HasAck, HasData, HasNumber, WindowShows, HasNone, HasSub, IsSummed}

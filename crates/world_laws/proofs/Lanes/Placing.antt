@@ -29,14 +29,14 @@ use Rattle.stream_lanes.specs.Words.{Every, From}
 use Rattle.stream_lanes.proofs.Checking.{came_within, came_cases, checksum_shows, came_unaltered}
 use Rattle.stream_lanes.proofs.Lists.{Every-map, Every-push, Has-more, in_drop}
 use Rattle.stream_lanes.proofs.Bytes.{From-take, From-filled, part_is_honest}
-use Rattle.path_core.specs.Ends.{PathEnd}
-use Rattle.path_core.specs.Passing.{having_asked, after_pass_fin, place_passed, plain_fin}
+use Rattle.path_rules.specs.Ends.{PathEnd}
+use Rattle.path_rules.specs.Passing.{having_asked, after_pass_fin, place_passed, plain_fin}
 use Rattle.path_store.specs.declared.infinite_mapping.InfiniteMapping.{InfiniteMapping}
-use Rattle.path_core.specs.Infinite.{receives_plainly, fin_under, fin_place}
+use Rattle.path_rules.specs.Infinite.{receives_plainly, fin_under, fin_place}
 use Rattle.path_store.specs.InfiniteMappings.{covers as goes_by, place_under}
-use Rattle.path_core.specs.Deliver.{Piece, count_in, piece_in, is_whole, is_right, some_piece, checked_piece, piece_by, next_piece, after_piece, with_learned, with_skipped, plain_piece, infinite_piece, piece_at, is_wrong, failing_by, mapping_here}
+use Rattle.path_rules.specs.Deliver.{Piece, count_in, piece_in, is_whole, is_right, some_piece, checked_piece, piece_by, next_piece, after_piece, with_learned, with_skipped, plain_piece, infinite_piece, piece_at, is_wrong, failing_by, mapping_here}
 use Rattle.path_store.specs.Receiving.{data_fin_behind}
-use Rattle.path_core.specs.State.{Profile}
+use Rattle.path_rules.specs.State.{Profile}
 use Rattle.world_laws.proofs.Lanes.Ending.{Did, did_nothing}
 use Rattle.world_laws.proofs.Lanes.Growing.{sender_stays, receiver_stays, same_edge}
 use Rattle.world_laws.proofs.Lanes.Hearing.{state_shows, fin_passed_back}

@@ -37,12 +37,12 @@ use Rattle.actor_desk.specs.Words.{is_nil}
 use Rattle.path_agenda.specs.declared.heard.Heard.{Heard}
 use Rattle.path_agenda.specs.declared.heard.Heard.TheVariants as says
 use Rattle.path_agenda.specs.declared.keys.KeyPair.{KeyPair}
-use Rattle.path_core.specs.Arriving.{copy_of, ack_items, is_mapping, mapping_items, map_items, key_items, join_items, items_in, items_of, HeardOption, hint_of, reset_by, owing_if, owes_by, asked_in, is_taken, with_payload, with_answer, answered_in, cleared_in, judged_in, taken_as, after_judged, position_numbered, item_removed}
-use Rattle.path_core.specs.declared.modes.Modes.{Modes}
-use Rattle.path_core.specs.Joining.{with_keys, syn_alone, is_listening, joined_by}
-use Rattle.path_core.specs.Joins.{is_joined, join_answer}
-use Rattle.path_core.specs.Ends.{PathEnd}
-use Rattle.path_core.specs.State.{Profile}
+use Rattle.path_rules.specs.Arriving.{copy_of, ack_items, is_mapping, mapping_items, map_items, key_items, join_items, items_in, items_of, HeardOption, hint_of, reset_by, owing_if, owes_by, asked_in, is_taken, with_payload, with_answer, answered_in, cleared_in, judged_in, taken_as, after_judged, position_numbered, item_removed}
+use Rattle.path_rules.specs.declared.modes.Modes.{Modes}
+use Rattle.path_rules.specs.Joining.{with_keys, syn_alone, is_listening, joined_by}
+use Rattle.path_rules.specs.Joins.{is_joined, join_answer}
+use Rattle.path_rules.specs.Ends.{PathEnd}
+use Rattle.path_rules.specs.State.{Profile}
 use Rattle.world_laws.proofs.Lanes.Records.{every_cons}
 use Rattle.path_agenda.specs.declared.notice.PeerNotice.TheVariants as notes
 use Rattle.world_laws.proofs.Numbers.TellSmall.{IsShort, MappingIsShort, OptionTells, SegmentTells, IsNonce, ItemTells, AnswerTells, SenderTells, ModesTell, EndTells}

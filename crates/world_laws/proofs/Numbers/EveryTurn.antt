@@ -37,20 +37,20 @@ use Rattle.path_agenda.specs.declared.duty.Duty.{Duty}
 use Rattle.path_agenda.specs.Agenda.{start_of_turn}
 use Rattle.path_agenda.specs.declared.notice.OwnNotice.{OwnNotice}
 use Rattle.path_agenda.specs.Words.{first_of}
-use Rattle.path_core.specs.Arriving.{expected_by}
-use Rattle.path_core.specs.Duties.{stands, ask_for, answered}
-use Rattle.path_core.specs.Emission.{first_unsent}
-use Rattle.path_core.specs.Ends.{opening_end}
-use Rattle.path_core.specs.Looking.{first_sends}
-use Rattle.path_core.specs.OptionsOut.{HasAddress}
-use Rattle.path_core.specs.Passing.{first_record}
-use Rattle.path_core.proofs.Sayable.{said_can}
-use Rattle.path_core.specs.Shown.{CanBeAltered, IsFreshCopy, NextIsFresh, SentCanBeAltered}
-use Rattle.path_core.specs.Starts.{first_state, first_turn}
-use Rattle.path_core.specs.State.{PathState, Profile, end_at, with_agenda}
-use Rattle.path_core.specs.Steps.{asks_first, answers, takes, settles_down, next_round}
-use Rattle.path_core.specs.Turns.{FirstStands, IsSettled}
-use Rattle.path_core.specs.Values.{Carried, values}
+use Rattle.path_rules.specs.Arriving.{expected_by}
+use Rattle.path_rules.specs.Duties.{stands, ask_for, answered}
+use Rattle.path_rules.specs.Emission.{first_unsent}
+use Rattle.path_rules.specs.Ends.{opening_end}
+use Rattle.path_rules.specs.Looking.{first_sends}
+use Rattle.path_rules.specs.OptionsOut.{HasAddress}
+use Rattle.path_rules.specs.Passing.{first_record}
+use Rattle.path_rules.proofs.Sayable.{said_can}
+use Rattle.path_rules.specs.Shown.{CanBeAltered, IsFreshCopy, NextIsFresh, SentCanBeAltered}
+use Rattle.path_rules.specs.Starts.{first_state, first_turn}
+use Rattle.path_rules.specs.State.{PathState, Profile, end_at, with_agenda}
+use Rattle.path_rules.specs.Steps.{asks_first, answers, takes, settles_down, next_round}
+use Rattle.path_rules.specs.Turns.{FirstStands, IsSettled}
+use Rattle.path_rules.specs.Values.{Carried, values}
 use Rattle.world_laws.specs.declared.member.Member.TheVariants.{App, Path}
 use Rattle.world_laws.specs.Actors.{Actor, ActorCrew}
 use Rattle.world_laws.specs.Fresh.{IsFreshPath, IsFreshCrew, IsFreshTurn, AreFresh}

@@ -44,15 +44,15 @@ use Rattle.subflow_tcp.specs.States.{is_opening}
 use Rattle.stream_lanes.specs.Words.{Every}
 use Rattle.path_agenda.specs.declared.heard.Heard.{Heard}
 use Rattle.path_agenda.specs.declared.heard.Heard.TheVariants as says
-use Rattle.path_core.specs.Arriving.{copy_of, expected_by}
-use Rattle.path_core.specs.declared.modes.Modes.{Modes}
-use Rattle.path_core.specs.Ends.{PathEnd, Sending, Treated, Notices}
+use Rattle.path_rules.specs.Arriving.{copy_of, expected_by}
+use Rattle.path_rules.specs.declared.modes.Modes.{Modes}
+use Rattle.path_rules.specs.Ends.{PathEnd, Sending, Treated, Notices}
 use Rattle.path_store.specs.Receiving.{Receiving}
-use Rattle.path_core.specs.Joins.{is_joined, peer_key_of, join_options, third_options}
-use Rattle.path_core.specs.Passing.{outgoing_or}
-use Rattle.path_core.specs.OptionsOut.{bare_mapping, checksum_in, place_numbered, checksum_told, is_syn_unsent, owes_mapping, own_reset, plain_options, capable_options, syn_options, key_options, opening_options, data_fin_mapping, ack_options, piece_mapping, is_first_piece, first_piece_options, piece_options, fin_options, record_options, reset_options, segment_of, ack_said, carried_said, record_said, syn_ack_said, fin_said, reset_said, record_or_ack, fail_options, fail_beside, infinite_options, infinite_or, mapped_options, broken_options}
-use Rattle.path_core.specs.Shown.{IsFarReset}
-use Rattle.path_core.specs.State.{Profile}
+use Rattle.path_rules.specs.Joins.{is_joined, peer_key_of, join_options, third_options}
+use Rattle.path_rules.specs.Passing.{outgoing_or}
+use Rattle.path_rules.specs.OptionsOut.{bare_mapping, checksum_in, place_numbered, checksum_told, is_syn_unsent, owes_mapping, own_reset, plain_options, capable_options, syn_options, key_options, opening_options, data_fin_mapping, ack_options, piece_mapping, is_first_piece, first_piece_options, piece_options, fin_options, record_options, reset_options, segment_of, ack_said, carried_said, record_said, syn_ack_said, fin_said, reset_said, record_or_ack, fail_options, fail_beside, infinite_options, infinite_or, mapped_options, broken_options}
+use Rattle.path_rules.specs.Shown.{IsFarReset}
+use Rattle.path_rules.specs.State.{Profile}
 use Rattle.key_material.specs.declared.address.Address.{Address}
 use Rattle.key_material.specs.declared.address.Address.TheVariants.{V4, V6}
 use Rattle.key_material.proofs.Bounds.{add_addr64_of_below}
@@ -62,12 +62,12 @@ use Rattle.path_agenda.specs.declared.notice.OwnNotice.{OwnNotice}
 use Rattle.path_agenda.specs.declared.notice.OwnNotice.TheVariants as notes
 use Rattle.path_agenda.specs.declared.notice.PeerNotice.{PeerNotice}
 use Rattle.path_agenda.specs.declared.notice.PeerNotice.TheVariants as peer_notes
-use Rattle.path_core.specs.OptionsOut.{noted_said, notice_option, HasAddress}
-use Rattle.path_core.proofs.Sayable.{noted_can}
-use Rattle.path_core.proofs.Sayable.{carried_can}
+use Rattle.path_rules.specs.OptionsOut.{noted_said, notice_option, HasAddress}
+use Rattle.path_rules.proofs.Sayable.{noted_can}
+use Rattle.path_rules.proofs.Sayable.{carried_can}
 use Rattle.segment_wire.specs.Changes.{with_turned_bit}
 use Rattle.path_store.specs.declared.infinite_mapping.InfiniteMapping.{InfiniteMapping}
-use Rattle.path_core.specs.Infinite.{receives_infinite}
+use Rattle.path_rules.specs.Infinite.{receives_infinite}
 
 abbrev pub IsShort : ℕ → Type 0
 IsShort n = n < 2 ^ 31

@@ -42,28 +42,28 @@ use Rattle.path_agenda.specs.Words.{replaced}
 use Rattle.path_agenda.specs.declared.keys.KeyPair.{KeyPair}
 use Rattle.path_agenda.specs.Items.{key_heard, keys_heard}
 use Rattle.join_handshake.specs.declared.hearing.JoinSyn.{JoinSyn}
-use Rattle.path_core.specs.declared.event.Event.{Event}
-use Rattle.path_core.specs.declared.event.Event.TheVariants as happenings
-use Rattle.path_core.specs.Arriving.{held_of}
-use Rattle.path_core.specs.Breaking.{reset_of, reset_on, answered_break}
-use Rattle.path_core.specs.Duties.{stands, passed, answered}
-use Rattle.path_core.specs.Emission.{Grant, grant_in, answered_grant, answered_data, first_unsent}
-use Rattle.path_core.specs.Ends.{PathEnd}
+use Rattle.path_rules.specs.declared.event.Event.{Event}
+use Rattle.path_rules.specs.declared.event.Event.TheVariants as happenings
+use Rattle.path_rules.specs.Arriving.{held_of}
+use Rattle.path_rules.specs.Breaking.{reset_of, reset_on, answered_break}
+use Rattle.path_rules.specs.Duties.{stands, passed, answered}
+use Rattle.path_rules.specs.Emission.{Grant, grant_in, answered_grant, answered_data, first_unsent}
+use Rattle.path_rules.specs.Ends.{PathEnd}
 use Rattle.path_store.specs.Receiving.{Receiving}
-use Rattle.path_core.specs.Events.{next_event, heard_in, at_tick, died, died_unless_dead, after_line, copy_heard, happens_if, join_begun, told_at, never_joined}
+use Rattle.path_rules.specs.Events.{next_event, heard_in, at_tick, died, died_unless_dead, after_line, copy_heard, happens_if, join_begun, told_at, never_joined}
 use Rattle.path_store.specs.declared.lines.LineAction.{LineAction}
 use Rattle.path_store.specs.declared.lines.LineAction.TheVariants as actions
-use Rattle.path_core.specs.Joining.{asked_at, is_never, join_taken, keys_begun, opened_by}
-use Rattle.path_core.specs.Passing.{is_placed, piece_of, answered_piece, is_fin_set, answered_fin_heard, answered_plain_fin}
-use Rattle.path_core.specs.Deliver.{Piece, with_learned, with_skipped, is_wrong, forgotten_by, mapping_here}
-use Rattle.path_core.specs.Handover.{sent_on}
-use Rattle.path_core.specs.Standing.{window_in, answered_ack_out}
-use Rattle.path_core.specs.State.{PathState, end_at, with_end, with_agenda, goes_on, left}
-use Rattle.path_core.specs.Steps.{settled, answers, takes, begins_turn}
-use Rattle.path_core.specs.Treating.{counts, is_clash, with_data_fin, answered_heard, answered_item, item_of, item_passed, breaks_by_ack, with_plain_ack}
-use Rattle.path_core.specs.Values.{Carried, values}
-use Rattle.path_core.specs.Opening.{answered_opened, answered_peer_key}
-use Rattle.path_core.specs.Fallback.{after_fell, fell_duties}
+use Rattle.path_rules.specs.Joining.{asked_at, is_never, join_taken, keys_begun, opened_by}
+use Rattle.path_rules.specs.Passing.{is_placed, piece_of, answered_piece, is_fin_set, answered_fin_heard, answered_plain_fin}
+use Rattle.path_rules.specs.Deliver.{Piece, with_learned, with_skipped, is_wrong, forgotten_by, mapping_here}
+use Rattle.path_rules.specs.Handover.{sent_on}
+use Rattle.path_rules.specs.Standing.{window_in, answered_ack_out}
+use Rattle.path_rules.specs.State.{PathState, end_at, with_end, with_agenda, goes_on, left}
+use Rattle.path_rules.specs.Steps.{settled, answers, takes, begins_turn}
+use Rattle.path_rules.specs.Treating.{counts, is_clash, with_data_fin, answered_heard, answered_item, item_of, item_passed, breaks_by_ack, with_plain_ack}
+use Rattle.path_rules.specs.Values.{Carried, values}
+use Rattle.path_rules.specs.Opening.{answered_opened, answered_peer_key}
+use Rattle.path_rules.specs.Fallback.{after_fell, fell_duties}
 use Rattle.world_laws.proofs.Worlds.Finding.{find_every, one_side}
 use Rattle.world_laws.proofs.Falls.FailedChecks.{check_failed_so, fail_heard_so, infinite_came_so, fail_answered_so}
 

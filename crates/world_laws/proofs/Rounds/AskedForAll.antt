@@ -18,11 +18,11 @@ use Rattle.actor_desk.specs.Words.{pick}
 use Rattle.stream_apps.specs.declared.duty.AppDuty.{AppDuty}
 use Rattle.stream_apps.specs.AppSteps.{app_ask}
 use Rattle.path_agenda.specs.declared.duty.Duty.{Duty}
-use Rattle.path_core.specs.Codec.{Codec}
-use Rattle.path_core.specs.Duties.{ask_for}
-use Rattle.path_core.specs.Starts.{waiting_path}
-use Rattle.path_core.specs.State.{PathState, path_of}
-use Rattle.path_core.specs.Steps.{begins_turn}
+use Rattle.path_rules.specs.Codec.{Codec}
+use Rattle.path_rules.specs.Duties.{ask_for}
+use Rattle.path_rules.specs.Starts.{waiting_path}
+use Rattle.path_rules.specs.State.{PathState, path_of}
+use Rattle.path_rules.specs.Steps.{begins_turn}
 use Rattle.world_laws.specs.declared.member.Member.TheVariants.{Path}
 use Rattle.world_laws.specs.Actors.{ActorCrew}
 use Rattle.world_laws.specs.Openings.{Start, path_begins, opened_world}
@@ -46,7 +46,7 @@ use Rattle.world_laws.proofs.Joins.NoBytesBeforeClear.{HasJoined, AllWait, wait_
 use Rattle.world_laws.proofs.Falls.Owned.{OwnerSo, GoesSo, ask_owned, app_goes, path_goes, path_falls}
 use Rattle.world_laws.proofs.Joins.AwakeAfterBegun.{Awake}
 use Rattle.world_laws.proofs.Keys.ToldAreOwn.{FellBack}
-use Rattle.path_core.specs.Joins.{is_joined}
+use Rattle.path_rules.specs.Joins.{is_joined}
 
 -- ---- lists of actors
 

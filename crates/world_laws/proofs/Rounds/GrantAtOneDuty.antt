@@ -15,24 +15,24 @@ use Rattle.path_agenda.specs.declared.duty.AskDuty.TheVariants as ask_duties
 use Rattle.path_agenda.specs.declared.duty.SendDuty.TheVariants as send_duties
 use Rattle.path_agenda.specs.declared.duty.SilentDuty.TheVariants as silent_duties
 use Rattle.path_agenda.specs.declared.duty.StepDuty.TheVariants as step_duties
-use Rattle.path_core.specs.declared.event.Event.{Event}
-use Rattle.path_core.specs.declared.event.Event.TheVariants as happening
+use Rattle.path_rules.specs.declared.event.Event.{Event}
+use Rattle.path_rules.specs.declared.event.Event.TheVariants as happening
 use Rattle.path_agenda.specs.declared.heard.Heard.{Heard}
 use Rattle.path_agenda.specs.declared.heard.Heard.TheVariants as says
 use Rattle.join_handshake.specs.declared.hearing.JoinSyn.{JoinSyn}
 use Rattle.path_agenda.specs.declared.keys.KeyPair.{KeyPair}
-use Rattle.path_core.specs.Breaking.{break_ask, reset_of}
-use Rattle.path_core.specs.Codec.{Codec}
-use Rattle.path_core.specs.Duties.{ask_for}
-use Rattle.path_core.specs.Events.{next_event, step_for}
+use Rattle.path_rules.specs.Breaking.{break_ask, reset_of}
+use Rattle.path_rules.specs.Codec.{Codec}
+use Rattle.path_rules.specs.Duties.{ask_for}
+use Rattle.path_rules.specs.Events.{next_event, step_for}
 use Rattle.path_agenda.specs.Items.{key_heard, keys_heard}
-use Rattle.path_core.specs.Joining.{asked_at, join_heard_ask}
-use Rattle.path_core.specs.Opening.{peer_key_ask, opened_ask}
-use Rattle.path_core.specs.Passing.{piece_of, piece_ask, data_fin_of, fin_ask, rate_ask, plain_fin}
-use Rattle.path_core.specs.Deliver.{Piece}
-use Rattle.path_core.specs.Handover.{sends}
-use Rattle.path_core.specs.State.{PathState, end_at, path_of}
-use Rattle.path_core.specs.Treating.{is_clash, fell_ask, mapping_ask, item_ask, item_of, plain_ack_ask, breaks_by_ack}
+use Rattle.path_rules.specs.Joining.{asked_at, join_heard_ask}
+use Rattle.path_rules.specs.Opening.{peer_key_ask, opened_ask}
+use Rattle.path_rules.specs.Passing.{piece_of, piece_ask, data_fin_of, fin_ask, rate_ask, plain_fin}
+use Rattle.path_rules.specs.Deliver.{Piece}
+use Rattle.path_rules.specs.Handover.{sends}
+use Rattle.path_rules.specs.State.{PathState, end_at, path_of}
+use Rattle.path_rules.specs.Treating.{is_clash, fell_ask, mapping_ask, item_ask, item_of, plain_ack_ask, breaks_by_ack}
 use Rattle.world_laws.specs.RoundEnd.{asks_grant}
 use Rattle.world_laws.proofs.Falls.FailedChecks.{fail_asks_so, subflow_acks_so}
 

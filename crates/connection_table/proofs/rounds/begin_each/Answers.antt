@@ -1,5 +1,5 @@
 use Rattle.std.proofs.Common.{◌<◌, ◌≤◌, ◌∙◌, length, arith}
-use Rattle.path_core.specs.Octets.{octets}
+use Rattle.path_rules.specs.Octets.{octets}
 use Rattle.world_core.specs.Rounds.{RoundTo}
 use Rattle.connection_table.proofs.EachMade.{inputs_kept, so_far_all, so_far_more, so_far_stands}
 use Rattle.connection_table.proofs.rounds.begin_each.Goals as goal

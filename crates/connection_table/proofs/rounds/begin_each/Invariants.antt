@@ -1,5 +1,5 @@
 use Rattle.std.proofs.Common.{◌≡◌, map}
-use Rattle.path_core.specs.Octets.{octets}
+use Rattle.path_rules.specs.Octets.{octets}
 use Rattle.world_core.specs.Rounds.{RoundTo}
 use Rattle.connection_table.specs.Tables.{input_of}
 use Rattle.connection_table.proofs.EachMade.{SoFar}

@@ -1,5 +1,5 @@
 use Rattle.std.proofs.Common.{◌≡◌, ◌-◌, ◌^◌}
-use Rattle.path_core.specs.Octets.{octets}
+use Rattle.path_rules.specs.Octets.{octets}
 use Rattle.world_core.specs.Steps.{stamp_at}
 use Rattle.world_laws.specs.Serial.{TurnTo}
 use Rattle.connection_table.specs.Tables.{Stands}

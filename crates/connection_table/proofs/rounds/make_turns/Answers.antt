@@ -1,5 +1,5 @@
 use Rattle.std.proofs.Common.{◌-◌, ◌+◌, ◌∙◌, refl, ap, subst, length, arith}
-use Rattle.path_core.specs.Octets.{octets}
+use Rattle.path_rules.specs.Octets.{octets}
 use Rattle.world_core.specs.Kept.{Kept}
 use Rattle.world_core.specs.Rounds.{TurnsFrom}
 use Rattle.world_core.proofs.RoundsMade.{turns_more, turns_over}

@@ -1,5 +1,5 @@
 use Rattle.std.proofs.Common.{◌≡◌, ◌≤◌, ◌-◌}
-use Rattle.path_core.specs.Octets.{octets}
+use Rattle.path_rules.specs.Octets.{octets}
 use Rattle.world_core.specs.Rounds.{TurnsFrom}
 use Rattle.connection_table.specs.Tables.{Stands}
 use Rattle.connection_table.proofs.rounds.make_turns.Given as goal

@@ -1,6 +1,6 @@
 use Rattle.std.proofs.Common.{◌∙◌}
-use Rattle.path_core.specs.Octets.{octets}
-use Rattle.path_core.proofs.SegmentsTold.{step_sent}
+use Rattle.path_rules.specs.Octets.{octets}
+use Rattle.path_rules.proofs.SegmentsTold.{step_sent}
 use Rattle.path_core.proofs.machine.Machine.send_step.Goals as goal
 
 pub returns-clause-value : goal.returns-clause-value

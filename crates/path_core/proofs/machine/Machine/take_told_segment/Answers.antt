@@ -2,9 +2,9 @@ use Rattle.std.proofs.Common.{◌≡◌, ◌∙◌, sym, ap, subst}
 use Rattle.std.specs.Result.{OnOk}
 use Rattle.path_segments.specs.HeardSegments.{heard_value, IsHeardShort}
 use Rattle.path_segments.specs.Heard.{HeardSegment}
-use Rattle.path_core.specs.Arriving.{options_heard}
-use Rattle.path_core.specs.Ends.{PathEnd}
-use Rattle.path_core.specs.Events.{told_at}
+use Rattle.path_rules.specs.Arriving.{options_heard}
+use Rattle.path_rules.specs.Ends.{PathEnd}
+use Rattle.path_rules.specs.Events.{told_at}
 use Rattle.path_core.proofs.machine.Machine.take_told_segment.Goals as goal
 
 pub returns-clause-ok : goal.returns-clause-ok

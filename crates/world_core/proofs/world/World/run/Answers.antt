@@ -1,5 +1,5 @@
 use Rattle.std.proofs.Common.{◌≡◌, sym, ◌∙◌, ap, subst, suc, ◌+◌, arith}
-use Rattle.path_core.specs.Octets.{octets}
+use Rattle.path_rules.specs.Octets.{octets}
 use Rattle.world_laws.specs.Worlds.{RunTo}
 use Rattle.world_core.proofs.CutMade.{at_err, run_cut_now, run_cut_more}
 use Rattle.world_core.proofs.RoundsMade.{run_goes, run_stops, run_ends}

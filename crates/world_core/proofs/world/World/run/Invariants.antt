@@ -1,5 +1,5 @@
 use Rattle.std.proofs.Common.{◌≡◌, ◌≤◌, ◌+◌, ℕ, false, drop}
-use Rattle.path_core.specs.Octets.{octets}
+use Rattle.path_rules.specs.Octets.{octets}
 use Rattle.world_laws.specs.Worlds.{RunTo}
 use Rattle.world_core.specs.Cuts.{RunCut}
 use Rattle.world_core.proofs.world.World.run.Given as goal

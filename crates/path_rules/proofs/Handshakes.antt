@@ -1,0 +1,78 @@
+-- The options of a path are those of the handshakes and of the ends.
+use Rattle.std.proofs.Common.{◌≡◌, ◌≢◌, refl, sym, ap, subst, ℕ, Option, Bool, true, false, Some, None, if◌then◌else◌, is_some, ◌||◌, ◌==◌, arith}
+use Rattle.control_book.specs.Control.{Control}
+use Rattle.control_book.specs.Replies.{reply_to}
+use Rattle.control_book.specs.declared.call.ControlCall.TheVariants as control_calls
+use Rattle.control_book.specs.declared.call.ControlReply.TheVariants as control_replies
+use Rattle.outside_kit.specs.declared.side.Side.TheVariants.{A, B}
+use Rattle.mptcp_options.specs.declared.capable.CapableKeys.{CapableKeys}
+use Rattle.mptcp_options.specs.declared.capable.CapableKeys.TheVariants.{NoKey, Sender, Both, WithData}
+use Rattle.mptcp_options.specs.Value as wire
+use Rattle.path_rules.specs.Ends.{PathEnd}
+use Rattle.path_rules.specs.Handshakes.{CapableIsSaid, CapableIsHeard, ChecksumsAreThose, KeysAreConfirmed, CapableIsTheHandshake, EndsAreThose}
+use Rattle.path_rules.specs.State.{Profile}
+
+-- the flag of the first data is that of the checksum beside it
+flag_told : (checksums : Bool) (own peer len checksum : ℕ)
+    → wire.Capable checksums false (WithData own peer len (if checksums then Some checksum else None))
+    ≡ wire.Capable (is_some (if checksums then Some checksum else None)) false (WithData own peer len (if checksums then Some checksum else None))
+flag_told true own peer len checksum = refl
+flag_told false own peer len checksum = refl
+
+said : (c : Profile) (e : PathEnd) → CapableIsSaid c e
+said c e = record {
+  syn = refl;
+  syn_ack = λ asked plain. rw (asked, plain) refl;
+  ack = λ peer. refl;
+  first_data = λ peer r. rw (flag_told c.spelling.checksums e.modes.own_key peer r.mapping.length r.mapping.checksum) refl;
+}
+
+heard : (flag_a flag_c : Bool) (keys : CapableKeys) → CapableIsHeard flag_a flag_c keys
+heard flag_a flag_c NoKey = record { syn = refl; syn_ack = refl; ack = refl }
+heard flag_a flag_c (Sender sender) = record { syn = refl; syn_ack = refl; ack = refl }
+heard flag_a flag_c (Both sender receiver) = record { syn = refl; syn_ack = refl; ack = refl }
+heard flag_a flag_c (WithData sender receiver len checksum) = record { syn = refl; syn_ack = refl; ack = refl }
+
+checksums : (c : Profile) → ChecksumsAreThose c
+checksums c = record { syn = same c.spelling.checksums; syn_ack = λ own_key. same c.spelling.checksums }
+  where
+    same : (used : Bool) → Some (used || used) ≡ Some used
+    same true = refl
+    same false = refl
+
+same_is : (a b : ℕ) → a ≡ b → (a == b) ≡ true
+same_is a b e = grind (arith, e)
+
+other_is : (a b : ℕ) → a ≢ b → (a == b) ≡ false
+other_is a b differs = grind (arith, differs)
+
+-- the book that has this own key notes both keys, and no others
+noted : (own peer : ℕ) (book : Control) → own ≡ book.keys.own → Some (reply_to book (control_calls.Keys own peer)) ≡ Some control_replies.Noted
+noted own peer book e = rw (same_is own book.keys.own e) refl
+
+refused : (own peer : ℕ) (book : Control) → own ≢ book.keys.own
+    → Some (reply_to book (control_calls.Keys own peer)) ≡ Some (control_replies.KeysDiffer book.keys.own)
+refused own peer book differs = rw (other_is own book.keys.own differs) refl
+
+abbrev second_of : Option (ℕ × ℕ) → ℕ
+second_of None = 0
+second_of (Some pair) = pair.1
+
+confirmed : (keys : CapableKeys) (book : Control) → KeysAreConfirmed keys book
+confirmed NoKey book = record { right = λ flag_a flag_c peer e. cc; other = λ flag_a flag_c peer own e differs. cc }
+confirmed (Sender sender) book = record { right = λ flag_a flag_c peer e. cc; other = λ flag_a flag_c peer own e differs. cc }
+confirmed (Both sender receiver) book = record {
+  right = λ flag_a flag_c peer e. noted receiver sender book (ap second_of e);
+  other = λ flag_a flag_c peer own e differs. refused receiver sender book (subst (λ (n : ℕ). n ≢ book.keys.own) (sym (ap second_of e)) differs);
+}
+confirmed (WithData sender receiver len checksum) book = record {
+  right = λ flag_a flag_c peer e. noted receiver sender book (ap second_of e);
+  other = λ flag_a flag_c peer own e differs. refused receiver sender book (subst (λ (n : ℕ). n ≢ book.keys.own) (sym (ap second_of e)) differs);
+}
+
+pub capable_is_the_handshake : CapableIsTheHandshake
+capable_is_the_handshake = record { said = said; heard = heard; checksums = checksums; confirmed = confirmed }
+
+pub ends_are_those : EndsAreThose
+ends_are_those c A = record { data_fin = λ whole next place. rw whole refl; reset = λ reason. refl; fast_close = λ key. refl }
+ends_are_those c B = record { data_fin = λ whole next place. rw whole refl; reset = λ reason. refl; fast_close = λ key. refl }

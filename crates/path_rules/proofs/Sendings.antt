@@ -1,0 +1,110 @@
+-- Records that are sent and pushed, and octets that the edge passes, by their numbers.
+use Rattle.std.proofs.Common.{◌≡◌, refl, subst, ℕ, zero, suc, ◌+◌, ◌-◌, ◌^◌, ◌≤◌, nat_lt, Bool, true, false, ◌&&◌, cond, if◌then◌else◌, List, [], ◌∷◌, ◌++◌, length, take, drop, find, Option, Some, None, arith}
+use Rattle.std.specs.List.{sum_by}
+use Rattle.std.proofs.lemmas.List.{length-take}
+use Rattle.std.proofs.lemmas.List.Sums.{sum_by-cons}
+use Rattle.std.proofs.lemmas.Bool.{ltb-true}
+use Rattle.dss_mapping.specs.declared.kept.KeptMapping.{KeptMapping}
+use Rattle.subflow_recv.specs.Receiving.{filled}
+use Rattle.subflow_send.specs.Records.{Record}
+use Rattle.subflow_send.specs.Rules.{is_unsent, first_unsent_sent, octets_under_way}
+use Rattle.subflow_tcp.specs.State.{EndState}
+use Rattle.path_rules.specs.Deliver.{Piece, piece_in, some_piece, is_whole, is_right, count_in, piece_by, piece_at, infinite_piece}
+use Rattle.path_store.specs.declared.infinite_mapping.InfiniteMapping.{InfiniteMapping}
+use Rattle.path_store.specs.InfiniteMappings.{place_under}
+use Rattle.path_rules.specs.Ranks.{outstanding, unsent_count}
+
+pub sent_count : (now : ℕ) (rs : List Record) (r : Record) → find is_unsent rs ≡ Some r → unsent_count (first_unsent_sent now rs) + 1 ≡ unsent_count rs
+sent_count now [] r e = cc
+sent_count now (x ∷ xs) r e = by (is_unsent x) refl (sent_count now xs r) e
+  where
+    by : (b : Bool) → is_unsent x ≡ b → (find is_unsent xs ≡ Some r → unsent_count (first_unsent_sent now xs) + 1 ≡ unsent_count xs)
+        → cond b (Some x) (find is_unsent xs) ≡ Some r
+        → unsent_count (first_unsent_sent now (x ∷ xs)) + 1 ≡ unsent_count (x ∷ xs)
+    by true is rest e = rw is (omega arith)
+    by false is rest e = rw is (omega (arith, rest e))
+
+pub sent_outstanding : (now : ℕ) (rs : List Record) → outstanding (first_unsent_sent now rs) ≡ outstanding rs
+sent_outstanding now [] = refl
+sent_outstanding now (x ∷ xs) = by (is_unsent x) refl (sent_outstanding now xs)
+  where
+    by : (b : Bool) → is_unsent x ≡ b → outstanding (first_unsent_sent now xs) ≡ outstanding xs → outstanding (first_unsent_sent now (x ∷ xs)) ≡ outstanding (x ∷ xs)
+    by true is rest = rw is refl
+    by false is rest = rw is (omega (arith, rest))
+
+-- where nothing is to be sent, all is under way
+pub none_unsent : (rs : List Record) → find is_unsent rs ≡ None → (unsent_count rs ≡ 0) × (sum_by octets_under_way rs ≡ outstanding rs)
+none_unsent [] e = (refl, refl)
+none_unsent (x ∷ xs) e = by (is_unsent x) refl (none_unsent xs) e
+  where
+    by : (b : Bool) → is_unsent x ≡ b → (find is_unsent xs ≡ None → (unsent_count xs ≡ 0) × (sum_by octets_under_way xs ≡ outstanding xs))
+        → cond b (Some x) (find is_unsent xs) ≡ None
+        → (unsent_count (x ∷ xs) ≡ 0) × (sum_by octets_under_way (x ∷ xs) ≡ outstanding (x ∷ xs))
+    by true is rest e = cc
+    by false is rest e =
+        let more = rest e in
+        (rw is (omega (arith, more.0)), rw (sum_by-cons octets_under_way x xs, is) (omega (arith, more.1)))
+
+pub pushed_outstanding : (rs : List Record) (r : Record) → outstanding (rs ++ r ∷ []) ≡ outstanding rs + length r.piece
+pushed_outstanding [] r = omega arith
+pushed_outstanding (x ∷ xs) r = omega (arith, pushed_outstanding xs r)
+
+pub pushed_count : (rs : List Record) (r : Record) → is_unsent r ≡ true → unsent_count (rs ++ r ∷ []) ≡ unsent_count rs + 1
+pushed_count [] r is = rw is (omega arith)
+pushed_count (x ∷ xs) r is = omega (arith, pushed_count xs r is)
+
+-- ---- octets in order
+
+pub filled_drop : (n : ℕ) (places : List (Option ℕ)) → n ≤ length (filled places) → length (filled (drop n places)) + n ≡ length (filled places)
+filled_drop zero places within = omega arith
+filled_drop (suc n) [] within = absurd (omega (arith, within))
+filled_drop (suc n) (None ∷ places) within = absurd (omega (arith, within))
+filled_drop (suc n) (Some byte ∷ places) within = omega (arith, filled_drop n places (omega (arith, within)))
+
+-- what can be placed is some octets, all of them in order
+pub record Fits (s : EndState) (piece : Piece) : Type 0 where
+  pub some : 1 ≤ length piece.octets
+  pub within : length piece.octets ≤ length (filled s.recv.places)
+
+some_fits : (kept : KeptMapping) (s : EndState) (piece : Piece) → some_piece (piece_in kept s) ≡ Some piece → Fits s piece
+some_fits kept s piece e = by (nat_lt 0 (length (piece_in kept s).octets)) refl e
+  where
+    by : (b : Bool) → nat_lt 0 (length (piece_in kept s).octets) ≡ b → (if b then Some (piece_in kept s) else None) ≡ Some piece → Fits s piece
+    by true is e =
+        let same : piece_in kept s ≡ piece = cc in
+        subst (Fits s) same (record {
+          some = omega (arith, ltb-true _ _ is);
+          within = omega (arith, length-take (count_in s.recv.edge kept) (filled s.recv.places));
+        })
+    by false is e = cc
+
+checked_fits : (b c : Bool) (kept : KeptMapping) (s : EndState) (piece : Piece)
+    → (if b then (if c then some_piece (piece_in kept s) else None) else some_piece (piece_in kept s)) ≡ Some piece → Fits s piece
+checked_fits false c kept s piece e = some_fits kept s piece e
+checked_fits true true kept s piece e = some_fits kept s piece e
+checked_fits true false kept s piece e = cc
+
+pub piece_fits : (checksums : Bool) (kept : Option KeptMapping) (s : EndState) (piece : Piece) → piece_by checksums kept s ≡ Some piece → Fits s piece
+piece_fits checksums None s piece e = cc
+piece_fits checksums (Some kept) s piece e = checked_fits checksums (is_whole kept s && is_right kept s) kept s piece e
+
+-- under an infinite mapping some of what is in order is placed
+pub placed_fits : (place : Option ℕ) (s : EndState) (piece : Piece) → piece_at place s ≡ Some piece → Fits s piece
+placed_fits None s piece e = cc
+placed_fits (Some place) s piece e = by (nat_lt 0 (length found.octets)) refl e
+  where
+    found : Piece
+    found = record { place = place; octets = take (2 ^ 62 - place) (filled s.recv.places) }
+
+    by : (b : Bool) → nat_lt 0 (length found.octets) ≡ b → (if b then Some found else None) ≡ Some piece → Fits s piece
+    by true is e =
+        let same : found ≡ piece = cc in
+        subst (Fits s) same (record {
+          some = omega (arith, ltb-true _ _ is);
+          within = omega (arith, length-take (2 ^ 62 - place) (filled s.recv.places));
+        })
+    by false is e = cc
+
+pub infinite_fits : (mapping : Option InfiniteMapping) (s : EndState) (piece : Piece) → infinite_piece mapping s ≡ Some piece → Fits s piece
+infinite_fits None s piece e = cc
+infinite_fits (Some mapping) s piece e = placed_fits (place_under mapping s.recv.edge) s piece e

@@ -1,0 +1,200 @@
+-- The mappings that an end learns, and the bytes that its receive edge passes (RFC 8684, section 3.3.1).
+use Rattle.std.specs.Prelude.{ℕ, ◌+◌, ◌-◌, ◌^◌, min, Bool, not, ◌&&◌, ◌==◌, nat_lt, nat_le, is_none, is_some, if◌then◌else◌, Option, Some, None, List, [], ◌∷◌, ◌++◌, length, take}
+use Rattle.dss_checksum.specs.Checksum.{dss_checksum}
+use Rattle.dss_mapping.specs.declared.kept.KeptMapping.{KeptMapping}
+use Rattle.dss_mapping.specs.Learning.{first_held, after_learn_held, after_skip_held}
+use Rattle.dss_mapping.specs.Mappings.{octets_of, mapping_at, after_forget}
+use Rattle.outside_kit.specs.declared.side.Side.{Side}
+use Rattle.outside_kit.specs.Side.{peer}
+use Rattle.subflow_recv.specs.Receiving.{filled, after_advance, after_forget_from}
+use Rattle.subflow_tcp.specs.State.{EndState}
+use Rattle.subflow_tcp.specs.Judging.{is_at}
+use Rattle.control_book.specs.Replies.{is_sure}
+use Rattle.path_rules.specs.declared.in_order.InOrder.{InOrder}
+use Rattle.path_store.specs.declared.infinite_mapping.InfiniteMapping.{InfiniteMapping}
+use Rattle.path_rules.specs.Ends.{PathEnd}
+use Rattle.path_rules.specs.Infinite.{receives_plainly}
+use Rattle.path_store.specs.InfiniteMappings.{place_under, covers}
+use Rattle.path_rules.specs.State.{Profile}
+use Rattle.path_rules.specs.OptionsOut.{bare_mapping}
+use Rattle.path_store.specs.Counts.{one_more}
+use Rattle.path_store.specs.Receiving.{data_fin_behind, data_fin_reached}
+
+-- ---- mappings
+
+-- a mapping of the peer, as it was heard by the end of this side
+abbrev pub kept_of : Profile → Side → ℕ → ℕ → ℕ → Bool → ℕ → KeptMapping
+kept_of c s place position len fin checksum = record {
+  pos = position;
+  place = place;
+  mapping = record (bare_mapping c (peer s) place position len) { checksum = checksum };
+  fin = fin;
+}
+
+-- the first mapping that is held is learned, and a DATA_FIN behind its bytes waits for the edge
+abbrev pub with_learned : PathEnd → PathEnd
+with_learned e = record e {
+  receiving = record e.receiving {
+    mappings = after_learn_held e.receiving.mappings;
+    mapped_data_fin = data_fin_behind (first_held e.receiving.mappings) e.receiving.mapped_data_fin;
+  };
+}
+
+-- the first mapping that is held is dropped without being learned
+abbrev pub with_skipped : PathEnd → PathEnd
+with_skipped e = record e { receiving = record e.receiving { mappings = after_skip_held e.receiving.mappings } }
+
+-- ---- what is in order and mapped
+
+-- bytes that the edge can pass, and the place of the first one
+pub record Piece : Type 0 where
+  pub place : ℕ
+  pub octets : List ℕ
+
+-- without checksums: what is in order up to the mapping's end, with places below 2^62
+abbrev pub count_in : ℕ → KeptMapping → ℕ
+count_in edge kept = min (kept.pos + octets_of kept - edge) (2 ^ 62 - (kept.place + (edge - kept.pos)))
+
+-- the bytes in order at the edge that this mapping names
+abbrev pub piece_in : KeptMapping → EndState → Piece
+piece_in kept s = record {
+  place = kept.place + (s.recv.edge - kept.pos);
+  octets = take (count_in s.recv.edge kept) (filled s.recv.places);
+}
+
+-- so many octets from the edge on, the first of which has this place
+abbrev pub piece_from : InOrder → EndState → Piece
+piece_from found s = record { place = found.place; octets = take found.count (filled s.recv.places) }
+
+-- with checksums: the whole mapping is there
+abbrev pub is_whole : KeptMapping → EndState → Bool
+is_whole kept s =
+    kept.pos == s.recv.edge && (nat_lt 0 (octets_of kept) && (nat_le (octets_of kept) (length (filled s.recv.places))
+    && nat_le (kept.place + octets_of kept) (2 ^ 62)))
+
+-- and the checksum is that of its bytes, with its whole length
+abbrev pub is_right : KeptMapping → EndState → Bool
+is_right kept s = dss_checksum kept.mapping (take (octets_of kept) (filled s.recv.places)) == kept.mapping.checksum
+
+-- a piece without bytes is none
+abbrev pub some_piece : Piece → Option Piece
+some_piece piece = if nat_lt 0 (length piece.octets) then Some piece else None
+
+-- the bytes that this mapping lets pass: with checksums all of its own, once they are there and right, or none
+abbrev pub checked_piece : Bool → KeptMapping → EndState → Option Piece
+checked_piece checksums kept s =
+    if checksums then (if is_whole kept s && is_right kept s then some_piece (piece_in kept s) else None)
+    else some_piece (piece_in kept s)
+
+-- by the mapping that is there, if one is
+abbrev pub piece_by : Bool → Option KeptMapping → EndState → Option Piece
+piece_by checksums None s = None
+piece_by checksums (Some kept) s = checked_piece checksums kept s
+
+-- after a fallback: all that is in order, each byte at the place before its position
+abbrev pub plain_piece : EndState → Piece
+plain_piece s = record { place = s.recv.edge - 1; octets = filled s.recv.places }
+
+-- under the peer's infinite mapping: all that is in order, with places below 2^62
+abbrev pub piece_at : Option ℕ → EndState → Option Piece
+piece_at None s = None
+piece_at (Some place) s = some_piece (record { place = place; octets = take (2 ^ 62 - place) (filled s.recv.places) })
+
+-- from the edge on, by that mapping
+abbrev pub infinite_piece : Option InfiniteMapping → EndState → Option Piece
+infinite_piece None s = None
+infinite_piece (Some mapping) s = piece_at (place_under mapping s.recv.edge) s
+
+-- the mapping of the position at the edge; where the peer sends without mappings none counts
+abbrev pub mapping_here : PathEnd → Option KeptMapping
+mapping_here e =
+    if receives_plainly e.modes e.tcp.recv.edge then None else mapping_at e.receiving.mappings e.tcp.recv.edge
+
+-- the next bytes to be placed, where the side didn't fall back
+abbrev pub mapped_piece : Profile → PathEnd → Option Piece
+mapped_piece c e =
+    if covers e.modes.peer_infinite e.tcp.recv.edge then infinite_piece e.modes.peer_infinite e.tcp
+    else piece_by c.spelling.checksums (mapping_here e) e.tcp
+
+-- the next bytes to be placed
+abbrev pub next_piece : Profile → PathEnd → Option Piece
+next_piece c e = if e.modes.identity then some_piece (plain_piece e.tcp) else mapped_piece c e
+
+-- the edge is behind them
+abbrev pub passed_to : ℕ → PathEnd → PathEnd
+passed_to to e = record e {
+  tcp = record e.tcp { recv = after_advance to e.tcp.recv };
+  receiving = record e.receiving { mappings = after_forget to e.receiving.mappings };
+}
+
+abbrev pub after_piece : Piece → PathEnd → PathEnd
+after_piece piece e = passed_to (e.tcp.recv.edge + length piece.octets) e
+
+-- ---- a wrong checksum
+
+-- with checksums: all octets of the mapping are there, and their checksum is another one
+abbrev pub is_wrong : Bool → KeptMapping → EndState → Bool
+is_wrong checksums kept s = checksums && (is_whole kept s && not (is_right kept s))
+
+-- the mapping at the edge, where its octets are all there and aren't those that it was made for
+abbrev pub failing_by : Bool → Option KeptMapping → EndState → Option KeptMapping
+failing_by checksums None s = None
+failing_by checksums (Some kept) s = if is_wrong checksums kept s then Some kept else None
+
+-- the same, of what the end has at its edge
+abbrev pub failing_mapping : Profile → PathEnd → Option KeptMapping
+failing_mapping c e = failing_by c.spelling.checksums (mapping_here e) e.tcp
+
+-- every octet from the mapping's first position on is forgotten, so that what comes for it is kept again
+abbrev pub forgotten_by : Bool → Option KeptMapping → PathEnd → PathEnd
+forgotten_by checksums None e = e
+forgotten_by checksums (Some kept) e =
+    if is_wrong checksums kept e.tcp then record e { tcp = record e.tcp { recv = after_forget_from kept.pos e.tcp.recv } } else e
+
+-- so it is where the check fails at the edge; else nothing changes
+abbrev pub after_check : Profile → PathEnd → PathEnd
+after_check c e = forgotten_by c.spelling.checksums (mapping_here e) e
+
+-- ---- the next byte without a mapping
+
+-- the copy has the byte at the edge, which has no mapping
+abbrev pub is_unmapped : PathEnd → Bool
+is_unmapped e =
+    is_at e.tcp.recv.edge e.treated.held_edge && (not (receives_plainly e.modes e.tcp.recv.edge) && is_none (mapping_here e))
+
+-- how often it came so, this copy among them
+abbrev pub times_unmapped : PathEnd → ℕ
+times_unmapped e = if e.receiving.unmapped_at == e.tcp.recv.edge then one_more e.receiving.unmapped else 1
+
+-- the third time breaks the path of a side that is sure
+abbrev pub breaks_by_unmapped : PathEnd → Bool
+breaks_by_unmapped e = is_unmapped e && (is_sure e.modes.mode && nat_le 3 (times_unmapped e))
+
+-- a copy whose byte at the edge has no mapping is counted
+abbrev pub after_unmapped : PathEnd → PathEnd
+after_unmapped e = record e {
+  receiving = record e.receiving {
+    unmapped = (if is_unmapped e then times_unmapped e else e.receiving.unmapped);
+    unmapped_at = (if is_unmapped e then e.tcp.recv.edge else e.receiving.unmapped_at);
+  };
+}
+
+-- ---- a DATA_FIN behind bytes
+
+-- one end of the stream more that is to be told; three at most come together: two DATA_FINs alone, and one behind bytes
+abbrev pub fins_and : Option ℕ → List ℕ → List ℕ
+fins_and None fins = fins
+fins_and (Some place) fins = if nat_lt (length fins) 3 then fins ++ place ∷ [] else fins
+
+-- it is told next, and waits no more
+abbrev pub with_data_fin_reached : PathEnd → PathEnd
+with_data_fin_reached e = record e {
+  receiving = record e.receiving {
+    mapped_data_fin = (if is_some (data_fin_reached e.receiving.mapped_data_fin e.tcp.recv.edge) then None else e.receiving.mapped_data_fin);
+  };
+  treated = record e.treated { fins = fins_and (data_fin_reached e.receiving.mapped_data_fin e.tcp.recv.edge) e.treated.fins };
+}
+
+-- no more bytes can be placed
+abbrev pub after_pieces : PathEnd → PathEnd
+after_pieces e = with_data_fin_reached (after_unmapped e)

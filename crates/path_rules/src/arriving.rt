@@ -1,0 +1,358 @@
+//! What a copy that arrives makes of an end at once. The rest is treated duty by duty.
+
+ghost use Rattle.std.specs.Prelude.{◌≡◌, ◌≤◌, ◌^◌, false, not, if◌then◌else◌, length, unwrap_or, option_map, All, Some, IfOk, IfSome, OnOk, OnErr};
+ghost use Rattle.dss_mapping.specs.Learning.{IsWithin};
+ghost use Rattle.path_segments.specs.HeardLent.{IsExpected};
+ghost use Rattle.path_segments.specs.Heard.{heard_in};
+ghost use Rattle.path_segments.specs.HeardSegments.{heard_value, IsHeardShort};
+ghost use Rattle.subflow_tcp.specs.Judging.{IsBelow, meaning_of};
+ghost use Rattle.subflow_tcp.specs.Taking.{after_arrival, arrival_of, unkept};
+ghost use Rattle.path_agenda.specs.Items.{IsFair};
+ghost use Rattle.subflow_tcp.specs.Segments as subflow;
+ghost use Rattle.path_rules.specs.Arriving.{expected_by, position_in, acknowledged_in, copy_of, items_of, with_payload, with_held, owing_if, owes_by, is_plain_ack, asked_in, after_copy, is_ignored, is_taken, taken_as, judged_in, judged_of, after_join, segment_heard, template_by, template_judged, template_of, IsTakenAs, SaysFew};
+ghost use Rattle.actor_desk.specs.Words.{is_nil};
+ghost use Rattle.path_rules.specs.Ends.{nothing_treated};
+ghost use Rattle.path_rules.specs.Octets.{octets};
+
+use crate::end::PathEnd;
+use crate::judged::Judged;
+use crate::modes::Modes;
+use crate::options_in::{asks_capable, edge_held, has_option, is_plain_ack, opens_by, owes_by};
+use crate::reset_reason::MPTCP_SPECIFIC;
+use crate::treated::Treated;
+use dss_mapping::KeptMapping;
+use outside_kit::Side;
+use path_agenda::{Agenda, Heard, Items, place_in_first};
+use path_segments::{Expected, HeardPosition, HeardSegment, Spelling, parse_segment};
+use seq_units::Pos;
+use std::alloc::AllocError;
+use subflow_tcp::{Arrival, Arriving, Meaning, Outgoing, Subflow};
+
+/// What octets say, where they are a segment: 37 things at most.
+pub fn heard_of<'a>(
+    spelling: &Spelling,
+    from: Side,
+    expected: &Expected,
+    octets: &'a [u8],
+) -> Option<HeardSegment<'a>>
+    requires { IsExpected expected.now }
+    ensures value { option_map heard_value result ≡
+        heard_in spelling.now from expected.now octets.now }
+    ensures short { IfSome result (λ heard. IsHeardShort (heard_value heard)) }
+    ensures few { IfSome result (λ heard. SaysFew (heard_value heard).options) }
+{
+    parse_segment(spelling, from, expected, octets)
+}
+
+/// The header and the payload of a segment that is heard.
+fn arriving_of<'a>(heard: &HeardSegment<'a>) -> Arriving<'a>
+    ensures { subflow.copy_of result ≡ copy_of (heard_value heard.now) }
+{
+    Arriving {
+        position: position_in(heard.position),
+        acknowledged: acknowledged_in(heard.acknowledged),
+        syn: heard.syn,
+        fin: heard.fin,
+        rst: heard.rst,
+        window: heard.window,
+        payload: heard.payload,
+    }
+}
+
+/// The position that a number means.
+fn position_in(heard: HeardPosition) -> Option<Pos>
+    ensures { result ≡ position_in heard }
+{
+    match heard {
+        HeardPosition::At(position) => Some(position),
+        HeardPosition::Nowhere(_) => None,
+    }
+}
+
+/// The position that it acknowledges, 0 where its number means none.
+fn acknowledged_in(heard: Option<HeardPosition>) -> Option<Pos>
+    ensures { result ≡ acknowledged_in heard }
+{
+    Some(position_in(heard?).unwrap_or(0))
+}
+
+/// What is to be done after a copy of this meaning that says so many things, 37 at most.
+fn template_by(joined: bool, side: Side, count: usize, meaning: Meaning) -> Agenda
+    requires { count ≤ 37 }
+    ensures { result ≡ template_by joined side count meaning }
+{
+    match meaning {
+        Meaning::Ignored | Meaning::Unacknowledging => Agenda::emission(side),
+        Meaning::Unwanted => Agenda::answers_dead(side),
+        Meaning::Opens => Agenda::syn_came(side),
+        Meaning::Accepts { .. } if joined => Agenda::join_answered(side),
+        Meaning::Accepts { .. } => Agenda::syn_ack_came(side),
+        Meaning::RepeatedSyn => Agenda::syn_again(side),
+        Meaning::Outside | Meaning::Challenged | Meaning::Ahead => Agenda::answers(side),
+        Meaning::Kills => Agenda::leaves(side),
+        Meaning::Taken { .. } => Agenda::copy_came(side, count),
+    }
+}
+
+/// What is to be done after a copy that is this to the end and says so many things, 37 at most.
+fn template_judged(joined: bool, side: Side, count: usize, judged: Judged) -> Agenda
+    requires { count ≤ 37 }
+    ensures { result ≡ template_judged joined side count judged }
+{
+    match judged {
+        Judged::As(meaning) => template_by(joined, side, count, meaning),
+        Judged::Asks => Agenda::join_came(side),
+        Judged::Lacks => Agenda::refuses(side),
+        Judged::Forged => Agenda::resets(side, MPTCP_SPECIFIC),
+    }
+}
+
+/// The payload of a copy is held where it is taken. At an error all is as it was.
+fn hold_payload(tcp: &mut Subflow, meaning: Meaning, payload: &[u8]) -> Result<(), AllocError>
+    requires below { IsBelow meaning }
+    requires small { length payload.now ≤ 65535 }
+    ensures ok { OnOk result (tcp.new ≡ with_payload meaning payload.now tcp.old) }
+    ensures err { OnErr result (tcp.new ≡ tcp.old) }
+{
+    match meaning {
+        Meaning::Taken { position, .. } if !payload.is_empty() => tcp.hold(position, payload),
+        _ => Ok(()),
+    }
+}
+
+/// A subflow takes a copy that means this.
+fn take_meant(
+    tcp: &mut Subflow,
+    meaning: Meaning,
+    arriving: &Arriving<'_>,
+    place: Option<u64>,
+    now: u64,
+) -> Arrival
+    requires taken { IsTakenAs meaning (subflow.copy_of arriving.now) tcp.old }
+    requires some { is_ignored meaning ≡ false }
+    ensures arrival { result ≡
+        arrival_of meaning (unkept place) (subflow.copy_of arriving.now) tcp.old }
+    ensures after { tcp.new ≡
+        after_arrival meaning (unkept place) now (subflow.copy_of arriving.now) tcp.old }
+{
+    tcp.take_segment(meaning, arriving, place, now)
+}
+
+/// A subflow takes a copy as this: as what it means, or as nothing.
+fn take_as(
+    tcp: &mut Subflow,
+    meaning: Meaning,
+    arriving: &Arriving<'_>,
+    place: Option<u64>,
+    now: u64,
+) -> Arrival
+    requires { IsTakenAs meaning (subflow.copy_of arriving.now) tcp.old }
+    ensures arrival { result ≡
+        arrival_of meaning (unkept place) (subflow.copy_of arriving.now) tcp.old }
+    ensures after { tcp.new ≡
+        after_arrival meaning (unkept place) now (subflow.copy_of arriving.now) tcp.old }
+{
+    match meaning {
+        Meaning::Ignored => Arrival::Dropped,
+        _ => take_meant(tcp, meaning, arriving, place, now),
+    }
+}
+
+/// A copy that is taken may want an acknowledgement by what it says.
+fn owe_by(tcp: &mut Subflow, meaning: Meaning, items: &[Heard])
+    ensures { tcp.new ≡ owing_if (owes_by meaning items.now) tcp.old }
+{
+    if owes_by(meaning, items) {
+        tcp.ack_due(false);
+    }
+}
+
+/// What is still to be treated of a copy that was taken so, but for its positions.
+fn treat(
+    treated: &mut Treated,
+    items: &Items,
+    opened: bool,
+    heard: &HeardSegment<'_>,
+    answer: Outgoing,
+    arrival: Arrival,
+)
+    requires { All IsFair items.now.items }
+    ensures { treated.new ≡ record nothing_treated {
+      items = items.now.items;
+      opened = opened;
+      has_option = not (is_nil (heard_value heard.now).options);
+      answer = Some answer;
+      window = (heard_value heard.now).window;
+      plain_ack = is_plain_ack arrival (heard_value heard.now);
+    } }
+{
+    treated.begin(items, opened, has_option(heard), answer, heard.window);
+    treated.plain_ack = is_plain_ack(arrival, heard);
+}
+
+/// What B's end knows of a SYN that opens it: whether that asks for Multipath TCP.
+fn asked_in(meaning: Meaning, heard: &HeardSegment<'_>, modes: Modes) -> Modes
+    ensures { result ≡ asked_in meaning (heard_value heard.now).options modes }
+{
+    match meaning {
+        Meaning::Opens => Modes {
+            capable_asked: asks_capable(heard),
+            ..modes
+        },
+        _ => modes,
+    }
+}
+
+impl PathEnd {
+    /// What the end counts from.
+    pub fn expected(&self) -> Expected
+        ensures value { result ≡ expected_by self.now }
+        ensures within { IsExpected result }
+    {
+        // For the proof: what was sent ends at or before position 2^62.
+        let _sent = self.tcp.nxt();
+        Expected {
+            edge: self.tcp.edge(),
+            unacknowledged: self.tcp.una(),
+            told: self.sending.heard(),
+            place: self.receiving.next(),
+        }
+    }
+
+    /// The payload of a copy is held where it is taken, and its mappings are. At an error all is as it was.
+    fn hold(
+        &mut self,
+        meaning: Meaning,
+        heard: &HeardSegment<'_>,
+        told: Vec<KeptMapping>,
+    ) -> Result<(), AllocError>
+        requires below { IsBelow meaning }
+        requires small { length heard.now.payload.now ≤ 65535 }
+        requires within { All IsWithin told.items }
+        ensures ok { OnOk result (self.new ≡
+            with_held told.items (heard_value heard.now) meaning self.old) }
+        ensures err { OnErr result (self.new ≡ self.old) }
+    {
+        self.receiving.mappings.make_ready(told.len())?;
+        hold_payload(&mut self.tcp, meaning, heard.payload)?;
+        self.receiving.mappings.hold(told);
+        Ok(())
+    }
+
+    /// The position that a copy of this meaning acknowledges, where it is taken: no later one than was sent. Else 0.
+    fn acknowledged_by(&self, meaning: Meaning, heard: &HeardSegment<'_>) -> Pos
+        requires { IsTakenAs meaning (copy_of (heard_value heard.now)) self.now.tcp }
+        ensures value { result ≡
+            (if is_taken meaning then unwrap_or (copy_of (heard_value heard.now)).acknowledged 0
+            else 0) }
+        ensures bound { result ≤ 2 ^ 62 }
+    {
+        // For the proof: what was sent ends at or before position 2^62.
+        let _sent = self.tcp.nxt();
+        match meaning {
+            Meaning::Taken { acknowledged, .. } => acknowledged,
+            _ => 0,
+        }
+    }
+
+    /// The subflow takes a copy of this meaning, which says these things and acknowledges this position where it is taken; they are
+    /// still to be treated.
+    fn take_copy_meant(
+        &mut self,
+        items: &Items,
+        now: u64,
+        heard: &HeardSegment<'_>,
+        meaning: Meaning,
+        acknowledged: Pos,
+        answer: Outgoing,
+    )
+        requires fair { All IsFair items.now.items }
+        requires acknowledged { acknowledged ≡
+            (if is_taken meaning then unwrap_or (copy_of (heard_value heard.now)).acknowledged 0
+            else 0) }
+        requires near { acknowledged ≤ 2 ^ 62 }
+        requires meaning { IsTakenAs meaning (copy_of (heard_value heard.now)) self.old.tcp }
+        ensures { self.new ≡
+            after_copy items.now.items answer now (heard_value heard.now) meaning self.old }
+    {
+        let opened = opens_by(meaning, self.tcp.state());
+        let held_edge = edge_held(meaning, heard.payload, self.tcp.edge());
+        let place = place_in_first(items.as_slice());
+        let arrival = take_as(&mut self.tcp, meaning, &arriving_of(heard), place, now);
+        owe_by(&mut self.tcp, meaning, items.as_slice());
+        treat(&mut self.treated, items, opened, heard, answer, arrival);
+        self.treated.note_positions(acknowledged, held_edge);
+        self.modes = asked_in(meaning, heard, self.modes);
+    }
+
+    /// A copy that is this to the end, and says these things and these mappings, is taken, and is answered so at a dead end.
+    /// At an error all is as it was.
+    fn take_judged(
+        &mut self,
+        joined: bool,
+        items: &Items,
+        now: u64,
+        heard: &HeardSegment<'_>,
+        meaning: Meaning,
+        told: Vec<KeptMapping>,
+        answer: Outgoing,
+    ) -> Result<(), AllocError>
+        requires small { length heard.now.payload.now ≤ 65535 }
+        requires within { All IsWithin told.items }
+        requires fair { All IsFair items.now.items }
+        requires meaning { IsTakenAs meaning (copy_of (heard_value heard.now)) self.old.tcp }
+        requires below { IsBelow meaning }
+        ensures ok { OnOk result (self.new ≡
+            after_copy items.now.items answer now (heard_value heard.now) meaning
+            (after_join joined items.now.items meaning
+            (with_held told.items (heard_value heard.now) meaning self.old))) }
+        ensures err { OnErr result (self.new ≡ self.old) }
+    {
+        let acknowledged = self.acknowledged_by(meaning, heard);
+        self.hold(meaning, heard, told)?;
+        self.join_by(joined, items.as_slice(), meaning);
+        self.take_copy_meant(items, now, heard, meaning, acknowledged, answer);
+        Ok(())
+    }
+
+    /// What a copy that says these things is to the end.
+    fn judge(&self, joined: bool, heard: &HeardSegment<'_>, items: &[Heard]) -> Judged
+        ensures value { result ≡ judged_of joined (heard_value heard.now).rst items.now
+            (meaning_of (copy_of (heard_value heard.now)) self.now.tcp) self.now }
+        ensures taken { IsTakenAs (taken_as result) (copy_of (heard_value heard.now)) self.now.tcp }
+        ensures below { IsBelow (taken_as result) }
+    {
+        let meaning = self.tcp.meaning(&arriving_of(heard));
+        self.judged_of(joined, heard.rst, items, meaning)
+    }
+
+    /// A segment is heard, which says these things and these mappings, and is answered so at a dead end. At an error all is as it
+    /// was.
+    pub fn take_segment(
+        &mut self,
+        joined: bool,
+        side: Side,
+        now: u64,
+        heard: &HeardSegment<'_>,
+        items: &Items,
+        told: Vec<KeptMapping>,
+        answer: Outgoing,
+    ) -> Result<Agenda, AllocError>
+        requires small { length heard.now.payload.now ≤ 65535 }
+        requires within { All IsWithin told.items }
+        requires items { items.now.items ≡ items_of joined side (heard_value heard.now) }
+        requires fair { All IsFair items.now.items }
+        ensures agenda { IfOk result (λ agenda. agenda ≡
+            template_of joined side (items_of joined side (heard_value heard.now))
+            (judged_in joined side (heard_value heard.now) self.old)) }
+        ensures ok { OnOk result (self.new ≡
+            segment_heard joined told.items answer side now (heard_value heard.now) self.old) }
+        ensures err { OnErr result (self.new ≡ self.old) }
+    {
+        let judged = self.judge(joined, heard, items.as_slice());
+        let count = items.len();
+        let meaning = judged.taken_as();
+        self.take_judged(joined, items, now, heard, meaning, told, answer)?;
+        Ok(template_judged(joined, side, count, judged))
+    }
+}

@@ -1,0 +1,648 @@
+//! The segments that an end sends: their options, their windows, and the mapping of a piece (RFC 8684, section 3).
+
+ghost use Rattle.std.specs.Prelude.{◌≡◌, ◌≤◌, ◌∷◌, [], Some, None, false, length, option_map, IfSome};
+ghost use Rattle.dss_checksum.specs.Checksum.{dss_checksum};
+ghost use Rattle.outside_kit.specs.declared.side.Side.TheVariants.{A};
+ghost use Rattle.path_segments.specs.declared.segment.PathOption.TheVariants.{Capable};
+ghost use Rattle.subflow_send.specs.Records.{record_of};
+ghost use Rattle.path_rules.specs.declared.segment_kind.SegmentKind.TheVariants.{DeadAnswer, Refusal};
+ghost use Rattle.path_agenda.specs.Words.{first_of};
+ghost use Rattle.path_rules.specs.OptionsOut.{owes_mapping, bare_mapping, checksum_in, mapping_of, place_numbered, checksum_told, plain_options, infinite_options, mapped_options, fail_beside, capable_options, syn_options, key_options, opening_options, data_fin_mapping, ack_options, piece_mapping, first_piece_options, piece_options, fin_options, record_options, reset_options, broken_options, announcement, notice_option, dss_and, noted_said, carried_said, HasAddress, segment_of, ack_said, record_said, record_or_ack, syn_ack_said, fin_said, own_reset, reset_said};
+ghost use Rattle.path_rules.specs.Infinite.{receives_infinite};
+ghost use Rattle.path_rules.specs.Passing.{answer_said, ack_resent, resend_said};
+ghost use Rattle.path_rules.specs.Said.{options_by, said_options, plain_said, said_by, CanBeSaid};
+
+use crate::end::PathEnd;
+use crate::modes::Modes;
+use crate::profile::Profile;
+use crate::reset_reason::MPTCP_SPECIFIC;
+use crate::said::{Said, SaidOptions, Saying};
+use crate::segment_kind::SegmentKind;
+use dss_checksum::DssSum;
+use fallback_state::Mode;
+use key_material::{Address, add_addr64};
+use mptcp_options::CapableKeys;
+use outside_kit::Side;
+use path_agenda::OwnNotice;
+use path_segments::{PathMapping, PathOption, relative_number};
+use path_store::InfiniteMapping;
+use seq_units::{Mapping, Pos};
+use subflow_tcp::{Outgoing, RecordKind, RecordRef};
+
+impl Profile {
+    /// The mapping of `length` bytes of a side's stream, before there is a checksum.
+    pub(crate) fn bare_mapping(&self, side: Side, place: u64, position: Pos, length: u16) -> Mapping
+        ensures { result ≡ bare_mapping self.now side place position length }
+    {
+        Mapping {
+            number: self.spelling().whole_number(side, place),
+            relative: relative_number(position),
+            length,
+            checksum: 0,
+        }
+    }
+
+    /// The checksum of a mapping and its bytes, where checksums are used (RFC 8684, section 3.3.1).
+    fn checksum_in(&self, mapping: &Mapping, octets: &[u8]) -> u16
+        requires { length octets.now ≤ 65535 }
+        ensures { result ≡ checksum_in self.now mapping.now octets.now }
+    {
+        if self.spelling().checksums {
+            checksum_of(mapping, octets)
+        } else {
+            0
+        }
+    }
+
+    /// The mapping that a granted piece has for ever.
+    pub fn mapping_of(&self, side: Side, place: u64, position: Pos, octets: &[u8]) -> Mapping
+        requires { length octets.now ≤ 65535 }
+        ensures { result ≡ mapping_of self.now side place position octets.now }
+    {
+        let bare = self.bare_mapping(side, place, position, octets.len() as u16);
+        Mapping {
+            checksum: self.checksum_in(&bare, octets),
+            ..bare
+        }
+    }
+
+    /// The place that the first number of a mapping stands for.
+    fn place_numbered(&self, side: Side, number: u64) -> u64
+        ensures { result ≡ place_numbered self.now side number }
+    {
+        number.wrapping_sub(self.spelling().whole_number(side, 0))
+    }
+
+    /// A checksum stands in an option exactly where checksums are used.
+    fn checksum_told(&self, checksum: u16) -> Option<u16>
+        ensures { result ≡ checksum_told self.now checksum }
+    {
+        self.spelling().checksums.then_some(checksum)
+    }
+
+    /// MP_CAPABLE with these keys (RFC 8684, section 3.1).
+    fn capable(&self, keys: CapableKeys) -> Saying
+        ensures { result ≡ Capable self.now.spelling.checksums false keys }
+    {
+        PathOption::Capable {
+            flag_a: self.spelling().checksums,
+            flag_c: false,
+            keys,
+        }
+    }
+
+    /// The mapping of the DATA_FIN without data: relative number 0 and length 1 (RFC 8684, section 3.3.3).
+    fn data_fin_mapping(&self, side: Side, fin: Option<u64>) -> Option<PathMapping<u64>>
+        ensures { result ≡ data_fin_mapping self.now side fin }
+    {
+        let place = fin?;
+        let checksum = self.checksum_in(&self.bare_mapping(side, place, 0, 1), &[]);
+        Some(PathMapping::End {
+            place,
+            checksum: self.checksum_told(checksum),
+        })
+    }
+
+    /// On data: the mapping that the piece was granted with.
+    fn piece_mapping(&self, side: Side, lent: &RecordRef<'_>) -> PathMapping<u64>
+        ensures { result ≡ piece_mapping self.now side (record_of lent.now) }
+    {
+        PathMapping::Bytes {
+            place: self.place_numbered(side, lent.mapping.number),
+            position: lent.pos,
+            length: lent.mapping.length,
+            fin: false,
+            checksum: self.checksum_told(lent.mapping.checksum),
+        }
+    }
+}
+
+/// The checksum of a mapping and its bytes.
+pub(crate) fn checksum_of(mapping: &Mapping, octets: &[u8]) -> u16
+    requires { length octets.now ≤ 65535 }
+    ensures { result ≡ dss_checksum mapping.now octets.now }
+{
+    let mut sum = DssSum::new(mapping);
+    sum.add(octets);
+    sum.make()
+}
+
+impl Modes {
+    /// The failed check is told until the peer's infinite mapping came (RFC 8684, section 3.7).
+    fn fail_option(&self) -> Option<Saying>
+        ensures { options_by result ≡ fail_beside None self.now }
+    {
+        if receives_infinite(self.mode) {
+            return None;
+        }
+        let place = self.failed_mapping?;
+        Some(PathOption::Fail { place })
+    }
+
+    /// Each acknowledgement tells it that has no DATA_FIN.
+    fn fail_beside(&self, fin: Option<u64>) -> Option<Saying>
+        ensures { options_by result ≡ fail_beside fin self.now }
+    {
+        match fin {
+            Some(_) => None,
+            None => self.fail_option(),
+        }
+    }
+
+    /// A notice of the end's side; an announcement shows the HMAC of both keys (RFC 8684, section 3.4.1).
+    fn notice_option(&self, notice: OwnNotice) -> Saying
+        ensures { result ≡ notice_option notice self.now }
+    {
+        match notice {
+            OwnNotice::AddAddr { id } => self.announcement(id),
+            OwnNotice::AddEcho { id, address, port } => PathOption::AddAddr {
+                echo: true,
+                id,
+                address,
+                port,
+                hmac: None,
+            },
+            OwnNotice::Removes { id } => PathOption::Remove { ids: [id] },
+            OwnNotice::Prio { backup } => PathOption::Prio { backup },
+        }
+    }
+
+    /// The announcement of the own address of this id.
+    fn announcement(&self, id: u8) -> Saying
+        ensures { result ≡ announcement id self.now }
+    {
+        let address = Address::V4([10, 0, id, 2]);
+        let hmac = add_addr64(self.own_key, self.peer_key_of(), id, &address, 0);
+        PathOption::AddAddr {
+            echo: false,
+            id,
+            address,
+            port: None,
+            hmac: Some(hmac),
+        }
+    }
+}
+
+/// The peer's infinite mapping came.
+fn receives_infinite(mode: Mode) -> bool
+    ensures { result ≡ receives_infinite mode }
+{
+    matches!(mode, Mode::InfiniteReceive | Mode::InfiniteBoth)
+}
+
+/// The address of an echo has 16 octets at most.
+fn has_address(notice: OwnNotice)
+    ensures { HasAddress notice }
+{
+    match notice {
+        OwnNotice::AddEcho { address, .. } => {
+            // For the proof: an address has 4 or 16 octets.
+            let _octets = address.octets();
+        }
+        OwnNotice::AddAddr { .. } | OwnNotice::Removes { .. } | OwnNotice::Prio { .. } => {}
+    }
+}
+
+/// So has one that may be there.
+fn may_have_address(notice: Option<OwnNotice>)
+    ensures { IfSome notice HasAddress }
+{
+    if let Some(notice) = notice {
+        // For the proof: the address has its octets.
+        has_address(notice);
+    }
+}
+
+impl PathEnd {
+    /// The infinite mapping is owed, and no segment that had it is acknowledged.
+    pub(crate) fn owes_mapping(&self) -> bool
+        ensures { result ≡ owes_mapping self.now }
+    {
+        let reached = match self.modes.mapped_to {
+            Some(to) => to <= self.tcp.una(),
+            None => false,
+        };
+        self.modes.owes_mapping && !reached
+    }
+
+    /// On data and FIN after a fallback: the infinite mapping from this position on, as long as it is owed (RFC 8684,
+    /// section 3.7).
+    fn plain_option(&self, position: Pos) -> Option<Saying>
+        ensures value { options_by result ≡ plain_options position self.now }
+    {
+        if self.owes_mapping() {
+            let place = position.saturating_sub(1);
+            Some(PathOption::Dss {
+                next: None,
+                mapping: Some(PathMapping::Infinite { place, position }),
+            })
+        } else {
+            None
+        }
+    }
+
+    /// On a SYN that opens the connection: A asks for Multipath TCP, and B answers with its key where A asked (RFC 8684,
+    /// section 3.1).
+    fn capable_option(&self, profile: &Profile, side: Side) -> Option<Saying>
+        ensures value { options_by result ≡ capable_options profile.now side self.now }
+    {
+        match side {
+            Side::A => Some(profile.capable(CapableKeys::NoKey)),
+            Side::B if self.modes.capable_asked && !self.modes.identity => {
+                Some(profile.capable(CapableKeys::Sender {
+                    sender: self.modes.own_key,
+                }))
+            }
+            Side::B => None,
+        }
+    }
+
+    /// On a SYN.
+    fn syn_option(&self, profile: &Profile, side: Side) -> Option<Saying>
+        ensures value { options_by result ≡ syn_options profile.now side self.now }
+    {
+        if profile.is_joined() {
+            self.modes.join_option(profile, side)
+        } else {
+            self.capable_option(profile, side)
+        }
+    }
+
+    /// Before A may send a DSS it shows both keys; B says nothing before it has them.
+    fn key_option(&self, profile: &Profile, side: Side) -> Option<Saying>
+        ensures value { options_by result ≡
+            key_options profile.now side self.now.modes.peer_key self.now }
+    {
+        match (side, self.modes.peer_key) {
+            (Side::A, Some(receiver)) => Some(profile.capable(CapableKeys::Both {
+                sender: self.modes.own_key,
+                receiver,
+            })),
+            _ => None,
+        }
+    }
+
+    /// Before the end may send a DSS: the third MP_JOIN, as long as it is owed, or the keys.
+    fn opening_option(&self, profile: &Profile, side: Side) -> Option<Saying>
+        ensures value { options_by result ≡ opening_options profile.now side self.now }
+    {
+        if self.modes.owes_third {
+            self.modes.third_option()
+        } else {
+            self.key_option(profile, side)
+        }
+    }
+
+    /// On an acknowledgement, perhaps with the DATA_FIN; none after a fallback.
+    fn ack_options(&self, profile: &Profile, side: Side, fin: Option<u64>) -> SaidOptions
+        ensures { said_options result ≡ ack_options profile.now side fin self.now }
+    {
+        if self.modes.identity {
+            return SaidOptions::Nothing;
+        }
+        if !self.modes.clear {
+            return SaidOptions::of(self.opening_option(profile, side));
+        }
+        let dss = PathOption::Dss {
+            next: Some(self.receiving.next()),
+            mapping: profile.data_fin_mapping(side, fin),
+        };
+        SaidOptions::first_and(dss, self.modes.fail_beside(fin))
+    }
+
+    /// A's first piece carries both keys, until A may send a DSS.
+    fn first_piece_option(&self, profile: &Profile, lent: &RecordRef<'_>) -> Option<Saying>
+        ensures value { options_by result ≡
+            first_piece_options profile.now self.now.modes.peer_key (record_of lent.now) self.now }
+    {
+        let receiver = self.modes.peer_key?;
+        Some(profile.capable(CapableKeys::WithData {
+            sender: self.modes.own_key,
+            receiver,
+            length: lent.mapping.length,
+            checksum: profile.checksum_told(lent.mapping.checksum),
+        }))
+    }
+
+    /// On data and FIN after the peer's MP_FAIL: the infinite mapping, as long as it is owed (RFC 8684, section 3.7).
+    fn infinite_option(&self, mapping: InfiniteMapping) -> Option<Saying>
+        ensures value { options_by result ≡ infinite_options mapping self.now }
+    {
+        let InfiniteMapping { place, position } = mapping;
+        Some(PathOption::Dss {
+            next: Some(self.receiving.next()),
+            mapping: self
+                .owes_mapping()
+                .then_some(PathMapping::Infinite { place, position }),
+        })
+    }
+
+    /// On data that has a mapping of its own.
+    fn mapped_option(&self, profile: &Profile, side: Side, lent: &RecordRef<'_>) -> Option<Saying>
+        ensures value { options_by result ≡
+            mapped_options profile.now side (record_of lent.now) self.now }
+    {
+        if side == Side::A && !self.modes.clear && lent.pos == 1 {
+            return self.first_piece_option(profile, lent);
+        }
+        Some(PathOption::Dss {
+            next: Some(self.receiving.next()),
+            mapping: Some(profile.piece_mapping(side, lent)),
+        })
+    }
+
+    /// On data.
+    fn piece_option(&self, profile: &Profile, side: Side, lent: &RecordRef<'_>) -> Option<Saying>
+        ensures value { options_by result ≡
+            piece_options profile.now side (record_of lent.now) self.now }
+    {
+        if self.modes.identity {
+            return self.plain_option(lent.pos);
+        }
+        match self.modes.own_infinite {
+            Some(mapping) => self.infinite_option(mapping),
+            None => self.mapped_option(profile, side, lent),
+        }
+    }
+
+    /// On the FIN at this position.
+    fn fin_option(&self, position: Pos) -> Option<Saying>
+        ensures value { options_by result ≡ fin_options position self.now }
+    {
+        if self.modes.identity {
+            return self.plain_option(position);
+        }
+        match self.modes.own_infinite {
+            Some(mapping) => self.infinite_option(mapping),
+            None => Some(PathOption::Dss {
+                next: Some(self.receiving.next()),
+                mapping: None,
+            }),
+        }
+    }
+
+    /// On a record.
+    fn record_option(&self, profile: &Profile, side: Side, lent: &RecordRef<'_>) -> Option<Saying>
+        ensures value { options_by result ≡
+            record_options lent.now.kind profile.now side (record_of lent.now) self.now }
+    {
+        match lent.kind {
+            RecordKind::Syn => self.syn_option(profile, side),
+            RecordKind::Data => self.piece_option(profile, side, lent),
+            RecordKind::Fin => self.fin_option(lent.pos),
+        }
+    }
+
+    /// A segment with the window that the book told last, and on a SYN with the maximum segment size.
+    fn segment_of<'a>(
+        &'a self,
+        profile: &Profile,
+        outgoing: Outgoing,
+        options: SaidOptions,
+        payload: &'a [u8],
+    ) -> Said<'a>
+        ensures { plain_said result ≡
+            segment_of profile.now outgoing (said_options options) payload.now self.now }
+    {
+        Said {
+            outgoing,
+            window: self.receiving.window(),
+            mss: outgoing.syn.then_some(profile.mss()),
+            options,
+            payload,
+        }
+    }
+
+    /// The acknowledgement at this position, perhaps with the DATA_FIN.
+    fn ack_said(&self, profile: &Profile, side: Side, position: Pos, fin: Option<u64>) -> Said<'_>
+        ensures { plain_said result ≡ ack_said profile.now side position fin self.now }
+    {
+        let options = self.ack_options(profile, side, fin);
+        self.segment_of(profile, self.tcp.ack_at(position), options, &[])
+    }
+
+    /// A record, for the first time or again.
+    fn record_said<'a>(&'a self, profile: &Profile, side: Side, lent: &RecordRef<'a>) -> Said<'a>
+        requires { length lent.now.piece.now ≤ 65475 }
+        ensures { plain_said result ≡ record_said profile.now side (record_of lent.now) self.now }
+    {
+        let options = SaidOptions::of(self.record_option(profile, side, lent));
+        let outgoing = self.tcp.record_segment(lent);
+        self.segment_of(profile, outgoing, options, lent.piece)
+    }
+
+    /// A record, or else an acknowledgement.
+    fn record_or_ack<'a>(
+        &'a self,
+        profile: &Profile,
+        side: Side,
+        lent: Option<RecordRef<'a>>,
+    ) -> Said<'a>
+        requires { IfSome lent (λ lent. length lent.piece.now ≤ 65475) }
+        ensures { plain_said result ≡
+            record_or_ack profile.now side (option_map record_of lent.entry) self.now }
+    {
+        match lent {
+            Some(lent) => self.record_said(profile, side, &lent),
+            None => self.ack_said(profile, side, self.tcp.nxt(), None),
+        }
+    }
+
+    fn syn_ack_said(&self, profile: &Profile, side: Side) -> Said<'_>
+        ensures { plain_said result ≡ syn_ack_said profile.now side self.now }
+    {
+        let options = SaidOptions::of(self.syn_option(profile, side));
+        self.segment_of(profile, self.tcp.syn_ack_segment(), options, &[])
+    }
+
+    /// The FIN, also before there is a record of it.
+    fn fin_said(&self, profile: &Profile) -> Said<'_>
+        ensures { plain_said result ≡ fin_said profile.now self.now }
+    {
+        let outgoing = self.tcp.fin_segment();
+        let options = SaidOptions::of(self.fin_option(outgoing.position));
+        self.segment_of(profile, outgoing, options, &[])
+    }
+
+    /// The reset of an end: at SND.NXT (RFC 9293, section 3.10.5), which is 0 as long as its SYN isn't out.
+    fn own_reset(&self) -> Outgoing
+        ensures { result ≡ own_reset self.now }
+    {
+        let position = if self.is_syn_due() { 0 } else { self.tcp.nxt() };
+        Outgoing {
+            position,
+            ..self.tcp.reset_segment()
+        }
+    }
+
+    /// The reset, perhaps with a reason; after a fallback no option is sent.
+    fn reset_said(&self, profile: &Profile, reason: Option<u8>) -> Said<'_>
+        ensures { plain_said result ≡ reset_said profile.now reason self.now }
+    {
+        let options = if self.modes.identity {
+            SaidOptions::Nothing
+        } else {
+            broken_options(self.treated.failed_mapping, reason)
+        };
+        self.segment_of(profile, self.own_reset(), options, &[])
+    }
+
+    /// The acknowledgement that says this option behind its DSS.
+    fn dss_and(&self, profile: &Profile, option: Saying) -> Said<'_>
+        ensures { plain_said result ≡ dss_and profile.now option self.now }
+    {
+        let dss = PathOption::Dss {
+            next: Some(self.receiving.next()),
+            mapping: None,
+        };
+        let outgoing = self.tcp.ack_at(self.tcp.nxt());
+        self.segment_of(profile, outgoing, SaidOptions::Two(dss, option), &[])
+    }
+
+    /// The acknowledgement with the first of what is to be noted; without one an acknowledgement.
+    fn noted_said(&self, profile: &Profile, side: Side) -> Said<'_>
+        ensures { plain_said result ≡
+            noted_said profile.now side (first_of self.now.notices.queue) self.now }
+    {
+        match self.notices.first() {
+            Some(notice) => self.dss_and(profile, self.modes.notice_option(notice)),
+            None => self.ack_said(profile, side, self.tcp.nxt(), None),
+        }
+    }
+
+    /// The acknowledgement with MP_FASTCLOSE, as the end carries it; without a key an acknowledgement.
+    fn carried_said(&self, profile: &Profile, side: Side) -> Said<'_>
+        ensures { plain_said result ≡
+            carried_said profile.now side self.now.notices.carrier self.now }
+    {
+        match self.notices.carrier {
+            Some(key) => self.dss_and(profile, PathOption::FastClose { key }),
+            None => self.ack_said(profile, side, self.tcp.nxt(), None),
+        }
+    }
+
+    /// The answer to a segment that is passed over.
+    fn answer_said(&self, profile: &Profile, side: Side) -> Said<'_>
+        ensures { plain_said result ≡ answer_said profile.now side self.now }
+    {
+        if self.tcp.owes_syn_ack() {
+            self.syn_ack_said(profile, side)
+        } else {
+            self.ack_said(profile, side, self.tcp.nxt(), None)
+        }
+    }
+
+    /// The reset that answers a copy at a dead end.
+    fn dead_answer_said(&self, profile: &Profile) -> Said<'_>
+        ensures { plain_said result ≡ said_by DeadAnswer profile.now A self.now }
+    {
+        let outgoing = match self.treated.answer {
+            Some(outgoing) => outgoing,
+            None => self.tcp.reset_segment(),
+        };
+        self.segment_of(profile, outgoing, SaidOptions::Nothing, &[])
+    }
+
+    /// The reset that refuses a path which joins: an error specific to Multipath TCP (RFC 8684, section 3.6).
+    fn refusal_said(&self, profile: &Profile) -> Said<'_>
+        ensures { plain_said result ≡ said_by Refusal profile.now A self.now }
+    {
+        let outgoing = match self.treated.answer {
+            Some(outgoing) => outgoing,
+            None => self.tcp.reset_segment(),
+        };
+        let options = SaidOptions::One(reset_option(MPTCP_SPECIFIC));
+        self.segment_of(profile, outgoing, options, &[])
+    }
+
+    /// What an expiry sends again where no record is left: the third MP_JOIN, or else MP_FASTCLOSE, or else the DATA_FIN, or else
+    /// what a peer that is there answers.
+    fn ack_resent(&self, profile: &Profile, side: Side) -> Said<'_>
+        ensures { plain_said result ≡ ack_resent profile.now side self.now }
+    {
+        if self.modes.owes_third {
+            return self.ack_said(profile, side, self.tcp.nxt(), None);
+        }
+        if self.notices.fast_closed {
+            return self.carried_said(profile, side);
+        }
+        if self.is_data_fin_owed() {
+            return self.ack_said(profile, side, self.tcp.nxt(), self.sending.known_end);
+        }
+        let probe = self.tcp.una().saturating_sub(1);
+        self.ack_said(profile, side, probe, None)
+    }
+
+    /// What an expiry sends again: the first record, or else an acknowledgement.
+    fn resend_said(&self, profile: &Profile, side: Side) -> Said<'_>
+        ensures { plain_said result ≡ resend_said profile.now side self.now }
+    {
+        if self.tcp.has_records() {
+            self.record_or_ack(profile, side, self.tcp.first_record())
+        } else {
+            self.ack_resent(profile, side)
+        }
+    }
+
+    /// The segment of this kind.
+    fn said_by(&self, profile: &Profile, side: Side, kind: SegmentKind) -> Said<'_>
+        ensures { plain_said result ≡ said_by kind profile.now side self.now }
+    {
+        match kind {
+            SegmentKind::Ack => self.ack_said(profile, side, self.tcp.nxt(), None),
+            SegmentKind::DataFin => {
+                self.ack_said(profile, side, self.tcp.nxt(), self.sending.known_end)
+            }
+            SegmentKind::Fin => self.fin_said(profile),
+            SegmentKind::Unsent => self.record_or_ack(profile, side, self.tcp.first_unsent()),
+            SegmentKind::First => self.record_or_ack(profile, side, self.tcp.first_record()),
+            SegmentKind::SynAck => self.syn_ack_said(profile, side),
+            SegmentKind::Answer => self.answer_said(profile, side),
+            SegmentKind::DeadAnswer => self.dead_answer_said(profile),
+            SegmentKind::Refusal => self.refusal_said(profile),
+            SegmentKind::Resend => self.resend_said(profile, side),
+            SegmentKind::Reset { reason } => self.reset_said(profile, reason),
+            SegmentKind::Notice => self.noted_said(profile, side),
+            SegmentKind::FastClose => self.carried_said(profile, side),
+        }
+    }
+
+    /// The segment of this kind, which can be said.
+    #[tactic(auto, using(crate::proofs::Sayable::can_be_said))]
+    pub fn said(&self, profile: &Profile, side: Side, kind: SegmentKind) -> Said<'_>
+        ensures value { plain_said result ≡ said_by kind profile.now side self.now }
+        ensures can { CanBeSaid profile.now.spelling side (plain_said result) }
+    {
+        // For the proof: the path is 15 at most, and the window 2^20.
+        let _path = profile.spelling();
+        let _window = self.receiving.window();
+        may_have_address(self.notices.first());
+        let (_unsent, _first) = (self.tcp.first_unsent(), self.tcp.first_record());
+        self.said_by(profile, side, kind)
+    }
+}
+
+/// Why the path is reset, where there is a reason: MP_FAIL stands before it where a failed check broke the path (RFC 8684, sections
+/// 3.6 and 3.7).
+fn broken_options(failed: Option<u64>, reason: Option<u8>) -> SaidOptions
+    ensures { said_options result ≡ broken_options failed reason }
+{
+    let Some(reason) = reason else {
+        return SaidOptions::Nothing;
+    };
+    let reset = reset_option(reason);
+    match failed {
+        Some(place) => SaidOptions::Two(PathOption::Fail { place }, reset),
+        None => SaidOptions::One(reset),
+    }
+}
+
+/// Why the path is reset; the fault doesn't pass (RFC 8684, section 3.6).
+fn reset_option(reason: u8) -> Saying
+    ensures { result ∷ [] ≡ reset_options (Some reason) }
+{
+    PathOption::Reset {
+        transient: false,
+        reason,
+    }
+}

@@ -1,0 +1,183 @@
+//! A segment that an end is to send, with what it lends of the end.
+
+ghost use Rattle.std.specs.Prelude.{◌≡◌, ◌∷◌, IfOk};
+ghost use Rattle.path_segments.specs.Options.{plain_option};
+ghost use Rattle.path_rules.specs.Said.{options_by, said_options};
+
+use outside_kit::Side;
+use path_segments::{PathOption, SaidSegment, Spelling, sum, write};
+use std::alloc::{AllocError, Global};
+use subflow_tcp::Outgoing;
+
+/// An option that an end says. It takes one address back at most.
+pub(crate) type Saying = PathOption<u64, [u8; 1]>;
+
+/// The options of Multipath TCP that a segment says, in their order: two at most, which have room in forty octets.
+#[derive(Clone, Copy)]
+pub enum SaidOptions {
+    Nothing,
+    One(Saying),
+    Two(Saying, Saying),
+}
+
+impl SaidOptions {
+    /// This one, and the other behind it, if any.
+    pub(crate) fn first_and(first: Saying, second: Option<Saying>) -> Self
+        ensures { said_options result ≡ first ∷ options_by second }
+    {
+        match second {
+            Some(second) => SaidOptions::Two(first, second),
+            None => SaidOptions::One(first),
+        }
+    }
+
+    /// This one, if any.
+    pub fn of(option: Option<Saying>) -> Self
+        ensures { said_options result ≡ options_by option }
+    {
+        match option {
+            Some(option) => SaidOptions::One(option),
+            None => SaidOptions::Nothing,
+        }
+    }
+}
+
+/// A segment that an end is to send.
+#[derive(Clone, Copy)]
+pub struct Said<'a> {
+    /// Its position, what it acknowledges, and its flags.
+    pub outgoing: Outgoing,
+    /// The window in octets.
+    pub window: u32,
+    /// The maximum segment size, which a SYN has.
+    pub mss: Option<u16>,
+    pub options: SaidOptions,
+    pub payload: &'a [u8],
+}
+
+impl<'a> Said<'a> {
+    ghost use Rattle.path_rules.specs.Octets.{made, sum_of};
+    ghost use Rattle.path_rules.specs.Said.{plain_said, CanBeSaid};
+
+    /// The same segment, with its options lent.
+    fn with_options<'b>(
+        &self,
+        options: &'b [PathOption<u64, &'b [u8]>],
+        payload: &'b [u8],
+    ) -> SaidSegment<'b>
+        ensures { result ≡ record {
+          position = self.now.outgoing.position;
+          acknowledged = self.now.outgoing.acknowledged;
+          syn = self.now.outgoing.syn;
+          fin = self.now.outgoing.fin;
+          rst = self.now.outgoing.rst;
+          window = self.now.window;
+          mss = self.now.mss;
+          options = options.entry;
+          payload = payload.entry;
+        } }
+    {
+        SaidSegment {
+            position: self.outgoing.position,
+            acknowledged: self.outgoing.acknowledged,
+            syn: self.outgoing.syn,
+            fin: self.outgoing.fin,
+            rst: self.outgoing.rst,
+            window: self.window,
+            mss: self.mss,
+            options,
+            payload,
+        }
+    }
+
+    /// Its octets, as this side sends them. Allocates once.
+    pub fn octets(
+        &self,
+        alloc: Global,
+        spelling: &Spelling,
+        side: Side,
+    ) -> Result<Vec<u8>, AllocError>
+        requires { CanBeSaid spelling.now side (plain_said self.now) }
+        ensures { IfOk result (λ octets. octets.items ≡
+            made spelling.now side (plain_said self.now)) }
+    {
+        match &self.options {
+            SaidOptions::Nothing => {
+                write(alloc, spelling, side, &self.with_options(&[], self.payload))
+            }
+            SaidOptions::One(option) => {
+                let options = [lent(option)];
+                let segment = self.with_options(&options, self.payload);
+                write(alloc, spelling, side, &segment)
+            }
+            SaidOptions::Two(first, second) => {
+                let options = [lent(first), lent(second)];
+                let segment = self.with_options(&options, self.payload);
+                write(alloc, spelling, side, &segment)
+            }
+        }
+    }
+
+    /// The checksum field of its octets. Takes no memory.
+    pub fn sum(&self, spelling: &Spelling, side: Side) -> u16
+        requires { CanBeSaid spelling.now side (plain_said self.now) }
+        ensures { result ≡ sum_of spelling.now side (plain_said self.now) }
+    {
+        match &self.options {
+            SaidOptions::Nothing => sum(spelling, side, &self.with_options(&[], self.payload)),
+            SaidOptions::One(option) => {
+                let options = [lent(option)];
+                let segment = self.with_options(&options, self.payload);
+                sum(spelling, side, &segment)
+            }
+            SaidOptions::Two(first, second) => {
+                let options = [lent(first), lent(second)];
+                let segment = self.with_options(&options, self.payload);
+                sum(spelling, side, &segment)
+            }
+        }
+    }
+}
+
+/// The same option, its id lent.
+fn lent(option: &Saying) -> PathOption<u64, &[u8]>
+    ensures { plain_option result ≡ option.now }
+{
+    match option {
+        PathOption::Capable {
+            flag_a,
+            flag_c,
+            keys,
+        } => PathOption::Capable {
+            flag_a: *flag_a,
+            flag_c: *flag_c,
+            keys: *keys,
+        },
+        PathOption::Join { form } => PathOption::Join { form: *form },
+        PathOption::Dss { next, mapping } => PathOption::Dss {
+            next: *next,
+            mapping: *mapping,
+        },
+        PathOption::AddAddr {
+            echo,
+            id,
+            address,
+            port,
+            hmac,
+        } => PathOption::AddAddr {
+            echo: *echo,
+            id: *id,
+            address: *address,
+            port: *port,
+            hmac: *hmac,
+        },
+        PathOption::Remove { ids } => PathOption::Remove { ids: &ids[..] },
+        PathOption::Prio { backup } => PathOption::Prio { backup: *backup },
+        PathOption::Fail { place } => PathOption::Fail { place: *place },
+        PathOption::FastClose { key } => PathOption::FastClose { key: *key },
+        PathOption::Reset { transient, reason } => PathOption::Reset {
+            transient: *transient,
+            reason: *reason,
+        },
+    }
+}
