@@ -2,6 +2,7 @@
 use Rattle.std.specs.Prelude.{ℕ, ◌≡◌, ◌&&◌, Bool, true, not, if◌then◌else◌, [], ◌∷◌, ◌++◌}
 use Rattle.run_log.specs.declared.turn.Turn.TheVariants.{Step, Round}
 use Rattle.path_rules.specs.Octets.{octets}
+use Rattle.world_core.specs.Cuts.{ShowsAs}
 use Rattle.world_core.specs.Kept.{standing}
 use Rattle.world_laws.specs.Worlds.{world_step, is_going, all_over, end_round}
 use Rattle.connection_table.specs.Tables.{Entry}
@@ -21,8 +22,9 @@ ends e = not e.world.failed && all_over e.world.state.crew
 abbrev pub after_end : Entry → Entry
 after_end e = if ends e then record e { turns = e.turns ++ Round ∷ []; world = standing (end_round e.world.state) } else e
 
--- it failed for want of memory by a step
+-- it failed for want of memory by a step: its outcome and lists show as they did
 pub record IsStopped (before after : Entry) : Type 0 where
   pub input : after.input ≡ before.input
   pub turns : after.turns ≡ before.turns
   pub failed : after.world.failed ≡ true
+  pub shows : ShowsAs before.world.state after.world.state

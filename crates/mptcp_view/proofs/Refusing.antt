@@ -79,9 +79,14 @@ is_late old new X (Err s) h = late old new X s h
 
 -- ---- OUT
 
+-- it is as it was
+pub kept_out : (old new : Option (List ℕ)) (shown : List ℕ) → new ≡ old → HoldsCut old new shown
+kept_out None new shown same = tt
+kept_out (Some held) new shown same = inl same
+
 -- it was emptied, and got some of the view
 pub cut_out : (old middle new : Option (List ℕ)) (shown : List ℕ) → HoldsAfter old middle (λ _. []) → HoldsPrefix middle new shown → HoldsCut old new shown
-cut_out None middle new shown bound put = inr tt
+cut_out None middle new shown bound put = tt
 cut_out (Some held) middle new shown bound put =
     let some = subst (λ (o : Option (List ℕ)). HoldsPrefix o new shown) bound put in inr (some.0, some.1)
 

@@ -125,9 +125,9 @@ out_calls out shown = call.Bind port.ReadByB out ∷ call.Put port.ReadByB shown
 abbrev pub view_calls : Line → List ℕ → List Call
 view_calls line shown = loads_of line ++ out_calls line.names.read_by_b shown
 
--- a port holds what it held, or, where it told that, the first octets of this text
+-- where a port told what it held, it holds that, or the first octets of this text
 abbrev pub HoldsCut : Option (List ℕ) → Option (List ℕ) → List ℕ → Type 0
-HoldsCut old new shown = (new ≡ old) ⊎ IfSome old (λ _. (count : ℕ) × (new ≡ Some (take count shown)))
+HoldsCut old new shown = IfSome old (λ held. (new ≡ Some held) ⊎ ((count : ℕ) × (new ≡ Some (take count shown))))
 
 -- OUT can't be written
 abbrev pub IsOutFault : ℕ → ℕ → Status → Type 0

@@ -138,6 +138,7 @@ fn put_out<O: Outside>(outside: &mut O, shown: &[u8]) -> Result<(), Status>
 }
 
 /// Makes OUT anew, and writes it.
+#[tactic(auto, using(crate::proofs::Refusing::kept_out))]
 fn write_out<O: Outside>(outside: &mut O, out: &str, shown: &[u8]) -> Result<(), Status>
     ensures ok { OnOk result (HoldsAfter (O.holds outside.old Port.ReadByB)
         (O.holds outside.new Port.ReadByB) (λ _. shown.now)) }
