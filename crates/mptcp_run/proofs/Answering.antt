@@ -3,6 +3,7 @@ use Rattle.std.proofs.Common.{◌≡◌, refl, sym, ap, subst, ℕ, ◌≤◌, i
 use Rattle.std.specs.Prelude.{option_and_then, option_map, map, IsOk, IsSomeAnd}
 use Rattle.std.specs.Result.{result_ok}
 use Rattle.world_core.specs.Logged.{turn_of, all_turns}
+use Rattle.outside_kit.specs.declared.side.Side.{Side}
 use Rattle.outside_kit.specs.declared.port.Port.{Port}
 use Rattle.outside_kit.specs.declared.port.Port.TheVariants as port
 use Rattle.outside_kit.specs.Calls.{Call}
@@ -11,6 +12,7 @@ use Rattle.link_script.specs.declared.script.Script.{Script}
 use Rattle.run_words.specs.Lines.{Line, run, serial, replay, ◌>>=◌}
 use Rattle.run_log.specs.declared.turn.Turn as log_turn
 use Rattle.run_outside.specs.declared.input.Input.{Input}
+use Rattle.stream_apps.specs.Starts.{fast_close_of}
 use Rattle.world_laws.specs.PlainScripts.{AltersNone}
 use Rattle.world_laws.specs.Worlds.{Turn}
 use Rattle.world_laws.proofs.Promises.OfScripts.{short_of}
@@ -35,6 +37,7 @@ use Rattle.link_script.specs.Reading.{reading}
 use Rattle.run_outside.specs.Reading.{script_in, script_of, log_reading}
 use Rattle.mptcp_run.specs.Task.{Task, Course, rounds, threads, told, task_from, turns_in, course_of, task_of}
 use Rattle.run_outside.proofs.Calls.{Told, all_then, cut_then, short_then, short_cut}
+use Rattle.mptcp_run.proofs.Unstopped.{never_stopped}
 use Rattle.mptcp_run.proofs.Logged.{whole_runs_are_told}
 use Rattle.mptcp_run.proofs.Promised.{plain_of, short_tasks_are_kept, checked_runs_are_right, delivered_runs_give_as_many, whole_runs_give_prefixes, whole_runs_have_cause, delivered_runs_give_files, stopped_runs_give_prefixes, cut_runs_give_prefixes, lines_cut_give_prefixes}
 
@@ -463,25 +466,30 @@ module _ (content : List ℕ → Option (List ℕ)) (line : Line) (loads_before 
 
 -- ---- the made input
 
-module _ (made : Bench) (plain : IsPlainTask made.task) (loads_before loads : ℕ) (same : loads ≡ loads_before) (faults_before faults : Port → ℕ) (held holds : Ports) (ta tb : Told) where
+module _ (made : Bench) (plain : IsPlainTask made.task) (unstopped : (s : Side) → fast_close_of s made.task.script.lines ≡ None) (loads_before loads : ℕ) (same : loads ≡ loads_before) (faults_before faults : Port → ℕ) (held holds : Ports) (ta tb : Told) where
+  made_short : IsShortTask made.task
+  made_short = short_of made.task.script made.task.file_a made.task.file_b plain
+
   with_row : (status : Status) → MadeRow made loads_before loads faults_before faults held holds ta tb status
       → IsMadeAnswer made loads_before loads faults_before faults held holds ta tb status
-  with_row status row = record { row = row; kept = λ turns. short_tasks_are_kept made.task turns (short_of made.task.script made.task.file_a made.task.file_b plain); unloaded = same }
+  with_row status row = record { row = row; kept = λ turns. short_tasks_are_kept made.task turns made_short; unloaded = same }
 
-  made_end_row : (status : Status) → CameToEnd [] made.line made.task held holds ta tb status
+  made_end_row : (status : Status) → EndsWithRound made.task.course → CameToEnd [] made.line made.task held holds ta tb status
       → MadeEndRow made loads_before loads faults_before faults held holds ta tb status
-  made_end_row status h = record {
+  made_end_row status ends h = record {
     whole = h.whole;
+    checked = λ uses. checked_runs_are_right made.task status held holds made_short ends uses h.whole;
     prefixes = whole_runs_give_prefixes made.task status held holds plain h.whole;
     calls = h.calls;
   }
 
   pub made_end_answer : (status : Status) → EndsWithRound made.task.course → CameToEnd [] made.line made.task held holds ta tb status
       → IsMadeAnswer made loads_before loads faults_before faults held holds ta tb status
-  made_end_answer Delivered ends h = with_row Delivered (made_end_row Delivered h, delivered_runs_give_files made.task held holds plain ends h.whole)
-  made_end_answer Rounds ends h = with_row Rounds (made_end_row Rounds h)
-  made_end_answer NoPath ends h = with_row NoPath (made_end_row NoPath h)
-  made_end_answer (Aborted reader) ends h = with_row (Aborted reader) (made_end_row (Aborted reader) h)
+  made_end_answer Delivered ends h = with_row Delivered (made_end_row Delivered ends h, delivered_runs_give_files made.task held holds plain ends h.whole)
+  made_end_answer Rounds ends h = with_row Rounds (made_end_row Rounds ends h)
+  made_end_answer NoPath ends h = with_row NoPath (made_end_row NoPath ends h)
+  made_end_answer (Aborted reader) ends h =
+      absurd (never_stopped made.task h.whole.turns reader unstopped (whole_runs_have_cause made.task (Aborted reader) held holds made_short h.whole))
   made_end_answer Usage ends h = absurd h.ended
   made_end_answer (ScriptStatus at kind) ends h = absurd h.ended
   made_end_answer (Load named) ends h = absurd h.ended

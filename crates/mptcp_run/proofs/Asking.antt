@@ -15,7 +15,7 @@ use Rattle.mptcp_run.specs.Task.{first_world}
 use Rattle.mptcp_run.proofs.Answering.{made_cut_answer}
 use Rattle.run_outside.proofs.Calls.{Told, adds_none, cut_none}
 use Rattle.run_outside.specs.Ports.{Ports}
-use Rattle.mptcp_run.proofs.MadeTasks.{made_is_plain, of_words}
+use Rattle.mptcp_run.proofs.MadeTasks.{made_is_plain, of_words, made_is_unstopped}
 use Rattle.mptcp_run.proofs.Courses.{no_round}
 use Rattle.mptcp_run.proofs.Performing.{nothing_made}
 
@@ -70,7 +70,7 @@ module _ (loads : ℕ) (faults : Port → ℕ) (holds : Ports) (ta : Told) where
   pub made_memory : (line : Line) (number most : ℕ) → number ≤ 256
       → IsMadeAnswer (record { line = line; task = made_task number most }) loads loads faults faults holds holds ta ta Memory
   made_memory line number most few =
-      made_cut_answer (record { line = line; task = made_task number most }) (made_is_plain number most few) loads loads refl faults faults holds holds ta ta Memory tt
+      made_cut_answer (record { line = line; task = made_task number most }) (made_is_plain number most few) (made_is_unstopped number) loads loads refl faults faults holds holds ta ta Memory tt
       (nothing_made line (made_task number most) holds ta (no_round most (first_world (made_task number most))))
 
   pub words_memory : (words : List (List ℕ)) → IfSome (bench_in words) (λ made. IsMadeAnswer made loads loads faults faults holds holds ta ta Memory)

@@ -28,3 +28,4 @@ mod ThreadsMade
 mod TurnsTimely
 mod Taken
 mod CleanRuns
+mod Unstopped

@@ -1,6 +1,9 @@
 -- The made input of each number that can be asked for is plain, and is run in rounds.
 use Rattle.std.proofs.Common.{◌≡◌, refl, ℕ, ◌*◌, ◌≤◌, List, Option, Some, None, IfSome, arith}
 use Rattle.std.specs.Prelude.{option_and_then}
+use Rattle.outside_kit.specs.declared.side.Side.{Side}
+use Rattle.outside_kit.specs.declared.side.Side.TheVariants.{A, B}
+use Rattle.stream_apps.specs.Starts.{fast_close_of}
 use Rattle.run_outside.specs.MadeInput.{made_file, made_script}
 use Rattle.mptcp_run.specs.Made.{made_task, Bench, bench_by, bench_of, bench_in}
 use Rattle.run_outside.specs.declared.input.Input.{Input}
@@ -19,6 +22,11 @@ made_is_plain number most few = record {
   short_a = let many = octets_many number 1000 (16384 * number) in omega (arith, many, few);
   short_b = let many = octets_many number 1001 (16384 * number) in omega (arith, many, few);
 }
+
+-- neither side stops the connection
+pub made_is_unstopped : (number : ℕ) (s : Side) → fast_close_of s (made_script number).lines ≡ None
+made_is_unstopped number A = refl
+made_is_unstopped number B = refl
 
 -- what holds of each made input that can be asked for
 module _ (P : Bench → Type 0) (p : (line : Line) (number most : ℕ) → number ≤ 256 → P (record { line = line; task = made_task number most })) where

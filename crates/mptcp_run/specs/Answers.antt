@@ -140,9 +140,12 @@ module _ (content : List ℕ → Option (List ℕ)) (line : Line) (loads_before 
 
 module _ (made : Bench) (loads_before loads : ℕ) (faults_before faults : Port → ℕ)
     (held holds : Ports) (told tells : Option (List Made)) where
-  -- the run of the made task came to its own end
+  -- The run of the made task came to its own end. Where mappings are checked, what a reader got whose
+  -- side hasn't fallen back is right.
   pub record MadeEndRow (status : Status) : Type 0 where
     pub whole : IsWhole made.task status held holds
+    pub checked : made.task.script.checksum ≡ true
+        → CheckedReadersAreRight made.task status (world_after made.task whole.turns) held holds
     pub prefixes : ReadersHavePrefixes (Some made.task.file_a) (Some made.task.file_b)
         held holds
     pub calls : AddsAll (plan_of [] made.line (all_puts made.task whole.turns)) told tells
@@ -153,14 +156,14 @@ module _ (made : Bench) (loads_before loads : ℕ) (faults_before faults : Port 
     pub prefixes : ReadersHavePrefixesIfBound (Some made.task.file_a) (Some made.task.file_b)
         held holds
 
-  -- the row of each status; where nothing is loaded, some never come
+  -- the row of each status; where nothing is loaded, and no line is a fast close, some never come
   abbrev pub MadeRow : Status → Type 0
   MadeRow Delivered =
       MadeEndRow Delivered
       × ReadersHaveFiles (Some made.task.file_a) (Some made.task.file_b) held holds
   MadeRow Rounds = MadeEndRow Rounds
   MadeRow NoPath = MadeEndRow NoPath
-  MadeRow (Aborted reader) = MadeEndRow (Aborted reader)
+  MadeRow (Aborted reader) = ⊥
   MadeRow (Put port) = HasRisen (faults_before port) (faults port) × MadeCutRow (Put port)
   MadeRow Memory = MadeCutRow Memory
   MadeRow (Log at) = ⊥

@@ -6,7 +6,7 @@ use Rattle.mptcp_run.specs.Made.{made_task}
 use Rattle.mptcp_run.specs.Task.{Task}
 use Rattle.mptcp_run.proofs.Answering.{made_end_answer, made_cut_answer}
 use Rattle.mptcp_run.proofs.Asking.{made_by_work, made_memory}
-use Rattle.mptcp_run.proofs.MadeTasks.{made_with, made_is_plain}
+use Rattle.mptcp_run.proofs.MadeTasks.{made_with, made_is_plain, made_is_unstopped}
 use Rattle.mptcp_run.proofs.top_call.run_bench.Goals as goal
 
 pub returns-in_default : goal.returns-in_default
@@ -21,7 +21,7 @@ returns-in-Ok-perform g c =
     let line = as_line c.args.line.now in let made = c.in-Ok.ensures in
     let few = subst (λ (w : Work). AsksInRange w) c.requires.asked c.requires.in_range in
     made_by_work line c.args.rounds c.args.number _ c.requires.asked
-    (made_end_answer (record { line = line; task = made_task c.args.number c.args.rounds }) (made_is_plain c.args.number c.args.rounds few)
+    (made_end_answer (record { line = line; task = made_task c.args.number c.args.rounds }) (made_is_plain c.args.number c.args.rounds few) (made_is_unstopped c.args.number)
     (g.O.Outside.load_faults c.args.outside.now) (g.O.Outside.load_faults c.perform.new.outside) c.perform.ensures.load_counts
     (g.O.Outside.port_faults c.args.outside.now) (g.O.Outside.port_faults c.perform.new.outside) (g.O.Outside.holds c.args.outside.now) (g.O.Outside.holds c.perform.new.outside)
     (g.O.Outside.calls c.args.outside.now) (g.O.Outside.calls c.perform.new.outside) c.in-Ok-perform.status tt
@@ -34,7 +34,7 @@ returns g c =
     let line = as_line c.args.line.now in let made = c.in-Ok.ensures in
     let few = subst (λ (w : Work). AsksInRange w) c.requires.asked c.requires.in_range in
     made_by_work line c.args.rounds c.args.number _ c.requires.asked
-    (made_cut_answer (record { line = line; task = made_task c.args.number c.args.rounds }) (made_is_plain c.args.number c.args.rounds few)
+    (made_cut_answer (record { line = line; task = made_task c.args.number c.args.rounds }) (made_is_plain c.args.number c.args.rounds few) (made_is_unstopped c.args.number)
     (g.O.Outside.load_faults c.args.outside.now) (g.O.Outside.load_faults c.perform.new.outside) c.perform.ensures.load_counts
     (g.O.Outside.port_faults c.args.outside.now) (g.O.Outside.port_faults c.perform.new.outside) (g.O.Outside.holds c.args.outside.now) (g.O.Outside.holds c.perform.new.outside)
     (g.O.Outside.calls c.args.outside.now) (g.O.Outside.calls c.perform.new.outside) c.in-Err.status c.in-Err.ensures.fault
