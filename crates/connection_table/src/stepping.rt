@@ -34,7 +34,8 @@ impl ConnectionTable {
     ///
     /// # Errors
     ///
-    /// Where there is no memory. Either nothing has changed, or that connection has failed, and each later step of it answers so too.
+    /// Where there is no memory. Either nothing has changed, or that connection has failed, with its outcome and the list of each actor
+    /// as they were, and each later step of it answers so too.
     pub fn step(&mut self, connection: u8, actor: u8) -> Result<Stepped, AllocError>
         requires { connection < length self.old }
         ensures told { IfOk result (λ stepped.
