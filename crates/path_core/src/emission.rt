@@ -1,4 +1,4 @@
-//! What an end sends by itself: its SYN, records and grants as long as there is room, DATA_FIN, FIN; and its timer.
+//! What an end sends by itself behind its SYN: records and grants as long as there is room, DATA_FIN, FIN; and its timer.
 
 ghost use Rattle.std.specs.Prelude.{◌≡◌, ◌<◌, ◌-◌, ◌||◌, true, false, is_some, IsOk, OnOk, OnErr};
 ghost use Rattle.actor_desk.specs.Kinds.{CanBeAsked};

@@ -3,7 +3,7 @@
 //! A turn of a path is an agenda of duties. The duty that stands first always comes to something: to an ask, or to a
 //! segment. What the reply makes of the path is one rule a duty; then the duties that come to nothing are passed over.
 //!
-//! The rules are those of the crate `path_rules`, over octets, as are the two ends of a path and what they keep.
+//! The rules, over octets, and the two ends of a path with what they keep are those of the crate `path_rules`.
 #![tactic(auto)]
 
 mod acting;

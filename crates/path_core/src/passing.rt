@@ -1,5 +1,4 @@
-//! What the payload of a copy makes of an end: ends that are told, the window's growth, answers, and what an expiry sends
-//! again.
+//! What is told of the peer's stream beside its bytes: where it ends; what the book refuses; and the growth of the window.
 
 ghost use Rattle.std.specs.Prelude.{◌≡◌, ◌-◌, Some};
 ghost use Rattle.actor_desk.specs.Kinds.{CanBeAsked};

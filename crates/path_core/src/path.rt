@@ -162,8 +162,8 @@ impl Path {
     ///
     /// # Errors
     ///
-    /// Only where there is no memory, and the reply needs some: a segment is sent or may be, bytes were granted, or a copy arrives.
-    /// The path is then as it was.
+    /// Only where there is no memory, and the reply needs some: a segment is sent or may be, bytes were granted, a copy arrives,
+    /// or something is to be noted to the peer. The path is then as it was.
     pub fn take(&mut self, reply: &Reply) -> Result<(), AllocError>
         requires { TakesReply (asks_of octets self.old) reply.now }
         ensures ok { OnOk result (self.new ≡ takes octets reply.now self.old) }

@@ -21,8 +21,12 @@ fn is_kept(reply: &Reply) -> bool
 }
 
 impl Notices {
-    /// An announcement that the side keeps is to be echoed, with the id, the address and the port of the copy. At an error all is as it
-    /// was.
+    /// An announcement that the side keeps is to be echoed, with the id, the address and the port of the copy. Any other reply
+    /// changes nothing.
+    ///
+    /// # Errors
+    ///
+    /// Only where there is no memory, and the notice is to be echoed; all is then as it was.
     pub fn echo(&mut self, notice: PeerNotice, reply: &Reply) -> Result<(), AllocError>
         ensures ok { OnOk result (self.new ≡
             record self.old { queue = with_echo notice reply.now self.old.queue }) }

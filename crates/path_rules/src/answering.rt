@@ -46,7 +46,7 @@ impl Profile {
     }
 
     /// The reset that answers a copy at a dead end: at the number that the copy acknowledges, or else at number 0 with an
-    /// acknowledgement of all that it occupies (RFC 9293, section 3.10.7.1). Its positions are below 2^63.
+    /// acknowledgement of all that it occupies (RFC 9293, section 3.10.7.1).
     pub fn reset_for(&self, side: Side, heard: &HeardSegment<'_>) -> Outgoing
         requires { IsHeardShort (heard_value heard.now) }
         ensures { result ≡ reset_for self.now side (heard_value heard.now) }

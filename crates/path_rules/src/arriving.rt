@@ -28,7 +28,8 @@ use seq_units::Pos;
 use std::alloc::AllocError;
 use subflow_tcp::{Arrival, Arriving, Meaning, Outgoing, Subflow};
 
-/// What octets say, where they are a segment: 37 things at most.
+/// What octets of this side say to an end that expects these positions and places, where they are a segment: 37 things at most.
+/// Takes no memory.
 pub fn heard_of<'a>(
     spelling: &Spelling,
     from: Side,
@@ -204,7 +205,7 @@ fn asked_in(meaning: Meaning, heard: &HeardSegment<'_>, modes: Modes) -> Modes
 }
 
 impl PathEnd {
-    /// What the end counts from.
+    /// What the end counts from: positions of its subflow and places of both streams, at most 2^62 + 2^20.
     pub fn expected(&self) -> Expected
         ensures value { result ≡ expected_by self.now }
         ensures within { IsExpected result }
@@ -326,8 +327,13 @@ impl PathEnd {
         self.judged_of(joined, heard.rst, items, meaning)
     }
 
-    /// A segment is heard, which says these things and these mappings, and is answered so at a dead end. At an error all is as it
-    /// was.
+    /// A segment is heard by the end of this side at this tick, on a path that joins or on path 0. `items` is what `fill_items`
+    /// reads in it, `told` what `Profile::held_of` does, and `answer` the reset of `Profile::reset_for`. Answers what is to be
+    /// done.
+    ///
+    /// # Errors
+    ///
+    /// Only where there is no memory for the payload or the mappings; all is then as it was.
     pub fn take_segment(
         &mut self,
         joined: bool,

@@ -212,7 +212,11 @@ impl PathEnd {
         self.next_piece(profile).is_some()
     }
 
-    /// These bytes. Takes memory for them.
+    /// The octets of such a piece: of those in order from the edge on at most its count.
+    ///
+    /// # Errors
+    ///
+    /// Only where there is no memory for them.
     pub fn octets_of(&self, alloc: Global, found: InOrder) -> Result<Text, AllocError>
         ensures octets { IfOk result (λ text. text ≡ (piece_from found self.now.tcp).octets) }
         ensures few { IfOk result (λ text. length text ≤ found.count) }
@@ -220,7 +224,7 @@ impl PathEnd {
         text_of(alloc, self.tcp.held(), found.count)
     }
 
-    /// The edge passes these bytes, which were placed.
+    /// The edge passes such a piece, which the book placed; what is to be acknowledged is to be asked.
     pub fn place(&mut self, found: InOrder)
         ensures { self.new ≡ having_asked (after_piece (piece_from found self.old.tcp) self.old) }
     {

@@ -23,8 +23,8 @@ pub struct Drawn {
     pub key_b: u64,
 }
 
-/// The key of a connection's side, as its script's seed draws it: the upper half is the word of this number in stream 0, and the
-/// lower half the next one. A's begins with word 0, and B's with word 2.
+/// The key of a connection's side, as its script's seed draws it: the upper half is the word of this number, below 2^32, in
+/// stream 0, and the lower half the next one. A's begins with word 0, and B's with word 2.
 pub fn key_of(seed: u64, first: u64) -> u64
     requires { first < 2 ^ 32 }
     ensures { result ≡ key_of seed first }

@@ -1,4 +1,4 @@
-//! What an end may send by itself: its SYN, records and grants as long as there is room; and its timer.
+//! What an end may send by itself: its SYN, records and grants as long as there is room, and the FIN; and its timer.
 
 ghost use Rattle.std.specs.Prelude.{◌≡◌, ◌≤◌, ◌<◌, ◌+◌, ◌-◌, ◌^◌, ◌||◌, false, is_some, OnOk, OnErr, IsTrue};
 ghost use Rattle.subflow_send.specs.Records.{record_of};
@@ -65,7 +65,12 @@ impl PathEnd {
         }
     }
 
-    /// The granted piece is to be sent, with this mapping for ever. At an error all is as it was.
+    /// The granted piece, 1 to 65,475 octets, is to be sent with this mapping for ever. The FIN may still be sent, and SND.NXT is
+    /// below 2^61.
+    ///
+    /// # Errors
+    ///
+    /// Only where there is no memory for the piece; all is then as it was.
     pub fn take_grant(
         &mut self,
         span: Span,
@@ -94,7 +99,8 @@ impl PathEnd {
         Ok(())
     }
 
-    /// A grant was refused.
+    /// A grant was refused: the reply tells whether the peer's window is shut, and perhaps where the stream ends. Any other
+    /// changes nothing.
     pub fn refuse_grant(&mut self, reply: &Reply)
         ensures { self.new ≡ refused reply.now self.old }
     {
@@ -103,7 +109,8 @@ impl PathEnd {
         }
     }
 
-    /// The timer is settled by the reasons of the subflow and of the streams, by the third MP_JOIN, and by the fast close.
+    /// The timer is settled at this tick, below 2^64 - 2^20, by the reasons of the subflow and of the streams, by the third
+    /// MP_JOIN, and by the fast close.
     pub fn settle_timer(&mut self, now: u64)
         requires { now < 2 ^ 64 - 2 ^ 20 }
         ensures { self.new ≡ after_timer now self.old }
@@ -113,7 +120,8 @@ impl PathEnd {
         self.sending.news = false;
     }
 
-    /// The FIN was pushed and sent at once, and told this edge of the window.
+    /// The FIN is pushed and sent at once; its segment told this edge of the window, at most 2^62 + 2^21, and this is known after
+    /// it (`edge_told`, `modes_after`).
     pub fn having_sent_fin(&mut self, now: u64, told_edge: u64, modes: Modes)
         requires state { IsTrue (may_finish self.old.tcp.state) }
         requires edge { told_edge ≤ 2 ^ 62 + 2 ^ 21 }

@@ -14,11 +14,17 @@ use subflow_tcp::Subflow;
 /// One end of a path: its subflow, its own stream, the peer's, the mode, the copy that it treats, and what it has to note.
 #[derive(Drop)]
 pub struct PathEnd {
+    /// The subflow, by positions (RFC 9293).
     pub tcp: Subflow,
+    /// The side's own stream, by places (RFC 8684, section 3.3.2).
     pub sending: Sending,
+    /// The peer's stream, by places (RFC 8684, section 3.3.1).
     pub receiving: Receiving,
+    /// The side's mode, keys and nonces.
     pub modes: Modes,
+    /// The copy that is treated.
     pub treated: Treated,
+    /// What is to be told to the peer beside the streams, or to be done.
     pub notices: Notices,
 }
 

@@ -1,4 +1,5 @@
-//! What happens at an end by itself: a death that its script tells, a priority, a timer that runs out.
+//! The tick and the step of an event, and what happens at an end by itself: a death that its script tells, a priority, a timer
+//! that runs out.
 
 ghost use Rattle.std.specs.Prelude.{◌≡◌, ◌<◌, ◌^◌, ◌-◌, IsSome, OnOk, OnErr};
 ghost use Rattle.actor_desk.specs.Kinds.{CanBeAsked};
@@ -27,7 +28,7 @@ impl Event {
         }
     }
 
-    /// Its step on the path of this number.
+    /// Its step on the path of this number, which is below 16.
     pub fn step(self, path: u8) -> Ask
         requires { path < 16 }
         ensures value { result ≡ step_of path self }
@@ -53,7 +54,7 @@ impl PathEnd {
         matches!(self.tcp.state(), State::Dead)
     }
 
-    /// Whether it is dead, or never heard anything.
+    /// Whether it is dead, or still listens.
     pub fn is_dead_or_listening(&self) -> bool
         ensures { result ≡ is_dead_or_listening self.now.tcp.state }
     {
@@ -69,7 +70,11 @@ impl PathEnd {
         }
     }
 
-    /// The priority is to be told to the peer, unless the end is dead. At an error all is as it was.
+    /// The priority is to be told to the peer, unless the end is dead.
+    ///
+    /// # Errors
+    ///
+    /// Only where there is no memory, and the end isn't dead; all is then as it was.
     pub fn note_priority(&mut self, backup: bool) -> Result<(), AllocError>
         ensures ok { OnOk result (self.new ≡ with_priority backup self.old) }
         ensures err { OnErr result (self.new ≡ self.old) }
@@ -80,7 +85,8 @@ impl PathEnd {
         self.notices.push(OwnNotice::Prio { backup })
     }
 
-    /// Its timer ran out. Answers whether it was the sixth time in a row, which ends the end.
+    /// Its timer, which runs, ran out at this tick, below 2^64 - 2^20. Answers whether it was the sixth time in a row, which ends
+    /// the end.
     pub fn fire(&mut self, now: u64) -> bool
         requires now { now < 2 ^ 64 - 2 ^ 20 }
         requires running { IsSome self.old.tcp.timing.timer }

@@ -24,7 +24,8 @@ impl PathEnd {
         }
     }
 
-    /// It is told as long as the peer's mappings count.
+    /// Whether a failed check is told: the whole mapping at the edge is there with another checksum, and the peer's mappings
+    /// count (RFC 8684, section 3.7).
     pub fn check_failed_stands(&self, profile: &Profile) -> bool
         ensures { result ≡ check_failed_stands profile.now self.now }
     {
@@ -56,7 +57,8 @@ impl PathEnd {
         }
     }
 
-    /// The verdict was told; the mapping's octets are forgotten.
+    /// The verdict on a failed check was told: acknowledgements tell the mapping where the side goes on, the reset where the path
+    /// is broken. The mapping's octets are forgotten.
     pub fn take_check_reply(&mut self, checksums: bool, reply: &Reply)
         ensures { self.new ≡ after_check_failed checksums reply.now self.old }
     {

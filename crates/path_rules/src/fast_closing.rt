@@ -7,7 +7,7 @@ use crate::end::PathEnd;
 use crate::standing::is_connected;
 use subflow_tcp::State;
 
-/// An end that never sent a segment.
+/// An end that waits or listens.
 fn is_silent(state: State) -> bool
     ensures { result ≡ is_silent state }
 {
@@ -15,14 +15,14 @@ fn is_silent(state: State) -> bool
 }
 
 impl PathEnd {
-    /// The side told that the end is to be reset, and it never sent a segment.
+    /// The side told that the end is to be reset, and it waits or listens: it dies without a segment.
     pub fn leaves_silently(&self) -> bool
         ensures { result ≡ leaves_silently self.now }
     {
         is_silent(self.tcp.state()) && self.notices.reset
     }
 
-    /// The side told that the end is to be reset, and it sent a segment.
+    /// The side told that the end is to be reset, and it neither waits nor listens nor is dead: it sends a reset.
     pub fn resets_noted(&self) -> bool
         ensures { result ≡ resets_noted self.now }
     {

@@ -47,7 +47,8 @@ pub(crate) fn window_told(syn: bool, window: u32) -> u32
 }
 
 impl PathEnd {
-    /// The edge of the window that a segment of the end tells; a reset tells none.
+    /// The edge of the window that a segment of the end tells, a place of the peer's stream; for a reset, which tells none, the
+    /// one told last.
     pub fn edge_told(&self, said: &Said<'_>) -> u64
         ensures value { result ≡ edge_told (plain_said said.now) self.now }
         ensures bound { said.now.window ≤ 2 ^ 20 → result ≤ 2 ^ 62 + 2 ^ 21 }
@@ -67,7 +68,8 @@ impl PathEnd {
         self.modes.sends_plainly() && self.owes_mapping() && some
     }
 
-    /// What the end knows after a segment, of which it may have to know where it ends.
+    /// What the end knows after a segment: of those that had the owed infinite mapping the least end is kept (RFC 8684, section
+    /// 3.7).
     pub fn modes_after(&self, said: &Said<'_>) -> Modes
         ensures { result ≡ (with_mapping_told (plain_said said.now) self.now).modes }
     {
@@ -78,7 +80,8 @@ impl PathEnd {
         modes
     }
 
-    /// A segment was sent on this occasion, which told this edge.
+    /// A segment was sent on this occasion at this tick; it told this edge of the window, at most 2^62 + 2^21, and this is known
+    /// after it (`edge_told`, `modes_after`).
     pub fn having_sent(&mut self, occasion: Occasion, now: u64, told_edge: u64, modes: Modes)
         requires { told_edge ≤ 2 ^ 62 + 2 ^ 21 }
         ensures { self.new ≡ record self.old {

@@ -108,7 +108,11 @@ impl Profile {
         }
     }
 
-    /// The mappings that a copy says, in their order. Takes memory for them.
+    /// The mappings that a copy says, in their order.
+    ///
+    /// # Errors
+    ///
+    /// Only where there is no memory for them.
     pub fn held_of(
         &self,
         alloc: Global,

@@ -49,7 +49,8 @@ impl PathEnd {
         }
     }
 
-    /// The book answered.
+    /// The send book answered to an MP_FAIL: where it gave its bytes to this path alone, their infinite mapping is kept until the
+    /// verdict.
     pub fn take_book_reply(&mut self, reply: &Reply)
         ensures { self.new ≡ with_infinite reply.now self.old }
     {

@@ -1,4 +1,4 @@
-//! What the control books' answers on a join make of an end (RFC 8684, section 3.2).
+//! What A's control book is asked of a join, and what the control books' answers make of an end (RFC 8684, section 3.2).
 
 ghost use Rattle.std.specs.Prelude.{◌≡◌, ◌<◌, if◌then◌else◌};
 ghost use Rattle.subflow_tcp.specs.Opening.{after_begin};
@@ -27,7 +27,7 @@ fn mode_refused(reply: &Reply, other: Mode) -> Mode
     }
 }
 
-/// It is asked whether the path of this number may join the connection.
+/// A's control book is asked whether the path of this number, below 16, may join the connection (RFC 8684, section 3.2).
 pub fn join_begin_ask(path: u8) -> Ask
     requires { path < 16 }
     ensures value { result ≡ join_begin_ask path }
@@ -85,7 +85,7 @@ impl PathEnd {
         self.modes.mode = mode_refused(reply, self.modes.mode);
     }
 
-    /// The waiting end opens.
+    /// The waiting end opens by these keys; without keys it waits on.
     pub fn open(&mut self, keys: Option<KeyPair>)
         ensures { self.new ≡ opened_by keys self.old }
     {

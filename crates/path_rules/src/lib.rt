@@ -5,7 +5,8 @@
 //! over segments as values the machine that theorems speak of. Worlds are defined over them, so they stand below the path itself.
 //!
 //! The code is that of one end: what it keeps, by concern; what it hears of a copy; what its segments say; and what a reply makes of
-//! it. The crate `path_core` makes paths of two ends, a link and an agenda of duties.
+//! it. Beside it stand the values that the rules of whole paths name: what is drawn, what happens, what a step hands over and takes. The
+//! crate `path_core` makes paths of two ends, a link and an agenda of duties.
 #![tactic(auto)]
 
 mod addressing;

@@ -33,6 +33,8 @@ pub struct Arriving<'a> {
 /// Which segment the end of a side sends.
 #[derive(Clone, Copy)]
 pub struct ToSend {
+    /// The side of the end.
     pub from: Side,
+    /// Which segment it is.
     pub kind: SegmentKind,
 }

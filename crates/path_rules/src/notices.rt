@@ -76,7 +76,7 @@ impl Notices {
         Some(*notice)
     }
 
-    /// The first of it was noted.
+    /// The first of what is to be noted was sent, and leaves the queue; an empty queue stays.
     pub fn drop_first(&mut self)
         ensures { self.new ≡ without_first self.old }
     {

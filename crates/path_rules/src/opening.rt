@@ -42,7 +42,7 @@ impl Modes {
 }
 
 impl PathEnd {
-    /// The end left SynReceived by a copy with both keys.
+    /// The copy that is treated established the end, and has both keys.
     pub fn is_opened_by_keys(&self) -> bool
         ensures { result ≡ is_opened_by_keys self.now }
     {
@@ -57,21 +57,21 @@ impl PathEnd {
         self.treated.keys_told = true;
     }
 
-    /// The end left SynReceived by a copy without any option, and the side isn't sure.
+    /// The copy that is treated established the end, has no option, and the side is starting.
     pub fn is_opened_plainly(&self) -> bool
         ensures { result ≡ is_opened_plainly self.now }
     {
         self.treated.opened && !self.treated.has_option && self.modes.mode == Mode::Starting
     }
 
-    /// The SYN doesn't ask for Multipath TCP.
+    /// The SYN doesn't ask for Multipath TCP, and the side is starting.
     pub fn is_plain_syn(&self) -> bool
         ensures { result ≡ is_plain_syn self.now }
     {
         !self.modes.capable_asked && self.modes.mode == Mode::Starting
     }
 
-    /// The SYN/ACK tells the peer's key, or that there is none.
+    /// The SYN/ACK tells the peer's key, or the side is starting and is told that there is none.
     pub fn peer_key_stands(&self) -> bool
         ensures { result ≡ peer_key_stands self.now }
     {

@@ -54,7 +54,8 @@ impl Profile {
         }
     }
 
-    /// The mapping that a granted piece has for ever.
+    /// The mapping that a granted piece has for ever: at most 65,535 octets, from this place and this position on; its checksum
+    /// is 0 where none are used (RFC 8684, section 3.3.1).
     pub fn mapping_of(&self, side: Side, place: u64, position: Pos, octets: &[u8]) -> Mapping
         requires { length octets.now ≤ 65535 }
         ensures { result ≡ mapping_of self.now side place position octets.now }

@@ -72,7 +72,8 @@ impl PathEnd {
         }
     }
 
-    /// The window grows by what the rows of all paths say.
+    /// The congestion window grows by the linked increase over the rows of all paths (RFC 6356); the MSS is at most 1,460 octets.
+    /// Without rows it stays.
     pub fn take_rate_reply(&mut self, path: u8, mss: u16, reply: &Reply)
         requires rows { AreRowsInRange reply.now }
         requires mss { mss ≤ 1460 }
@@ -100,8 +101,8 @@ impl PathEnd {
         }
     }
 
-    /// An expiry sends the first record again, or else the third MP_JOIN or the DATA_FIN, or else what a peer that is there
-    /// answers.
+    /// On which occasion an expiry sends: the first record again, or else an acknowledgement with the third MP_JOIN, MP_FASTCLOSE
+    /// or the DATA_FIN, or else a probe, which a peer that is there answers.
     pub fn resend_occasion(&self) -> Occasion
         ensures { result ≡ resend_occasion self.now }
     {

@@ -34,7 +34,8 @@ impl Model for Profile {
 impl Profile {
     ghost use Rattle.path_rules.specs.Emission.{payload_size};
 
-    /// A profile of a maximum segment size of 200 to 1,460 octets, and a buffer of at most 1,048,576.
+    /// A profile of a maximum segment size of 200 to 1,460 octets, and a buffer of at most 1,048,576 octets, on a path of number
+    /// 15 or less.
     pub fn new(mss: u16, buffer: u32, backup: bool, spelling: Spelling) -> Self
         requires least { 200 ≤ mss }
         requires most { mss ≤ 1460 }
@@ -83,7 +84,7 @@ impl Profile {
         &self.spelling
     }
 
-    /// Octets of the payload of a full segment.
+    /// Octets of the payload of a full segment: MSS less 28, which the longest option of a segment with data takes.
     pub fn payload_size(&self) -> u32
         ensures value { result ≡ payload_size self.now }
         ensures least { 1 ≤ result }

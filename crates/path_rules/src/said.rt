@@ -15,8 +15,11 @@ pub(crate) type Saying = PathOption<u64, [u8; 1]>;
 /// The options of Multipath TCP that a segment says, in their order: two at most, which have room in forty octets.
 #[derive(Clone, Copy)]
 pub enum SaidOptions {
+    /// None.
     Nothing,
+    /// This one.
     One(Saying),
+    /// These, the first one first.
     Two(Saying, Saying),
 }
 
@@ -51,7 +54,9 @@ pub struct Said<'a> {
     pub window: u32,
     /// The maximum segment size, which a SYN has.
     pub mss: Option<u16>,
+    /// Its options of Multipath TCP.
     pub options: SaidOptions,
+    /// Its payload: at most 65,475 octets of a segment that `PathEnd::said` gives.
     pub payload: &'a [u8],
 }
 
@@ -90,7 +95,11 @@ impl<'a> Said<'a> {
         }
     }
 
-    /// Its octets, as this side sends them. Allocates once.
+    /// Its octets, as this side sends them. It can be said, as `PathEnd::said` promises. Allocates once.
+    ///
+    /// # Errors
+    ///
+    /// Only where there is no memory for them.
     pub fn octets(
         &self,
         alloc: Global,
@@ -118,7 +127,7 @@ impl<'a> Said<'a> {
         }
     }
 
-    /// The checksum field of its octets. Takes no memory.
+    /// The checksum field of its octets. It can be said, as `PathEnd::said` promises. Takes no memory.
     pub fn sum(&self, spelling: &Spelling, side: Side) -> u16
         requires { CanBeSaid spelling.now side (plain_said self.now) }
         ensures { result ≡ sum_of spelling.now side (plain_said self.now) }

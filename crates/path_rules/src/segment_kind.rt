@@ -15,7 +15,7 @@ pub enum SegmentKind {
     First,
     /// The SYN/ACK.
     SynAck,
-    /// The answer to a segment that is passed over.
+    /// The answer to a segment that isn't taken: the SYN/ACK while the own SYN isn't acknowledged, else an acknowledgement.
     Answer,
     /// The reset that answers a segment at a dead end.
     DeadAnswer,

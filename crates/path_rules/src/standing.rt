@@ -1,4 +1,5 @@
-//! How an end's side stands, as it is told at the start of a turn, and whether the window's growth is to be told.
+//! What an end is told as a turn begins, how its side stands and what is to be acknowledged, and whether the window's growth is
+//! to be told.
 
 ghost use Rattle.std.specs.Prelude.{◌≡◌, ◌≤◌, ◌+◌, ◌^◌, false, IsOk, OnOk, OnErr};
 ghost use Rattle.path_rules.specs.Replies.{IsAckBounded};
@@ -70,7 +71,11 @@ impl PathEnd {
         }
     }
 
-    /// The side told how it stands. At an error all is as it was.
+    /// The side told how it stands. Any other reply changes nothing.
+    ///
+    /// # Errors
+    ///
+    /// Only where there is no memory, and something is to be noted to the peer; all is then as it was.
     pub fn look(&mut self, reply: &Reply) -> Result<(), AllocError>
         ensures ok { OnOk result (self.new ≡ after_look reply.now self.old) }
         ensures err { OnErr result (self.new ≡ self.old) }

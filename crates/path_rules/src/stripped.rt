@@ -22,8 +22,9 @@ impl PathEnd {
         self.treated.plain_ack && !self.modes.sends_plainly()
     }
 
-    /// It breaks a path that joined, as long as no Data ACK covered something on it; and the third without a Data ACK between
-    /// them breaks the path of a side that is sure.
+    /// Whether the copy breaks the path, as it acknowledges data without a Data ACK though the side sends with mappings: a path
+    /// that joined, as long as no Data ACK covered something on it; at the third such copy without a Data ACK between them that
+    /// of a side that is sure.
     pub fn breaks_by_ack(&self, profile: &Profile) -> bool
         ensures { result ≡ breaks_by_ack profile.now self.now }
     {
@@ -32,14 +33,14 @@ impl PathEnd {
         self.lacks_data_ack() && (joins || third)
     }
 
-    /// The path is broken, or the side isn't sure and is told.
+    /// Whether such a copy breaks the path, or is told, since the side is starting (RFC 8684, section 3.7).
     pub fn plain_ack_stands(&self, profile: &Profile) -> bool
         ensures { result ≡ plain_ack_stands profile.now self.now }
     {
         self.breaks_by_ack(profile) || self.lacks_data_ack() && self.modes.mode == Mode::Starting
     }
 
-    /// One more acknowledgement without a Data ACK, where the copy is one.
+    /// A copy that acknowledges data without a Data ACK is counted, up to three.
     pub fn count_plain_ack(&mut self)
         ensures { self.new ≡ with_plain_ack self.old }
     {
@@ -48,7 +49,7 @@ impl PathEnd {
         }
     }
 
-    /// That such a copy came was told.
+    /// The verdict on such a copy was told; the copy is counted.
     pub fn take_plain_ack_reply(&mut self, reply: &Reply)
         ensures { self.new ≡ with_plain_ack (after_fell events.PlainAck reply.now self.old) }
     {
@@ -56,14 +57,16 @@ impl PathEnd {
         self.count_plain_ack();
     }
 
-    /// Where the side sends without mappings the acknowledgement of the subflow is told.
+    /// Whether the subflow's acknowledgement is told in the place of a Data ACK: the side sends without mappings, and no Data ACK
+    /// of the copy was told (RFC 8684, section 3.7).
     pub fn subflow_ack_stands(&self) -> bool
         ensures { result ≡ subflow_ack_stands self.now }
     {
         self.plain_next().is_some() && !self.treated.data_ack_taken
     }
 
-    /// It acknowledges so many bytes.
+    /// How many bytes of the stream the subflow's acknowledgement stands for, where the side sends without mappings: fewer than
+    /// 2^62.
     pub fn plain_next(&self) -> Option<u64>
         ensures value { result ≡ plain_next self.now }
         ensures bound { IfSome result (λ next. next < 2 ^ 62) }
@@ -71,7 +74,7 @@ impl PathEnd {
         self.modes.bytes_acknowledged(self.treated.acknowledged())
     }
 
-    /// So many bytes of the stream are acknowledged, where that was taken.
+    /// The subflow's acknowledgement was told: what it stands for is acknowledged, where the send book took that.
     pub fn take_subflow_ack_reply(&mut self, reply: &Reply)
         ensures { self.new ≡ with_plain_acked reply.now self.old }
     {
@@ -80,7 +83,7 @@ impl PathEnd {
         }
     }
 
-    /// The next byte came without any option, and the side isn't sure.
+    /// The next byte came without any option, and the side is starting.
     pub fn plain_data_stands(&self) -> bool
         ensures { result ≡ plain_data_stands self.now }
     {
@@ -105,7 +108,8 @@ impl PathEnd {
         self.receiving.times_unmapped(self.tcp.edge())
     }
 
-    /// The third time breaks the path of a side that is sure.
+    /// Whether the octet at the receive edge came for the third time without a mapping, and the side is sure: that breaks the
+    /// path.
     pub fn breaks_by_unmapped(&self) -> bool
         ensures { result ≡ breaks_by_unmapped self.now }
     {
@@ -131,7 +135,8 @@ impl PathEnd {
         }
     }
 
-    /// No more bytes can be placed.
+    /// No more bytes can be placed: an octet at the edge without a mapping is counted, and a DATA_FIN behind bytes that the edge
+    /// reached is told next.
     pub fn pass_pieces(&mut self)
         ensures { self.new ≡ after_pieces self.old }
     {

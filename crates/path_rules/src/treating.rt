@@ -167,7 +167,8 @@ impl PathEnd {
         self.is_dropped(side) || self.tcp.is_fin_passed()
     }
 
-    /// The payload that is held is kept or dropped.
+    /// The payload that is held is kept; B drops it where its copy has an option, as long as the end has neither both keys nor
+    /// fell back.
     pub fn keep(&mut self, side: Side)
         ensures { self.new ≡ after_keep side self.old }
     {
