@@ -1,9 +1,10 @@
-//! Prints what the books of a side, the ends of subflows and the texts of logs answer, one case for each line of standard input.
+//! Prints what the books of a side, the ends of subflows, the texts of logs, and paths with segments that no end sent answer, one case for
+//! each line of standard input.
 //! `stdin` holds the cases, `stdout` the wanted answers. Lines that are empty or begin with `#` are printed as they stand, and say
 //! where the answers come from.
 //!
-//! The first word of a case says what is asked: `book`, `end`, `pair` or `log`; the file of each part tells the form of what
-//! follows. A case is printed again with ` = ` and its answer, of a log the answer alone.
+//! The first word of a case says what is asked: `book`, `end`, `pair`, `log` or `path`; the file of each part tells the form of what
+//! follows. A case is printed again with ` = ` and its answer, of a log the answer alone, of a path with LF and its answer.
 #![tactic(auto)]
 
 mod books;
@@ -11,6 +12,7 @@ mod calls;
 mod ends;
 mod logs;
 mod pairs;
+mod paths;
 
 use books::Books;
 use case_fields::{CaseFault, put_word};
@@ -39,6 +41,9 @@ fn put_answer(
         return logs::put_answer(alloc, text, case);
     }
     put_word(text, line)?;
+    if part == "path" {
+        return paths::put_answer(alloc, text, case);
+    }
     put_word(text, " = ")?;
     put_part_answer(alloc, text, opened, part, case)
 }
