@@ -35,8 +35,13 @@ fn run(alloc: Global, case: Case) -> Result<Journal, CaseFault>
     Ok(journal)
 }
 
-/// Puts the answer to a case, behind LF.
-pub fn put_answer(alloc: Global, text: &mut String, case: &str) -> Result<(), CaseFault> {
+/// Puts a line, and behind LF the answer to its case.
+pub fn put_answer(
+    alloc: Global,
+    text: &mut String,
+    line: &str,
+    case: &str,
+) -> Result<(), CaseFault> {
     let case = Case::read(alloc, case)?;
     let shown = case.shown;
     let journal = run(alloc, case)?;
@@ -45,6 +50,7 @@ pub fn put_answer(alloc: Global, text: &mut String, case: &str) -> Result<(), Ca
         Shown::Sums => journal.sums()?,
         Shown::Ends => journal.ends()?,
     };
+    put_word(text, line)?;
     put_word(text, "\n")?;
     put_word(text, answer.as_str())
 }

@@ -7,13 +7,10 @@
 //! readers' ports hold, how many lines the log has, and the SHA-256 of each; `read` the same of the readers' ports alone; `calls` these sums,
 //! and the calls that were made on the outside: the name and the limit of a load, the port and the name of a bind, the port and the number
 //! of octets of a put. A line that begins with `meet` is a run by threads, as `meeting.rt` tells; one that begins with `round` is the
-//! first round of a run by threads at locks, as `opening.rt` tells; one that begins with `tables` is rounds by threads over six
-//! books alone, as `tables.rt` tells; one that begins with `enough` asks within how many rounds a clean script ends, as `enough.rt` tells;
-//! and one that begins with `many` is a run of a list of connections, as `lists.rt` tells.
+//! first round of a run by threads at locks, as `opening.rt` tells; one that begins with `enough` asks within how many rounds a clean
+//! script ends, as `enough.rt` tells; and one that begins with `many` is a run of a list of connections, as `lists.rt` tells.
 #![tactic(auto)]
 
-mod books_shown;
-mod caller;
 mod case;
 mod enough;
 mod lists;
@@ -22,7 +19,6 @@ mod opening;
 mod order;
 mod recorder;
 mod report;
-mod tables;
 
 use case::Case;
 use case_fields::CaseFault;
@@ -38,7 +34,6 @@ use std::alloc::{AllocError, Global};
 use std::io;
 use std::sync::Wait;
 use std::thread::Threads;
-use tables::at_tables;
 
 /// The run of a case: how it ended, and the outside then.
 fn ended<R: Threads + Wait + Sync>(
@@ -85,7 +80,6 @@ fn respond<R: Threads + Wait + Sync>(
     }
     match line.split_once(" ") {
         Some(("meet", fields)) => meeting(rt, alloc, line, fields),
-        Some(("tables", _)) => at_tables(rt, alloc, line),
         Some(("round", _)) => first_round(rt, alloc, line),
         Some(("enough", _)) => bound(alloc, line),
         Some(("many", fields)) => list_answer(alloc, line, fields),
