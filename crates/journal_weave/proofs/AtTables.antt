@@ -15,8 +15,8 @@ use Rattle.actor_desk.specs.Books.{StampedBooks}
 use Rattle.actor_desk.specs.Journals.{send_note, reassembly_note, control_note}
 use Rattle.actor_desk.specs.Noted.{notes_in}
 use Rattle.path_rules.specs.Octets.{octets}
-use Rattle.subflow_worker.specs.Extending.{Extends}
-use Rattle.subflow_worker.specs.Turns.{AreSteps}
+use Rattle.actor_turn.specs.Extending.{Extends}
+use Rattle.actor_turn.specs.Turns.{AreSteps}
 use Rattle.ruled_desk.specs.Gaining.{IsGained, by_book, list_at}
 use Rattle.ruled_desk.specs.WholeRounds.{IsWholeRound}
 use Rattle.world_laws.specs.Actors.{Actor, ActorCrew, member_asks, member_takes}

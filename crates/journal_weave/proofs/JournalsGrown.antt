@@ -3,7 +3,7 @@ use Rattle.std.proofs.Common.{◌∙◌, ap, subst, ℕ, ◌<◌, List, [], ◌�
 use Rattle.stamped_book.specs.declared.stamped.Entry.{Entry}
 use Rattle.stamped_book.specs.Journal.{Journaled, replay, IsJournal, last_stamp}
 use Rattle.stream_lanes.specs.Words.{Every}
-use Rattle.subflow_worker.specs.Extending.{Extends}
+use Rattle.actor_turn.specs.Extending.{Extends}
 use Rattle.world_laws.specs.Weaving.{AreEntries, JournalGrew}
 
 module _ {O C R : Type 0} (reply_to : O → C → R) (after : O → C → O) where

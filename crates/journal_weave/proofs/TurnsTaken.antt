@@ -22,7 +22,7 @@ use Rattle.stream_apps.specs.Apps.{AppState}
 use Rattle.stream_apps.specs.AppSteps.{app_asks_first}
 use Rattle.stream_apps.specs.declared.duty.AppDuty.{AppDuty}
 use Rattle.path_rules.specs.Octets.{octets}
-use Rattle.subflow_worker.specs.Turns.{AreSteps, Turned, member_after, stamp_after}
+use Rattle.actor_turn.specs.Turns.{AreSteps, Turned, member_after, stamp_after}
 use Rattle.world_laws.specs.Actors.{Actor, ActorCrew, member_asks, member_takes, is_over}
 use Rattle.world_laws.specs.declared.member.Member.TheVariants.{App, Path}
 use Rattle.world_laws.specs.Fine.{NotesRise, last_noted, IsFineCrew}

@@ -13,7 +13,7 @@ use Rattle.stamped_book.specs.declared.stamped.Entry.{Entry}
 use Rattle.actor_desk.specs.Books.{StampedBooks}
 use Rattle.actor_desk.specs.Journals.{is_local, send_note, reassembly_note, control_note}
 use Rattle.actor_desk.specs.Noted.{BookNotes, notes_in, with_note}
-use Rattle.subflow_worker.specs.Turns.{NotesOneMore, noted_all}
+use Rattle.actor_turn.specs.Turns.{NotesOneMore, noted_all}
 use Rattle.ruled_desk.specs.declared.rider.Rider.{Rider}
 use Rattle.ruled_desk.specs.Gaining.{by_book, list_at, GoesOn, IsGained, GainAlike}
 use Rattle.ruled_desk.specs.Riding.{Rode, all_joined, given_pass, known_with, notes_held}

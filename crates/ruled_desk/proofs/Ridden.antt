@@ -8,8 +8,8 @@ use Rattle.actor_desk.specs.declared.ask.Ask.{Ask}
 use Rattle.actor_desk.specs.declared.ask.Reply.{Reply}
 use Rattle.actor_desk.specs.declared.actor.Crew.{Crew}
 use Rattle.actor_desk.specs.Noted.{BookNotes}
-use Rattle.subflow_worker.specs.Turns.{Went, Stopped, NotesOneMore, is_refused, refused_by, noted_all, stamp_after}
-use Rattle.subflow_worker.specs.Turns as turns
+use Rattle.actor_turn.specs.Turns.{Went, Stopped, NotesOneMore, is_refused, refused_by, noted_all, stamp_after}
+use Rattle.actor_turn.specs.Turns as turns
 use Rattle.ruled_desk.specs.declared.rider.Rider.{Rider}
 use Rattle.ruled_desk.specs.SixSeats.{SixLocked, Passed, AreOf, names_of, notes_by, notes_full}
 use Rattle.ruled_desk.proofs.Outs.{same_tables}

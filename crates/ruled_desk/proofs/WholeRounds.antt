@@ -15,8 +15,8 @@ use Rattle.actor_desk.specs.declared.ask.Note.{Note}
 use Rattle.actor_desk.specs.declared.ask.Reply.{Reply}
 use Rattle.actor_desk.specs.Books.{StampedBooks}
 use Rattle.actor_desk.specs.Journals.{send_note, reassembly_note, control_note}
-use Rattle.subflow_worker.specs.Extending.{Extends, BooksExtend}
-use Rattle.subflow_worker.specs.Turns.{Turned, is_refused}
+use Rattle.actor_turn.specs.Extending.{Extends, BooksExtend}
+use Rattle.actor_turn.specs.Turns.{Turned, is_refused}
 use Rattle.ruled_desk.specs.declared.rider.Rider.{Rider}
 use Rattle.ruled_lock.specs.Growing.{HasLastStamp}
 use Rattle.ruled_desk.specs.Riding.{AreNumbered, HasPass, NotesFull, OneIsUsedUp, Rode, all_joined, given_pass, is_rider_refused, known_with, pass_taken}

@@ -6,7 +6,7 @@ use Rattle.stamped_book.specs.declared.stamped.Refusal.TheVariants.{Stamps}
 use Rattle.actor_desk.specs.declared.ask.Ask.{Ask}
 use Rattle.actor_desk.specs.declared.ask.Reply.{Reply}
 use Rattle.actor_desk.specs.Noted.{BookNotes}
-use Rattle.subflow_worker.specs.Turns.{Turned, NotesOneMore, is_refused, noted_all}
+use Rattle.actor_turn.specs.Turns.{Turned, NotesOneMore, is_refused, noted_all}
 use Rattle.ruled_desk.specs.SixSeats.{SixLocked, SixKnown, Passed, Rooted, AreOf, all_known, nothing_known, notes_by, notes_full}
 use Rattle.ruled_desk.specs.declared.rider.Rider.{Rider}
 

@@ -9,8 +9,8 @@ use Rattle.actor_desk.specs.declared.ask.Note.{Note}
 use Rattle.actor_desk.specs.declared.ask.Reply.{Reply}
 use Rattle.actor_desk.specs.Books.{StampedBooks}
 use Rattle.actor_desk.specs.Noted.{notes_in}
-use Rattle.subflow_worker.specs.Extending.{BooksExtend}
-use Rattle.subflow_worker.specs.Turns.{Turned, is_refused}
+use Rattle.actor_turn.specs.Extending.{BooksExtend}
+use Rattle.actor_turn.specs.Turns.{Turned, is_refused}
 use Rattle.ruled_desk.specs.declared.rider.Rider.{Rider}
 use Rattle.ruled_desk.specs.Gaining.{GainAlike, by_book, list_at}
 

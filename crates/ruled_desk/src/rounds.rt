@@ -16,13 +16,14 @@ ghost use Rattle.ruled_desk.specs.declared.rider.Rider.{Rider};
 ghost use Rattle.ruled_desk.specs.Riding.{AreNumbered, HasPass, OneIsUsedUp, Rode, is_rider_refused};
 ghost use Rattle.ruled_desk.specs.SixSeats.{AreOf, given_to, nobody_out, nothing_known, notes_by, notes_full};
 ghost use Rattle.ruled_desk.specs.WholeRounds.{AreActors, EndsAsTurns, IsWholeRound, NoTurnMade, OneIsFull, OneKnowsLast, crew_of};
-ghost use Rattle.subflow_worker.specs.Extending.{BooksExtend};
+ghost use Rattle.actor_turn.specs.Extending.{BooksExtend};
 
 use crate::desk::{OpenFault, RootPass, RuledDesk, RuledPass};
 use crate::mounting::{dismount, mount};
 use crate::refusing::outcome_of;
 use crate::rider::Rider;
 use actor_desk::{Actor, Ask, Books, Crew, Desk, Reply};
+use actor_turn::turn;
 use control_book::{ControlCall, ControlReply};
 use outside_kit::{Gate, Object, Side};
 use reassembly_book::{ReassemblyCall, ReassemblyReply};
@@ -32,7 +33,6 @@ use std::alloc::Global;
 use std::sync::Wait;
 use std::thread;
 use std::thread::Threads;
-use subflow_worker::turn;
 
 /// A seat at a desk of tables: it waits for its turn at one book for one call, and tells the gate while it has the book.
 #[derive(Drop)]

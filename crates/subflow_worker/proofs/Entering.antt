@@ -5,7 +5,7 @@ use Rattle.stamped_book.specs.declared.stamped.Pass.{Pass}
 use Rattle.stamped_book.specs.Journal.{Journaled, book_of}
 use Rattle.stamped_book.specs.Entering.{entry_of, after_entering}
 use Rattle.stamped_book.proofs.Journals.{replay-append}
-use Rattle.subflow_worker.specs.Extending.{Extends}
+use Rattle.actor_turn.specs.Extending.{Extends}
 
 -- its journal still begins as it began, and what a call keeps is kept, where the call is entered and where it is refused
 pub entered : {O C R E : Type 0} (reply_to : O → C → R) (after : O → C → O) (sound : O → Type 0) (start s t : Journaled O C R) (pass : Pass) (call : C)

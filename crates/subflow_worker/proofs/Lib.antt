@@ -1,5 +1,4 @@
 mod Lists
-mod Steps
 mod Asked
 mod Entering
 mod Refused

@@ -4,7 +4,7 @@ use Rattle.std.specs.List.{list_any, All}
 use Rattle.stamped_book.specs.declared.stamped.Refusal.{Refusal}
 use Rattle.stamped_book.specs.declared.stamped.Refusal.TheVariants.{Memory, Stamps}
 use Rattle.actor_desk.specs.declared.actor.Crew.{Crew}
-use Rattle.subflow_worker.specs.Turns.{is_refused, refused_by}
+use Rattle.actor_turn.specs.Turns.{is_refused, refused_by}
 
 first_of : (a b : Bool) → (a || b) ≡ false → a ≡ false
 first_of false b e = refl

@@ -1,6 +1,6 @@
 //! The six books, each behind a lock of its own.
 ghost use Rattle.std.specs.Prelude.{◌≡◌};
-ghost use Rattle.subflow_worker.specs.Extending.{Extends};
+ghost use Rattle.actor_turn.specs.Extending.{Extends};
 
 use crate::held::{Held, Start};
 use actor_desk::Books;

@@ -2,7 +2,7 @@
 ghost use Rattle.std.specs.Prelude.{◌≡◌, IfOk, OnOk, OnErr};
 ghost use Rattle.stamped_book.specs.Journal.{book_of};
 ghost use Rattle.actor_desk.specs.Noted.{Rises};
-ghost use Rattle.subflow_worker.specs.Extending.{Extends};
+ghost use Rattle.actor_turn.specs.Extending.{Extends};
 
 use actor_desk::Kept;
 use stamped_book::{Book, Pass, Refusal, Stamped};
@@ -25,7 +25,7 @@ pub(crate) struct Held<O: Kept, S: Start<O>> {
 
 impl<O: Kept, S: Start<O>> Model for Held<O, S> {
     ghost use Rattle.stamped_book.specs.Journal.{Journaled, book_of};
-    ghost use Rattle.subflow_worker.specs.Extending.{Extends};
+    ghost use Rattle.actor_turn.specs.Extending.{Extends};
 
     ghost Value = { Journaled O O.Call O.Reply };
 

@@ -2,7 +2,7 @@
 ghost use Rattle.std.specs.Prelude.{◌≡◌, ◌↔◌, true, false, None, All, OnOk};
 ghost use Rattle.std.specs.List.{list_any};
 ghost use Rattle.stamped_book.specs.declared.stamped.Refusal.TheVariants.{Memory, Stamps};
-ghost use Rattle.subflow_worker.specs.Turns.{is_refused};
+ghost use Rattle.actor_turn.specs.Turns.{is_refused};
 
 use actor_desk::Crew;
 use stamped_book::Refusal;

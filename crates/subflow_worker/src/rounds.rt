@@ -9,15 +9,15 @@ ghost use Rattle.actor_desk.specs.declared.actor.Crew.{Crew};
 ghost use Rattle.actor_desk.specs.Bounds.{IsSmallSend, IsSmallReassembly, IsSmallControl};
 ghost use Rattle.actor_desk.specs.Kinds.{IsSendKind, IsReassemblyKind, IsControlKind};
 ghost use Rattle.actor_desk.specs.Noted.{Rises};
-ghost use Rattle.subflow_worker.specs.Turns.{Turned, is_refused};
-ghost use Rattle.subflow_worker.specs.Extending.{BooksExtend};
+ghost use Rattle.actor_turn.specs.Turns.{Turned, is_refused};
+ghost use Rattle.actor_turn.specs.Extending.{BooksExtend};
 
 use crate::asking::{ask_control, ask_reassembly, ask_send};
 use crate::desk::{LockedDesk, Naming};
 use crate::held::{Held, Start};
 use crate::refusing::outcome_of;
-use crate::turning::turn;
 use actor_desk::{Actor, Ask, Books, Crew, Desk, Reply};
+use actor_turn::turn;
 use control_book::{ControlBook, ControlCall, ControlReply};
 use outside_kit::{Gate, Object, Side};
 use reassembly_book::{ReassemblyBook, ReassemblyCall, ReassemblyReply};
@@ -114,7 +114,7 @@ impl<N: Naming, G: Gate, R: Wait> Desk for LockedSeat<'_, N, G, R> {
     ghost use Rattle.actor_desk.specs.Journals.{is_local};
     ghost use Rattle.actor_desk.specs.Kinds.{CanBeAsked, IsOfKind};
     ghost use Rattle.actor_desk.specs.Noted.{Rises, note_of, noted};
-    ghost use Rattle.subflow_worker.specs.Turns.{unnoted};
+    ghost use Rattle.actor_turn.specs.Turns.{unnoted};
 
     ghost serves = { λ seat actor. Unit {0} };
 

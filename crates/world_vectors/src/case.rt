@@ -4,7 +4,7 @@
 //! the lines of both files go as messages. In the script `;` stands for LF. A file's
 //! octets are told as `content.rt` says. `ORDER` is what the name `log` holds: `-` where there is no such content, `log` for
 //! the log of the last case whose words began with `--mode serial`, or `log` and edits of it, as `order.rt` says. `FAILS` is `-`, or
-//! the number of the call of the outside that fails, and how many octets it keeps of what it is to put. `SHOWN` is `log`,
+//! the number of the call of the outside that fails, and how many octets it keeps of what it is to put. `SHOWN` is
 //! `sums`, `read` or `calls`.
 
 use crate::order::edited;
@@ -15,8 +15,6 @@ use std::alloc::{AllocError, Global};
 /// What is shown of a run.
 #[derive(Clone, Copy)]
 pub enum Shown {
-    /// What each port holds.
-    Log,
     /// How much each port holds, and digests.
     Sums,
     /// How much the readers' ports hold, and digests.
@@ -112,7 +110,6 @@ fn behind_messages(words: &str) -> (&str, bool) {
 
 fn shown_of(field: &str) -> Result<Shown, CaseFault> {
     match field {
-        "log" => Ok(Shown::Log),
         "sums" => Ok(Shown::Sums),
         "read" => Ok(Shown::Read),
         "calls" => Ok(Shown::Calls),

@@ -1,30 +1,29 @@
-//! Cases of whole runs, of bytes or of messages: reads one a line from standard input, and prints how `mptcp_run` ends it, and
-//! what the outside holds then. `stdin` holds the cases, `stdout` the wanted answers. Lines that begin with `#` are printed as they stand, and say
-//! how the answers were found.
+//! Cases of what no words of `mptcp_sim` say of a run: which calls it makes on its outside, what it does where one of them fails, and
+//! threads that meet. Reads one a line from standard input, and prints how `mptcp_run` ends it, and what the outside holds then. `stdin`
+//! holds the cases, `stdout` the wanted answers. Lines that begin with `#` are printed as they stand, and say how the answers were found.
+//! Runs that words say stand in `checks/runs.cases`.
 //!
-//! `case.rt` tells the form of a case, which is printed before its answer. Of the answer, `log` shows what the readers' ports
-//! hold in hexadecimal digits, or `-` for nothing, and each line of the log with `;` for its LF; `sums` how many octets the
+//! `case.rt` tells the form of a case, which is printed before its answer. Of the answer, `sums` shows how many octets the
 //! readers' ports hold, how many lines the log has, and the SHA-256 of each; `read` the same of the readers' ports alone; `calls` these sums,
 //! and the calls that were made on the outside: the name and the limit of a load, the port and the name of a bind, the port and the number
 //! of octets of a put. A line that begins with `meet` is a run by threads, as `meeting.rt` tells; one that begins with `round` is the
-//! first round of a run by threads at locks, as `opening.rt` tells; and one that begins with `tables` is rounds by threads over six
-//! books alone, as `tables.rt` tells; and one that begins with `enough` asks within how many rounds a clean script ends, as `enough.rt` tells.
+//! first round of a run by threads at locks, as `opening.rt` tells; one that begins with `enough` asks within how many rounds a clean
+//! script ends, as `enough.rt` tells; and one that begins with `many` is a run of a list of connections, as `lists.rt` tells.
 #![tactic(auto)]
 
-mod books_shown;
-mod caller;
 mod case;
 mod enough;
+mod lists;
 mod meeting;
 mod opening;
 mod order;
 mod recorder;
 mod report;
-mod tables;
 
 use case::Case;
 use case_fields::CaseFault;
 use enough::bound;
+use lists::list_answer;
 use meeting::meeting;
 use mptcp_run::{Status, run, run_messages};
 use opening::first_round;
@@ -35,7 +34,6 @@ use std::alloc::{AllocError, Global};
 use std::io;
 use std::sync::Wait;
 use std::thread::Threads;
-use tables::at_tables;
 
 /// The run of a case: how it ended, and the outside then.
 fn ended<R: Threads + Wait + Sync>(
@@ -82,9 +80,9 @@ fn respond<R: Threads + Wait + Sync>(
     }
     match line.split_once(" ") {
         Some(("meet", fields)) => meeting(rt, alloc, line, fields),
-        Some(("tables", _)) => at_tables(rt, alloc, line),
         Some(("round", _)) => first_round(rt, alloc, line),
         Some(("enough", _)) => bound(alloc, line),
+        Some(("many", fields)) => list_answer(alloc, line, fields),
         _ => answer(rt, alloc, line, log),
     }
 }

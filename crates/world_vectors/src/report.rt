@@ -2,16 +2,9 @@
 
 use crate::case::Shown;
 use crate::recorder::Recorder;
-use case_fields::digits;
 use outside_kit::Port;
 use sha2::{Digest, Sha256};
 use std::alloc::{AllocError, Global};
-
-/// What a reader's port holds, in hexadecimal digits.
-fn port_line(alloc: Global, name: &str, held: &[u8]) -> Result<String, AllocError> {
-    let digits = digits(alloc, held)?;
-    format!(in alloc; "\n  {name} {digits}")
-}
 
 /// How many octets a reader's port holds, and their SHA-256.
 fn port_sums(alloc: Global, name: &str, held: &[u8]) -> Result<String, AllocError> {
@@ -28,29 +21,6 @@ fn log_sums(alloc: Global, log: &[u8]) -> Result<String, AllocError> {
     let lines = log.iter().filter(|octet| is_line_end(*octet)).count();
     let digest = hex::encode(alloc, Sha256::digest(log))?;
     format!(in alloc; "\n  log {lines} lines {digest}")
-}
-
-/// The lines of the log, each on a line of its own, with `;` for its LF.
-fn log_lines(alloc: Global, log: &[u8]) -> Result<String, AllocError> {
-    let mut text = String::from_str(alloc, "\n  log")?;
-    for (place, line) in String::from_utf8_lossy(alloc, log)?.split('\n').enumerate() {
-        if place > 0 {
-            text.push(';')?;
-        }
-        if !line.is_empty() {
-            text.push_str("\n    ")?;
-            text.push_str(line)?;
-        }
-    }
-    Ok(text)
-}
-
-/// What the ports hold.
-fn ports(alloc: Global, outside: &Recorder) -> Result<String, AllocError> {
-    let mut text = port_line(alloc, "read-by-b", outside.port(Port::ReadByB))?;
-    text.push_str(port_line(alloc, "read-by-a", outside.port(Port::ReadByA))?.as_str())?;
-    text.push_str(log_lines(alloc, outside.port(Port::Log))?.as_str())?;
-    Ok(text)
 }
 
 /// How much the readers' ports hold, and digests.
@@ -78,7 +48,6 @@ fn sums_and_calls(alloc: Global, outside: &Recorder) -> Result<String, AllocErro
 /// What is shown of a run, with LF before each line.
 pub fn report(alloc: Global, shown: Shown, outside: &Recorder) -> Result<String, AllocError> {
     match shown {
-        Shown::Log => ports(alloc, outside),
         Shown::Sums => sums(alloc, outside),
         Shown::Read => read_sums(alloc, outside),
         Shown::Calls => sums_and_calls(alloc, outside),

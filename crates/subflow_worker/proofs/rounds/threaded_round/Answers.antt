@@ -2,7 +2,7 @@ use Rattle.std.proofs.Common.{rules, subst, ◌≡◌, ◌<◌, ◌↔◌, ℕ, 
 use Rattle.std.specs.List.{list_any, slice_index_or}
 use Rattle.stamped_book.specs.declared.stamped.Refusal.TheVariants.{Memory, Stamps}
 use Rattle.actor_desk.specs.declared.actor.Crew.{Crew}
-use Rattle.subflow_worker.specs.Turns.{Turned, is_refused}
+use Rattle.actor_turn.specs.Turns.{Turned, is_refused}
 use Rattle.subflow_worker.proofs.Lists.{written_back}
 use Rattle.subflow_worker.proofs.rounds.threaded_round.Goals as goal
 

@@ -8,7 +8,7 @@ use Rattle.actor_desk.specs.declared.ask.Ask.{Ask}
 use Rattle.actor_desk.specs.declared.ask.Note.{Note}
 use Rattle.actor_desk.specs.declared.ask.Reply.{Reply}
 use Rattle.actor_desk.specs.Noted.{BookNotes, noted}
-use Rattle.subflow_worker.specs.Turns.{stamp_after, noted_all, NotesOneMore, IsStep, IsLeft, member_after, AreSteps, IsTurned, DoesStep, Went, Stopped, Turned}
+use Rattle.actor_turn.specs.Turns.{stamp_after, noted_all, NotesOneMore, IsStep, IsLeft, member_after, AreSteps, IsTurned, DoesStep, Went, Stopped, Turned}
 
 stamp_more : (seen : ℕ) (notes : List Note) (note : Note) → stamp_after seen (notes ++ note ∷ []) ≡ note.stamp
 stamp_more seen [] note = refl

@@ -3,8 +3,8 @@ use Rattle.stamped_book.specs.declared.stamped.Pass.{Pass}
 use Rattle.stamped_book.specs.declared.stamped.Refusal.TheVariants as refusals
 use Rattle.actor_desk.specs.declared.actor.Crew.{Crew}
 use Rattle.actor_desk.specs.declared.ask.Ask.{Ask}
-use Rattle.subflow_worker.specs.Turns.{IsUsedUp}
-use Rattle.subflow_worker.proofs.turning.step.Goals as goal
+use Rattle.actor_turn.specs.Turns.{IsUsedUp}
+use Rattle.actor_turn.proofs.turning.step.Goals as goal
 
 used_up : {A : Type 0} (asks : A → Option Ask) (is_full : Ask → Pass → Type 0) (crew : Crew A) (ask : Ask)
     → asks crew.member ≡ Some ask → (2 ^ 62 - 1 ≤ crew.pass.stamp) ⊎ is_full ask crew.pass → IsUsedUp asks is_full crew

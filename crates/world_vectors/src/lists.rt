@@ -91,10 +91,16 @@ fn ended(
 }
 
 /// What is shown of the run of a case.
-pub fn run_of(alloc: Global, case: &str) -> Result<String, CaseFault> {
+fn run_of(alloc: Global, case: &str) -> Result<String, CaseFault> {
     let fields: Vec<&str> = case.split(" | ").collect(alloc)?;
     let fields = fields.as_slice();
     let words = words_of(alloc, word_at(fields, 0)?)?;
     let outside = outside_of(alloc, fields)?;
     Ok(ended(alloc, words.as_slice(), outside)?)
+}
+
+/// The answer to a line, whose fields stand behind its first word.
+pub fn list_answer(alloc: Global, line: &str, fields: &str) -> Result<String, CaseFault> {
+    let answer = run_of(alloc, fields)?;
+    Ok(format!(in alloc; "{line}\n  {answer}")?)
 }

@@ -6,9 +6,11 @@
 ghost use Rattle.std.specs.Prelude.{◌≡◌, ◌≤◌, IfOk};
 ghost use Rattle.ruled_desk.specs.WholeRounds.{AreActors};
 
-use crate::books_shown::books_shown;
+mod books_shown;
+
 use crate::caller::{Caller, Errand};
 use actor_desk::{Books, Crew, Notes};
+use books_shown::books_shown;
 use case_fields::{CaseFault, parsed_at, word_at};
 use outside_kit::OpenGate;
 use ruled_desk::round_at_tables;

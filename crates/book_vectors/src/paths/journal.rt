@@ -98,15 +98,6 @@ fn end_lines(alloc: Global, notes: &[Note]) -> Result<String, AllocError> {
     Ok(lines)
 }
 
-/// The lines of all copies that arrived, and of all that was to be placed.
-fn place_lines(alloc: Global, notes: &[Note]) -> Result<String, AllocError> {
-    let mut lines = String::new(alloc);
-    for note in notes {
-        lines.push_str(place_line(alloc, &note.ask)?.as_str())?;
-    }
-    Ok(lines)
-}
-
 impl Journal {
     /// Before the first step, with the lines that open the log: how many octets a data number has, and both keys.
     pub fn open(alloc: Global, width: u8, key_a: u64, key_b: u64) -> Result<Self, AllocError> {
@@ -166,12 +157,7 @@ impl Journal {
         )
     }
 
-    /// Which copies arrived, and what was to be placed, a line each.
-    pub fn places(&self) -> Result<String, AllocError> {
-        place_lines(self.alloc, self.notes.as_slice())
-    }
-
-    /// The same, and which ends of the streams were told.
+    /// Which copies arrived, what was to be placed, and which ends of the streams were told, a line each.
     pub fn ends(&self) -> Result<String, AllocError> {
         end_lines(self.alloc, self.notes.as_slice())
     }

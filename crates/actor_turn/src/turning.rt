@@ -7,7 +7,7 @@ ghost use Rattle.actor_desk.specs.Bounds.{TakesReply};
 ghost use Rattle.actor_desk.specs.Journals.{is_local};
 ghost use Rattle.actor_desk.specs.Kinds.{CanBeAsked};
 ghost use Rattle.actor_desk.specs.Noted.{Rises, note_of, noted};
-ghost use Rattle.subflow_worker.specs.Turns.{DoesStep, IsLeft, IsUsedUp, NotesOneMore, Stopped, Went};
+ghost use Rattle.actor_turn.specs.Turns.{DoesStep, IsLeft, IsUsedUp, NotesOneMore, Stopped, Went};
 
 use actor_desk::{Actor, Ask, Crew, Desk, Note, Notes, Reply};
 use outside_kit::Gate;

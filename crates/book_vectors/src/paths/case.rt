@@ -1,13 +1,14 @@
-//! A case is `SCRIPT | FILE_A | FILE_B | ROUNDS | SHOWN`, or so with ` | OCTETS` or ` | OCTETS | PATH`. In the script `;` stands for LF. A file is
-//! `none` where the side has no application, `-` where it is empty, `text` and its text, `hex` and its octets, or `made`
-//! and how many octets: the one at place k is k modulo 251. `SHOWN` is `log`, `sums`, `places` or `ends`. `OCTETS` are segments in
-//! hexadecimal digits, with `,` between them. They go to the link of that path, or of path 0, from A's side after the first round, and
-//! A's end doesn't know of them.
+//! A case is `SCRIPT | FILE_A | FILE_B | ROUNDS | SHOWN | OCTETS`, or so with ` | PATH` or ` | PATH | SIDE`. In the script `;` stands for
+//! LF. A file is `none` where the side has no application, `-` where it is empty, `text` and its text, `hex` and its octets, or `made`
+//! and how many octets: the one at place k is k modulo 251. `SHOWN` is `log`, `sums` or `ends`. `OCTETS` are segments in
+//! hexadecimal digits, with `,` between them. They go to the link of that path, or of path 0, after the first round, from the side `a` or
+//! `b`, or from A's, whose end doesn't know of them.
 ghost use Rattle.std.specs.Prelude.{IfOk};
 ghost use Rattle.link_script.specs.Scripts.{HasRanges};
 
 use case_fields::{CaseFault, content, lines_in, octets_at, parsed_at, word_at};
 use link_script::{Script, ScriptFault, parse};
+use outside_kit::Side;
 use std::alloc::{AllocError, Global};
 
 /// What is shown of a run.
@@ -17,9 +18,7 @@ pub enum Shown {
     Log,
     /// How much there was of everything, and digests.
     Sums,
-    /// Which copies arrived, and what was to be placed.
-    Places,
-    /// The same, and which ends of the streams were told.
+    /// Which copies arrived, what was to be placed, and which ends of the streams were told.
     Ends,
 }
 
@@ -35,14 +34,15 @@ pub struct Case {
     pub rounds: u64,
     pub shown: Shown,
     /// What goes to a link after the first round.
-    pub injected: Option<Injected>,
+    pub injected: Injected,
 }
 
-/// Segments that go to the link of a path.
+/// Segments that go to the link of a path from a side.
 #[derive(Drop)]
 pub struct Injected {
     pub segments: Vec<Vec<u8>>,
     pub path: u8,
+    pub from: Side,
 }
 
 impl Case {
@@ -67,7 +67,6 @@ fn shown_at(fields: &[&str], place: usize) -> Result<Shown, CaseFault> {
     match word_at(fields, place)? {
         "log" => Ok(Shown::Log),
         "sums" => Ok(Shown::Sums),
-        "places" => Ok(Shown::Places),
         "ends" => Ok(Shown::Ends),
         _ => Err(CaseFault::Form),
     }
@@ -107,15 +106,29 @@ fn segments_at(alloc: Global, field: &str) -> Result<Vec<Vec<u8>>, CaseFault> {
     Ok(segments)
 }
 
-/// What goes to a link, where the case has a sixth field.
-fn injection(alloc: Global, fields: &[&str]) -> Result<Option<Injected>, CaseFault> {
-    match fields.get(5) {
-        Some(_) => Ok(Some(Injected {
-            segments: segments_at(alloc, word_at(fields, 5)?)?,
-            path: path_at(fields)?,
-        })),
-        None => Ok(None),
+fn side_of(word: &str) -> Result<Side, CaseFault> {
+    match word {
+        "a" => Ok(Side::A),
+        "b" => Ok(Side::B),
+        _ => Err(CaseFault::Form),
     }
+}
+
+/// The side of the eighth field, or A's.
+fn side_at(fields: &[&str]) -> Result<Side, CaseFault> {
+    match fields.get(7) {
+        Some(word) => side_of(word),
+        None => Ok(Side::A),
+    }
+}
+
+/// What goes to a link.
+fn injection(alloc: Global, fields: &[&str]) -> Result<Injected, CaseFault> {
+    Ok(Injected {
+        segments: segments_at(alloc, word_at(fields, 5)?)?,
+        path: path_at(fields)?,
+        from: side_at(fields)?,
+    })
 }
 
 /// What a side writes, where it has an application.

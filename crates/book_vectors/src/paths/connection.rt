@@ -1,9 +1,9 @@
 //! The actors of a connection and its books.
 ghost use Rattle.link_script.specs.Scripts.{HasRanges};
 
-use crate::actor::{Actor, Member};
-use crate::case::{Case, Injected};
-use crate::journal::Journal;
+use crate::paths::actor::{Actor, Member};
+use crate::paths::case::{Case, Injected};
+use crate::paths::journal::Journal;
 use actor_desk::Books;
 use case_fields::CaseFault;
 use link_script::Script;
@@ -98,7 +98,7 @@ impl Connection {
             alloc,
             actors: actors_of(alloc, &script, file_a, file_b)?,
             books: Books::open(alloc, script.buffer, keys.a, keys.b)?,
-            injected,
+            injected: Some(injected),
         })
     }
 

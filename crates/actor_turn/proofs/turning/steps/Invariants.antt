@@ -1,6 +1,6 @@
 use Rattle.std.proofs.Common.{◌≡◌, ℕ, ◌-◌, ◌^◌, ◌<◌, length}
-use Rattle.subflow_worker.specs.Turns.{Went}
-use Rattle.subflow_worker.proofs.turning.steps.Given as goal
+use Rattle.actor_turn.specs.Turns.{Went}
+use Rattle.actor_turn.proofs.turning.steps.Given as goal
 
 -- the steps so far
 abbrev pub invariant-loop-refusal : goal.invariant-loop-refusal

@@ -1,6 +1,6 @@
 use Rattle.std.proofs.Common.{◌∙◌}
-use Rattle.subflow_worker.proofs.Steps.{goes_on}
-use Rattle.subflow_worker.proofs.turning.steps.Goals as goal
+use Rattle.actor_turn.proofs.Steps.{goes_on}
+use Rattle.actor_turn.proofs.turning.steps.Goals as goal
 
 pub loop-refusal-preserved : goal.loop-refusal-preserved
 loop-refusal-preserved g c = (

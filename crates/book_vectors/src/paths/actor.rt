@@ -1,11 +1,10 @@
 //! An actor, and its turns.
 
-use crate::case::Injected;
-use crate::journal::Journal;
-use crate::serving::serve;
+use crate::paths::case::Injected;
+use crate::paths::journal::Journal;
+use crate::paths::serving::serve;
 use actor_desk::{Books, Note};
 use case_fields::CaseFault;
-use outside_kit::Side;
 use path_core::Path;
 use stamped_book::{Pass, raise};
 use std::alloc::{AllocError, Global};
@@ -138,12 +137,12 @@ impl Actor {
         }
     }
 
-    /// The link of the path takes these segments from A's side, where the actor is that path.
+    /// The link of the path takes these segments from their side, where the actor is that path.
     pub fn inject(&mut self, injected: &Injected) -> Result<(), AllocError> {
         match &mut self.member {
             Member::Path(path) if path.number() == injected.path => {
                 for segment in injected.segments.iter() {
-                    path.inject(Side::A, segment.as_slice())?;
+                    path.inject(injected.from, segment.as_slice())?;
                 }
                 Ok(())
             }
