@@ -1,10 +1,10 @@
 -- What is left of options that are taken out can be carried.
-use Rattle.std.proofs.Common.{◌≡◌, refl, sym, ap, ◌∙◌, ℕ, zero, suc, ◌+◌, ◌-◌, ◌%◌, ◌<◌, ◌≤◌, Bool, true, false, ◌&&◌, not, cond, leb, List, [], ◌∷◌, ◌++◌, length, take, map, filter, flat_map, replicate, get_or, append_assoc, length-append, arith}
+use Rattle.std.proofs.Common.{◌≡◌, refl, ap, ◌∙◌, ℕ, zero, suc, ◌+◌, ◌-◌, ◌%◌, ◌≤◌, Bool, true, false, ◌&&◌, not, cond, leb, List, [], ◌∷◌, ◌++◌, length, take, map, filter, replicate, append_assoc, length-append, arith}
 use Rattle.std.specs.List.{AllByRecursion}
 use Rattle.std.proofs.lemmas.List.{length-take-le, length-replicate}
-use Rattle.segment_wire.specs.Options.{are_whole, options_after, plain_options, option_octets}
+use Rattle.segment_wire.specs.Options.{are_whole, options_after, option_octets}
 use Rattle.segment_wire.specs.Segment.{CanCarry}
-use Rattle.segment_wire.specs.Changes.{packed, padded, other_options, is_multipath}
+use Rattle.segment_wire.specs.Changes.{packed, other_options, is_multipath}
 use Rattle.segment_wire.proofs.Appended.{IsOption, are_whole-append}
 
 abbrev octets_of : List (ℕ × List ℕ) → List (List ℕ)

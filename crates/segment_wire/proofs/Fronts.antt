@@ -6,7 +6,7 @@ use Rattle.std.proofs.lemmas.Bool.{cases_lt, le-leb, lt-leb, and_right}
 use Rattle.std.proofs.lemmas.List.{length-drop}
 use Rattle.segment_wire.specs.declared.options.Front.TheVariants.{End, Padding, Whole, Broken}
 use Rattle.segment_wire.specs.OptionFront.{IsFront}
-use Rattle.segment_wire.specs.Options.{are_whole_after, are_whole, options_after, plain_options, placed_options}
+use Rattle.segment_wire.specs.Options.{are_whole_after, are_whole, broken_after, broken_part, options_after, plain_options, placed_options}
 
 -- the rest of an option is passed over
 pub are_whole_after-skip : (n : ℕ) (xs : List ℕ) → n ≤ length xs → are_whole_after n xs ≡ are_whole (drop n xs)
@@ -51,6 +51,11 @@ take-past_two : (len a b : ℕ) (xs : List ℕ) → 2 ≤ len → take len (a �
 take-past_two zero a b xs low = absurd (omega arith)
 take-past_two (suc zero) a b xs low = absurd (omega arith)
 take-past_two (suc (suc n)) a b xs low = ap (λ (k : ℕ). a ∷ b ∷ take k xs) (omega arith)
+
+pub broken_after-skip : (n : ℕ) (xs : List ℕ) → n ≤ length xs → broken_after n xs ≡ broken_part (drop n xs)
+broken_after-skip zero xs within = refl
+broken_after-skip (suc n) [] within = absurd (omega arith)
+broken_after-skip (suc n) (x ∷ xs) within = broken_after-skip n xs (omega arith)
 
 -- ---- each front
 
@@ -109,6 +114,39 @@ are_whole-broken (suc (suc k) ∷ len ∷ xs) kind broken =
       | inr high ↦ rw (are_whole_after-past (len - 2) xs (omega arith)) (and_right (leb 2 len) false refl)
     ]
 
+-- ---- what isn't whole
+
+pub broken_part-end : (xs : List ℕ) → get_or xs 0 0 ≡ 0 → broken_part xs ≡ []
+broken_part-end [] end = refl
+broken_part-end (zero ∷ xs) end = refl
+broken_part-end (suc kind ∷ xs) end = absurd cc
+
+pub broken_part-padding : (xs : List ℕ) → get_or xs 0 0 ≡ 1 → broken_part xs ≡ broken_part (drop 1 xs)
+broken_part-padding [] padding = refl
+broken_part-padding (zero ∷ xs) padding = absurd (omega arith)
+broken_part-padding (suc zero ∷ xs) padding = refl
+broken_part-padding (suc (suc kind) ∷ xs) padding = absurd (omega arith)
+
+pub broken_part-option : (xs : List ℕ) → 2 ≤ get_or xs 0 0 → 2 ≤ get_or xs 1 0 → get_or xs 1 0 ≤ length xs → broken_part xs ≡ broken_part (drop (get_or xs 1 0) xs)
+broken_part-option [] kind low within = absurd (omega arith)
+broken_part-option (zero ∷ xs) kind low within = absurd (omega arith)
+broken_part-option (suc zero ∷ xs) kind low within = absurd (omega arith)
+broken_part-option (suc (suc k) ∷ []) kind low within = absurd (omega arith)
+broken_part-option (suc (suc k) ∷ len ∷ xs) kind low within =
+    let fits : len - 2 ≤ length xs = omega arith in
+    rw (le-leb 2 len low, le-leb (len - 2) (length xs) fits, drop-past_two len (suc (suc k)) len xs low) (broken_after-skip (len - 2) xs fits)
+
+pub broken_part-broken : (xs : List ℕ) → 2 ≤ get_or xs 0 0 → (length xs < 2) ⊎ ((get_or xs 1 0 < 2) ⊎ (length xs < get_or xs 1 0)) → broken_part xs ≡ xs
+broken_part-broken [] kind broken = absurd (omega arith)
+broken_part-broken (zero ∷ xs) kind broken = absurd (omega arith)
+broken_part-broken (suc zero ∷ xs) kind broken = absurd (omega arith)
+broken_part-broken (suc (suc k) ∷ []) kind broken = refl
+broken_part-broken (suc (suc k) ∷ len ∷ xs) kind broken =
+    elim (cases_lt len 2) [
+      | inl low ↦ rw (lt-leb 2 len low) refl
+      | inr high ↦ rw (lt-leb (len - 2) (length xs) (omega arith), and_right (leb 2 len) false refl) refl
+    ]
+
 pub plain_options-broken : (xs : List ℕ) → 2 ≤ get_or xs 0 0 → (length xs < 2) ⊎ ((get_or xs 1 0 < 2) ⊎ (length xs < get_or xs 1 0)) → plain_options xs ≡ []
 plain_options-broken [] kind broken = absurd (omega arith)
 plain_options-broken (zero ∷ xs) kind broken = absurd (omega arith)
@@ -159,7 +197,7 @@ placed_options-broken p xs kind broken = ap (placed_at p) (plain_options-broken 
 -- ---- each front, of lent octets
 
 pub IsFront-end : (options : Bor (List ℕ)) → get_or options.now 0 0 ≡ 0 → IsFront options End
-IsFront-end options end = (are_whole-end options.now end, placed_options-end (as_ptr options) options.now end)
+IsFront-end options end = (are_whole-end options.now end, broken_part-end options.now end, placed_options-end (as_ptr options) options.now end)
 
 padding_is_there : (xs : List ℕ) → get_or xs 0 0 ≡ 1 → 0 < length xs
 padding_is_there [] padding = absurd (omega arith)
@@ -169,7 +207,7 @@ pub IsFront-padding : (options rest : Bor (List ℕ)) → get_or options.now 0 0
 IsFront-padding options rest padding octets place =
     let some : 0 < length options.now = padding_is_there options.now padding in
     let shorter : length rest.now < length options.now = omega (arith, ap length octets, length-drop 1 options.now) in
-    (record { shorter = shorter; whole = rw octets (are_whole-padding options.now padding) }, rw (octets, place) (placed_options-padding (as_ptr options) options.now padding))
+    (record { shorter = shorter; whole = rw octets (are_whole-padding options.now padding); broken = rw octets (broken_part-padding options.now padding) }, rw (octets, place) (placed_options-padding (as_ptr options) options.now padding))
 
 pub IsFront-option : (len : ℕ) (options option rest : Bor (List ℕ)) → 2 ≤ get_or options.now 0 0 → len ≡ get_or options.now 1 0 → 2 ≤ len → len ≤ length options.now
     → option.now ≡ take len options.now → as_ptr option ≡ as_ptr options → rest.now ≡ drop len options.now → as_ptr rest ≡ ptr_add octet len (as_ptr options) → IsFront options (Whole option rest)
@@ -177,8 +215,9 @@ IsFront-option len options option rest kind is_len low within octets place octet
     let xs = options.now in
     let shorter : length rest.now < length xs = omega (arith, ap length octets_left, length-drop len xs) in
     let whole : are_whole xs ≡ are_whole (drop len xs) = rw is_len (are_whole-option xs kind (omega arith) (omega arith)) in
+    let broken : broken_part xs ≡ broken_part (drop len xs) = rw is_len (broken_part-option xs kind (omega arith) (omega arith)) in
     let first : placed_options (as_ptr options) xs ≡ (as_ptr options, take len xs) ∷ placed_options (ptr_add octet len (as_ptr options)) (drop len xs) = rw is_len (placed_options-option (as_ptr options) xs kind (omega arith) (omega arith)) in
-    (record { shorter = shorter; whole = rw octets_left whole }, rw (octets, place, octets_left, place_left) first)
+    (record { shorter = shorter; whole = rw octets_left whole; broken = rw octets_left broken }, rw (octets, place, octets_left, place_left) first)
 
 pub IsFront-broken : (options : Bor (List ℕ)) → 2 ≤ get_or options.now 0 0 → (length options.now < 2) ⊎ ((get_or options.now 1 0 < 2) ⊎ (length options.now < get_or options.now 1 0)) → IsFront options Broken
-IsFront-broken options kind broken = (are_whole-broken options.now kind broken, placed_options-broken (as_ptr options) options.now kind broken)
+IsFront-broken options kind broken = (are_whole-broken options.now kind broken, broken_part-broken options.now kind broken, placed_options-broken (as_ptr options) options.now kind broken)

@@ -1,8 +1,10 @@
 pub mod Options
 pub mod OptionFront
 pub mod Checksum
+pub mod Between
 pub mod Segment
 pub mod Reading
+pub mod Parts
 pub mod Changes
 pub mod Paths
 pub mod Laws

@@ -19,6 +19,21 @@ are_whole_after zero (suc (suc kind) ∷ len ∷ rest) = nat_le 2 len && are_who
 abbrev pub are_whole : List ℕ → Bool
 are_whole options = are_whole_after 0 options
 
+-- The octets from the first option on that isn't whole, none where all are, where as many octets as `left` are still of
+-- the option before.
+abbrev pub broken_after : ℕ → List ℕ → List ℕ
+broken_after left [] = []
+broken_after (suc left) (x ∷ rest) = broken_after left rest
+broken_after zero (zero ∷ rest) = []
+broken_after zero (suc zero ∷ rest) = broken_after zero rest
+broken_after zero (suc (suc kind) ∷ []) = suc (suc kind) ∷ []
+broken_after zero (suc (suc kind) ∷ len ∷ rest) =
+    if nat_le 2 len && nat_le (len - 2) (length rest) then broken_after (len - 2) rest else suc (suc kind) ∷ len ∷ rest
+
+-- the octets from the first option on that isn't whole
+abbrev pub broken_part : List ℕ → List ℕ
+broken_part options = broken_after 0 options
+
 -- The options, kinds 0 and 1 left out, each with its place: how many octets stand before it. As many octets as `left`
 -- are still of the option before, and `place` octets stand before these. An option that isn't whole ends them.
 abbrev pub options_after : ℕ → ℕ → List ℕ → List (ℕ × List ℕ)

@@ -3,7 +3,7 @@
 ghost use Rattle.std.specs.Prelude.{◌≡◌};
 ghost use Rattle.std.specs.Iterator.{YieldsFirstBy, item_count};
 ghost use Rattle.std.specs.Ptr.{as_ptr};
-ghost use Rattle.segment_wire.specs.Options.{are_whole, placed_options, mss_of, window_scale_of};
+ghost use Rattle.segment_wire.specs.Options.{are_whole, broken_part, placed_options, mss_of, window_scale_of};
 ghost use Rattle.segment_wire.specs.OptionFront.{IsFront, options_left};
 
 // The kinds that are one octet alone, and those that are read here (RFC 9293, section 3.2; RFC 7323, section 2.2).
@@ -63,6 +63,20 @@ pub fn are_whole(options: &[u8]) -> bool
             Front::Padding(others) | Front::Whole(_, others) => rest = others,
             Front::End => return true,
             Front::Broken => return false,
+        }
+    }
+}
+
+/// The octets from the first option on whose length is below 2 or that runs past the end. Empty where there is none.
+pub fn broken_part(options: &[u8]) -> &[u8]
+    ensures { result.now ≡ broken_part options.now }
+{
+    let mut rest = options;
+    loop {
+        match front_of(rest) {
+            Front::Padding(others) | Front::Whole(_, others) => rest = others,
+            Front::End => return &[],
+            Front::Broken => return rest,
         }
     }
 }

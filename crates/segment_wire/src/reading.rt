@@ -32,7 +32,7 @@ pub struct SegmentRef<'a> {
     /// The fields of the fixed header.
     pub head: Head,
     pub(crate) options: &'a [u8],
-    payload: &'a [u8],
+    pub(crate) payload: &'a [u8],
 }
 
 impl<'a> SegmentRef<'a> {
@@ -44,6 +44,14 @@ impl<'a> SegmentRef<'a> {
             placed_options (options_place self.now) (segment_of self.now).options }
     {
         PlainOptions::of(self.options)
+    }
+
+    /// The octets of the options as they stand in the input, padding included.
+    pub fn option_octets(&self) -> &'a [u8]
+        ensures octets { result.now ≡ (segment_of self.now).options }
+        ensures place { as_ptr result ≡ options_place self.now }
+    {
+        self.options
     }
 
     /// The payload, as it stands in the input.
@@ -99,7 +107,7 @@ fn read<'a>(bytes: &'a [u8], addresses: &Addresses) -> Result<SegmentRef<'a>, Se
 }
 
 #[tactic(auto, unfolding(crate::specs::Reading::head_in))]
-fn head_in(bytes: &[u8]) -> Head
+pub(crate) fn head_in(bytes: &[u8]) -> Head
     requires { 20 ≤ length bytes.now }
     ensures { result ≡ head_in bytes.now }
 {
