@@ -312,7 +312,7 @@ impl RuledDesk {
         RuledPass { actor, seats }
     }
 
-    /// The pass of an actor comes back. The root knows its entries, which have the actor's number, and its notes.
+    /// The pass of an actor comes back. The root knows its entries, and its notes.
     pub fn join(&self, root: &mut RootPass, pass: RuledPass)
         requires root { AreOf self.now root.old.books }
         requires pass { AreOf self.now pass.books }

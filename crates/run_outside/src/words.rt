@@ -14,7 +14,8 @@ use std::io;
 ///
 /// # Errors
 ///
-/// `Usage` where there are none to be had, and `Memory` where memory runs out.
+/// `Usage` where one of them isn't UTF-8 or they can't be had, and `Memory` where memory runs out. No clause says which words they
+/// are: std tells nothing of them.
 pub fn command_words(rt: &(impl Env + Alloc<A = Global>)) -> Result<Vec<String>, Status>
     ensures fault { IfErr result (λ status. (status ≡ Status.Usage) ⊎ (status ≡ Status.Memory)) }
 {
