@@ -217,13 +217,10 @@ pub fn nothing_is_refused()
     ensures octets { IsPromisedOfOctets NothingWasRefused }
 {}
 
-/// A law: a connection by a script, with files shorter than 2^31 - 2 octets, starts with numbers that fit. So over octets it keeps these
-/// promises, in whatever order its actors go, and whatever payload its links alter: lengths, acknowledgements and ends are right, nothing
-/// follows the end, each turn is on each pipe one step or none, keys never differ, joins and the HMACs of addresses are right, no copy is
-/// refused for what it says of a join, mappings agree, falls are right and last, positions are places after one, a side that fell back
-/// never goes by the peer's mappings again, each byte is granted to a path once at most, and none to one that stands by, no announcement
-/// goes out after its end, and aborts have their cause. And it is the connection over segments as values, shown in octets, whose short data
-/// numbers go short.
+/// A law: a connection by a script, with files shorter than 2^31 - 2 octets, starts with numbers that fit. So over octets it keeps all
+/// that `KeepsAnyway` lists, in whatever order its actors go, and whatever payload its links alter: what the laws beside this one say of
+/// each altered connection, from lengths, acknowledgements and ends to joins that wait for their answer. And it is the connection over
+/// segments as values, shown in octets, whose short data numbers go short, and whose infinite mappings are right.
 ///
 /// Where mappings are checked, until its side falls back, by its control book's journal, a reader has a prefix of what was written, and
 /// each octet that was placed is right for ever.
