@@ -3,7 +3,7 @@ use Rattle.std.specs.Prelude.{ℕ, ◌≡◌, ◌+◌, ◌*◌, true, if◌then�
 use Rattle.path_rules.specs.Codec.{Codec}
 use Rattle.world_laws.specs.declared.member.Member.TheVariants.{App, Path}
 use Rattle.world_laws.specs.Actors.{Actor, ActorCrew}
-use Rattle.world_laws.specs.Fine.{IsFineSince}
+use Rattle.world_laws.specs.Fine.{IsFine, top_after}
 use Rattle.world_laws.specs.Laws.{NothingDueIsLeft}
 use Rattle.world_laws.specs.Openings.{Start, opened_world}
 use Rattle.world_laws.specs.RoundEnd.{GrantsAreDone, ReadersAreDone}
@@ -89,7 +89,8 @@ module _ {C : Type 0} (k : Codec C) where
       → AreLawful k (before ++ Turn.Round ∷ later) (opened_world start)
       → RoundIsDone (round_of k start before) (reached k start before)
 
-  -- lists and journals are chained above the greatest stamp as the last round ended
-  abbrev pub StampsSinceTheRound : Type 0
-  StampsSinceTheRound =
-      (start : Start) (turns : List Turn) → IsFineSince (round_of k start turns).top (reached k start turns)
+  -- a step or a round's end keeps lists and journals in order, which they are from the opening on; they are chained above the
+  -- greatest stamp as the last round ended
+  pub record StaysFine : Type 0 where
+    pub always : (start : Start) (turns : List Turn) → IsFine (round_of k start turns).top (reached k start turns)
+    pub turns : (turn : Turn) (top : ℕ) (w : WorldState C) → IsFine top w → IsFine (top_after turn w top) (after_turn k turn w)

@@ -7,10 +7,10 @@ ghost use Rattle.world_laws.specs.FallsRight.{FallsAreRight, FallsLast, Position
 ghost use Rattle.world_laws.specs.Granted.{GrantedOnce};
 ghost use Rattle.world_laws.specs.InfiniteMappings.{InfiniteMappingsAreRight};
 ghost use Rattle.world_laws.specs.JoinsWait.{JoinsWait};
-ghost use Rattle.world_laws.specs.Laws.{AfterFreshTurns, Always, NothingDueIsLeft, SerialExists, SerialIsOne, StaysFine, OctetsDoAsValues, WritesTheFiles};
+ghost use Rattle.world_laws.specs.Laws.{AfterFreshTurns, Always, NothingDueIsLeft, SerialExists, SerialIsOne, OctetsDoAsValues, WritesTheFiles};
 ghost use Rattle.world_laws.specs.PlainScripts.{CheckedScriptsKeepOctets, PlainScriptsKeepAllPromises, PlainScriptsStartPlainly, ScriptsAreShownOfValues, ScriptsCanRun, ScriptsFit, ScriptsKeepAnyway};
 ghost use Rattle.world_laws.specs.Promises.{AddressesAreRight, BothKeepTheirWord, EachTurnIsOneStep, EveryListIsFresh, HoldsAnyway, HoldsAnywayOfOctets, IsPromised, IsPromisedOfOctets, JoinsAreRight, KeysNeverDiffer, NothingFollows, NothingWasRefused, OctetsAreValuesShown};
-ghost use Rattle.world_laws.specs.RoundDone.{LawfulRoundsAreDone, RoundsAreDone, RoundsEndOnTime, StampsSinceTheRound};
+ghost use Rattle.world_laws.specs.RoundDone.{LawfulRoundsAreDone, RoundsAreDone, RoundsEndOnTime, StaysFine};
 ghost use Rattle.world_laws.specs.RoundEnd.{GrantsAreDone, ReadersAreDone};
 ghost use Rattle.world_laws.specs.RoundNumbers.{InEachRound, PathsAskForAll, ReadersCaughtUp};
 ghost use Rattle.world_laws.specs.ShortNumbers.{ShortNumbersGoShort};
@@ -45,8 +45,6 @@ pub fn scripts_can_run()
 pub fn what_is_fine_stays_fine()
     ensures octets { StaysFine octets }
     ensures values { StaysFine values }
-    ensures octets_since { StampsSinceTheRound octets }
-    ensures values_since { StampsSinceTheRound values }
 {}
 
 /// A law: at every moment, in whatever order the actors go, the round that goes on, r rounds having ended, ends on each path at
