@@ -11,8 +11,8 @@ ghost use Rattle.world_laws.specs.Laws.{AfterFreshTurns, Always, NothingDueIsLef
 ghost use Rattle.world_laws.specs.PlainScripts.{CheckedScriptsKeepOctets, PlainScriptsKeepAllPromises, PlainScriptsStartPlainly, ScriptsAreShownOfValues, ScriptsCanRun, ScriptsFit, ScriptsKeepAnyway};
 ghost use Rattle.world_laws.specs.Promises.{AddressesAreRight, BothKeepTheirWord, EachTurnIsOneStep, EveryListIsFresh, HoldsAnyway, HoldsAnywayOfOctets, IsPromised, IsPromisedOfOctets, JoinsAreRight, KeysNeverDiffer, NothingFollows, NothingWasRefused, OctetsAreValuesShown};
 ghost use Rattle.world_laws.specs.RoundDone.{LawfulRoundsAreDone, RoundsAreDone, RoundsEndOnTime, StaysFine};
-ghost use Rattle.world_laws.specs.RoundEnd.{GrantsAreDone, ReadersAreDone};
-ghost use Rattle.world_laws.specs.RoundNumbers.{InEachRound, PathsAskForAll, ReadersCaughtUp};
+ghost use Rattle.world_laws.specs.RoundEnd.{ReadersAreDone};
+ghost use Rattle.world_laws.specs.RoundNumbers.{GrantsAreDone, InEachRound, PathsAskForAll, ReadersCaughtUp};
 ghost use Rattle.world_laws.specs.ShortNumbers.{ShortNumbersGoShort};
 ghost use Rattle.world_laws.specs.Standbys.{BackupsGetNothing};
 ghost use Rattle.world_laws.specs.Stopping.{AbortIsLast};
@@ -55,9 +55,9 @@ pub fn rounds_end_on_time()
 {}
 
 /// A law: where all turns of a round are over, in whatever order the actors went, its end is as it has to be. It is at its tick;
-/// nothing that was due before it is left; each end of a path that may still ask for bytes was refused its last grant, and asked
-/// for all; and each reader was told the end or an abort, or read as much as a side buffers, or found nothing more. So it is at
-/// each end of a round in lawful turns, and serial turns are lawful.
+/// nothing that was due before it is left; each end of a path that may still ask for bytes was refused the round's last grant, and
+/// asked for all, or has no room for a record that is still to be sent; and each reader was told the end or an abort, or read as
+/// much as a side buffers, or found nothing more. So it is at each end of a round in lawful turns, and serial turns are lawful.
 pub fn rounds_are_done()
     ensures octets { RoundsAreDone octets }
     ensures values { RoundsAreDone values }
@@ -79,16 +79,18 @@ pub fn readers_catch_up()
     ensures values { InEachRound values ReadersCaughtUp }
 {}
 
-/// A law: at every moment, where the turn of a path is over, an end that has no record to send and may ask for bytes, with room in
-/// its window for a full segment, was refused its last grant. What it was refused over stands in the send book's journal.
+/// A law: in each round, in whatever order the actors go, where the turn of a path is over, an end that may ask for bytes, with room in
+/// its window for a full segment, was refused the last grant that it asked for in this round; or a record is still to be sent, for which
+/// there is no room.
 pub fn grants_are_done()
-    ensures octets { Always octets (λ start w. GrantsAreDone w) }
-    ensures values { Always values (λ start w. GrantsAreDone w) }
+    ensures octets { InEachRound octets GrantsAreDone }
+    ensures values { InEachRound values GrantsAreDone }
 {}
 
-/// A law: in each round, in whatever order the actors go, where the turn of a path is over, an end that has no record to send and
-/// may ask for bytes, with room in its window for a full segment, asked for all: of the octets that were written as the round began
-/// none below the edge of the peer's window is left that the path may take. Else it was on standby when it asked last in this round;
+/// A law: in each round, in whatever order the actors go, where the turn of a path is over, an end that may ask for bytes, with room
+/// in its window for a full segment, asked for all: of the octets that were written as the round began none below the edge of the
+/// peer's window is left that the path may take. Else a record is still to be sent, for which there is no room; or the end was on
+/// standby when it asked last in this round;
 /// or octets are given to another path alone, as after a fallback, and none is once the connection was aborted there; or after the
 /// path asked last another one gave back some octets, or took an acknowledgement with a window past the edge as the round began.
 pub fn paths_ask_for_all()

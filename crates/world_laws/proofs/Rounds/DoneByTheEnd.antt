@@ -12,7 +12,7 @@ use Rattle.world_laws.specs.Actors.{Actor, ActorCrew, member_asks, member_takes,
 use Rattle.world_laws.specs.Fine.{IsFine}
 use Rattle.world_laws.specs.Openings.{Start, path_begins, opened_world}
 use Rattle.world_laws.specs.RoundDone.{RoundState, first_round, next_round, round_by, round_after, round_of, EndsAt, RoundsEndOnTime, RoundsAreDone, LawfulRoundsAreDone, StaysFine}
-use Rattle.world_laws.specs.RoundNumbers.{BeginsRound, PathsAskForAll, ReadersCaughtUp, after_steps}
+use Rattle.world_laws.specs.RoundNumbers.{BeginsRound, GrantsAreDone, PathsAskForAll, ReadersCaughtUp, after_steps}
 use Rattle.world_laws.specs.StampedBooks.{answer_to}
 use Rattle.world_laws.specs.Worlds.{WorldState, Turn, crew_after, asked, stepped, world_step, all_over, greatest, begins, end_round, after_turn, world_run, AreLawful}
 use Rattle.world_laws.proofs.Rounds.AskedForAll.{paths_ask}
@@ -153,7 +153,7 @@ module _ {C : Type 0} (k : Codec C) where
         over = over;
         tick = rounds_end_on_time start turns;
         due = nothing_due_is_left k start turns;
-        grants = asking.grants_are_done k start turns;
+        grants = subst (GrantsAreDone r.begun) (sym now.is) (asking.grants_are_done k start r.begun now.order now.begun);
         asked = subst (PathsAskForAll r.begun) (sym now.is) (paths_ask k start r.begun now.order now.begun);
         readers = reads.readers_are_done k start turns;
         caught_up = subst (ReadersCaughtUp r.begun) (sym now.is) (readers_caught_up k start r.begun now.order now.begun);
