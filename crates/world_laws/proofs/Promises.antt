@@ -8,3 +8,4 @@ pub mod OfScripts
 pub mod InfiniteMappingsAreRight
 pub mod AbortedHearThatAlone
 pub mod AbortsHaveACause
+pub mod ChecksumsAreRight

@@ -3,6 +3,7 @@ ghost use Rattle.world_laws.specs.AbortCause.{AbortsHaveCause};
 ghost use Rattle.world_laws.specs.Agreement.{MappingsAgree};
 ghost use Rattle.world_laws.specs.Altered.{BothKeepCount, FallsForGood, HoldsChecked, HoldsCheckedOfOctets, PlacedUntilTheFall, PrefixUntilTheFall};
 ghost use Rattle.world_laws.specs.Announcing.{AnnouncementsEnd};
+ghost use Rattle.world_laws.specs.ChecksPass.{ChecksPass, ChecksumsAreRight, NoFailureIsTold};
 ghost use Rattle.world_laws.specs.FallsRight.{FallsAreRight, FallsLast, PositionsArePlaces};
 ghost use Rattle.world_laws.specs.Granted.{GrantedOnce};
 ghost use Rattle.world_laws.specs.InfiniteMappings.{InfiniteMappingsAreRight};
@@ -217,10 +218,22 @@ pub fn nothing_is_refused()
     ensures octets { IsPromisedOfOctets NothingWasRefused }
 {}
 
+/// A law: where no payload is altered no check of a mapping fails, neither side knows of a failed path or goes by an infinite mapping,
+/// and no copy that is under way has an MP_FAIL (RFC 8684, section 3.7).
+///
+/// And whatever is altered, each mapping of bytes in a copy that is under way names written octets, and where checksums are used it tells
+/// that of the pseudo-header and these octets (section 3.3.1). What copies tell is said of segments as values.
+pub fn checks_pass()
+    ensures sums { HoldsAnyway ChecksumsAreRight }
+    ensures values { IsPromised ChecksPass }
+    ensures octets { IsPromisedOfOctets ChecksPass }
+    ensures untold { IsPromised NoFailureIsTold }
+{}
+
 /// A law: a connection by a script, with files shorter than 2^31 - 2 octets, starts with numbers that fit. So over octets it keeps all
 /// that `KeepsAnyway` lists, in whatever order its actors go, and whatever payload its links alter: what the laws beside this one say of
 /// each altered connection, from lengths, acknowledgements and ends to joins that wait for their answer. And it is the connection over
-/// segments as values, shown in octets, whose short data numbers go short, and whose infinite mappings are right.
+/// segments as values, shown in octets, whose short data numbers go short, and whose infinite mappings and checksums are right.
 ///
 /// Where mappings are checked, until its side falls back, by its control book's journal, a reader has a prefix of what was written, and
 /// each octet that was placed is right for ever.
@@ -232,7 +245,7 @@ pub fn scripts_keep_promises_whatever_is_altered()
 {}
 
 /// A law: a connection by a script that alters no payload, with files shorter than 2^31 - 2 octets, starts plainly; so over octets it
-/// keeps every promise, in whatever order its actors go: both sides keep their word, nothing is refused, and all that
+/// keeps every promise, in whatever order its actors go: both sides keep their word, nothing is refused, no check fails, and all that
 /// `scripts_keep_promises_whatever_is_altered` says is so.
 pub fn plain_scripts_keep_all_promises()
     ensures starts { PlainScriptsStartPlainly }

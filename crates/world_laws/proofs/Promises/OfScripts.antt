@@ -24,6 +24,8 @@ use Rattle.world_laws.specs.PlainScripts.{alters_payload, IsPlainScript, IsShort
 use Rattle.world_laws.proofs.Promises.AbortsHaveACause.{aborts_have_cause_in_octets}
 use Rattle.world_laws.proofs.Promises.AbortedHearThatAlone.{abort_is_last}
 use Rattle.world_laws.proofs.Promises.InfiniteMappingsAreRight.{infinite_mappings_are_right}
+use Rattle.world_laws.proofs.Promises.ChecksumsAreRight.{checksums_are_right}
+use Rattle.world_laws.proofs.Falls.ChecksPass.{checks_pass_in_octets}
 use Rattle.world_laws.proofs.Falls.AreRight.{falls_in_octets, falls_last_in_octets, places_in_octets}
 use Rattle.world_laws.proofs.Places.GrantedOnce.{granted_once}
 use Rattle.world_laws.proofs.Announcements.AsTold.{announcements_end}
@@ -151,6 +153,7 @@ plain_scripts_keep_all_promises script file_a file_b turns h =
     record {
       word = keep_their_word_in_octets start turns starts.0 starts.1;
       refused = nothing_refused_in_octets start turns starts.0 starts.1;
+      checks = checks_pass_in_octets start turns starts.0 starts.1;
       anyway = scripts_keep_anyway script file_a file_b turns (short_of script file_a file_b h);
     }
 
@@ -164,7 +167,7 @@ pub scripts_are_shown_of_values : ScriptsAreShownOfValues
 scripts_are_shown_of_values script file_a file_b turns h =
     let start = start_of script file_a file_b in
     let starts = scripts_fit script file_a file_b h in
-    record { shown = run_fresh start turns starts.0 starts.1; short = short_numbers start turns; infinite = infinite_mappings_are_right start turns starts.0 }
+    record { shown = run_fresh start turns starts.0 starts.1; short = short_numbers start turns; infinite = infinite_mappings_are_right start turns starts.0; sums = checksums_are_right start turns starts.0 }
 
 -- ---- running
 
