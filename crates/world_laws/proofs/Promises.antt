@@ -9,3 +9,4 @@ pub mod InfiniteMappingsAreRight
 pub mod AbortedHearThatAlone
 pub mod AbortsHaveACause
 pub mod ChecksumsAreRight
+pub mod InfiniteOverOctets

@@ -15,7 +15,7 @@ use Rattle.world_laws.specs.ChecksPass.{ChecksPass, ChecksumsAreRight}
 use Rattle.world_laws.specs.FallsRight.{FallsAreRight, FallsLast, PositionsArePlaces}
 use Rattle.world_laws.specs.Fresh.{shown_world}
 use Rattle.world_laws.specs.Granted.{GrantedOnce}
-use Rattle.world_laws.specs.InfiniteMappings.{InfiniteMappingsAreRight}
+use Rattle.world_laws.specs.InfiniteMappings.{InfiniteMappingsAreHeardRight, InfiniteMappingsAreRight}
 use Rattle.world_laws.specs.JoinsWait.{JoinsWait}
 use Rattle.world_laws.specs.Laws.{CanRun}
 use Rattle.world_laws.specs.Openings.{Start, opened_world, start_of}
@@ -75,6 +75,7 @@ pub record KeepsAnyway (w : WorldState (List ℕ)) : Type 0 where
   pub aborts : AbortsHaveCause w
   pub stopped : AbortIsLast octets w
   pub waiting : JoinsWait w
+  pub infinite : InfiniteMappingsAreHeardRight octets w
 
 -- so it keeps these promises, whatever the order of the steps
 abbrev pub ScriptsKeepAnyway : Type 0

@@ -6,7 +6,7 @@ ghost use Rattle.world_laws.specs.Announcing.{AnnouncementsEnd};
 ghost use Rattle.world_laws.specs.ChecksPass.{ChecksPass, ChecksumsAreRight, NoFailureIsTold};
 ghost use Rattle.world_laws.specs.FallsRight.{FallsAreRight, FallsLast, PositionsArePlaces};
 ghost use Rattle.world_laws.specs.Granted.{GrantedOnce};
-ghost use Rattle.world_laws.specs.InfiniteMappings.{InfiniteMappingsAreRight};
+ghost use Rattle.world_laws.specs.InfiniteMappings.{InfiniteMappingsAreHeardRight, InfiniteMappingsAreRight};
 ghost use Rattle.world_laws.specs.JoinsWait.{JoinsWait};
 ghost use Rattle.world_laws.specs.Laws.{AfterFreshTurns, Always, NothingDueIsLeft, SerialExists, SerialIsOne, OctetsDoAsValues, WritesTheFiles};
 ghost use Rattle.world_laws.specs.PlainScripts.{CheckedScriptsKeepOctets, PlainScriptsKeepAllPromises, PlainScriptsStartPlainly, ScriptsAreShownOfValues, ScriptsCanRun, ScriptsFit, ScriptsKeepAnyway};
@@ -316,10 +316,13 @@ pub fn counts_are_kept_whatever_is_altered()
     ensures octets { HoldsAnywayOfOctets BothKeepCount }
 {}
 
-/// A law: whatever payload the links alter, an infinite mapping that is under way is right (RFC 8684, section 3.7): each piece from its
-/// position on that the sender's end may still send has the place that rises with the position. That is said of segments as values.
+/// A law: whatever payload the links alter, an infinite mapping that is under way is right (RFC 8684, section 3.7): each octet from its
+/// position on that the sender's end may still send has the place that rises with the position, also in a piece that begins before that.
+///
+/// That is said of segments as values, and over octets of the copy that arrives next, as its end reads it.
 pub fn infinite_mappings_are_right()
-    ensures { HoldsAnyway InfiniteMappingsAreRight }
+    ensures values { HoldsAnyway InfiniteMappingsAreRight }
+    ensures octets { HoldsAnywayOfOctets (InfiniteMappingsAreHeardRight octets) }
 {}
 
 /// A law: whatever payload the links alter, where mappings are checked (RFC 8684, section 3.3.1): as long as a side hasn't fallen back to

@@ -24,6 +24,7 @@ use Rattle.world_laws.specs.PlainScripts.{alters_payload, IsPlainScript, IsShort
 use Rattle.world_laws.proofs.Promises.AbortsHaveACause.{aborts_have_cause_in_octets}
 use Rattle.world_laws.proofs.Promises.AbortedHearThatAlone.{abort_is_last}
 use Rattle.world_laws.proofs.Promises.InfiniteMappingsAreRight.{infinite_mappings_are_right}
+use Rattle.world_laws.proofs.Promises.InfiniteOverOctets.{infinite_mappings_are_heard_right}
 use Rattle.world_laws.proofs.Promises.ChecksumsAreRight.{checksums_are_right}
 use Rattle.world_laws.proofs.Falls.ChecksPass.{checks_pass_in_octets}
 use Rattle.world_laws.proofs.Falls.AreRight.{falls_in_octets, falls_last_in_octets, places_in_octets}
@@ -144,6 +145,7 @@ scripts_keep_anyway script file_a file_b turns h =
       aborts = aborts_have_cause_in_octets start turns starts.0 starts.1;
       stopped = abort_is_last octets start turns;
       waiting = joins_wait octets start turns;
+      infinite = infinite_mappings_are_heard_right start turns starts.0 starts.1;
     }
 
 pub plain_scripts_keep_all_promises : PlainScriptsKeepAllPromises
