@@ -100,7 +100,7 @@ join_begin_reply c =
     if is_sure c.fall.mode then begin c
     else (if is_starting c.fall.mode && stands c.paths 0 then reply.NotYet else reply.Never c.fall.mode)
 
--- a join is answered where the token is the side's, the side is confirmed, and nothing fell or failed
+-- a join is answered where the token is the side's, and the side is confirmed, and starting or sure
 abbrev pub join_heard_reply : ℕ → Control → ControlReply
 join_heard_reply token c =
     if not (token == token_of c.keys.own) then reply.UnknownToken (token_of c.keys.own)

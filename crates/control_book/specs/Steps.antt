@@ -56,7 +56,7 @@ after_join c = record c { fall = record c.fall { joined = true } }
 abbrev pub after_join_begin : ℕ → Control → Control
 after_join_begin path c = if is_sure c.fall.mode then after_join (record c { paths = with_phase path Opening c.paths }) else c
 
--- JoinHeard: where the token is the side's, the side is confirmed, and nothing fell or failed, it has answered a join
+-- JoinHeard: where the token is the side's, and the side is confirmed, and starting or sure, it has answered a join
 abbrev pub after_join_heard : ℕ → Control → Control
 after_join_heard token c =
     if token == token_of c.keys.own && c.fall.confirmed && (is_starting c.fall.mode || is_sure c.fall.mode) then after_join c else c

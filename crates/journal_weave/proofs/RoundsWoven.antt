@@ -73,7 +73,7 @@ module _ (crew after : List Crew) (books left : StampedBooks) (begins : Begins (
 
   -- each list is its actor's
   pub lists_own : AreOwn 0 (lists_in after)
-  lists_own = each_own begins.fine.top 0 crew after whole.many whole.turned (λ i n c is there. begins.fine.crew.each i n c is there)
+  lists_own = each_own (greatest 0 crew) 0 crew after whole.many whole.turned (λ i n c is there. begins.fine.crew.each i n c is there)
 
   -- lists and journals are paired at every stamp
   pub still_paired : StaysPaired → ArePaired 0 (lists_of after) (journals_of left)

@@ -100,7 +100,7 @@ round_over counts w h =
 pub round_begins : (w v : Connection) → Begins w → RoundTo octets w v → Begins v
 round_begins w v h r =
     subst (λ x. Begins x) (sym r.2)
-    (next_begins (after_turns octets 0 r.0 w) (turns_go w w 0 r.0 (begins_going w h)).fine (round_over r.0 w r.1))
+    (next_begins (greatest 0 w.crew) (after_turns octets 0 r.0 w) (turns_go w w 0 r.0 (begins_going w h)).fine (round_over r.0 w r.1))
 
 -- and its lists grew
 pub round_since : (made : List ℕ) (w v : Connection) → made ≡ map length (lists_of w.crew) → Begins w → RoundTo octets w v → IsSince w made v

@@ -19,7 +19,7 @@ use Rattle.world_laws.specs.Fine.{lists_of}
 use Rattle.world_laws.specs.Openings.{Start, opened_world}
 use Rattle.world_laws.specs.Worlds.{Turn, world_step, end_round, greatest, after_turn, world_run}
 use Rattle.world_laws.proofs.Weaving.Occurring.{In, Occurs}
-use Rattle.world_laws.proofs.Weaving.Paired.{stays_fine}
+use Rattle.world_laws.proofs.Rounds.DoneByTheEnd.{stays_fine}
 use Rattle.world_laws.proofs.Weaving.TheOrder.{in_order_of}
 use Rattle.world_laws.proofs.Weaving.WholeRounds.{run_append}
 use Rattle.world_core.specs.RoundEnds.{round_ends, round_steps, steps_by_round}

@@ -40,9 +40,9 @@ steps_push : (actors : List ℕ) (actor : ℕ) (w : Connection) → world_run oc
 steps_push [] actor w = refl
 steps_push (first ∷ actors) actor w = steps_push actors actor (world_step octets first w)
 
-pub steps_fine : (actors : List ℕ) (w : Connection) → IsFine w → IsFine (world_run octets (steps_by actors) w)
-steps_fine [] w fine = fine
-steps_fine (actor ∷ actors) w fine = steps_fine actors (world_step octets actor w) (step_fine octets actor w fine)
+pub steps_fine : (actors : List ℕ) (top : ℕ) (w : Connection) → IsFine top w → IsFine top (world_run octets (steps_by actors) w)
+steps_fine [] top w fine = fine
+steps_fine (actor ∷ actors) top w fine = steps_fine actors top (world_step octets actor w) (step_fine octets actor top w fine)
 
 -- ---- round by round
 
@@ -51,8 +51,8 @@ pub record AreWoven (turns : List Turn) (last w : Connection) : Type 0 where
   pub lawful : AreLawful octets (turns_told (steps_by_round last (round_ends turns w))) last
   pub ends : round_ends (turns_told (steps_by_round last (round_ends turns w))) last ≡ round_ends turns w
 
-fine_steps : (actors : List ℕ) (last w : Connection) → Begins last → w ≡ world_run octets (steps_by actors) last → IsFine w
-fine_steps actors last w begins is = subst IsFine (sym is) (steps_fine actors last begins.fine)
+fine_steps : (actors : List ℕ) (last w : Connection) → Begins last → w ≡ world_run octets (steps_by actors) last → IsFine (greatest 0 last.crew) w
+fine_steps actors last w begins is = subst (IsFine (greatest 0 last.crew)) (sym is) (steps_fine actors (greatest 0 last.crew) last begins.fine)
 
 -- a round, which these actors' steps made, before others
 round_woven : (turns : List Turn) (actors : List ℕ) (last w : Connection) → Begins last → w ≡ world_run octets (steps_by actors) last → all_over w.crew ≡ true
@@ -86,7 +86,7 @@ turns_woven (Turn.Step actor ∷ turns) actors last w begins is lawful =
     record { lawful = rest.lawful; ends = rest.ends }
 turns_woven (Turn.Round ∷ turns) actors last w begins is lawful =
     round_woven turns actors last w begins is lawful.0
-    (turns_woven turns [] (end_round w) (end_round w) (next_begins w (fine_steps actors last w begins is) lawful.0) refl lawful.1)
+    (turns_woven turns [] (end_round w) (end_round w) (next_begins (greatest 0 last.crew) w (fine_steps actors last w begins is) lawful.0) refl lawful.1)
 
 -- turns that notes tell lead to the last round's end
 pub told_to_the_end : (steps : List (List Note)) (w : Connection) → last_end w (round_ends (turns_told steps) w) ≡ world_run octets (turns_told steps) w

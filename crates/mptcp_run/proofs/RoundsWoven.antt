@@ -47,7 +47,7 @@ serial_woven w v begins r =
 -- the next round begins behind it
 pub woven_begins : (w v : Connection) → Begins w → WovenTo w v → Begins v
 woven_begins w v begins r =
-    subst Begins (sym r.world) (next_begins (world_run octets (steps_by r.actors) w) (steps_fine r.actors w begins.fine) r.round.over)
+    subst Begins (sym r.world) (next_begins (greatest 0 w.crew) (world_run octets (steps_by r.actors) w) (steps_fine r.actors (greatest 0 w.crew) w begins.fine) r.round.over)
 
 -- ---- many of them
 

@@ -62,7 +62,8 @@ parts_begin k crew books is h =
 left_sound : (crew after : List (ActorCrew (List ℕ))) (books left : StampedBooks) → IsSound (world crew books) → HaveTurned crew after
     → (actors : List ℕ) → WeavesTo (world crew books) (world after left) actors → IsSound (world after left)
 left_sound crew after books left sound have actors h = record {
-  fine = subst IsFine h.leads (steps_fine actors (world crew books) sound.fine);
+  top = sound.top;
+  fine = subst (IsFine sound.top) h.leads (steps_fine actors sound.top (world crew books) sound.fine);
   timely = record { each = λ i d at. each_timely crew after have.many have.turned (λ j c there. sound.timely.each j c there) i d at };
 }
 

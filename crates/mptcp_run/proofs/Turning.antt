@@ -56,7 +56,7 @@ under_step last run new actor h world made = record {
 pub under_end : (last : Connection) (run new : Run) → UnderWay last run → all_over run.world.state.crew ≡ true → new.world ≡ standing (end_round run.world.state)
     → new.made.items ≡ map length (lists_of (end_round run.world.state).crew) → UnderWay (end_round run.world.state) new
 under_end last run new h over world made =
-    let begins = next_begins run.world.state h.goes_on.fine over in
+    let begins = next_begins (greatest 0 last.crew) run.world.state h.goes_on.fine over in
     record {
       stands = ap (λ (k : Kept). k.failed) world;
       begins = begins;

@@ -18,7 +18,7 @@ use Rattle.world_laws.specs.Serial.{after_steps, after_turns}
 use Rattle.world_laws.specs.Worlds.{note_of, crew_after, asked, stepped, world_step, all_over, greatest, begins, end_round}
 use Rattle.world_laws.proofs.Weaving.StampsChain.{stamp_rises, stamps_below}
 use Rattle.world_laws.proofs.Worlds.Opened.{opened_actors}
-use Rattle.world_laws.proofs.Weaving.Paired.{step_fine, round_fine, greatest_above, stays_fine}
+use Rattle.world_laws.proofs.Weaving.Paired.{step_fine, ended_fine, greatest_above, greatest_ended, opened_fine}
 use Rattle.mptcp_run.specs.Rounds.{Begins}
 use Rattle.mptcp_run.specs.Replaying.{GoesOn}
 use Rattle.mptcp_run.specs.Task.{Connection}
@@ -57,7 +57,7 @@ grew_step top (suc actor) (before ∷ lists) (first ∷ crew) books ask c there 
 -- ---- steps
 
 asked_goes : (last w : Connection) (actor : ℕ) (o : Option Ask) (c : ActorCrew (List ℕ)) → slice_get w.crew actor ≡ Some c → GoesOn last w
-    → IsFine (asked octets actor o c w) → GoesOn last (asked octets actor o c w)
+    → IsFine (greatest 0 last.crew) (asked octets actor o c w) → GoesOn last (asked octets actor o c w)
 asked_goes last w actor None c there h fine = h
 asked_goes last w actor (Some ask) c there h fine = record {
   fine = fine;
@@ -73,9 +73,9 @@ asked_goes last w actor (Some ask) c there h fine = record {
 
 -- the round goes on with each step
 pub step_goes : (last w : Connection) (actor : ℕ) → GoesOn last w → GoesOn last (world_step octets actor w)
-step_goes last w actor h = by (slice_get w.crew actor) refl (step_fine octets actor w h.fine)
+step_goes last w actor h = by (slice_get w.crew actor) refl (step_fine octets actor (greatest 0 last.crew) w h.fine)
   where
-    by : (o : Option (ActorCrew (List ℕ))) → slice_get w.crew actor ≡ o → IsFine (stepped octets actor o w) → GoesOn last (stepped octets actor o w)
+    by : (o : Option (ActorCrew (List ℕ))) → slice_get w.crew actor ≡ o → IsFine (greatest 0 last.crew) (stepped octets actor o w) → GoesOn last (stepped octets actor o w)
     by None there fine = h
     by (Some c) there fine = asked_goes last w actor (member_asks octets c.member) c there h fine
 
@@ -140,8 +140,11 @@ begun w = record {
 }
 
 -- where each turn ended, the next round begins
-pub next_begins : (w : Connection) → IsFine w → all_over w.crew ≡ true → Begins (end_round w)
-next_begins w fine over = record { fine = round_fine w fine; known = by (all_over w.crew) over }
+pub next_begins : (top : ℕ) (w : Connection) → IsFine top w → all_over w.crew ≡ true → Begins (end_round w)
+next_begins top w fine over = record {
+  fine = subst (λ n. IsFine n (end_round w)) (sym (greatest_ended w)) (ended_fine top w over fine);
+  known = by (all_over w.crew) over;
+}
   where
     by : (b : Bool) → b ≡ true
         → Every (λ c. c.pass.stamp ≡ greatest 0 (if b then record w { crew = map (begins (greatest 0 w.crew)) w.crew } else w).crew)
@@ -154,8 +157,9 @@ pub opened_begins : (start : Start) → Begins (opened_world start)
 opened_begins start =
     let unstamped = opened_actors (λ actor c. c.pass.stamp ≡ 0) start refl refl (λ number plan there. refl) in
     let none = greatest_at_most 0 0 (opened_world start).crew (omega arith) (λ i c there. let first = unstamped i c there in omega (arith, first)) in
+    let is : 0 ≡ greatest 0 (opened_world start).crew = omega (arith, none) in
     record {
-      fine = (stays_fine octets).always start [];
+      fine = subst (λ n. IsFine {C = List ℕ} n (opened_world start)) is (opened_fine start);
       known = record { each = λ i c there. let first = unstamped i c there in omega (arith, first, none) };
     }
 

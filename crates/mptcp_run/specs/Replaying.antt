@@ -18,7 +18,7 @@ use Rattle.world_core.specs.Weaving.{AllGrewAbove}
 
 -- the round that began with that world goes on
 pub record GoesOn (last w : Connection) : Type 0 where
-  pub fine : IsFine w
+  pub fine : IsFine (greatest 0 last.crew) w
   pub grew : AllGrewAbove (greatest 0 last.crew) (lists_of last.crew) (lists_of w.crew)
   pub known : Every (λ c. greatest 0 last.crew ≤ c.pass.stamp) w.crew
 

@@ -20,7 +20,7 @@ use Rattle.mptcp_run.specs.Task.{Connection}
 
 -- a round begins: each actor knows the greatest stamp so far
 pub record Begins (w : Connection) : Type 0 where
-  pub fine : IsFine w
+  pub fine : IsFine (greatest 0 w.crew) w
   pub known : Every (λ c. c.pass.stamp ≡ greatest 0 w.crew) w.crew
 
 -- a run whose last round was put, and whose next one begins

@@ -4,19 +4,18 @@ use Rattle.std.proofs.lemmas.Bool.{both_ways}
 use Rattle.std.proofs.lemmas.List.{length-map}
 use Rattle.std.specs.List.{slice_get, slice_index_or}
 use Rattle.actor_desk.specs.Words.{is_nil}
-use Rattle.path_rules.specs.Octets.{octets}
 use Rattle.path_rules.specs.Starts.{waiting_path}
 use Rattle.path_rules.specs.State.{PathState}
 use Rattle.path_rules.specs.Steps.{begins_turn}
 use Rattle.stream_lanes.proofs.Lists.{in_map}
 use Rattle.world_laws.specs.Actors.{Actor, ActorCrew, member_next, is_over}
 use Rattle.world_laws.specs.declared.member.Member.TheVariants.{App, Path}
-use Rattle.world_laws.specs.Fine.{IsFine}
+use Rattle.world_laws.specs.Fine.{IsFine, top_after}
 use Rattle.world_laws.specs.Openings.{Start, opened_world, path_begins}
 use Rattle.actor_desk.specs.Books.{StampedBooks}
-use Rattle.world_laws.specs.Worlds.{all_over, greatest, begins, end_round}
+use Rattle.world_laws.specs.Worlds.{Turn, all_over, greatest, begins, end_round}
 use Rattle.world_laws.specs.Timely.{CanBegin, IsTimely, IsTimelyMember}
-use Rattle.world_laws.proofs.Weaving.Paired.{round_fine, stays_fine}
+use Rattle.world_laws.proofs.Weaving.Paired.{round_fine, opened_fine}
 use Rattle.world_laws.proofs.Rounds.Frame.{first_keeps, first_stands}
 use Rattle.world_laws.proofs.Rounds.Lifting.{opened_lifted}
 use Rattle.world_core.specs.Kept.{world, IsSound, IsKept}
@@ -107,7 +106,8 @@ ended_is crew books = by (all_over crew)
 
 pub ended_sound : (crew : List (ActorCrew (List ℕ))) (books : StampedBooks) → IsSound (world crew books) → IsSound (world (ended crew) books)
 ended_sound crew books h = record {
-  fine = subst IsFine (sym (ended_is crew books)) (round_fine (world crew books) h.fine);
+  top = top_after Turn.Round (world crew books) h.top;
+  fine = subst (IsFine (top_after Turn.Round (world crew books) h.top)) (sym (ended_is crew books)) (round_fine h.top (world crew books) h.fine);
   timely = ended_timely crew h.timely;
 }
 
@@ -137,7 +137,8 @@ ended_kept crew books h failed k = record {
 
 pub opened_sound : (start : Start) → IsSound (opened_world start)
 opened_sound start = record {
-  fine = (stays_fine octets).always start [];
+  top = 0;
+  fine = opened_fine start;
   timely = opened_lifted IsTimelyCrew start (record { few = omega arith; timely = tt }) (record { few = omega arith; timely = tt })
       (λ number plan there. record {
         few = omega arith;

@@ -139,7 +139,8 @@ module _ (crew : List (ActorCrew (List ℕ))) (books after : StampedBooks) (i : 
 
   pub step_sound : (length c.list < 2 ^ 57 → length d.list < 2 ^ 57) → IsSound (world crew books) → IsSound (world (set crew i d) after)
   step_sound few h = record {
-    fine = subst IsFine (sym step_is) (step_fine octets i (world crew books) h.fine);
+    top = h.top;
+    fine = subst (IsFine h.top) (sym step_is) (step_fine octets i h.top (world crew books) h.fine);
     timely = record {
       each = λ k x at. ⊎_elim
           (λ here. subst IsTimelyCrew here.1 (timely_crew (member_asks octets c.member) crew_is few (h.timely.each i c there)))

@@ -20,10 +20,11 @@ abbrev pub standing : WorldState (List ℕ) → Kept
 standing w = record { failed = false; state = w }
 
 -- What holds of each world that hasn't failed: its lists and journals are paired at every stamp, stamps rise in each, and they
--- are chained above the greatest stamp at the last round's end; and each actor has begun no more rounds than it has notes,
--- which are fewer than 2^57.
+-- are chained above a stamp, as after a round's end; and each actor has begun no more rounds than it has notes, which are fewer
+-- than 2^57.
 pub record IsSound (w : WorldState (List ℕ)) : Type 0 where
-  pub fine : IsFine w
+  pub top : ℕ
+  pub fine : IsFine top w
   pub timely : AreTimely w.crew
 
 -- a world with what its readers were told

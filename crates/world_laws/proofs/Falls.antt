@@ -12,3 +12,4 @@ pub mod ByTheJournal
 pub mod ForEver
 pub mod ForGood
 pub mod FirmRuns
+pub mod ChecksPass

@@ -8,3 +8,5 @@ pub mod OfScripts
 pub mod InfiniteMappingsAreRight
 pub mod AbortedHearThatAlone
 pub mod AbortsHaveACause
+pub mod ChecksumsAreRight
+pub mod InfiniteOverOctets

@@ -1,6 +1,6 @@
 -- What holds of the lists and journals of each world: they are paired at every stamp, stamps rise in each, and they are chained
 -- above the greatest stamp at the last round's end (L. Lamport, 'Time, clocks, and the ordering of events', 1978).
-use Rattle.std.specs.Prelude.{ℕ, ◌≡◌, ◌+◌, ◌<◌, ◌≤◌, max, None, List, [], ◌∷◌, ◌++◌, map}
+use Rattle.std.specs.Prelude.{ℕ, ◌≡◌, ◌+◌, ◌<◌, ◌≤◌, max, if◌then◌else◌, None, List, [], ◌∷◌, ◌++◌, map}
 use Rattle.stamped_book.specs.declared.stamped.Entry.{Entry}
 use Rattle.stream_lanes.specs.Words.{Every, From}
 use Rattle.actor_desk.specs.declared.ask.Note.{Note}
@@ -8,7 +8,7 @@ use Rattle.actor_desk.specs.Journals.{AreChained, ArePaired}
 use Rattle.world_laws.specs.Actors.{ActorCrew}
 use Rattle.actor_desk.specs.Books.{StampedBooks}
 use Rattle.world_laws.specs.StampedBooks.{journals_of}
-use Rattle.world_laws.specs.Worlds.{WorldState}
+use Rattle.world_laws.specs.Worlds.{WorldState, Turn, all_over, greatest}
 
 -- each stamp is greater than the one before it, from this one on
 abbrev pub NotesRise : ℕ → List Note → Type 0
@@ -59,14 +59,13 @@ module _ {C : Type 0} where
   abbrev pub lists_of : List (ActorCrew C) → List (List Note)
   lists_of crew = map (λ c. c.list) crew
 
-  pub record IsFine (w : WorldState C) : Type 0 where
-    -- `IsFineSince` says which: the greatest stamp at the last round's end
-    pub top : ℕ
+  -- where this was the greatest stamp at the last round's end
+  pub record IsFine (top : ℕ) (w : WorldState C) : Type 0 where
     pub crew : From (IsFineCrew top) 0 w.crew
     pub journals : BooksAreStamped w.books
     pub paired : (after : ℕ) → ArePaired after (lists_of w.crew) (journals_of w.books)
 
-  -- chained above this stamp
-  pub record IsFineSince (top : ℕ) (w : WorldState C) : Type 0 where
-    pub fine : IsFine w
-    pub top_is : fine.top ≡ top
+  -- what that stamp is after a turn in this world
+  abbrev pub top_after : Turn → WorldState C → ℕ → ℕ
+  top_after (Turn.Step actor) w top = top
+  top_after Turn.Round w top = if all_over w.crew then greatest 0 w.crew else top

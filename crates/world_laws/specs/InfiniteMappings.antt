@@ -1,18 +1,25 @@
 -- An infinite mapping that is told is right: from its position on each octet of the path has the place that it gives (RFC 8684,
 -- section 3.7).
-use Rattle.std.specs.Prelude.{ℕ, ◌≡◌, ◌+◌, ◌-◌, ◌≤◌, Option, Some, slice_get}
+use Rattle.std.specs.Prelude.{ℕ, ◌≡◌, ◌+◌, ◌-◌, ◌<◌, ◌≤◌, Option, Some, slice_get}
 use Rattle.outside_kit.specs.declared.side.Side.{Side}
 use Rattle.outside_kit.specs.Side.{peer}
+use Rattle.link_model.specs.declared.flight.Due.{Due}
 use Rattle.link_model.specs.declared.flight.Flight.{Flight}
+use Rattle.link_model.specs.Steps.{arriving}
 use Rattle.path_segments.specs.declared.segment.PathMapping.{PathMapping}
 use Rattle.path_segments.specs.declared.segment.PathMapping.TheVariants.{Infinite}
 use Rattle.path_segments.specs.declared.segment.PathOption.TheVariants.{Dss}
 use Rattle.path_segments.specs.Options.{PlainOption}
+use Rattle.path_segments.specs.Heard.{HeardSegment}
 use Rattle.subflow_send.specs.declared.record.RecordKind.{RecordKind}
 use Rattle.subflow_send.specs.declared.record.RecordKind.TheVariants.{Syn, Data, Fin}
 use Rattle.subflow_send.specs.Records.{Record}
 use Rattle.stream_lanes.specs.Words.{Every}
+use Rattle.path_rules.specs.declared.event.Event.TheVariants.{Arrives}
+use Rattle.path_rules.specs.Arriving.{HeardOption}
+use Rattle.path_rules.specs.Codec.{Codec}
 use Rattle.path_rules.specs.Ends.{PathEnd}
+use Rattle.path_rules.specs.Events.{heard_in, next_event}
 use Rattle.path_rules.specs.OptionsOut.{place_numbered}
 use Rattle.path_rules.specs.State.{PathState, Profile, end_at}
 use Rattle.path_rules.specs.Values.{Carried}
@@ -20,9 +27,11 @@ use Rattle.world_laws.specs.declared.member.Member.TheVariants.{App, Path}
 use Rattle.world_laws.specs.Actors.{Actor, ActorCrew}
 use Rattle.world_laws.specs.Worlds.{WorldState}
 
--- a record of data that begins at this position or behind it has the place that rises with the position
+-- each octet of a record of data that stands at this position or behind it has the place that rises with the position, also where
+-- the record begins before it
 abbrev pub IsUnder : ℕ → ℕ → RecordKind → Profile → Side → Record → Type 0
-IsUnder place position Data c s r = position ≤ r.pos → place_numbered c s r.mapping.number ≡ place + (r.pos - position)
+IsUnder place position Data c s r =
+    (i : ℕ) → i < r.mapping.length → position ≤ r.pos + i → place_numbered c s r.mapping.number + i ≡ place + (r.pos + i - position)
 IsUnder place position Syn c s r = Unit {0}
 IsUnder place position Fin c s r = Unit {0}
 
@@ -48,3 +57,28 @@ PathIsRight (Path p) = Every (FlightIsRight p) p.link.under_way
 -- on every path
 pub record InfiniteMappingsAreRight (w : WorldState Carried) : Type 0 where
   pub each : (actor : ℕ) (c : ActorCrew Carried) → slice_get w.crew actor ≡ Some c → PathIsRight c.member
+
+-- ---- as they are heard
+
+-- one whose numbers mean a place and a position
+abbrev pub HeardMappingIsRight : Profile → Side → PathEnd → Option (PathMapping (Option ℕ)) → Type 0
+HeardMappingIsRight c s e (Some (Infinite (Some place) (Some position))) = Every (λ r. IsUnder place position r.kind c s r) e.tcp.send.records
+HeardMappingIsRight c s e _ = Unit {0}
+
+abbrev pub HeardOptionIsRight : Profile → Side → PathEnd → HeardOption → Type 0
+HeardOptionIsRight c s e (Dss next mapping) = HeardMappingIsRight c s e mapping
+HeardOptionIsRight c s e _ = Unit {0}
+
+module _ {C : Type 0} (k : Codec C) where
+  -- the copy that arrives next, as its end reads it, for the end that sent it
+  abbrev pub NextIsRight : PathState C → Type 0
+  NextIsRight p = (due : Due) (h : HeardSegment) → next_event p ≡ Some (Arrives due) → heard_in k due.to (arriving due p.link) p ≡ Some h
+      → Every (HeardOptionIsRight p.profile (peer due.to) (end_at (peer due.to) p)) h.options
+
+  abbrev pub ActorHearsRight : Actor C → Type 0
+  ActorHearsRight (App a) = Unit {0}
+  ActorHearsRight (Path p) = NextIsRight p
+
+  -- on every path
+  pub record InfiniteMappingsAreHeardRight (w : WorldState C) : Type 0 where
+    pub each : (actor : ℕ) (c : ActorCrew C) → slice_get w.crew actor ≡ Some c → ActorHearsRight c.member

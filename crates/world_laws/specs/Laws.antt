@@ -10,11 +10,10 @@ use Rattle.path_rules.specs.Values.{Carried, values}
 use Rattle.path_rules.specs.Events.{next_event}
 use Rattle.world_laws.specs.declared.member.Member.TheVariants.{App, Path}
 use Rattle.world_laws.specs.Actors.{Actor, ActorCrew}
-use Rattle.world_laws.specs.Fine.{IsFine}
 use Rattle.world_laws.specs.Fresh.{AreFresh, shown_world}
 use Rattle.world_laws.specs.Openings.{PathPlan, Start, opened_world}
 use Rattle.world_laws.specs.Serial.{IsSerial}
-use Rattle.world_laws.specs.Worlds.{WorldState, Turn, after_turn, world_run, AreLawful}
+use Rattle.world_laws.specs.Worlds.{WorldState, Turn, world_run, AreLawful}
 
 -- what a book has as written is a prefix of a file, and all of it where the book is closed
 pub record WritesTheFile (file : List ℕ) (send : Sending) : Type 0 where
@@ -54,11 +53,6 @@ module _ {C : Type 0} (k : Codec C) where
   -- each turn of an actor ends
   abbrev pub SerialExists : Type 0
   SerialExists = Always (λ start w. CanRun start → (most : ℕ) → (turns : List Turn) × IsSerial k most turns w × AreLawful k turns w)
-
-  -- a step or a round's end keeps lists and journals in order, which they are from the opening on
-  pub record StaysFine : Type 0 where
-    pub always : Always (λ start w. IsFine w)
-    pub turns : (turn : Turn) (w : WorldState C) → IsFine w → IsFine (after_turn k turn w)
 
 -- a world over octets is the world over segments as values, shown in octets, as long as its turns are fresh
 abbrev pub OctetsDoAsValues : Type 0

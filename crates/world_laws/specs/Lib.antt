@@ -28,3 +28,4 @@ pub mod AbortCause
 pub mod Altered
 pub mod InfiniteMappings
 pub mod Announcing
+pub mod ChecksPass

@@ -11,14 +11,18 @@ use Rattle.world_laws.specs.AbortCause.{AbortsHaveCause}
 use Rattle.world_laws.specs.Altered.{BothKeepCount, FallsForGood, PlacedUntilTheFall, PrefixUntilTheFall}
 use Rattle.world_laws.specs.Announcing.{AnnouncementsEnd}
 use Rattle.world_laws.specs.Agreement.{MappingsAgree}
+use Rattle.world_laws.specs.ChecksPass.{ChecksPass, ChecksumsAreRight}
 use Rattle.world_laws.specs.FallsRight.{FallsAreRight, FallsLast, PositionsArePlaces}
 use Rattle.world_laws.specs.Fresh.{shown_world}
 use Rattle.world_laws.specs.Granted.{GrantedOnce}
+use Rattle.world_laws.specs.InfiniteMappings.{InfiniteMappingsAreHeardRight, InfiniteMappingsAreRight}
+use Rattle.world_laws.specs.JoinsWait.{JoinsWait}
 use Rattle.world_laws.specs.Laws.{CanRun}
 use Rattle.world_laws.specs.Openings.{Start, opened_world, start_of}
 use Rattle.world_laws.specs.Promises.{HasRoom, IsPlain, NumbersFit, BothKeepTheirWord, NothingFollows, EachTurnIsOneStep, NothingWasRefused, KeysNeverDiffer, JoinsAreRight, AddressesAreRight}
 use Rattle.world_laws.specs.ShortNumbers.{ShortNumbersGoShort}
 use Rattle.world_laws.specs.Standbys.{BackupsGetNothing}
+use Rattle.world_laws.specs.Stopping.{AbortIsLast}
 use Rattle.world_laws.specs.Welcome.{EachCopyIsWelcome}
 use Rattle.world_laws.specs.Worlds.{WorldState, Turn, world_run}
 
@@ -69,6 +73,9 @@ pub record KeepsAnyway (w : WorldState (List ℕ)) : Type 0 where
   pub standbys : BackupsGetNothing w
   pub announcements : AnnouncementsEnd w
   pub aborts : AbortsHaveCause w
+  pub stopped : AbortIsLast octets w
+  pub waiting : JoinsWait w
+  pub infinite : InfiniteMappingsAreHeardRight octets w
 
 -- so it keeps these promises, whatever the order of the steps
 abbrev pub ScriptsKeepAnyway : Type 0
@@ -88,11 +95,14 @@ CheckedScriptsKeepOctets =
     → KeepsChecked (world_run octets turns (opened_world (start_of script file_a file_b)))
 
 -- After these turns the connection over octets is the one over segments as values, shown in octets: what it sends is spelled from
--- the segments of that one, and what it receives is read as them. There short numbers go short.
+-- the segments of that one, and what it receives is read as them. There short numbers go short, and infinite mappings and checksums
+-- are right.
 pub record IsShownOfValues (start : Start) (turns : List Turn) : Type 0 where
   pub shown : world_run octets turns (opened_world start)
       ≡ shown_world (world_run values turns (opened_world start))
   pub short : ShortNumbersGoShort start (world_run values turns (opened_world start))
+  pub infinite : InfiniteMappingsAreRight (world_run values turns (opened_world start))
+  pub sums : ChecksumsAreRight (world_run values turns (opened_world start))
 
 -- so it is by every such script, whatever the order of the steps
 abbrev pub ScriptsAreShownOfValues : Type 0
@@ -111,6 +121,7 @@ PlainScriptsStartPlainly =
 pub record KeepsAllPromises (w : WorldState (List ℕ)) : Type 0 where
   pub word : BothKeepTheirWord w
   pub refused : NothingWasRefused w
+  pub checks : ChecksPass w
   pub anyway : KeepsAnyway w
 
 -- so it keeps all promises, whatever the order of the steps

@@ -3,11 +3,11 @@ use Rattle.std.specs.Prelude.{ℕ, ◌≡◌, ◌+◌, ◌*◌, true, if◌then�
 use Rattle.path_rules.specs.Codec.{Codec}
 use Rattle.world_laws.specs.declared.member.Member.TheVariants.{App, Path}
 use Rattle.world_laws.specs.Actors.{Actor, ActorCrew}
-use Rattle.world_laws.specs.Fine.{IsFineSince}
+use Rattle.world_laws.specs.Fine.{IsFine, top_after}
 use Rattle.world_laws.specs.Laws.{NothingDueIsLeft}
 use Rattle.world_laws.specs.Openings.{Start, opened_world}
-use Rattle.world_laws.specs.RoundEnd.{GrantsAreDone, ReadersAreDone}
-use Rattle.world_laws.specs.RoundNumbers.{PathsAskForAll, ReadersCaughtUp}
+use Rattle.world_laws.specs.RoundEnd.{ReadersAreDone}
+use Rattle.world_laws.specs.RoundNumbers.{GrantsAreDone, PathsAskForAll, ReadersCaughtUp}
 use Rattle.world_laws.specs.Worlds.{WorldState, Turn, all_over, greatest, end_round, after_turn, world_run, AreLawful}
 
 -- A round: its number, the first one being 0; the greatest stamp as the round before it ended; and the world in which it began.
@@ -56,14 +56,15 @@ module _ {C : Type 0} where
         → EndsAt (100 * (r.number + 1)) c.member
 
   -- Where all turns of a round are over. No line, copy or timer that was due before the round's end is left. Each end of a path
-  -- that may still ask for bytes was refused its last grant, and asked for all that was written as the round began. Each reader
+  -- that may still ask for bytes was refused the last grant of the round, and asked for all that was written as the round began, or
+  -- has no room for a record that is still to be sent. Each reader
   -- was told the end, or read as much as a side buffers, or its last read found nothing; and it read all that had arrived as the
   -- round began.
   pub record RoundIsDone (r : RoundState C) (w : WorldState C) : Type 0 where
     pub over : all_over w.crew ≡ true
     pub tick : EndsOnTime r w
     pub due : NothingDueIsLeft w
-    pub grants : GrantsAreDone w
+    pub grants : GrantsAreDone r.begun w
     pub asked : PathsAskForAll r.begun w
     pub readers : ReadersAreDone w
     pub caught_up : ReadersCaughtUp r.begun w
@@ -89,7 +90,8 @@ module _ {C : Type 0} (k : Codec C) where
       → AreLawful k (before ++ Turn.Round ∷ later) (opened_world start)
       → RoundIsDone (round_of k start before) (reached k start before)
 
-  -- lists and journals are chained above the greatest stamp as the last round ended
-  abbrev pub StampsSinceTheRound : Type 0
-  StampsSinceTheRound =
-      (start : Start) (turns : List Turn) → IsFineSince (round_of k start turns).top (reached k start turns)
+  -- a step or a round's end keeps lists and journals in order, which they are from the opening on; they are chained above the
+  -- greatest stamp as the last round ended
+  pub record StaysFine : Type 0 where
+    pub always : (start : Start) (turns : List Turn) → IsFine (round_of k start turns).top (reached k start turns)
+    pub turns : (turn : Turn) (top : ℕ) (w : WorldState C) → IsFine top w → IsFine (top_after turn w top) (after_turn k turn w)

@@ -1,5 +1,5 @@
--- What is done where turns are over: readers have read what they could, and no end of a path would still ask for bytes.
-use Rattle.std.specs.Prelude.{ℕ, ◌≡◌, ◌≤◌, Bool, true, false, if◌then◌else◌, Some, None, List, [], ◌∷◌, ◌++◌, slice_get}
+-- What is done where turns are over: readers have read what they could. And whether the last grant that was asked was refused.
+use Rattle.std.specs.Prelude.{ℕ, ◌≡◌, ◌≤◌, Bool, true, false, if◌then◌else◌, Some, List, [], ◌∷◌, ◌++◌, slice_get}
 use Rattle.outside_kit.specs.declared.side.Side.{Side}
 use Rattle.outside_kit.specs.declared.side.Side.TheVariants.{A, B}
 use Rattle.send_book.specs.declared.call.SendCall.TheVariants as send_calls
@@ -11,8 +11,6 @@ use Rattle.actor_desk.specs.declared.ask.Note.{Note}
 use Rattle.actor_desk.specs.declared.ask.Reply.{Reply}
 use Rattle.actor_desk.specs.declared.ask.Reply.TheVariants as replies
 use Rattle.stream_apps.specs.Apps.{AppState}
-use Rattle.path_rules.specs.Emission.{first_unsent, may_ask}
-use Rattle.path_rules.specs.State.{PathState, end_at}
 use Rattle.world_laws.specs.declared.member.Member.TheVariants.{App, Path}
 use Rattle.world_laws.specs.Actors.{Actor, ActorCrew}
 use Rattle.world_laws.specs.Worlds.{WorldState}
@@ -55,21 +53,7 @@ abbrev pub last_refused : Side → Bool → List Note → Bool
 last_refused s before [] = before
 last_refused s before (note ∷ notes) = last_refused s (refused_after s note before) notes
 
--- An end that has no record to send and may ask for bytes, with room in its window for a full segment, was refused its last
--- grant.
-abbrev pub IsDoneAsking : {C : Type 0} → PathState C → List Note → Side → Type 0
-IsDoneAsking p notes s =
-    first_unsent (end_at s p) ≡ None → may_ask p.profile s (end_at s p) ≡ true → last_refused s false notes ≡ true
-
 module _ {C : Type 0} where
-  abbrev pub AreDoneAsking : Actor C → List Note → Type 0
-  AreDoneAsking (App a) notes = Unit {0}
-  AreDoneAsking (Path p) notes = p.agenda ≡ [] → (s : Side) → IsDoneAsking p notes s
-
-  -- each end of a path whose turn is over
-  pub record GrantsAreDone (w : WorldState C) : Type 0 where
-    pub each : (actor : ℕ) (c : ActorCrew C) → slice_get w.crew actor ≡ Some c → AreDoneAsking c.member c.list
-
   abbrev pub IsDoneReading : Actor C → List Note → Type 0
   IsDoneReading (App a) notes = a.agenda ≡ [] → IsReaderDone a notes
   IsDoneReading (Path p) notes = Unit {0}

@@ -96,7 +96,7 @@ module _ {C : Type 0} where
 
   -- A round begins: each actor knows this stamp, the greatest so far.
   pub record Begins (top : ℕ) (w : WorldState C) : Type 0 where
-    pub fine : IsFine w
+    pub fine : IsFine top w
     pub known : Every (λ c. c.pass.stamp ≡ top) w.crew
 
   -- What the steps of a round made of a world, whoever ordered them: actors and books went on, each at its own pace, and lists

@@ -3,16 +3,17 @@ ghost use Rattle.world_laws.specs.AbortCause.{AbortsHaveCause};
 ghost use Rattle.world_laws.specs.Agreement.{MappingsAgree};
 ghost use Rattle.world_laws.specs.Altered.{BothKeepCount, FallsForGood, HoldsChecked, HoldsCheckedOfOctets, PlacedUntilTheFall, PrefixUntilTheFall};
 ghost use Rattle.world_laws.specs.Announcing.{AnnouncementsEnd};
+ghost use Rattle.world_laws.specs.ChecksPass.{ChecksPass, ChecksumsAreRight, NoFailureIsTold};
 ghost use Rattle.world_laws.specs.FallsRight.{FallsAreRight, FallsLast, PositionsArePlaces};
 ghost use Rattle.world_laws.specs.Granted.{GrantedOnce};
-ghost use Rattle.world_laws.specs.InfiniteMappings.{InfiniteMappingsAreRight};
+ghost use Rattle.world_laws.specs.InfiniteMappings.{InfiniteMappingsAreHeardRight, InfiniteMappingsAreRight};
 ghost use Rattle.world_laws.specs.JoinsWait.{JoinsWait};
-ghost use Rattle.world_laws.specs.Laws.{AfterFreshTurns, Always, NothingDueIsLeft, SerialExists, SerialIsOne, StaysFine, OctetsDoAsValues, WritesTheFiles};
+ghost use Rattle.world_laws.specs.Laws.{AfterFreshTurns, Always, NothingDueIsLeft, SerialExists, SerialIsOne, OctetsDoAsValues, WritesTheFiles};
 ghost use Rattle.world_laws.specs.PlainScripts.{CheckedScriptsKeepOctets, PlainScriptsKeepAllPromises, PlainScriptsStartPlainly, ScriptsAreShownOfValues, ScriptsCanRun, ScriptsFit, ScriptsKeepAnyway};
 ghost use Rattle.world_laws.specs.Promises.{AddressesAreRight, BothKeepTheirWord, EachTurnIsOneStep, EveryListIsFresh, HoldsAnyway, HoldsAnywayOfOctets, IsPromised, IsPromisedOfOctets, JoinsAreRight, KeysNeverDiffer, NothingFollows, NothingWasRefused, OctetsAreValuesShown};
-ghost use Rattle.world_laws.specs.RoundDone.{LawfulRoundsAreDone, RoundsAreDone, RoundsEndOnTime, StampsSinceTheRound};
-ghost use Rattle.world_laws.specs.RoundEnd.{GrantsAreDone, ReadersAreDone};
-ghost use Rattle.world_laws.specs.RoundNumbers.{InEachRound, PathsAskForAll, ReadersCaughtUp};
+ghost use Rattle.world_laws.specs.RoundDone.{LawfulRoundsAreDone, RoundsAreDone, RoundsEndOnTime, StaysFine};
+ghost use Rattle.world_laws.specs.RoundEnd.{ReadersAreDone};
+ghost use Rattle.world_laws.specs.RoundNumbers.{GrantsAreDone, InEachRound, PathsAskForAll, ReadersCaughtUp};
 ghost use Rattle.world_laws.specs.ShortNumbers.{ShortNumbersGoShort};
 ghost use Rattle.world_laws.specs.Standbys.{BackupsGetNothing};
 ghost use Rattle.world_laws.specs.Stopping.{AbortIsLast};
@@ -45,8 +46,6 @@ pub fn scripts_can_run()
 pub fn what_is_fine_stays_fine()
     ensures octets { StaysFine octets }
     ensures values { StaysFine values }
-    ensures octets_since { StampsSinceTheRound octets }
-    ensures values_since { StampsSinceTheRound values }
 {}
 
 /// A law: at every moment, in whatever order the actors go, the round that goes on, r rounds having ended, ends on each path at
@@ -57,9 +56,9 @@ pub fn rounds_end_on_time()
 {}
 
 /// A law: where all turns of a round are over, in whatever order the actors went, its end is as it has to be. It is at its tick;
-/// nothing that was due before it is left; each end of a path that may still ask for bytes was refused its last grant, and asked
-/// for all; and each reader was told the end or an abort, or read as much as a side buffers, or found nothing more. So it is at
-/// each end of a round in lawful turns, and serial turns are lawful.
+/// nothing that was due before it is left; each end of a path that may still ask for bytes was refused the round's last grant, and
+/// asked for all, or has no room for a record that is still to be sent; and each reader was told the end or an abort, or read as
+/// much as a side buffers, or found nothing more. So it is at each end of a round in lawful turns, and serial turns are lawful.
 pub fn rounds_are_done()
     ensures octets { RoundsAreDone octets }
     ensures values { RoundsAreDone values }
@@ -81,16 +80,18 @@ pub fn readers_catch_up()
     ensures values { InEachRound values ReadersCaughtUp }
 {}
 
-/// A law: at every moment, where the turn of a path is over, an end that has no record to send and may ask for bytes, with room in
-/// its window for a full segment, was refused its last grant. What it was refused over stands in the send book's journal.
+/// A law: in each round, in whatever order the actors go, where the turn of a path is over, an end that may ask for bytes, with room in
+/// its window for a full segment, was refused the last grant that it asked for in this round; or a record is still to be sent, for which
+/// there is no room.
 pub fn grants_are_done()
-    ensures octets { Always octets (λ start w. GrantsAreDone w) }
-    ensures values { Always values (λ start w. GrantsAreDone w) }
+    ensures octets { InEachRound octets GrantsAreDone }
+    ensures values { InEachRound values GrantsAreDone }
 {}
 
-/// A law: in each round, in whatever order the actors go, where the turn of a path is over, an end that has no record to send and
-/// may ask for bytes, with room in its window for a full segment, asked for all: of the octets that were written as the round began
-/// none below the edge of the peer's window is left that the path may take. Else it was on standby when it asked last in this round;
+/// A law: in each round, in whatever order the actors go, where the turn of a path is over, an end that may ask for bytes, with room
+/// in its window for a full segment, asked for all: of the octets that were written as the round began none below the edge of the
+/// peer's window is left that the path may take. Else a record is still to be sent, for which there is no room; or the end was on
+/// standby when it asked last in this round;
 /// or octets are given to another path alone, as after a fallback, and none is once the connection was aborted there; or after the
 /// path asked last another one gave back some octets, or took an acknowledgement with a window past the edge as the round began.
 pub fn paths_ask_for_all()
@@ -217,13 +218,22 @@ pub fn nothing_is_refused()
     ensures octets { IsPromisedOfOctets NothingWasRefused }
 {}
 
-/// A law: a connection by a script, with files shorter than 2^31 - 2 octets, starts with numbers that fit. So over octets it keeps these
-/// promises, in whatever order its actors go, and whatever payload its links alter: lengths, acknowledgements and ends are right, nothing
-/// follows the end, each turn is on each pipe one step or none, keys never differ, joins and the HMACs of addresses are right, no copy is
-/// refused for what it says of a join, mappings agree, falls are right and last, positions are places after one, a side that fell back
-/// never goes by the peer's mappings again, each byte is granted to a path once at most, and none to one that stands by, no announcement
-/// goes out after its end, and aborts have their cause. And it is the connection over segments as values, shown in octets, whose short data
-/// numbers go short.
+/// A law: where no payload is altered no check of a mapping fails, neither side knows of a failed path or goes by an infinite mapping,
+/// and no copy that is under way has an MP_FAIL (RFC 8684, section 3.7).
+///
+/// And whatever is altered, each mapping of bytes in a copy that is under way names written octets, and where checksums are used it tells
+/// that of the pseudo-header and these octets (section 3.3.1). What copies tell is said of segments as values.
+pub fn checks_pass()
+    ensures sums { HoldsAnyway ChecksumsAreRight }
+    ensures values { IsPromised ChecksPass }
+    ensures octets { IsPromisedOfOctets ChecksPass }
+    ensures untold { IsPromised NoFailureIsTold }
+{}
+
+/// A law: a connection by a script, with files shorter than 2^31 - 2 octets, starts with numbers that fit. So over octets it keeps all
+/// that `KeepsAnyway` lists, in whatever order its actors go, and whatever payload its links alter: what the laws beside this one say of
+/// each altered connection, from lengths, acknowledgements and ends to joins that wait for their answer. And it is the connection over
+/// segments as values, shown in octets, whose short data numbers go short, and whose infinite mappings and checksums are right.
 ///
 /// Where mappings are checked, until its side falls back, by its control book's journal, a reader has a prefix of what was written, and
 /// each octet that was placed is right for ever.
@@ -235,7 +245,7 @@ pub fn scripts_keep_promises_whatever_is_altered()
 {}
 
 /// A law: a connection by a script that alters no payload, with files shorter than 2^31 - 2 octets, starts plainly; so over octets it
-/// keeps every promise, in whatever order its actors go: both sides keep their word, nothing is refused, and all that
+/// keeps every promise, in whatever order its actors go: both sides keep their word, nothing is refused, no check fails, and all that
 /// `scripts_keep_promises_whatever_is_altered` says is so.
 pub fn plain_scripts_keep_all_promises()
     ensures starts { PlainScriptsStartPlainly }
@@ -306,10 +316,13 @@ pub fn counts_are_kept_whatever_is_altered()
     ensures octets { HoldsAnywayOfOctets BothKeepCount }
 {}
 
-/// A law: whatever payload the links alter, an infinite mapping that is under way is right (RFC 8684, section 3.7): each piece from its
-/// position on that the sender's end may still send has the place that rises with the position. That is said of segments as values.
+/// A law: whatever payload the links alter, an infinite mapping that is under way is right (RFC 8684, section 3.7): each octet from its
+/// position on that the sender's end may still send has the place that rises with the position, also in a piece that begins before that.
+///
+/// That is said of segments as values, and over octets of the copy that arrives next, as its end reads it.
 pub fn infinite_mappings_are_right()
-    ensures { HoldsAnyway InfiniteMappingsAreRight }
+    ensures values { HoldsAnyway InfiniteMappingsAreRight }
+    ensures octets { HoldsAnywayOfOctets (InfiniteMappingsAreHeardRight octets) }
 {}
 
 /// A law: whatever payload the links alter, where mappings are checked (RFC 8684, section 3.3.1): as long as a side hasn't fallen back to

@@ -17,8 +17,8 @@ mod outcome;
 pub use laws::{
     aborted_readers_hear_that_alone, aborts_have_a_cause, addresses_are_right, announcements_end,
     backups_get_nothing, both_sides_keep_their_word, bytes_are_granted_once,
-    checked_octets_are_right, counts_are_kept_whatever_is_altered, each_round_has_a_step,
-    each_turn_is_one_pipe_step_or_none, files_are_written, grants_are_done,
+    checked_octets_are_right, checks_pass, counts_are_kept_whatever_is_altered,
+    each_round_has_a_step, each_turn_is_one_pipe_step_or_none, files_are_written, grants_are_done,
     infinite_mappings_are_right, joins_are_right, joins_wait_for_their_answer, keys_never_differ,
     mappings_agree, nothing_due_is_left, nothing_follows_the_end, nothing_is_refused,
     octets_do_as_values, paths_ask_for_all, plain_scripts_keep_all_promises, readers_are_done,

@@ -37,7 +37,7 @@ use Rattle.world_laws.proofs.Joins.Welcome.{each_copy_is_welcome, reset_welcome}
 use Rattle.world_laws.proofs.Promises.Made.{run_fresh}
 use Rattle.world_laws.proofs.Numbers.EveryTurn.{every_list_is_fresh}
 
-same_arriving : (show : Carried → List ℕ) (due : Due) (flights : List (Flight Carried)) → find (is_due due) (map (shown_flight show) flights) ≡ option_map (shown_flight show) (find (is_due due) flights)
+pub same_arriving : (show : Carried → List ℕ) (due : Due) (flights : List (Flight Carried)) → find (is_due due) (map (shown_flight show) flights) ≡ option_map (shown_flight show) (find (is_due due) flights)
 same_arriving show due [] = refl
 same_arriving show due (f ∷ flights) = by (is_due due f) (same_arriving show due flights)
   where
@@ -46,7 +46,7 @@ same_arriving show due (f ∷ flights) = by (is_due due f) (same_arriving show d
     by true rest = refl
     by false rest = rest
 
-same_end_at : (s : Side) (p : PathState Carried) → end_at s (shown_path p) ≡ end_at s p
+pub same_end_at : (s : Side) (p : PathState Carried) → end_at s (shown_path p) ≡ end_at s p
 same_end_at A p = refl
 same_end_at B p = refl
 
@@ -96,7 +96,7 @@ member_shows (App a) fresh welcomes = tt
 member_shows (Path p) fresh welcomes = path_shows_welcome p fresh.next welcomes
 
 -- the last of a list of fresh turns
-fresh_last : (turns : List Turn) (turn : Turn) (w : WorldState Carried) → AreFresh (turns ++ turn ∷ []) w → IsFreshTurn turn (world_run values turns w)
+pub fresh_last : (turns : List Turn) (turn : Turn) (w : WorldState Carried) → AreFresh (turns ++ turn ∷ []) w → IsFreshTurn turn (world_run values turns w)
 fresh_last [] turn w fresh = fresh.0
 fresh_last (first ∷ turns) turn w fresh = fresh_last turns turn (after_turn values first w) fresh.1
 

@@ -1,5 +1,5 @@
 -- Infinite mappings that are told are right: so they are on the lanes.
-use Rattle.std.proofs.Common.{◌≡◌, sym, subst, ℕ, suc, ◌+◌, ◌-◌, ◌≤◌, inl, inr, Option, Some, None, List, length, arith}
+use Rattle.std.proofs.Common.{◌≡◌, sym, subst, ℕ, suc, ◌+◌, ◌-◌, ◌<◌, ◌≤◌, inl, inr, Option, Some, None, List, length, arith}
 use Rattle.std.specs.Option.{IfSome}
 use Rattle.std.specs.List.{slice_get}
 use Rattle.outside_kit.specs.declared.side.Side.{Side}
@@ -34,22 +34,23 @@ use Rattle.world_laws.proofs.Lanes.OfAWorld.{anyhow_free, free_run, Links, World
 use Rattle.world_laws.proofs.Lanes.Showing.{HasMapping, PairTold, KindShows, RecordShows, MappingShows, OptionShows, SegmentShows, FlightShows, PathShows}
 
 module _ (v : View) (path : ℕ) (p : Lane) (holds : LaneHolds v path p) where
-  -- a piece that begins at the mapping's position or behind it
-  data_under : (place position : ℕ) → PairTold p.pairs p.fins place position → (from at len : ℕ) → HasMapping p.datas from at len → position ≤ at → from ≡ place + (at - position)
-  data_under place position told from at len has above =
+  -- an octet of a piece that stands at the mapping's position or behind it
+  data_under : (place position : ℕ) → PairTold p.pairs p.fins place position → (from at len : ℕ) → HasMapping p.datas from at len → (i : ℕ) → i < len → position ≤ at + i
+      → from + i ≡ place + (at + i - position)
+  data_under place position told from at len has i less above =
       let honest : IsHonest p.alters p.pieces p.sent has.item = holds.bytes.honest.each has.at has.item has.there in
       let right : IsRight p.sent has.holds.mapping = subst (λ o. IfSome o (IsRight p.sent)) has.holds.there honest.mapping in
-      let some = right.some in let within = right.within in
-      let cell = in_map (λ (c : Cell). c.place) p.sent (has.holds.mapping.pos + 0) (has.holds.mapping.place + 0) (right.places 0 (omega (arith, some))) in
-      let place_is = has.holds.is.place_is in let position_is = has.holds.is.position_is in
-      by told cell.0 cell.1 cell.2 (omega (arith, some, within, position_is)) place_is position_is
+      let within = right.within in
+      let place_is = has.holds.is.place_is in let position_is = has.holds.is.position_is in let len_is = has.holds.is.len_is in
+      let cell = in_map (λ (c : Cell). c.place) p.sent (has.holds.mapping.pos + i) (has.holds.mapping.place + i) (right.places i (omega (arith, less, len_is))) in
+      by told cell.0 cell.1 cell.2 (omega (arith, less, len_is, within)) place_is position_is
     where
-      by : PairTold p.pairs p.fins place position → (cell : Cell) → slice_get p.sent (has.holds.mapping.pos + 0) ≡ Some cell → cell.place ≡ has.holds.mapping.place + 0 → at ≤ length p.sent
-          → has.holds.mapping.place ≡ from → suc has.holds.mapping.pos ≡ at → from ≡ place + (at - position)
+      by : PairTold p.pairs p.fins place position → (cell : Cell) → slice_get p.sent (has.holds.mapping.pos + i) ≡ Some cell → cell.place ≡ has.holds.mapping.place + i
+          → has.holds.mapping.pos + i < length p.sent → has.holds.mapping.place ≡ from → suc has.holds.mapping.pos ≡ at → from + i ≡ place + (at + i - position)
       by (inl pair) cell there cell_is below place_is position_is =
           let endless : IsEndless path v p.sent pair.item = holds.pairs.told.each pair.at pair.item pair.there in
           let first = pair.holds.position_is in let begins = pair.holds.place_is in
-          let rises = endless.places (has.holds.mapping.pos + 0) cell (omega (arith, first, position_is, above)) there in
+          let rises = endless.places (has.holds.mapping.pos + i) cell (omega (arith, first, position_is, above)) there in
           omega (arith, rises, cell_is, first, begins, place_is, position_is, above)
       by (inr fin) cell there cell_is below place_is position_is =
           let ends : IsFin path v p.sent fin.item = holds.fins.each fin.at fin.item fin.there in
@@ -59,7 +60,7 @@ module _ (v : View) (path : ℕ) (p : Lane) (holds : LaneHolds v path p) where
   record_under : (place position : ℕ) → PairTold p.pairs p.fins place position → (c : Profile) (s : Side) (kind : RecordKind) (r : Record) → KindShows c s p.alters p.sent p.datas p.fins kind r → IsUnder place position kind c s r
   record_under place position told c s Syn r shows = tt
   record_under place position told c s Fin r shows = tt
-  record_under place position told c s Data r shows = λ above. data_under place position told _ r.pos r.mapping.length shows.mapping above
+  record_under place position told c s Data r shows = λ i less above. data_under place position told _ r.pos r.mapping.length shows.mapping i less above
 
   module _ (c : Profile) (s : Side) (e : PathEnd) (records : Every (RecordShows c s p.alters p.sent p.datas p.fins) e.tcp.send.records) where
     mapping_right : (o : Option (PathMapping ℕ)) → MappingShows c s o p → MappingIsRight c s e o

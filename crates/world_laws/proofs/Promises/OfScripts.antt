@@ -22,12 +22,18 @@ use Rattle.world_laws.specs.Openings.{PathPlan, plan_of, plans_from, start_of}
 use Rattle.world_laws.specs.Laws.{CanRunPath}
 use Rattle.world_laws.specs.PlainScripts.{alters_payload, IsPlainScript, IsShortScript, ScriptsFit, ScriptsKeepAnyway, CheckedScriptsKeepOctets, ScriptsAreShownOfValues, PlainScriptsStartPlainly, PlainScriptsKeepAllPromises, ScriptsCanRun}
 use Rattle.world_laws.proofs.Promises.AbortsHaveACause.{aborts_have_cause_in_octets}
+use Rattle.world_laws.proofs.Promises.AbortedHearThatAlone.{abort_is_last}
+use Rattle.world_laws.proofs.Promises.InfiniteMappingsAreRight.{infinite_mappings_are_right}
+use Rattle.world_laws.proofs.Promises.InfiniteOverOctets.{infinite_mappings_are_heard_right}
+use Rattle.world_laws.proofs.Promises.ChecksumsAreRight.{checksums_are_right}
+use Rattle.world_laws.proofs.Falls.ChecksPass.{checks_pass_in_octets}
 use Rattle.world_laws.proofs.Falls.AreRight.{falls_in_octets, falls_last_in_octets, places_in_octets}
 use Rattle.world_laws.proofs.Places.GrantedOnce.{granted_once}
 use Rattle.world_laws.proofs.Announcements.AsTold.{announcements_end}
 use Rattle.world_laws.proofs.Standby.GrantedNothing.{backups_get_nothing}
 use Rattle.world_laws.proofs.Numbers.LowHalves.{short_numbers}
 use Rattle.world_laws.proofs.Places.Agree.{mappings_agree_in_octets}
+use Rattle.world_laws.proofs.Joins.NoBytesBeforeClear.{joins_wait}
 use Rattle.world_laws.proofs.Joins.OverOctets.{each_copy_is_welcome_in_octets}
 use Rattle.world_laws.proofs.Falls.ForGood.{falls_for_good}
 use Rattle.world_laws.proofs.Promises.Made.{keep_their_word_in_octets, keep_count_in_octets, nothing_follows_in_octets, one_step_each_in_octets, nothing_refused_in_octets, keys_in_octets, addresses_in_octets, joins_in_octets, prefix_in_octets, placed_in_octets, run_fresh}
@@ -137,6 +143,9 @@ scripts_keep_anyway script file_a file_b turns h =
       standbys = backups_get_nothing octets start turns;
       announcements = announcements_end octets start turns;
       aborts = aborts_have_cause_in_octets start turns starts.0 starts.1;
+      stopped = abort_is_last octets start turns;
+      waiting = joins_wait octets start turns;
+      infinite = infinite_mappings_are_heard_right start turns starts.0 starts.1;
     }
 
 pub plain_scripts_keep_all_promises : PlainScriptsKeepAllPromises
@@ -146,6 +155,7 @@ plain_scripts_keep_all_promises script file_a file_b turns h =
     record {
       word = keep_their_word_in_octets start turns starts.0 starts.1;
       refused = nothing_refused_in_octets start turns starts.0 starts.1;
+      checks = checks_pass_in_octets start turns starts.0 starts.1;
       anyway = scripts_keep_anyway script file_a file_b turns (short_of script file_a file_b h);
     }
 
@@ -159,7 +169,7 @@ pub scripts_are_shown_of_values : ScriptsAreShownOfValues
 scripts_are_shown_of_values script file_a file_b turns h =
     let start = start_of script file_a file_b in
     let starts = scripts_fit script file_a file_b h in
-    record { shown = run_fresh start turns starts.0 starts.1; short = short_numbers start turns }
+    record { shown = run_fresh start turns starts.0 starts.1; short = short_numbers start turns; infinite = infinite_mappings_are_right start turns starts.0; sums = checksums_are_right start turns starts.0 }
 
 -- ---- running
 

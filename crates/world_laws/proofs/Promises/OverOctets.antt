@@ -26,7 +26,7 @@ use Rattle.world_laws.proofs.Worlds.Carrying.{run_same}
 
 -- ---- notes
 
-same_notes_at : (i : ℕ) (crew : List (ActorCrew Carried)) → notes_at i (map shown_crew crew) ≡ notes_at i crew
+pub same_notes_at : (i : ℕ) (crew : List (ActorCrew Carried)) → notes_at i (map shown_crew crew) ≡ notes_at i crew
 same_notes_at i [] = refl
 same_notes_at zero (c ∷ crew) = refl
 same_notes_at (suc i) (c ∷ crew) = same_notes_at i crew

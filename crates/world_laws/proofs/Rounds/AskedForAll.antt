@@ -21,7 +21,7 @@ use Rattle.path_agenda.specs.declared.duty.Duty.{Duty}
 use Rattle.path_rules.specs.Codec.{Codec}
 use Rattle.path_rules.specs.Duties.{ask_for}
 use Rattle.path_rules.specs.Starts.{waiting_path}
-use Rattle.path_rules.specs.State.{PathState, path_of}
+use Rattle.path_rules.specs.State.{PathState, end_at, path_of}
 use Rattle.path_rules.specs.Steps.{begins_turn}
 use Rattle.world_laws.specs.declared.member.Member.TheVariants.{Path}
 use Rattle.world_laws.specs.Actors.{ActorCrew}
@@ -35,11 +35,11 @@ use Rattle.world_laws.specs.Worlds.{WorldState, Turn, note_of, greatest, world_r
 use Rattle.world_laws.proofs.Asks.SendBooks.{IsOnes, any_last, any_more, asked_last}
 use Rattle.world_laws.proofs.Weaving.EdgesAndStamps.{edge_grows, stamp_grows, grant_entered, freeing_entered, lt_true, both_true}
 use Rattle.world_laws.proofs.Weaving.Journals.{books_after}
-use Rattle.world_laws.proofs.Rounds.AskingForNothing.{begun_grants}
+use Rattle.world_laws.proofs.Rounds.AskingForNothing.{begun_grants, paid_or_waits}
 use Rattle.world_laws.proofs.Rounds.RefusedOverAll.{SideAsks, BothAsk, own_a, own_b, other_a, other_b, path_step, freed_then, other_both, FallsAsk}
 use Rattle.world_laws.proofs.Asks.OfPaths.{own_calls}
 use Rattle.world_laws.proofs.Rounds.Frame.{takes_keeps, first_keeps}
-use Rattle.world_laws.proofs.Rounds.EndsRefused.{Granting, is_owed, is_paid}
+use Rattle.world_laws.proofs.Rounds.EndsRefused.{Granting, IsPaid, is_owed, is_paid}
 use Rattle.world_laws.proofs.Worlds.CastLifting.{Has, Stepwise, steps_have, turns_have, ended_has, path_actor}
 use Rattle.world_laws.proofs.Worlds.Casts.{Seat, Walker, Cast, Fare, world_of, walking, walked, raised_to, new_seat, after_a, after_b, after_path, walks_on, next_cast, first_cast, first_fare, opened_is, walker_there}
 use Rattle.world_laws.proofs.Joins.NoBytesBeforeClear.{HasJoined, AllWait, wait_steps, wait_next, wait_first}
@@ -451,7 +451,7 @@ module _ {C : Type 0} (k : Codec C) (start : Start) where
       ap (drop (length (lists_at u number))) (sym (list_there t number x there) ∙ is) ∙ drop_front (lists_at u number) steps
 
   path_asked_all : (u : WorldState C) (t : Cast C) (number : ℕ) (x : Walker C) → slice_get t.paths number ≡ Some x → Since number u t → AskForAll u (world_of t) (suc (suc number)) (Path x.path)
-  path_asked_all u t number x there h over s none may = by (g.freed s) refl
+  path_asked_all u t number x there h over s may = ⊎_elim (λ on. inr (asked on)) (λ room. inl room) (paid_or_waits x.path.profile s (end_at s x.path) (g.flags s) paid may)
     where
       g : PathAsking number (lists_at u) (length (written_by A u).written) (length (written_by B u).written) (edges_at u.books) x t
       g = h.asking x there
@@ -460,12 +460,13 @@ module _ {C : Type 0} (k : Codec C) (start : Start) where
       side_all A on alone = g.both.a.all on alone
       side_all B on alone = g.both.b.all on alone
 
-      by : (b : Bool) → g.freed s ≡ b → AskedForAll (path_of x.path) s (steps_since (suc (suc number)) u (world_of t)) (length (written_by s u).written) (send_of s (books_in t.books)) ⊎ OthersFreed u (world_of t) (suc (suc number)) s
-      by false alone =
-          let owed : is_owed s x.path.agenda ≡ false = ap (is_owed s) over in
-          let paid = is_paid x.path x.path.agenda g.flags s owed (g.granting.each s) in
-          inl (subst (λ steps. AskedForAll (path_of x.path) s steps (length (written_by s u).written) (send_of s (books_in t.books))) (sym (since_is u t number x g.steps there g.list_is)) (side_all s (paid.paid none may) alone))
-      by true on =
+      paid : IsPaid x.path.profile s (end_at s x.path) (g.flags s)
+      paid = is_paid x.path x.path.agenda g.flags s (ap (is_owed s) over) (g.granting.each s)
+
+      by : g.flags s ≡ true → (b : Bool) → g.freed s ≡ b → AskedForAll (path_of x.path) s (steps_since (suc (suc number)) u (world_of t)) (length (written_by s u).written) (send_of s (books_in t.books)) ⊎ OthersFreed u (world_of t) (suc (suc number)) s
+      by on false alone =
+          inl (subst (λ steps. AskedForAll (path_of x.path) s steps (length (written_by s u).written) (send_of s (books_in t.books))) (sym (since_is u t number x g.steps there g.list_is)) (side_all s on alone))
+      by refused true on =
           let f = g.others s on in
           inr (record {
             other = suc (suc f.other);
@@ -473,6 +474,9 @@ module _ {C : Type 0} (k : Codec C) (start : Start) where
             freed = subst (λ steps. list_any (frees_after s (last_asked s 0 steps) (written_by s u).edge) (steps_since (suc (suc f.other)) u (world_of t)) ≡ true) (sym (since_is u t number x g.steps there g.list_is))
                 (subst (λ steps. list_any (frees_after s (last_asked s 0 g.steps) (written_by s u).edge) steps ≡ true) (sym (since_is u t f.other f.walker f.steps f.there f.list_is)) f.freed);
           })
+
+      asked : g.flags s ≡ true → AskedForAll (path_of x.path) s (steps_since (suc (suc number)) u (world_of t)) (length (written_by s u).written) (send_of s (books_in t.books)) ⊎ OthersFreed u (world_of t) (suc (suc number)) s
+      asked on = by on (g.freed s) refl
 
   has_asked : (u w : WorldState C) → ((number : ℕ) → Has start (Since number u) w) → PathsAskForAll u w
   has_asked u w h = record { each = at }

@@ -1,14 +1,18 @@
 -- At every moment an end of a path whose turn is over would ask for nothing, or was refused its last grant.
-use Rattle.std.proofs.Common.{◌≡◌, refl, sym, ◌∙◌, ap, subst, ◌+◌, inl, inr, Bool, true, false, if◌then◌else◌, Option, Some, None, Result, Ok, Err, List, [], ◌∷◌, ◌++◌}
+use Rattle.std.proofs.Common.{◌≡◌, refl, sym, ◌∙◌, ap, subst, ℕ, ◌+◌, inl, inr, ◌⊎◌, ⊎_elim, Bool, true, false, if◌then◌else◌, Option, Some, None, Result, Ok, Err, List, [], ◌∷◌, ◌++◌, length, drop, map}
+use Rattle.std.proofs.lemmas.Bool.{and_parts}
+use Rattle.std.proofs.lemmas.List.{append-nil, append_assoc}
 use Rattle.std.proofs.lemmas.Option.{same_Some}
+use Rattle.std.specs.List.{slice_get}
 use Rattle.outside_kit.specs.declared.side.Side.{Side}
 use Rattle.outside_kit.specs.declared.side.Side.TheVariants.{A, B}
 use Rattle.send_book.specs.declared.call.Span.{Span}
 use Rattle.send_book.specs.declared.call.Why.{Why}
 use Rattle.send_book.specs.State.{Sending}
 use Rattle.send_book.specs.Steps as sending
-use Rattle.stream_lanes.specs.Words.{Every}
+use Rattle.stream_lanes.proofs.Lists.{in_map, in_set}
 use Rattle.subflow_send.specs.Records.{Record}
+use Rattle.subflow_tcp.specs.States.{may_finish}
 use Rattle.actor_desk.specs.declared.ask.Ask.{Ask}
 use Rattle.actor_desk.specs.declared.ask.Note.{Note}
 use Rattle.actor_desk.specs.declared.ask.Reply.{Reply}
@@ -23,20 +27,22 @@ use Rattle.path_agenda.specs.declared.duty.StepDuty.TheVariants as step_duties
 use Rattle.path_agenda.specs.Agenda.{start_of_turn}
 use Rattle.path_rules.specs.Codec.{Codec}
 use Rattle.path_rules.specs.Duties.{ask_for, answered}
-use Rattle.path_rules.specs.Emission.{first_unsent, Grant, grant_in, grant_ask, answered_grant, answered_data, data_ask}
+use Rattle.path_rules.specs.Emission.{first_unsent, may_ask, Grant, grant_in, grant_ask, answered_grant, answered_data, data_ask}
+use Rattle.path_rules.specs.Ends.{PathEnd}
 use Rattle.path_rules.specs.Starts.{waiting_path}
-use Rattle.path_rules.specs.State.{PathState, end_at, with_agenda}
+use Rattle.path_rules.specs.State.{PathState, Profile, end_at, with_agenda}
 use Rattle.path_rules.specs.Steps.{asks_first, takes, begins_turn}
 use Rattle.world_laws.specs.declared.member.Member.TheVariants.{App, Path}
 use Rattle.world_laws.specs.Actors.{Actor, ActorCrew, member_asks, member_takes, member_next}
-use Rattle.world_laws.specs.Laws.{Always}
-use Rattle.world_laws.specs.Openings.{path_begins, opened_world}
-use Rattle.world_laws.specs.RoundEnd.{asks_grant, is_no_grant, refused_after, last_refused, AreDoneAsking, GrantsAreDone}
+use Rattle.world_laws.specs.Openings.{Start, path_begins, opened_world}
+use Rattle.world_laws.specs.Outcomes.{notes_or, notes_at}
+use Rattle.world_laws.specs.RoundEnd.{asks_grant, is_no_grant, refused_after, last_refused}
+use Rattle.world_laws.specs.RoundNumbers.{BeginsRound, InEachRound, HasNoRoom, AreDoneAsking, GrantsAreDone, after_steps, steps_since}
 use Rattle.world_laws.specs.StampedBooks.{answer_to}
-use Rattle.world_laws.specs.Worlds.{note_of, world_run}
+use Rattle.world_laws.specs.Worlds.{WorldState, note_of, crew_after, asked, stepped, world_step, all_over, greatest, begins, world_run}
 use Rattle.world_laws.proofs.Rounds.GrantAtOneDuty.{MayNotAsk, asks_none, ask_isn't}
-use Rattle.world_laws.proofs.Rounds.EndsRefused.{Pays, Granting, is_followed, is_owed, is_paid, settled_done, data_sent, granted_done, refused_done, answered_done}
-use Rattle.world_laws.proofs.Rounds.Lifting.{run_lifted, opened_lifted}
+use Rattle.world_laws.proofs.Rounds.EndsRefused.{IsPaid, Pays, Granting, is_followed, is_owed, is_paid, settled_done, data_sent, granted_done, refused_done, answered_done}
+use Rattle.world_laws.proofs.Worlds.Opened.{opened_actors}
 
 -- ---- steps more
 
@@ -60,13 +66,21 @@ answered_none (Err why) b none = refl
 abbrev flags_of : List Note → Side → Bool
 flags_of notes s = last_refused s false notes
 
+-- an end that may ask was refused, or has no room for a record
+pub paid_or_waits : (c : Profile) (s : Side) (e : PathEnd) (refused : Bool) → IsPaid c s e refused → may_ask c s e ≡ true → (refused ≡ true) ⊎ HasNoRoom e
+paid_or_waits c s e refused paid may = by (first_unsent e) refl
+  where
+    by : (o : Option Record) → first_unsent e ≡ o → (refused ≡ true) ⊎ HasNoRoom e
+    by None is = inl (paid.paid is may)
+    by (Some r) is = inr (record { first = r; is = is; none = paid.waits r is (and_parts (may_finish e.tcp.state) _ may).0 })
+
 module _ {C : Type 0} where
   flags_same : (ds : List Duty) (p : PathState C) (f g : Side → Bool) → ((s : Side) → f s ≡ g s) → ((s : Side) → Pays p ds f s) → (s : Side) → Pays p ds g s
   flags_same ds p f g same each s = by (each s)
     where
       by : Pays p ds f s → Pays p ds g s
       by (inl owed) = inl owed
-      by (inr paid) = inr (record { paid = λ none may. sym (same s) ∙ paid.paid none may })
+      by (inr paid) = inr (record { paid = λ none may. sym (same s) ∙ paid.paid none may; waits = paid.waits })
 
   module _ (k : Codec C) (p : PathState C) (notes : List Note) (n : Note) where
     abbrev later : Side → Bool
@@ -93,44 +107,44 @@ module _ {C : Type 0} where
     other_grant B B apart is = absurd (apart refl)
 
     -- a grant that was asked
-    asked_duty : (s : Side) (ds : List Duty) (r : Reply) → n.ask ≡ grant_ask s p → n.reply ≡ r → (grant_in r ≡ None → is_no_grant r ≡ true) → is_followed (duties.Step (step_duties.Data s) ∷ ds) ≡ true
+    asked_duty : (s : Side) (ds : List Duty) (r : Reply) → first_unsent (end_at s p) ≡ None → n.ask ≡ grant_ask s p → n.reply ≡ r → (grant_in r ≡ None → is_no_grant r ≡ true) → is_followed (duties.Step (step_duties.Data s) ∷ ds) ≡ true
         → ((t : Side) → Pays (with_agenda (duties.Step (step_duties.Data s) ∷ ds) p) (duties.Step (step_duties.Data s) ∷ ds) (flags_of notes) t) → (o : Option Grant) → grant_in r ≡ o
         → Granting (answered_grant s o r (with_agenda (duties.Step (step_duties.Data s) ∷ ds) p)) later
-    asked_duty s ds r asks is refusal f each (Some grant) found = granted_done k r p later s ds grant f at
+    asked_duty s ds r unsent asks is refusal f each (Some grant) found = granted_done k r p later s ds grant f at
       where
         own : (s t : Side) → Pays (with_agenda (duties.Step (step_duties.Data s) ∷ ds) p) (duties.Step (step_duties.Data s) ∷ ds) (flags_of notes) t → n.ask ≡ grant_ask s p → Pays (with_agenda (duties.Step (step_duties.Data s) ∷ ds) p) (duties.Step (step_duties.Data s) ∷ ds) later t
         own A A h asks = inl refl
         own B B h asks = inl refl
         own A B (inl owed) asks = inl owed
-        own A B (inr paid) asks = inr (record { paid = λ none may. refused_more B false notes n ∙ other_step B n (flags_of notes B) (ap (asks_grant B) asks) ∙ paid.paid none may })
+        own A B (inr paid) asks = inr (record { paid = λ none may. refused_more B false notes n ∙ other_step B n (flags_of notes B) (ap (asks_grant B) asks) ∙ paid.paid none may; waits = paid.waits })
         own B A (inl owed) asks = inl owed
-        own B A (inr paid) asks = inr (record { paid = λ none may. refused_more A false notes n ∙ other_step A n (flags_of notes A) (ap (asks_grant A) asks) ∙ paid.paid none may })
+        own B A (inr paid) asks = inr (record { paid = λ none may. refused_more A false notes n ∙ other_step A n (flags_of notes A) (ap (asks_grant A) asks) ∙ paid.paid none may; waits = paid.waits })
 
         at : (t : Side) → Pays (with_agenda (duties.Step (step_duties.Data s) ∷ ds) p) (duties.Step (step_duties.Data s) ∷ ds) later t
         at t = own s t (each t) asks
-    asked_duty s ds r asks is refusal f each None found =
-        refused_done k r p later s ds (refused_more s false notes n ∙ grant_step s n (flags_of notes s) (own_grant s asks) ∙ ap is_no_grant is ∙ refusal found) f
+    asked_duty s ds r unsent asks is refusal f each None found =
+        refused_done k r p later s ds unsent (refused_more s false notes n ∙ grant_step s n (flags_of notes s) (own_grant s asks) ∙ ap is_no_grant is ∙ refusal found) f
         (λ t apart. other t apart (each t))
       where
         other : (t : Side) → (t ≡ s → ⊥) → Pays (with_agenda (duties.Step (step_duties.Data s) ∷ ds) p) (duties.Step (step_duties.Data s) ∷ ds) (flags_of notes) t → Pays (with_agenda (duties.Step (step_duties.Data s) ∷ ds) p) (duties.Step (step_duties.Data s) ∷ ds) later t
         other t apart (inl owed) = inl owed
         other t apart (inr paid) =
-            inr (record { paid = λ none may. refused_more t false notes n ∙ other_step t n (flags_of notes t) (other_grant s t apart asks) ∙ paid.paid none may })
+            inr (record { paid = λ none may. refused_more t false notes n ∙ other_step t n (flags_of notes t) (other_grant s t apart asks) ∙ paid.paid none may; waits = paid.waits })
 
     sent_isn't : (s t : Side) (u : Record) (q : PathState C) → n.ask ≡ data_ask k s (Some u) q → asks_grant t n.ask ≡ false
     sent_isn't s A u q is = ap (asks_grant A) is
     sent_isn't s B u q is = ap (asks_grant B) is
 
     data_duty : (s : Side) (ds : List Duty) (r : Reply) → n.reply ≡ r → (n.ask ≡ grant_ask s p → grant_in r ≡ None → is_no_grant r ≡ true) → is_followed (duties.Step (step_duties.Data s) ∷ ds) ≡ true
-        → ((t : Side) → Pays (with_agenda (duties.Step (step_duties.Data s) ∷ ds) p) (duties.Step (step_duties.Data s) ∷ ds) (flags_of notes) t) → (o : Option Record) → n.ask ≡ data_ask k s o (with_agenda (duties.Step (step_duties.Data s) ∷ ds) p)
+        → ((t : Side) → Pays (with_agenda (duties.Step (step_duties.Data s) ∷ ds) p) (duties.Step (step_duties.Data s) ∷ ds) (flags_of notes) t) → (o : Option Record) → first_unsent (end_at s p) ≡ o → n.ask ≡ data_ask k s o (with_agenda (duties.Step (step_duties.Data s) ∷ ds) p)
         → Granting (answered_data k s o r (with_agenda (duties.Step (step_duties.Data s) ∷ ds) p)) later
-    data_duty s ds r is refusal f each (Some u) asks =
+    data_duty s ds r is refusal f each (Some u) unsent asks =
         data_sent k r p later s ds u f (flags_same (duties.Step (step_duties.Data s) ∷ ds) (with_agenda (duties.Step (step_duties.Data s) ∷ ds) p) (flags_of notes) later (unasked_flags (λ t. sent_isn't s t u (with_agenda (duties.Step (step_duties.Data s) ∷ ds) p) asks)) each)
-    data_duty s ds r is refusal f each None asks = asked_duty s ds r asks is (refusal asks) f each (grant_in r) refl
+    data_duty s ds r is refusal f each None unsent asks = asked_duty s ds r unsent asks is (refusal asks) f each (grant_in r) refl
 
     duty_done : (d : Duty) (ds : List Duty) (r : Reply) → n.ask ≡ ask_for k d (with_agenda (d ∷ ds) p) → n.reply ≡ r → ((s : Side) → n.ask ≡ grant_ask s p → grant_in r ≡ None → is_no_grant r ≡ true)
         → is_followed (d ∷ ds) ≡ true → ((t : Side) → Pays (with_agenda (d ∷ ds) p) (d ∷ ds) (flags_of notes) t) → Granting (answered k d r (with_agenda (d ∷ ds) p)) later
-    duty_done (duties.Step (step_duties.Data s)) ds r asks is refusal f each = data_duty s ds r is (refusal s) f each (first_unsent (end_at s p)) asks
+    duty_done (duties.Step (step_duties.Data s)) ds r asks is refusal f each = data_duty s ds r is (refusal s) f each (first_unsent (end_at s p)) refl asks
     duty_done (duties.Ask ask_duties.JoinAgain) ds r asks is refusal f each = other_duty (duties.Ask ask_duties.JoinAgain) ds r asks tt f each
     duty_done (duties.Step (step_duties.Look s)) ds r asks is refusal f each = other_duty (duties.Step (step_duties.Look s)) ds r asks tt f each
     duty_done (duties.Ask (ask_duties.Window s)) ds r asks is refusal f each = other_duty (duties.Ask (ask_duties.Window s)) ds r asks tt f each
@@ -226,22 +240,85 @@ module _ {C : Type 0} where
   next_grants (App a) notes = tt
   next_grants (Path p) notes = begun_grants (record p { clock = p.until; until = p.until + 100 }) (flags_of notes)
 
-  -- where its turn is over
+  -- ---- where a turn is over
+
   done_asking : (m : Actor C) (notes : List Note) → MemberGrants m notes → AreDoneAsking m notes
   done_asking (App a) notes h = tt
-  done_asking (Path p) notes h = λ over s.
+  done_asking (Path p) notes h = λ over s may.
       let none : is_owed s p.agenda ≡ false = ap (is_owed s) over in
-      (is_paid p p.agenda (flags_of notes) s none (h.each s)).paid
+      paid_or_waits p.profile s (end_at s p) (flags_of notes s) (is_paid p p.agenda (flags_of notes) s none (h.each s)) may
 
-  abbrev IsGrantingCrew : ActorCrew C → Type 0
-  IsGrantingCrew c = MemberGrants c.member c.list
+  -- ---- a round, which began in this world
 
-  pub grants_are_done : (k : Codec C) → Always k (λ start w. GrantsAreDone w)
-  grants_are_done k start turns = record { each = λ actor c there. done_asking c.member c.list (all.each actor c there) }
+  module _ (k : Codec C) (u : WorldState C) where
+    -- the steps of an actor since then
+    record Since (actor : ℕ) (c : ActorCrew C) : Type 0 where
+      steps : List Note
+      list_is : c.list ≡ notes_at actor u.crew ++ steps
+      grants : MemberGrants c.member steps
+
+    record EachSince (w : WorldState C) : Type 0 where
+      each : (actor : ℕ) (c : ActorCrew C) → slice_get w.crew actor ≡ Some c → Since actor c
+
+    step_since : (actor : ℕ) (w : WorldState C) → EachSince w → EachSince (world_step k actor w)
+    step_since actor w h = by (slice_get w.crew actor) refl
+      where
+        goes : (c : ActorCrew C) (x : Ask) → Since actor c → member_asks k c.member ≡ Some x → Since actor (crew_after k x w.books c)
+        goes c x s is = record {
+          steps = s.steps ++ note_of w.books c.pass x ∷ [];
+          list_is = ap (λ notes. notes ++ note_of w.books c.pass x ∷ []) s.list_is ∙ append_assoc (notes_at actor u.crew) s.steps (note_of w.books c.pass x ∷ []);
+          grants = step_grants k w.books c.member s.steps (note_of w.books c.pass x) x refl refl is s.grants;
+        }
+
+        takes : (c : ActorCrew C) → slice_get w.crew actor ≡ Some c → (o : Option Ask) → member_asks k c.member ≡ o → EachSince (asked k actor o c w)
+        takes c there None is = h
+        takes c there (Some x) is = record {
+          each = λ i d at. ⊎_elim
+              (λ here. subst (Since i) here.1 (subst (λ n. Since n (crew_after k x w.books c)) (sym here.0) (goes c x (h.each actor c there) is)))
+              (λ other. h.each i d other.1)
+              (in_set w.crew actor (crew_after k x w.books c) i d at);
+        }
+
+        by : (o : Option (ActorCrew C)) → slice_get w.crew actor ≡ o → EachSince (stepped k actor o w)
+        by None there = h
+        by (Some c) there = takes c there (member_asks k c.member) refl
+
+    steps_since_then : (order : List ℕ) (w : WorldState C) → EachSince w → EachSince (after_steps k order w)
+    steps_since_then [] w h = h
+    steps_since_then (actor ∷ order) w h = steps_since_then order (world_step k actor w) (step_since actor w h)
+
+    -- no step of it was made yet
+    begun_since : ((actor : ℕ) (c : ActorCrew C) → slice_get u.crew actor ≡ Some c → MemberGrants c.member []) → EachSince u
+    begun_since grants = record {
+      each = λ actor c there. record { steps = []; list_is = sym (append-nil c.list) ∙ ap (λ o. notes_or o ++ []) (sym there); grants = grants actor c there };
+    }
+
+    drop_front : (xs ys : List Note) → drop (length xs) (xs ++ ys) ≡ ys
+    drop_front [] ys = refl
+    drop_front (x ∷ xs) ys = drop_front xs ys
+
+    grants_since : (w : WorldState C) → EachSince w → GrantsAreDone u w
+    grants_since w h = record {
+      each = λ actor c there.
+          let s = h.each actor c there in
+          let steps_are : steps_since actor u w ≡ s.steps =
+          ap (λ o. drop (length (notes_at actor u.crew)) (notes_or o)) there ∙ ap (drop (length (notes_at actor u.crew))) s.list_is ∙ drop_front (notes_at actor u.crew) s.steps in
+          subst (AreDoneAsking c.member) (sym steps_are) (done_asking c.member s.steps s.grants);
+    }
+
+  begun_members : (k : Codec C) (start : Start) (u : WorldState C) → BeginsRound k start u → (actor : ℕ) (c : ActorCrew C) → slice_get u.crew actor ≡ Some c → MemberGrants c.member []
+  begun_members k start u (BeginsRound.First is) = subst (λ v. (actor : ℕ) (c : ActorCrew C) → slice_get v.crew actor ≡ Some c → MemberGrants c.member []) (sym is)
+      (opened_actors (λ actor c. MemberGrants c.member []) start tt tt (λ number plan there. begun_grants (waiting_path (path_begins start number plan) start.lines) (flags_of [])))
+  begun_members k start u (BeginsRound.Next turns over is) = subst (λ v. (actor : ℕ) (c : ActorCrew C) → slice_get v.crew actor ≡ Some c → MemberGrants c.member []) (sym is)
+      (by (all_over last.crew) over)
     where
-      all : Every IsGrantingCrew (world_run k turns (opened_world start)).crew
-      all = run_lifted k IsGrantingCrew
-          (λ books c x asks h. step_grants k books c.member c.list (note_of books c.pass x) x refl refl asks h)
-          (λ stamp c over h. next_grants c.member c.list)
-          turns (opened_world start)
-          (opened_lifted IsGrantingCrew start tt tt (λ number plan there. begun_grants (waiting_path (path_begins start number plan) start.lines) (flags_of [])))
+      last : WorldState C
+      last = world_run k turns (opened_world start)
+
+      by : (b : Bool) → b ≡ true → (actor : ℕ) (c : ActorCrew C) → slice_get (if b then record last { crew = map (begins (greatest 0 last.crew)) last.crew } else last).crew actor ≡ Some c → MemberGrants c.member []
+      by true ended = λ actor c there. let found = in_map (begins (greatest 0 last.crew)) last.crew actor c there in subst (λ (d : ActorCrew C). MemberGrants d.member []) found.2 (next_grants found.0.member [])
+      by false ended = cc
+
+  pub grants_are_done : (k : Codec C) → InEachRound k GrantsAreDone
+  grants_are_done k start begun order begins =
+      grants_since k begun (after_steps k order begun) (steps_since_then k begun order begun (begun_since k begun (begun_members k start begun begins)))

@@ -9,16 +9,16 @@ use Rattle.path_rules.specs.Codec.{Codec}
 use Rattle.path_rules.specs.Starts.{waiting_path}
 use Rattle.world_laws.specs.declared.member.Member.TheVariants.{App, Path}
 use Rattle.world_laws.specs.Actors.{Actor, ActorCrew, member_asks, member_takes, member_next}
-use Rattle.world_laws.specs.Fine.{IsFineSince}
+use Rattle.world_laws.specs.Fine.{IsFine}
 use Rattle.world_laws.specs.Openings.{Start, path_begins, opened_world}
-use Rattle.world_laws.specs.RoundDone.{RoundState, first_round, next_round, round_by, round_after, round_of, EndsAt, RoundsEndOnTime, RoundsAreDone, LawfulRoundsAreDone, StampsSinceTheRound}
-use Rattle.world_laws.specs.RoundNumbers.{BeginsRound, PathsAskForAll, ReadersCaughtUp, after_steps}
+use Rattle.world_laws.specs.RoundDone.{RoundState, first_round, next_round, round_by, round_after, round_of, EndsAt, RoundsEndOnTime, RoundsAreDone, LawfulRoundsAreDone, StaysFine}
+use Rattle.world_laws.specs.RoundNumbers.{BeginsRound, GrantsAreDone, PathsAskForAll, ReadersCaughtUp, after_steps}
 use Rattle.world_laws.specs.StampedBooks.{answer_to}
 use Rattle.world_laws.specs.Worlds.{WorldState, Turn, crew_after, asked, stepped, world_step, all_over, greatest, begins, end_round, after_turn, world_run, AreLawful}
 use Rattle.world_laws.proofs.Rounds.AskedForAll.{paths_ask}
 use Rattle.world_laws.proofs.Worlds.CastLifting.{nothing_due_is_left}
 use Rattle.world_laws.proofs.Worlds.Opened.{opened_actors}
-use Rattle.world_laws.proofs.Weaving.Paired.{step_since, round_since, opened_since}
+use Rattle.world_laws.proofs.Weaving.Paired.{step_fine, round_fine, turn_fine, opened_fine}
 use Rattle.world_laws.proofs.Rounds.AskingForNothing as asking
 use Rattle.world_laws.proofs.Rounds.ReadAll.{readers_caught_up}
 use Rattle.world_laws.proofs.Rounds.Frame.{takes_keeps, first_keeps}
@@ -75,7 +75,7 @@ module _ {C : Type 0} (k : Codec C) where
       is : w ≡ after_steps k order r.begun
       begun : BeginsRound k start r.begun
       on_time : Every (λ c. EndsAt (100 * (r.number + 1)) c.member) w.crew
-      since : IsFineSince r.top w
+      fine : IsFine r.top w
 
     reached_more : (before : List Turn) (turn : Turn) (w : WorldState C) → w ≡ world_run k before (opened_world start)
         → after_turn k turn w ≡ world_run k (before ++ turn ∷ []) (opened_world start)
@@ -100,7 +100,7 @@ module _ {C : Type 0} (k : Codec C) where
           on_time = let next : 100 * (r.number + 1) + 100 ≡ 100 * (r.number + 1 + 1) = omega arith in
               subst (λ v. Every (λ c. EndsAt (100 * (r.number + 1 + 1)) c.member) v.crew) (sym (ended true over))
               (subst (λ n. Every (λ c. EndsAt n c.member) begun_crew) next (next_all_on (100 * (r.number + 1)) (greatest 0 w.crew) w.crew h.on_time));
-          since = subst (λ (b : Bool). IsFineSince (if b then greatest 0 w.crew else r.top) (end_round w)) over (round_since r.top w h.since);
+          fine = subst (λ (b : Bool). IsFine (if b then greatest 0 w.crew else r.top) (end_round w)) over (round_fine r.top w h.fine);
         }
         by false over = subst (Going r) (sym (ended false over)) h
 
@@ -112,7 +112,7 @@ module _ {C : Type 0} (k : Codec C) where
       is = ap (world_step k actor) h.is ∙ sym (steps_more h.order actor r.begun);
       begun = h.begun;
       on_time = step_on (100 * (r.number + 1)) actor w h.on_time;
-      since = step_since k actor r.top w h.since;
+      fine = step_fine k actor r.top w h.fine;
     }
     turn_going Turn.Round r w h = round_going r w h
 
@@ -131,7 +131,7 @@ module _ {C : Type 0} (k : Codec C) where
         each = opened_actors (λ actor c. EndsAt 100 c.member) start tt tt
             (λ number plan there. (first_keeps (waiting_path {C = C} (path_begins start number plan) start.lines)).0);
       };
-      since = opened_since start;
+      fine = opened_fine start;
     }
 
     always_going : (turns : List Turn) → Going (round_of k start turns) (world_run k turns (opened_world start))
@@ -142,8 +142,8 @@ module _ {C : Type 0} (k : Codec C) where
   pub rounds_end_on_time : RoundsEndOnTime k
   rounds_end_on_time start turns = record { each = (always_going start turns).on_time.each }
 
-  pub stamps_since_the_round : StampsSinceTheRound k
-  stamps_since_the_round start turns = (always_going start turns).since
+  pub stays_fine : StaysFine k
+  stays_fine = record { always = λ start turns. (always_going start turns).fine; turns = turn_fine k }
 
   pub rounds_are_done : RoundsAreDone k
   rounds_are_done start turns over =
@@ -153,7 +153,7 @@ module _ {C : Type 0} (k : Codec C) where
         over = over;
         tick = rounds_end_on_time start turns;
         due = nothing_due_is_left k start turns;
-        grants = asking.grants_are_done k start turns;
+        grants = subst (GrantsAreDone r.begun) (sym now.is) (asking.grants_are_done k start r.begun now.order now.begun);
         asked = subst (PathsAskForAll r.begun) (sym now.is) (paths_ask k start r.begun now.order now.begun);
         readers = reads.readers_are_done k start turns;
         caught_up = subst (ReadersCaughtUp r.begun) (sym now.is) (readers_caught_up k start r.begun now.order now.begun);

@@ -1,7 +1,8 @@
 -- An end of a path ends its turn only where it may ask for nothing more, or was refused: after each thing that could let it ask
 -- the duty that asks is ahead, or the end is to die.
-use Rattle.std.proofs.Common.{◌≡◌, refl, sym, ◌∙◌, ℕ, zero, suc, ◌+◌, ◌&&◌, ◌||◌, not, inl, inr, ◌⊎◌, ⊎_elim, Bool, true, false, if◌then◌else◌, Option, Some, None, List, [], ◌∷◌, ◌++◌, length}
+use Rattle.std.proofs.Common.{◌≡◌, refl, sym, ◌∙◌, ap, ℕ, zero, suc, ◌+◌, ◌&&◌, ◌||◌, not, inl, inr, ◌⊎◌, ⊎_elim, Bool, true, false, if◌then◌else◌, Option, Some, None, List, [], ◌∷◌, ◌++◌, length}
 use Rattle.std.proofs.lemmas.Bool.{and_parts, not-true, both_ways, true≢false, false≢true}
+use Rattle.std.proofs.lemmas.Option.{same_Some}
 use Rattle.outside_kit.specs.declared.side.Side.{Side}
 use Rattle.outside_kit.specs.declared.side.Side.TheVariants.{A, B}
 use Rattle.outside_kit.specs.Side.{peer}
@@ -37,7 +38,7 @@ use Rattle.path_rules.specs.Arriving.{items_of, reset_for, copy_judged, held_of,
 use Rattle.path_rules.specs.Breaking.{reset_of, reset_on, answered_break}
 use Rattle.path_rules.specs.Codec.{Codec}
 use Rattle.path_rules.specs.Duties.{stands, passed, answered}
-use Rattle.path_rules.specs.Emission.{first_unsent, may_ask, Grant, answered_grant, answered_data, data_stands}
+use Rattle.path_rules.specs.Emission.{first_unsent, fits, may_ask, Grant, answered_grant, answered_data, data_stands}
 use Rattle.path_rules.specs.Ends.{PathEnd}
 use Rattle.join_handshake.specs.declared.hearing.JoinSyn.{JoinSyn}
 use Rattle.path_rules.specs.declared.judged.Judged.{Judged}
@@ -201,9 +202,10 @@ copy_is s count =
 
 -- ---- an end
 
--- where it has no record to send and may ask, it was refused
+-- where it has no record to send and may ask, it was refused; and a record that is to be sent has no room
 pub record IsPaid (c : Profile) (s : Side) (e : PathEnd) (refused : Bool) : Type 0 where
   pub paid : first_unsent e ≡ None → may_ask c s e ≡ true → refused ≡ true
+  pub waits : (r : Record) → first_unsent e ≡ Some r → states.may_finish e.tcp.state ≡ true → fits e.tcp r ≡ false
 
 finished : (state : EndPhase) → states.may_finish (states.after_finish state) ≡ false
 finished phase.Waiting = refl
@@ -235,7 +237,25 @@ dead_is_done phase.TimeWait is = absurd (false≢true is)
 
 -- an end that can't push a FIN asks for nothing
 closed_paid : (c : Profile) (s : Side) (e : PathEnd) (refused : Bool) → states.may_finish e.tcp.state ≡ false → IsPaid c s e refused
-closed_paid c s e refused over = record { paid = λ none may. absurd (both_ways (states.may_finish e.tcp.state) over (and_parts (states.may_finish e.tcp.state) _ may).0) }
+closed_paid c s e refused over = record {
+  paid = λ none may. absurd (both_ways (states.may_finish e.tcp.state) over (and_parts (states.may_finish e.tcp.state) _ may).0);
+  waits = λ r is sends. absurd (both_ways (states.may_finish e.tcp.state) over sends);
+}
+
+-- an end that may push a FIN sends records
+sends_records : (state : EndPhase) → states.may_finish state ≡ true → states.is_closed_to_segments state ≡ false
+sends_records phase.Established is = refl
+sends_records phase.CloseWait is = refl
+sends_records phase.Waiting is = absurd (false≢true is)
+sends_records phase.Listen is = absurd (false≢true is)
+sends_records phase.SynSent is = absurd (false≢true is)
+sends_records phase.SynReceived is = absurd (false≢true is)
+sends_records phase.FinWait1 is = absurd (false≢true is)
+sends_records phase.FinWait2 is = absurd (false≢true is)
+sends_records phase.Closing is = absurd (false≢true is)
+sends_records phase.LastAck is = absurd (false≢true is)
+sends_records phase.TimeWait is = absurd (false≢true is)
+sends_records phase.Dead is = absurd (false≢true is)
 
 unless_dead_paid : (c : Profile) (s : Side) (e : PathEnd) (refused : Bool) → IsPaid c s (died_unless_dead e) refused
 unless_dead_paid c s e refused = by (states.is_dead e.tcp.state) refl
@@ -246,8 +266,16 @@ unless_dead_paid c s e refused = by (states.is_dead e.tcp.state) refl
 
 -- what isn't asked
 not_asking : (c : Profile) (s : Side) (e : PathEnd) (refused : Bool) (o : Option Record) → first_unsent e ≡ o → data_stands c s e o ≡ false → IsPaid c s e refused
-not_asking c s e refused None is none = record { paid = λ same may. absurd (both_ways (may_ask c s e) none may) }
-not_asking c s e refused (Some r) is none = record { paid = λ same may. (let never : None ≡ Some r = sym same ∙ is in cc) }
+not_asking c s e refused None is none = record {
+  paid = λ same may. absurd (both_ways (may_ask c s e) none may);
+  waits = λ r some sends. (let never : None ≡ Some r = sym is ∙ some in cc);
+}
+not_asking c s e refused (Some r) is none = record {
+  paid = λ same may. (let never : None ≡ Some r = sym same ∙ is in cc);
+  waits = λ u some sends.
+      let same : r ≡ u = same_Some r u (sym is ∙ some) in
+      ap (fits e.tcp) (sym same) ∙ ap (λ b. not b && fits e.tcp r) (sym (sends_records e.tcp.state sends)) ∙ none;
+}
 
 -- ---- what follows from what is ahead
 
@@ -410,8 +438,8 @@ module _ {C : Type 0} where
 
     heard_done : (joined : Bool) (s : Side) (now count : ℕ) (h : HeardSegment) (m : Meaning) → Granting (goes_on s (ended joined s now h m) (template_by joined s count m) p) refused
     heard_done joined s now count h means.Ignored = owed_came s (ended joined s now h means.Ignored) (emission s) (emission_there s)
-    heard_done true s now count h means.Unwanted = came s (ended true s now h means.Unwanted) (answers_dead s) (inr (record { paid = (paid s).paid })) refl
-    heard_done false s now count h means.Unwanted = came s (ended false s now h means.Unwanted) (answers_dead s) (inr (record { paid = (paid s).paid })) refl
+    heard_done true s now count h means.Unwanted = came s (ended true s now h means.Unwanted) (answers_dead s) (inr (record { paid = (paid s).paid; waits = (paid s).waits })) refl
+    heard_done false s now count h means.Unwanted = came s (ended false s now h means.Unwanted) (answers_dead s) (inr (record { paid = (paid s).paid; waits = (paid s).waits })) refl
     heard_done joined s now count h means.Opens = owed_came s (ended joined s now h means.Opens) (syn_came s) (syn_there s)
     heard_done true s now count h (means.Accepts acknowledged) = owed_came s (ended true s now h (means.Accepts acknowledged)) (join_answered s) (answered_there s)
     heard_done false s now count h (means.Accepts acknowledged) = owed_came s (ended false s now h (means.Accepts acknowledged)) (syn_ack_came s) (syn_ack_there s)
@@ -506,7 +534,7 @@ module _ {C : Type 0} where
   passed_pays : (d : Duty) (ds : List Duty) (p : PathState C) (refused : Side → Bool) → stands d p ≡ false → is_followed (d ∷ ds) ≡ true → ((t : Side) → Pays p (d ∷ ds) refused t)
       → (t : Side) → Pays (passed d p) ds refused t
   passed_pays (duties.Step (step_duties.Data s)) ds p refused none f each = data_passed s ds p refused none each
-  passed_pays (duties.Silent (silent_duties.Timer s)) ds p refused none f each = own_passed s _ ds p refused (⊎_elim (λ owed. inl owed) (λ h. inr (record { paid = h.paid })) (each s)) (each (peer s))
+  passed_pays (duties.Silent (silent_duties.Timer s)) ds p refused none f each = own_passed s _ ds p refused (⊎_elim (λ owed. inl owed) (λ h. inr (record { paid = h.paid; waits = h.waits })) (each s)) (each (peer s))
   passed_pays (duties.Step (step_duties.Heard s index)) ds p refused none f each =
       own_passed s _ ds p refused (inl (and_parts (is_owed s ds) (not (is_owed (peer s) ds)) (first_need (duties.Step (step_duties.Heard s index)) ds f)).0) (each (peer s))
   passed_pays (duties.Silent (silent_duties.Keep s)) ds p refused none f each = own_passed s _ ds p refused (inl (first_need (duties.Silent (silent_duties.Keep s)) ds f)) (each (peer s))
@@ -780,12 +808,12 @@ module _ {C : Type 0} where
     granted_done s ds grant f each = touched s _ (duties.Step (step_duties.Data s) ∷ ds) f (own_data s ds) (duties.Step (step_duties.Data s) ∷ ds) (each (peer s))
 
     -- a refusal ends the asking
-    pub refused_done : (s : Side) (ds : List Duty) → refused s ≡ true → is_followed (duties.Step (step_duties.Data s) ∷ ds) ≡ true → ((t : Side) → (t ≡ s → ⊥) → Pays (at (duties.Step (step_duties.Data s) ∷ ds)) (duties.Step (step_duties.Data s) ∷ ds) refused t)
+    pub refused_done : (s : Side) (ds : List Duty) → first_unsent (end_at s p) ≡ None → refused s ≡ true → is_followed (duties.Step (step_duties.Data s) ∷ ds) ≡ true → ((t : Side) → (t ≡ s → ⊥) → Pays (at (duties.Step (step_duties.Data s) ∷ ds)) (duties.Step (step_duties.Data s) ∷ ds) refused t)
         → Granting (answered_grant s None r (at (duties.Step (step_duties.Data s) ∷ ds))) refused
-    refused_done A ds is f each =
-        on (at (duties.Step (step_duties.Data A) ∷ ds)) refused A _ ds (rest_followed (duties.Step (step_duties.Data A)) ds f) (inr (record { paid = λ none may. is })) (each B (λ same. (let never : B ≡ A = same in cc)))
-    refused_done B ds is f each =
-        on (at (duties.Step (step_duties.Data B) ∷ ds)) refused B _ ds (rest_followed (duties.Step (step_duties.Data B)) ds f) (inr (record { paid = λ none may. is })) (each A (λ same. (let never : A ≡ B = same in cc)))
+    refused_done A ds none is f each =
+        on (at (duties.Step (step_duties.Data A) ∷ ds)) refused A _ ds (rest_followed (duties.Step (step_duties.Data A)) ds f) (inr (record { paid = λ same may. is; waits = λ u some sends. (let never : None ≡ Some u = sym none ∙ some in cc) })) (each B (λ same. (let never : B ≡ A = same in cc)))
+    refused_done B ds none is f each =
+        on (at (duties.Step (step_duties.Data B) ∷ ds)) refused B _ ds (rest_followed (duties.Step (step_duties.Data B)) ds f) (inr (record { paid = λ same may. is; waits = λ u some sends. (let never : None ≡ Some u = sym none ∙ some in cc) })) (each A (λ same. (let never : A ≡ B = same in cc)))
 
     -- every other duty
     pub answered_done : (d : Duty) (ds : List Duty) → MayNotAsk d → is_followed (d ∷ ds) ≡ true → ((t : Side) → Pays (at (d ∷ ds)) (d ∷ ds) refused t) → Granting (answered k d r (at (d ∷ ds))) refused
@@ -793,14 +821,14 @@ module _ {C : Type 0} where
     answered_done (duties.Ask ask_duties.JoinAgain) ds other f each = again_done ds f each
     answered_done (duties.Step (step_duties.Look s)) ds other f each = touched s _ ds (rest_followed (duties.Step (step_duties.Look s)) ds f) (first_need (duties.Step (step_duties.Look s)) ds f) (duties.Step (step_duties.Look s) ∷ ds) (each (peer s))
     answered_done (duties.Ask (ask_duties.Window s)) ds other f each =
-        on (at (duties.Ask (ask_duties.Window s) ∷ ds)) refused s _ ds (rest_followed (duties.Ask (ask_duties.Window s)) ds f) (⊎_elim (λ owed. inl owed) (λ h. inr (record { paid = h.paid })) (each s)) (each (peer s))
+        on (at (duties.Ask (ask_duties.Window s) ∷ ds)) refused s _ ds (rest_followed (duties.Ask (ask_duties.Window s)) ds f) (⊎_elim (λ owed. inl owed) (λ h. inr (record { paid = h.paid; waits = h.waits })) (each s)) (each (peer s))
     answered_done (duties.Send (send_duties.Update s)) ds other f each = touched_sent s _ _ ds (rest_followed (duties.Send (send_duties.Update s)) ds f) (first_need (duties.Send (send_duties.Update s)) ds f) (duties.Send (send_duties.Update s) ∷ ds) (each (peer s))
     answered_done (duties.Send (send_duties.FastClose s)) ds other f each = touched_sent s _ _ ds (rest_followed (duties.Send (send_duties.FastClose s)) ds f) (first_need (duties.Send (send_duties.FastClose s)) ds f) (duties.Send (send_duties.FastClose s) ∷ ds) (each (peer s))
     answered_done (duties.Send (send_duties.Notice s)) ds other f each =
         touched_sent s _ _ (duties.Send (send_duties.Notice s) ∷ ds) f (first_need (duties.Send (send_duties.Notice s)) ds f) (duties.Send (send_duties.Notice s) ∷ ds) (each (peer s))
     answered_done (duties.Send (send_duties.Syn s)) ds other f each = touched_sent s _ _ ds (rest_followed (duties.Send (send_duties.Syn s)) ds f) (first_need (duties.Send (send_duties.Syn s)) ds f) (duties.Send (send_duties.Syn s) ∷ ds) (each (peer s))
     answered_done (duties.Send (send_duties.DataFin s)) ds other f each =
-        sent (at (duties.Send (send_duties.DataFin s) ∷ ds)) refused k s _ _ ds (rest_followed (duties.Send (send_duties.DataFin s)) ds f) (⊎_elim (λ owed. inl owed) (λ h. inr (record { paid = h.paid })) (each s)) (each (peer s))
+        sent (at (duties.Send (send_duties.DataFin s) ∷ ds)) refused k s _ _ ds (rest_followed (duties.Send (send_duties.DataFin s)) ds f) (⊎_elim (λ owed. inl owed) (λ h. inr (record { paid = h.paid; waits = h.waits })) (each s)) (each (peer s))
     answered_done (duties.Send (send_duties.Fin s)) ds other f each =
         sent (at (duties.Send (send_duties.Fin s) ∷ ds)) refused k s _ _ ds (rest_followed (duties.Send (send_duties.Fin s)) ds f) (inr (closed_paid p.profile s _ (refused s) (finished (end_at s p).tcp.state))) (each (peer s))
     answered_done (duties.Silent (silent_duties.Timer s)) ds other f each = done_on ds (duties.Silent (silent_duties.Timer s) ∷ ds) (rest_followed (duties.Silent (silent_duties.Timer s)) ds f) (λ t. each t)
@@ -850,7 +878,7 @@ module _ {C : Type 0} where
     answered_done (duties.Ask (ask_duties.HeardFin s index)) ds other f each = fin_done s index ds f each (is_fin_set r)
     answered_done (duties.Silent (silent_duties.PassFin s)) ds other f each = done_on ds (duties.Silent (silent_duties.PassFin s) ∷ ds) (rest_followed (duties.Silent (silent_duties.PassFin s)) ds f) (λ t. each t)
     answered_done (duties.Ask (ask_duties.AckOut s)) ds other f each =
-        on (at (duties.Ask (ask_duties.AckOut s) ∷ ds)) refused s _ ds (rest_followed (duties.Ask (ask_duties.AckOut s)) ds f) (⊎_elim (λ owed. inl owed) (λ h. inr (record { paid = h.paid })) (each s)) (each (peer s))
+        on (at (duties.Ask (ask_duties.AckOut s) ∷ ds)) refused s _ ds (rest_followed (duties.Ask (ask_duties.AckOut s)) ds f) (⊎_elim (λ owed. inl owed) (λ h. inr (record { paid = h.paid; waits = h.waits })) (each s)) (each (peer s))
     answered_done (duties.Ask (ask_duties.Rate s)) ds other f each = touched s _ ds (rest_followed (duties.Ask (ask_duties.Rate s)) ds f) (first_need (duties.Ask (ask_duties.Rate s)) ds f) (duties.Ask (ask_duties.Rate s) ∷ ds) (each (peer s))
     answered_done (duties.Send (send_duties.Acknowledge s)) ds other f each = touched_sent s _ _ ds (rest_followed (duties.Send (send_duties.Acknowledge s)) ds f) (first_need (duties.Send (send_duties.Acknowledge s)) ds f) (duties.Send (send_duties.Acknowledge s) ∷ ds) (each (peer s))
     answered_done (duties.Send (send_duties.Again s)) ds other f each = touched_sent s _ _ ds (rest_followed (duties.Send (send_duties.Again s)) ds f) (first_need (duties.Send (send_duties.Again s)) ds f) (duties.Send (send_duties.Again s) ∷ ds) (each (peer s))

@@ -458,26 +458,26 @@ module _ {C : Type 0} (k : Codec C) (p : PathState C) (written_a written_b : ℕ
   since_grant B is A on = (on, ap (asks_grant A) is)
   since_grant B is B on = never_on on
 
-  grant_duty : (s : Side) (ds : List Duty) → n.ask ≡ grant_ask s p → is_followed (duties.Step (step_duties.Data s) ∷ ds) ≡ true → ((t : Side) → Pays (Here (duties.Step (step_duties.Data s) ∷ ds)) (duties.Step (step_duties.Data s) ∷ ds) refused t)
+  grant_duty : (s : Side) (ds : List Duty) → first_unsent (end_at s p) ≡ None → n.ask ≡ grant_ask s p → is_followed (duties.Step (step_duties.Data s) ∷ ds) ≡ true → ((t : Side) → Pays (Here (duties.Step (step_duties.Data s) ∷ ds)) (duties.Step (step_duties.Data s) ∷ ds) refused t)
       → (o : Option Grant) → grant_in (reply_of six (grant_ask s p)) ≡ o → AskThen (answered_grant s o (reply_of six (grant_ask s p)) (Here (duties.Step (step_duties.Data s) ∷ ds)))
-  grant_duty s ds is f each (Some grant) found = record {
+  grant_duty s ds unsent is f each (Some grant) found = record {
     flags = with_flag s false refused;
     others = with_flag s false freed;
     before = since_grant s is;
     granting = granted_done k (reply_of six (grant_ask s p)) p (with_flag s false refused) s ds grant f (lower_each s (duties.Step (step_duties.Data s) ∷ ds) false (own_data s ds) each);
     both = asked_is (grant_ask s p) (with_flag s false refused) (with_flag s false freed) is (granted_both (path_of p) written_a written_b steps n refused freed six h s _ _ is);
   }
-  grant_duty s ds is f each None found = record {
+  grant_duty s ds unsent is f each None found = record {
     flags = with_flag s true refused;
     others = with_flag s false freed;
     before = since_grant s is;
-    granting = refused_done k (reply_of six (grant_ask s p)) p (with_flag s true refused) s ds (own_flag s true refused) f (other_each s (duties.Step (step_duties.Data s) ∷ ds) true each);
+    granting = refused_done k (reply_of six (grant_ask s p)) p (with_flag s true refused) s ds unsent (own_flag s true refused) f (other_each s (duties.Step (step_duties.Data s) ∷ ds) true each);
     both = asked_is (grant_ask s p) (with_flag s true refused) (with_flag s false freed) is (refused_both (path_of p) written_a written_b steps n refused freed six h s _ _ is found);
   }
 
   data_duty : (s : Side) (ds : List Duty) → is_followed (duties.Step (step_duties.Data s) ∷ ds) ≡ true → ((t : Side) → Pays (Here (duties.Step (step_duties.Data s) ∷ ds)) (duties.Step (step_duties.Data s) ∷ ds) refused t)
-      → (o : Option Record) → n.ask ≡ data_ask k s o (Here (duties.Step (step_duties.Data s) ∷ ds)) → AskThen (answered_data k s o (reply_of six (data_ask k s o (Here (duties.Step (step_duties.Data s) ∷ ds)))) (Here (duties.Step (step_duties.Data s) ∷ ds)))
-  data_duty s ds f each (Some u) is = record {
+      → (o : Option Record) → first_unsent (end_at s p) ≡ o → n.ask ≡ data_ask k s o (Here (duties.Step (step_duties.Data s) ∷ ds)) → AskThen (answered_data k s o (reply_of six (data_ask k s o (Here (duties.Step (step_duties.Data s) ∷ ds)))) (Here (duties.Step (step_duties.Data s) ∷ ds)))
+  data_duty s ds f each (Some u) unsent is = record {
     flags = refused;
     others = freed;
     before = λ t on. (on, ap (asks_grant t) is ∙ ask_isn't t (data_ask k s (Some u) (Here (duties.Step (step_duties.Data s) ∷ ds))) tt);
@@ -486,11 +486,11 @@ module _ {C : Type 0} (k : Codec C) (p : PathState C) (written_a written_b : ℕ
         (quiet_both (path_of p) written_a written_b steps n refused freed six h
         (λ t. ap (asks_grant t) is ∙ ask_isn't t (data_ask k s (Some u) (Here (duties.Step (step_duties.Data s) ∷ ds))) tt) (data_ask k s (Some u) (Here (duties.Step (step_duties.Data s) ∷ ds))) tt);
   }
-  data_duty s ds f each None is = grant_duty s ds is f each (grant_in (reply_of six (grant_ask s p))) refl
+  data_duty s ds f each None unsent is = grant_duty s ds unsent is f each (grant_in (reply_of six (grant_ask s p))) refl
 
   duty_asks : (d : Duty) (ds : List Duty) → FallsAsk six (ask_for k d (Here (d ∷ ds))) → n.ask ≡ ask_for k d (Here (d ∷ ds)) → is_followed (d ∷ ds) ≡ true → ((t : Side) → Pays (Here (d ∷ ds)) (d ∷ ds) refused t)
       → AskThen (answered k d (reply_of six (ask_for k d (Here (d ∷ ds)))) (Here (d ∷ ds)))
-  duty_asks (duties.Step (step_duties.Data s)) ds falls is f each = data_duty s ds f each (first_unsent (end_at s p)) is
+  duty_asks (duties.Step (step_duties.Data s)) ds falls is f each = data_duty s ds f each (first_unsent (end_at s p)) refl is
   duty_asks (duties.Step (step_duties.Heard s index)) ds falls is f each =
       heard_duty (duties.Step (step_duties.Heard s index)) s ds (heard_asks k (Here (duties.Step (step_duties.Heard s index) ∷ ds)) s (item_of index (end_at s p))) tt
       (and_parts (is_owed s ds) (not (is_owed (peer s) ds)) (first_needs (duties.Step (step_duties.Heard s index)) ds f)).0 is f each

@@ -181,15 +181,15 @@ module _ {C : Type 0} where
   -- ---- the books
 
   module _ (k : Codec C) (top : ℕ) (w v : WorldState C) (begins : Begins top w) (worked : Worked k top w v) where
-    each_fine : (i n : ℕ) (c : ActorCrew C) → n ≡ 0 + i → slice_get w.crew i ≡ Some c → IsFineCrew begins.fine.top n c × (c.pass.stamp ≡ top)
+    each_fine : (i n : ℕ) (c : ActorCrew C) → n ≡ 0 + i → slice_get w.crew i ≡ Some c → IsFineCrew top n c × (c.pass.stamp ≡ top)
     each_fine i n c n_is there = (begins.fine.crew.each i n c n_is there, begins.known.each i c there)
 
     lists_numbered : AreNumbered (λ n. n.actor) 0 (lists_of v.crew)
-    lists_numbered = numbered k begins.fine.top top 0 w.crew v.crew worked.crew each_fine
+    lists_numbered = numbered k top top 0 w.crew v.crew worked.crew each_fine
 
     -- no note and no entry from before the round is above the stamp
     lists_below : (first : ℕ) (crew : List (ActorCrew C))
-        → ((i n : ℕ) (c : ActorCrew C) → n ≡ first + i → slice_get crew i ≡ Some c → IsFineCrew begins.fine.top n c × (c.pass.stamp ≡ top))
+        → ((i n : ℕ) (c : ActorCrew C) → n ≡ first + i → slice_get crew i ≡ Some c → IsFineCrew top n c × (c.pass.stamp ≡ top))
         → (n : Note) → Occurs n (lists_of crew) → n.stamp ≤ top
     lists_below first [] each n none = absurd none
     lists_below first (c ∷ crew) each n (inl here) =
@@ -270,7 +270,7 @@ module _ {C : Type 0} where
         let own = each_fine i i c (omega arith) there in
         let listed : slice_get (lists_of v.crew) i ≡ Some d.list = slice_get_mapped v.crew i d there_d in
         let same : s.notes ≡ ours i order
-        = sym (ours_in_order top (lists_of v.crew) i d.list lists_numbered listed ∙ list_above k begins.fine.top top i c d own.0 own.1 s) in
+        = sym (ours_in_order top (lists_of v.crew) i d.list lists_numbered listed ∙ list_above k top top i c d own.0 own.1 s) in
         subst (λ ns. AreStepsOf k ns c × (d ≡ after_notes k ns c)) same (s.are, s.is)
       where
         slice_get_mapped : (crew : List (ActorCrew C)) (i : ℕ) (d : ActorCrew C) → slice_get crew i ≡ Some d → slice_get (lists_of crew) i ≡ Some d.list

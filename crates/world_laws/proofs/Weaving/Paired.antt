@@ -14,12 +14,11 @@ use Rattle.actor_desk.specs.declared.ask.Note.{Note}
 use Rattle.actor_desk.specs.Journals.{is_local, send_note, reassembly_note, control_note, ArePaired}
 use Rattle.path_rules.specs.Codec.{Codec}
 use Rattle.world_laws.specs.Actors.{Actor, ActorCrew, member_asks}
-use Rattle.world_laws.specs.Laws.{StaysFine}
 use Rattle.world_laws.specs.Openings.{PathPlan, Start, new_crew, new_path, paths_from, opened_world}
-use Rattle.world_laws.specs.Fine.{BooksAreStamped, IsChainedAbove, IsFineCrew, lists_of, IsFine, IsFineSince}
+use Rattle.world_laws.specs.Fine.{BooksAreStamped, IsChainedAbove, IsFineCrew, lists_of, IsFine, top_after}
 use Rattle.actor_desk.specs.Books.{StampedBooks, after_entry}
 use Rattle.world_laws.specs.StampedBooks.{journals_of}
-use Rattle.world_laws.specs.Worlds.{WorldState, Turn, note_of, crew_after, asked, stepped, world_step, all_over, greatest, begins, end_round, after_turn, world_run}
+use Rattle.world_laws.specs.Worlds.{WorldState, Turn, note_of, crew_after, asked, stepped, world_step, all_over, greatest, begins, end_round, after_turn}
 use Rattle.world_laws.proofs.Worlds.Opened.{opened_actors}
 use Rattle.world_laws.proofs.Weaving.Occurring.{Occurs, Pairs, Grown, paired_from, pairs_from, pairs_grow, pairs_local, grown_here, grown_later}
 use Rattle.world_laws.proofs.Weaving.StampsChain.{stamp_rises, local_stamp, last_noted-more, NotesRise-more, stamps_below, stamps_above, chained_more, chained_anew, entries_above, stamped_more}
@@ -81,9 +80,9 @@ module _ {C : Type 0} where
   lists_above top first (c ∷ crew) h n (inr there) =
       lists_above top (suc first) crew (record { each = λ i m x m_is is. h.each (suc i) m x (omega (arith, m_is)) is }) n there
 
-  fine_pairs : (w : WorldState C) (h : IsFine w) → Pairs (lists_of w.crew) (journals_of w.books)
-  fine_pairs w h =
-      pairs_from (lists_of w.crew) (journals_of w.books) (lists_above h.top 0 w.crew h.crew) (journals_above w.books h.journals) (h.paired 0)
+  fine_pairs : (top : ℕ) (w : WorldState C) (h : IsFine top w) → Pairs (lists_of w.crew) (journals_of w.books)
+  fine_pairs top w h =
+      pairs_from (lists_of w.crew) (journals_of w.books) (lists_above top 0 w.crew h.crew) (journals_above w.books h.journals) (h.paired 0)
 
   -- ---- a step
 
@@ -108,33 +107,20 @@ module _ {C : Type 0} where
       pairs_grow (note_of w.books c.pass ask) (lists_of w.crew) _ (journals_of w.books) _
       (grown_lists w.crew actor c (crew_after k ask w.books c) (note_of w.books c.pass ask) there refl) (grown_journals c.pass ask w.books asks) h
 
-  asked_fine : (k : Codec C) (actor : ℕ) (o : Option Ask) (c : ActorCrew C) (w : WorldState C) → slice_get w.crew actor ≡ Some c → IsFine w → IsFine (asked k actor o c w)
-  asked_fine k actor None c w there h = h
-  asked_fine k actor (Some ask) c w there h = record {
-    top = h.top;
-    crew = From-put actor (crew_after k ask w.books c) (λ n x apart fine. fine) (fine_crew k h.top actor w.books ask c (h.crew.each actor actor c (omega arith) there)) h.crew;
+  asked_fine : (k : Codec C) (actor top : ℕ) (o : Option Ask) (c : ActorCrew C) (w : WorldState C) → slice_get w.crew actor ≡ Some c → IsFine top w → IsFine top (asked k actor o c w)
+  asked_fine k actor top None c w there h = h
+  asked_fine k actor top (Some ask) c w there h = record {
+    crew = From-put actor (crew_after k ask w.books c) (λ n x apart fine. fine) (fine_crew k top actor w.books ask c (h.crew.each actor actor c (omega arith) there)) h.crew;
     journals = stamped_more c.pass ask w.books h.journals;
-    paired = λ after. paired_from after _ _ (step_pairs k actor ask c w there (fine_pairs w h) (is_local ask) refl);
+    paired = λ after. paired_from after _ _ (step_pairs k actor ask c w there (fine_pairs top w h) (is_local ask) refl);
   }
 
-  asked_since : (k : Codec C) (actor : ℕ) (o : Option Ask) (c : ActorCrew C) (w : WorldState C) → slice_get w.crew actor ≡ Some c → (top : ℕ) → IsFineSince top w
-      → IsFineSince top (asked k actor o c w)
-  unfolding asked_fine
-  asked_since k actor None c w there top h = h
-  asked_since k actor (Some ask) c w there top h = record { fine = asked_fine k actor (Some ask) c w there h.fine; top_is = h.top_is }
-
-  pub step_since : (k : Codec C) (actor top : ℕ) (w : WorldState C) → IsFineSince top w → IsFineSince top (world_step k actor w)
-  step_since k actor top w h = by (slice_get w.crew actor) refl
+  pub step_fine : (k : Codec C) (actor top : ℕ) (w : WorldState C) → IsFine top w → IsFine top (world_step k actor w)
+  step_fine k actor top w h = by (slice_get w.crew actor) refl
     where
-      by : (o : Option (ActorCrew C)) → slice_get w.crew actor ≡ o → IsFineSince top (stepped k actor o w)
+      by : (o : Option (ActorCrew C)) → slice_get w.crew actor ≡ o → IsFine top (stepped k actor o w)
       by None there = h
-      by (Some c) there = asked_since k actor (member_asks k c.member) c w there top h
-
-  since_its_top : (w : WorldState C) (h : IsFine w) → IsFineSince h.top w
-  since_its_top w h = record { fine = h; top_is = refl }
-
-  pub step_fine : (k : Codec C) (actor : ℕ) (w : WorldState C) → IsFine w → IsFine (world_step k actor w)
-  step_fine k actor w h = (step_since k actor h.top w (since_its_top w h)).fine
+      by (Some c) there = asked_fine k actor top (member_asks k c.member) c w there h
 
   -- ---- the end of a round
 
@@ -166,42 +152,61 @@ module _ {C : Type 0} where
         unrefused = h.unrefused;
       }
 
-  begun_fine : (w : WorldState C) → IsFine w → IsFine (record w { crew = map (begins (greatest 0 w.crew)) w.crew })
-  begun_fine w h = record {
-    top = greatest 0 w.crew;
+  begun_fine : (top : ℕ) (w : WorldState C) → IsFine top w → IsFine (greatest 0 w.crew) (record w { crew = map (begins (greatest 0 w.crew)) w.crew })
+  begun_fine top w h = record {
     crew = record {
       each = λ i n c n_is there.
           let found = in_map (begins (greatest 0 w.crew)) w.crew i c there in
           subst (IsFineCrew (greatest 0 w.crew) n) found.2
-          (begun_crew h.top (greatest 0 w.crew) n found.0 (greatest_above 0 w.crew i found.0 found.1) (h.crew.each i n found.0 n_is found.1));
+          (begun_crew top (greatest 0 w.crew) n found.0 (greatest_above 0 w.crew i found.0 found.1) (h.crew.each i n found.0 n_is found.1));
     };
     journals = h.journals;
     paired = λ after. subst (λ lists. ArePaired after lists (journals_of w.books)) (sym (same_lists (greatest 0 w.crew) w.crew)) (h.paired after);
   }
 
-  begun_since : (w : WorldState C) → IsFine w → IsFineSince (greatest 0 w.crew) (record w { crew = map (begins (greatest 0 w.crew)) w.crew })
-  unfolding begun_fine
-  begun_since w h = record { fine = begun_fine w h; top_is = refl }
-
-  pub round_since : (top : ℕ) (w : WorldState C) → IsFineSince top w → IsFineSince (if all_over w.crew then greatest 0 w.crew else top) (end_round w)
-  round_since top w h = by (all_over w.crew)
+  pub round_fine : (top : ℕ) (w : WorldState C) → IsFine top w → IsFine (top_after Turn.Round w top) (end_round w)
+  round_fine top w h = by (all_over w.crew)
     where
-      by : (b : Bool) → IsFineSince (if b then greatest 0 w.crew else top) (if b then record w { crew = map (begins (greatest 0 w.crew)) w.crew } else w)
-      by true = begun_since w h.fine
+      by : (b : Bool) → IsFine (if b then greatest 0 w.crew else top) (if b then record w { crew = map (begins (greatest 0 w.crew)) w.crew } else w)
+      by true = begun_fine top w h
       by false = h
 
-  pub round_fine : (w : WorldState C) → IsFine w → IsFine (end_round w)
-  round_fine w h = (round_since h.top w (since_its_top w h)).fine
+  -- where each turn was over, by the greatest stamp as the round ended, which each actor knows then
+  pub ended_fine : (top : ℕ) (w : WorldState C) → all_over w.crew ≡ true → IsFine top w → IsFine (greatest 0 w.crew) (end_round w)
+  ended_fine top w over h = subst (λ (b : Bool). IsFine (if b then greatest 0 w.crew else top) (end_round w)) over (round_fine top w h)
+
+  pub same_greatest : (g known : ℕ) (crew : List (ActorCrew C)) → ((i : ℕ) (c : ActorCrew C) → slice_get crew i ≡ Some c → c.pass.stamp ≡ g) → known ≤ g
+      → (i : ℕ) (c : ActorCrew C) → slice_get crew i ≡ Some c → greatest known crew ≡ g
+  same_greatest g known [] each most i c there = cc
+  same_greatest g known (d ∷ []) each most i c there = let is = each 0 d refl in omega (arith, is, most)
+  same_greatest g known (d ∷ e ∷ crew) each most i c there =
+      let is = each 0 d refl in same_greatest g (max known d.pass.stamp) (e ∷ crew) (λ j x at. each (suc j) x at) (omega (arith, is, most)) 0 e refl
+
+  begun_known : (crew : List (ActorCrew C)) (i : ℕ) (c : ActorCrew C) → slice_get (map (begins (greatest 0 crew)) crew) i ≡ Some c → c.pass.stamp ≡ greatest 0 crew
+  begun_known crew i c there =
+      let found = in_map (begins (greatest 0 crew)) crew i c there in
+      let most = greatest_above 0 crew i found.0 found.1 in
+      let own : max found.0.pass.stamp (greatest 0 crew) ≡ c.pass.stamp = ap (λ x. x.pass.stamp) found.2 in
+      omega (arith, own, most)
+
+  pub greatest_begun : (crew : List (ActorCrew C)) → greatest 0 (map (begins (greatest 0 crew)) crew) ≡ greatest 0 crew
+  greatest_begun [] = refl
+  greatest_begun (c ∷ crew) =
+      same_greatest (greatest 0 (c ∷ crew)) 0 (map (begins (greatest 0 (c ∷ crew))) (c ∷ crew)) (begun_known (c ∷ crew)) (omega arith) 0 (begins (greatest 0 (c ∷ crew)) c) refl
+
+  -- the end of a round leaves the greatest stamp
+  pub greatest_ended : (w : WorldState C) → greatest 0 (end_round w).crew ≡ greatest 0 w.crew
+  greatest_ended w = by (all_over w.crew)
+    where
+      by : (b : Bool) → greatest 0 (if b then record w { crew = map (begins (greatest 0 w.crew)) w.crew } else w).crew ≡ greatest 0 w.crew
+      by true = greatest_begun w.crew
+      by false = refl
 
   -- ---- all turns
 
-  pub turn_fine : (k : Codec C) (turn : Turn) (w : WorldState C) → IsFine w → IsFine (after_turn k turn w)
-  turn_fine k (Turn.Step actor) w h = step_fine k actor w h
-  turn_fine k Turn.Round w h = round_fine w h
-
-  pub run_fine : (k : Codec C) (turns : List Turn) (w : WorldState C) → IsFine w → IsFine (world_run k turns w)
-  run_fine k [] w h = h
-  run_fine k (turn ∷ turns) w h = run_fine k turns (after_turn k turn w) (turn_fine k turn w h)
+  pub turn_fine : (k : Codec C) (turn : Turn) (top : ℕ) (w : WorldState C) → IsFine top w → IsFine (top_after turn w top) (after_turn k turn w)
+  turn_fine k (Turn.Step actor) top w h = step_fine k actor top w h
+  turn_fine k Turn.Round top w h = round_fine top w h
 
   new_fine : (number : ℕ) (member : Actor C) → IsFineCrew 0 number (new_crew number member)
   new_fine number member = record {
@@ -213,9 +218,8 @@ module _ {C : Type 0} where
     unrefused = refl;
   }
 
-  opened_fine : (start : Start) → IsFine {C = C} (opened_world start)
+  pub opened_fine : (start : Start) → IsFine {C = C} 0 (opened_world start)
   opened_fine start = record {
-    top = 0;
     crew = record { each = at };
     journals = record { send_a = tt; send_b = tt; reassembly_a = tt; reassembly_b = tt; control_a = tt; control_b = tt };
     paired = λ after. paired_from after _ _ (record { notes = no_note; entries = no_entry });
@@ -248,10 +252,3 @@ module _ {C : Type 0} where
       no_entry n (inr (inr (inr (inr (inl none))))) = absurd none
       no_entry n (inr (inr (inr (inr (inr (inl none)))))) = absurd none
       no_entry n (inr (inr (inr (inr (inr (inr none)))))) = absurd none
-
-  pub opened_since : (start : Start) → IsFineSince {C = C} 0 (opened_world start)
-  unfolding opened_fine
-  opened_since start = record { fine = opened_fine start; top_is = refl }
-
-  pub stays_fine : (k : Codec C) → StaysFine k
-  stays_fine k = record { always = λ start turns. run_fine k turns (opened_world start) (opened_fine start); turns = turn_fine k }

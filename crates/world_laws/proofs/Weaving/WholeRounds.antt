@@ -1,5 +1,5 @@
 -- Whole rounds, woven one by one: lawful, and ending as the serial turns do.
-use Rattle.std.proofs.Common.{◌≡◌, refl, sym, ◌∙◌, ap, subst, ℕ, zero, suc, ◌≤◌, max, Bool, true, false, if◌then◌else◌, Some, List, [], ◌∷◌, ◌++◌, map, arith}
+use Rattle.std.proofs.Common.{◌≡◌, refl, sym, ◌∙◌, ap, subst, ℕ, zero, suc, max, Bool, true, false, if◌then◌else◌, Some, List, [], ◌∷◌, ◌++◌, map, arith}
 use Rattle.std.specs.List.{slice_get}
 use Rattle.stream_lanes.proofs.Lists.{in_map}
 use Rattle.path_rules.specs.Codec.{Codec}
@@ -11,7 +11,7 @@ use Rattle.world_laws.specs.Serial.{goes_on, OneOf, steps_and, round_and, spelle
 use Rattle.world_laws.specs.Weaving.{Begins, Worked, steps_by, woven, woven_rounds, WovenDoes, StepsWeave, RoundsWeave}
 use Rattle.world_laws.specs.Worlds.{WorldState, Turn, world_step, all_over, greatest, begins, end_round, after_turn, world_run, AreLawful}
 use Rattle.world_laws.proofs.Worlds.Opened.{opened_actors}
-use Rattle.world_laws.proofs.Weaving.Paired.{round_fine, greatest_above, stays_fine}
+use Rattle.world_laws.proofs.Weaving.Paired.{ended_fine, greatest_above, same_greatest, greatest_begun, opened_fine}
 use Rattle.world_laws.proofs.Rounds.SerialIsLawful.{all_turns_over}
 use Rattle.world_laws.proofs.Weaving.FitsTheOrder.{woven_runs}
 use Rattle.world_laws.proofs.Weaving.WorldSteps.{Working, begins_working, worked, steps_working, turns_working}
@@ -49,16 +49,9 @@ module _ {C : Type 0} where
 
   -- ---- the next round
 
-  same_greatest : (g known : ℕ) (crew : List (ActorCrew C)) → ((i : ℕ) (c : ActorCrew C) → slice_get crew i ≡ Some c → c.pass.stamp ≡ g) → known ≤ g
-      → (i : ℕ) (c : ActorCrew C) → slice_get crew i ≡ Some c → greatest known crew ≡ g
-  same_greatest g known [] each most i c there = cc
-  same_greatest g known (d ∷ []) each most i c there = let is = each 0 d refl in omega (arith, is, most)
-  same_greatest g known (d ∷ e ∷ crew) each most i c there =
-      let is = each 0 d refl in same_greatest g (max known d.pass.stamp) (e ∷ crew) (λ j x at. each (suc j) x at) (omega (arith, is, most)) 0 e refl
-
-  next_begins : (w : WorldState C) → IsFine w → all_over w.crew ≡ true → Begins (greatest 0 (end_round w).crew) (end_round w)
-  next_begins w fine over = subst (λ v. Begins (greatest 0 v.crew) v) (sym round) (record {
-    fine = subst IsFine round (round_fine w fine);
+  next_begins : (top : ℕ) (w : WorldState C) → IsFine top w → all_over w.crew ≡ true → Begins (greatest 0 (end_round w).crew) (end_round w)
+  next_begins top w fine over = subst (λ v. Begins (greatest 0 v.crew) v) (sym round) (record {
+    fine = subst (λ n. IsFine n next) (sym (greatest_begun w.crew)) (subst (IsFine (greatest 0 w.crew)) round (ended_fine top w over fine));
     known = record { each = λ i c there. let g = each i c there in g ∙ sym (same_greatest (greatest 0 w.crew) 0 next.crew each (omega arith) i c there) };
   })
     where
@@ -79,7 +72,7 @@ module _ {C : Type 0} where
   opened_begins k start =
       let each = opened_actors {C = C} (λ actor c. c.pass.stamp ≡ 0) start refl refl (λ number plan there. refl) in
       let none = same_greatest 0 0 (opened_world {C = C} start).crew each (omega arith) 0 _ refl in
-      record { fine = (stays_fine k).always start []; known = record { each = λ i c there. each i c there ∙ sym none } }
+      record { fine = subst (λ n. IsFine {C = C} n (opened_world start)) (sym none) (opened_fine start); known = record { each = λ i c there. each i c there ∙ sym none } }
 
   -- ---- all rounds
 
@@ -92,7 +85,7 @@ module _ {C : Type 0} where
   rounds_run k zero (counts ∷ rounds) w begins h = cc
   rounds_run k (suc most) [] w begins h = absurd h
   rounds_run k (suc most) (counts ∷ rounds) w begins h =
-      by (goes_on (outcome_of (after_round k counts w).crew)) (rounds_run k most rounds (after_round k counts w) (next_begins v working.fine over)) h.1
+      by (goes_on (outcome_of (after_round k counts w).crew)) (rounds_run k most rounds (after_round k counts w) (next_begins (greatest 0 w.crew) v working.fine over)) h.1
     where
       v : WorldState C
       v = after_turns k 0 counts w

@@ -171,7 +171,7 @@ module _ {C : Type 0} where
   pub record Working (k : Codec C) (top : ℕ) (w v : WorldState C) : Type 0 where
     pub crew : AllStepped k w.crew v.crew
     pub books : BooksGrew top w.books v.books
-    pub fine : IsFine v
+    pub fine : IsFine top v
     pub known : Every (λ c. top ≤ c.pass.stamp) v.crew
 
   pub begins_working : (k : Codec C) (top : ℕ) (w : WorldState C) → Begins top w → Working k top w w
@@ -183,7 +183,7 @@ module _ {C : Type 0} where
   }
 
   asked_working : (k : Codec C) (top : ℕ) (w v : WorldState C) (actor : ℕ) (d : ActorCrew C) (x : Ask) → Working k top w v → slice_get v.crew actor ≡ Some d → member_asks k d.member ≡ Some x
-      → IsFine (asked k actor (Some x) d v) → Working k top w (asked k actor (Some x) d v)
+      → IsFine top (asked k actor (Some x) d v) → Working k top w (asked k actor (Some x) d v)
   asked_working k top w v actor d x h there asks fine =
       let known = h.known.each actor d there in
       let more = stamp_rises v.books d.pass x in
@@ -206,13 +206,13 @@ module _ {C : Type 0} where
       }
 
   pub step_working : (k : Codec C) (top actor : ℕ) (w v : WorldState C) → Working k top w v → Working k top w (world_step k actor v)
-  step_working k top actor w v h = by (slice_get v.crew actor) refl (step_fine k actor v h.fine)
+  step_working k top actor w v h = by (slice_get v.crew actor) refl (step_fine k actor top v h.fine)
     where
-      asks : (d : ActorCrew C) → slice_get v.crew actor ≡ Some d → (o : Option Ask) → member_asks k d.member ≡ o → IsFine (asked k actor o d v) → Working k top w (asked k actor o d v)
+      asks : (d : ActorCrew C) → slice_get v.crew actor ≡ Some d → (o : Option Ask) → member_asks k d.member ≡ o → IsFine top (asked k actor o d v) → Working k top w (asked k actor o d v)
       asks d there None is fine = h
       asks d there (Some x) is fine = asked_working k top w v actor d x h there is fine
 
-      by : (o : Option (ActorCrew C)) → slice_get v.crew actor ≡ o → IsFine (stepped k actor o v) → Working k top w (stepped k actor o v)
+      by : (o : Option (ActorCrew C)) → slice_get v.crew actor ≡ o → IsFine top (stepped k actor o v) → Working k top w (stepped k actor o v)
       by None there fine = h
       by (Some d) there fine = asks d there (member_asks k d.member) refl fine
 

@@ -1,7 +1,6 @@
 use Rattle.path_rules.specs.Octets.{octets}
 use Rattle.path_rules.specs.Values.{values}
-use Rattle.world_laws.proofs.Weaving.Paired.{stays_fine}
-use Rattle.world_laws.proofs.Rounds.DoneByTheEnd.{stamps_since_the_round}
+use Rattle.world_laws.proofs.Rounds.DoneByTheEnd.{stays_fine}
 use Rattle.world_laws.proofs.laws.what_is_fine_stays_fine.Goals as goal
 
 pub returns-clause-octets : goal.returns-clause-octets
@@ -9,9 +8,3 @@ returns-clause-octets c = stays_fine octets
 
 pub returns-clause-values : goal.returns-clause-values
 returns-clause-values c = stays_fine values
-
-pub returns-clause-octets_since : goal.returns-clause-octets_since
-returns-clause-octets_since c = stamps_since_the_round octets
-
-pub returns-clause-values_since : goal.returns-clause-values_since
-returns-clause-values_since c = stamps_since_the_round values

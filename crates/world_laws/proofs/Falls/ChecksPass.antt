@@ -1,0 +1,517 @@
+-- Where no payload is altered no check fails: the octets of a mapping that are all there are those that were sent. So no control book is
+-- told of a failure, and none knows of one.
+use Rattle.std.proofs.Common.{◌≡◌, refl, sym, ◌∙◌, ap, subst, ℕ, ◌&&◌, ◌==◌, is_some, not, ⊎_elim, Bool, true, false, if◌then◌else◌, Option, Some, None, List, [], ◌∷◌, ◌++◌, map, length, arith}
+use Rattle.std.proofs.lemmas.Bool.{and_parts, both_ways, or_from, or_parts}
+use Rattle.std.proofs.lemmas.Option.{same_Some}
+use Rattle.std.specs.List.{list_any, slice_get}
+use Rattle.std.specs.Option.{IfSome}
+use Rattle.outside_kit.specs.declared.side.Side.{Side}
+use Rattle.outside_kit.specs.declared.side.Side.TheVariants.{A, B}
+use Rattle.loss_recovery.specs.declared.windows.Pending.{Pending}
+use Rattle.reassembly_book.specs.declared.call.ReassemblyCall.TheVariants as reassembly_calls
+use Rattle.fallback_state.specs.declared.fall.Event.{Event as FallEvent}
+use Rattle.fallback_state.specs.declared.fall.Event.TheVariants as events
+use Rattle.fallback_state.specs.declared.fall.Fall.{Fall}
+use Rattle.fallback_state.specs.Modes.{is_infinite, sending, reads_mappings, writes_mappings}
+use Rattle.fallback_state.specs.Table.{fall_step, goes, stays, breaks}
+use Rattle.fallback_state.proofs.Steps.{IsUnfailed, unfailed_kept}
+use Rattle.control_book.specs.declared.call.ControlCall.{ControlCall}
+use Rattle.control_book.specs.declared.call.ControlCall.TheVariants as calls
+use Rattle.control_book.specs.declared.call.Notice.{Notice}
+use Rattle.control_book.specs.declared.call.Notice.TheVariants as notices
+use Rattle.control_book.specs.Control.{Control}
+use Rattle.control_book.specs.Registry.{sole}
+use Rattle.control_book.specs.Replies as replying
+use Rattle.control_book.specs.Steps as controlling
+use Rattle.path_segments.specs.declared.segment.PathOption.TheVariants.{Capable, Join, Dss, AddAddr, Remove, Prio, Fail, FastClose, Reset}
+use Rattle.path_segments.specs.Options.{PlainOption}
+use Rattle.path_segments.specs.Spelled.{PlainSegment}
+use Rattle.stream_lanes.specs.Duo.{Duo, after_events}
+use Rattle.stream_lanes.specs.Holding.{Holds, LaneHolds}
+use Rattle.stream_lanes.specs.Lane.{AckCopy, Lane, Pair}
+use Rattle.stream_lanes.specs.View.{View}
+use Rattle.stream_lanes.specs.Words.{Every}
+use Rattle.stream_lanes.proofs.Duos.{any_held}
+use Rattle.stream_lanes.proofs.Lists.{Every-map, in_map, in_set}
+use Rattle.stream_apps.specs.declared.duty.AppDuty.{AppDuty}
+use Rattle.stream_apps.specs.declared.duty.AppDuty.TheVariants as app_duties
+use Rattle.stream_apps.specs.Apps.{AppState}
+use Rattle.stream_apps.specs.AppSteps.{app_ask, app_asks_first}
+use Rattle.actor_desk.specs.declared.ask.Ask.{Ask}
+use Rattle.actor_desk.specs.declared.ask.Ask.TheVariants as asks
+use Rattle.actor_desk.specs.declared.ask.Note.{Note}
+use Rattle.actor_desk.specs.Books.{books_in}
+use Rattle.actor_desk.specs.Desk.{SixBooks, after_ask, control_of}
+use Rattle.path_agenda.specs.declared.duty.Duty.{Duty}
+use Rattle.path_agenda.specs.declared.duty.Duty.TheVariants as duties
+use Rattle.path_agenda.specs.declared.duty.AskDuty.TheVariants as ask_duties
+use Rattle.path_agenda.specs.declared.duty.SendDuty.TheVariants as send_duties
+use Rattle.path_agenda.specs.declared.duty.SilentDuty.TheVariants as silent_duties
+use Rattle.path_agenda.specs.declared.duty.StepDuty.TheVariants as step_duties
+use Rattle.path_agenda.specs.declared.heard.Heard.{Heard}
+use Rattle.path_agenda.specs.declared.heard.Heard.TheVariants as says
+use Rattle.path_agenda.specs.declared.keys.KeyPair.{KeyPair}
+use Rattle.path_agenda.specs.declared.notice.PeerNotice.{PeerNotice}
+use Rattle.path_agenda.specs.declared.notice.PeerNotice.TheVariants as notes
+use Rattle.path_agenda.specs.Items.{key_heard, keys_heard}
+use Rattle.path_store.specs.declared.infinite_mapping.InfiniteMapping.{InfiniteMapping}
+use Rattle.join_handshake.specs.declared.hearing.JoinSyn.{JoinSyn}
+use Rattle.subflow_send.specs.Records.{Record}
+use Rattle.path_rules.specs.declared.event.Event.{Event}
+use Rattle.path_rules.specs.declared.event.Event.TheVariants as happening
+use Rattle.path_rules.specs.Addressing.{notice_call}
+use Rattle.path_rules.specs.Breaking.{break_ask, reset_of}
+use Rattle.path_rules.specs.Deliver.{Piece, failing_mapping}
+use Rattle.path_rules.specs.Duties.{ask_for, stands}
+use Rattle.path_rules.specs.Emission.{first_unsent, data_ask}
+use Rattle.path_rules.specs.Events.{next_event, step_for}
+use Rattle.path_rules.specs.Handover.{sends}
+use Rattle.path_rules.specs.Joining.{asked_at, join_heard_ask}
+use Rattle.path_rules.specs.Opening.{peer_key_ask, opened_ask}
+use Rattle.path_rules.specs.Passing.{piece_of, piece_ask, data_fin_of, fin_ask, rate_ask, plain_fin}
+use Rattle.path_rules.specs.State.{PathState, Profile, end_at, path_of}
+use Rattle.path_rules.specs.Steps.{asks_first}
+use Rattle.path_rules.specs.Treating.{is_clash, fell_ask, mapping_ask, item_ask, item_of, plain_ack_ask, breaks_by_ack}
+use Rattle.path_rules.specs.Turns.{FirstStands, IsSettled}
+use Rattle.path_rules.specs.Values.{Carried, values}
+use Rattle.world_laws.specs.declared.member.Member.TheVariants.{App, Path}
+use Rattle.world_laws.specs.Actors.{Actor, ActorCrew, member_asks}
+use Rattle.world_laws.specs.ChecksPass.{tells_failure, note_tells_failure, ChecksPass, is_fail, TellsNoFailure, NoFailureIsTold}
+use Rattle.world_laws.specs.Openings.{Start, opened_world}
+use Rattle.world_laws.specs.Outcomes.{notes_or}
+use Rattle.world_laws.specs.Promises.{IsPromised, IsPromisedOfOctets}
+use Rattle.world_laws.specs.Worlds.{WorldState, Turn, note_of, crew_after, asked, stepped, all_over, greatest, begins, after_turn, world_run}
+use Rattle.world_laws.proofs.Falls.FailedChecks.{fail_asks_so, subflow_acks_so}
+use Rattle.world_laws.proofs.Lanes.Beginning.{each_run_shows}
+use Rattle.world_laws.proofs.Lanes.OfAWorld.{plainly, plainly_free, free_run, Links, WorldShows, PathThere, duo_of, first_duo}
+use Rattle.world_laws.proofs.Lanes.Placing.{failing_alters}
+use Rattle.world_laws.proofs.Lanes.Showing.{OwnIs, OptionShows, FlightShows, PathShows}
+use Rattle.world_laws.proofs.Promises.Made.{run_fresh}
+use Rattle.world_laws.proofs.Promises.OverOctets.{same_notes_at}
+use Rattle.world_laws.proofs.Weaving.Journals.{books_after}
+use Rattle.world_laws.proofs.Worlds.CastLifting.{each_actor}
+use Rattle.world_laws.proofs.Worlds.Opened.{opened_actors}
+
+-- ---- asks that tell of no failure
+
+-- an MP_FAIL that came is harmless where no infinite mapping can be sent
+abbrev EventIsHarmless : FallEvent → Type 0
+EventIsHarmless events.CheckFailed = ⊥
+EventIsHarmless (events.FailHeard contiguous) = contiguous ≡ false
+EventIsHarmless _ = Unit {0}
+
+abbrev CallIsHarmless : ControlCall → Type 0
+CallIsHarmless (calls.Fell path event) = EventIsHarmless event
+CallIsHarmless _ = Unit {0}
+
+abbrev IsHarmless : Ask → Type 0
+IsHarmless (asks.Control s call) = CallIsHarmless call
+IsHarmless _ = Unit {0}
+
+untold_event : (s : Side) (path : ℕ) (event : FallEvent) → EventIsHarmless event → tells_failure (asks.Control s (calls.Fell path event)) ≡ false
+untold_event s path events.CheckFailed harmless = absurd harmless
+untold_event s path _ harmless = refl
+
+untold_call : (s : Side) (call : ControlCall) → CallIsHarmless call → tells_failure (asks.Control s call) ≡ false
+untold_call s (calls.Fell path event) harmless = untold_event s path event harmless
+untold_call s _ harmless = refl
+
+untold : (x : Ask) → IsHarmless x → tells_failure x ≡ false
+untold (asks.Control s call) harmless = untold_call s call harmless
+untold _ harmless = refl
+
+app_harmless : (d : AppDuty) (a : AppState) → IsHarmless (app_ask d a)
+app_harmless app_duties.FastClose a = tt
+app_harmless app_duties.AbortSend a = tt
+app_harmless app_duties.AbortReceive a = tt
+app_harmless app_duties.Write a = tt
+app_harmless app_duties.Close a = tt
+app_harmless app_duties.Read a = tt
+app_harmless app_duties.End a = tt
+
+-- ---- a path
+
+-- what its first duty does comes to something, no mapping at an edge has other octets than its own, no end may send an infinite mapping, and
+-- no copy has an MP_FAIL
+record PathPasses (p : PathState Carried) : Type 0 where
+  settled : IsSettled p
+  sound : (s : Side) → failing_mapping p.profile (end_at s p) ≡ None
+  own : (s : Side) → (end_at s p).treated.infinite_mapping ≡ None
+  copies : TellsNoFailure (Path p)
+
+module _ (p : PathState Carried) (h : PathPasses p) where
+  step_harmless : (o : Option Event) → IsHarmless (step_for (path_of p) o)
+  step_harmless None = tt
+  step_harmless (Some (happening.Joins tick)) = tt
+  step_harmless (Some (happening.Takes line)) = tt
+  step_harmless (Some (happening.Arrives due)) = tt
+  step_harmless (Some (happening.Fires s tick)) = tt
+
+  key_harmless : (s : Side) (o : Option ℕ) → IsHarmless (peer_key_ask s o p)
+  key_harmless s None = tt
+  key_harmless s (Some key) = tt
+
+  opened_harmless : (s : Side) (o : Option KeyPair) → IsHarmless (opened_ask s o p)
+  opened_harmless s None = tt
+  opened_harmless s (Some keys) = tt
+
+  join_harmless : (s : Side) (o : Option JoinSyn) → IsHarmless (join_heard_ask s o p)
+  join_harmless s None = tt
+  join_harmless s (Some asked) = tt
+
+  break_harmless : (s : Side) (reason : ℕ) → IsHarmless (break_ask values s reason p)
+  break_harmless s reason = by (end_at s p).treated.asked
+    where
+      by : (b : Bool) → IsHarmless (if b then asks.Reassembly s reassembly_calls.AckOut else sends values s (reset_of s (Some reason) p) p)
+      by true = tt
+      by false = tt
+
+  mapping_harmless : (s : Side) → IsHarmless (mapping_ask values s p)
+  mapping_harmless s = by (is_clash (end_at s p))
+    where
+      by : (b : Bool) → IsHarmless (if b then break_ask values s 1 p else fell_ask s events.MappingHeard p)
+      by true = break_harmless s 1
+      by false = tt
+
+  plain_ack_harmless : (s : Side) → IsHarmless (plain_ack_ask values s p)
+  plain_ack_harmless s = by (breaks_by_ack p.profile (end_at s p))
+    where
+      by : (b : Bool) → IsHarmless (if b then break_ask values s 6 p else fell_ask s events.PlainAck p)
+      by true = break_harmless s 6
+      by false = tt
+
+  notice_harmless : (notice : PeerNotice) → CallIsHarmless (notice_call (path_of p) notice)
+  notice_harmless (notes.AddAddr id address port hmac) = tt
+  notice_harmless (notes.AddEcho id) = tt
+  notice_harmless (notes.Removed id) = tt
+  notice_harmless (notes.Prio backup) = tt
+
+  item_harmless : (s : Side) (o : Option Heard) → IsHarmless (item_ask values s o p)
+  item_harmless s None = tt
+  item_harmless s (Some says.Dss) = tt
+  item_harmless s (Some (says.DataAck next window)) = tt
+  item_harmless s (Some (says.Mapping fin)) = mapping_harmless s
+  item_harmless s (Some (says.DataFin place)) = tt
+  item_harmless s (Some (says.InfiniteMapping place position)) = tt
+  item_harmless s (Some (says.PeerKey key)) = tt
+  item_harmless s (Some (says.Keys own peer)) = tt
+  item_harmless s (Some (says.Join form)) = tt
+  item_harmless s (Some (says.Notice notice)) = notice_harmless notice
+  item_harmless s (Some says.Fail) = fail_asks_so IsHarmless s p tt refl
+  item_harmless s (Some (says.FastClose key)) = tt
+
+  piece_harmless : (s : Side) (o : Option Piece) → IsHarmless (piece_ask s o)
+  piece_harmless s None = tt
+  piece_harmless s (Some piece) = tt
+
+  fin_harmless : (s : Side) (o : Option ℕ) → IsHarmless (fin_ask s o)
+  fin_harmless s None = tt
+  fin_harmless s (Some place) = tt
+
+  rate_harmless : (s : Side) (o : Option Pending) → IsHarmless (rate_ask s o p)
+  rate_harmless s None = tt
+  rate_harmless s (Some pending) = tt
+
+  data_harmless : (s : Side) (o : Option Record) → IsHarmless (data_ask values s o p)
+  data_harmless s None = tt
+  data_harmless s (Some first) = tt
+
+  -- the duty that tells of a failed check comes to nothing
+  check_harmless : (s : Side) → stands (duties.Ask (ask_duties.CheckFailed s)) p ≡ true → IsHarmless (ask_for values (duties.Ask (ask_duties.CheckFailed s)) p)
+  check_harmless s is =
+      absurd (both_ways (is_some (failing_mapping p.profile (end_at s p))) (ap (λ o. is_some o) (h.sound s))
+      (and_parts (is_some (failing_mapping p.profile (end_at s p))) (reads_mappings (end_at s p).modes.mode) is).0)
+
+  duty_harmless : (d : Duty) → stands d p ≡ true → IsHarmless (ask_for values d p)
+  duty_harmless (duties.Step (step_duties.Data s)) is = data_harmless s (first_unsent (end_at s p))
+  duty_harmless (duties.Step step_duties.Events) is = step_harmless (next_event p)
+  duty_harmless (duties.Ask (ask_duties.PeerKey s)) is = key_harmless s (key_heard (end_at s p).treated.items)
+  duty_harmless (duties.Ask (ask_duties.JoinHeard s)) is = join_harmless s (asked_at s p)
+  duty_harmless (duties.Ask (ask_duties.Opened s)) is = opened_harmless s (keys_heard (end_at s p).treated.items)
+  duty_harmless (duties.Step (step_duties.Heard s index)) is = item_harmless s (item_of index (end_at s p))
+  duty_harmless (duties.Ask (ask_duties.FailHeard s)) is = ap (λ o. is_some o) (h.own s)
+  duty_harmless (duties.Step (step_duties.PlainAck s)) is = plain_ack_harmless s
+  duty_harmless (duties.Ask (ask_duties.SubflowAck s)) is = subflow_acks_so IsHarmless s (end_at s p) tt (λ next. tt)
+  duty_harmless (duties.Step (step_duties.Unmapped s)) is = break_harmless s 6
+  duty_harmless (duties.Ask (ask_duties.SubflowFin s)) is = fin_harmless s (plain_fin (end_at s p))
+  duty_harmless (duties.Ask (ask_duties.Edge s)) is = piece_harmless s (piece_of s p)
+  duty_harmless (duties.Ask (ask_duties.CheckFailed s)) is = check_harmless s is
+  duty_harmless (duties.Ask (ask_duties.HeardFin s index)) is = fin_harmless s (data_fin_of index (end_at s p))
+  duty_harmless (duties.Ask (ask_duties.Rate s)) is = rate_harmless s (end_at s p).tcp.congestion.pending
+  duty_harmless (duties.Ask ask_duties.JoinAgain) is = tt
+  duty_harmless (duties.Step (step_duties.Look s)) is = tt
+  duty_harmless (duties.Ask (ask_duties.Window s)) is = tt
+  duty_harmless (duties.Send (send_duties.Update s)) is = tt
+  duty_harmless (duties.Send (send_duties.FastClose s)) is = tt
+  duty_harmless (duties.Send (send_duties.Notice s)) is = tt
+  duty_harmless (duties.Send (send_duties.Syn s)) is = tt
+  duty_harmless (duties.Send (send_duties.DataFin s)) is = tt
+  duty_harmless (duties.Send (send_duties.Fin s)) is = tt
+  duty_harmless (duties.Silent (silent_duties.Timer s)) is = tt
+  duty_harmless (duties.Ask (ask_duties.SynHeard s)) is = tt
+  duty_harmless (duties.Ask (ask_duties.SynAnswered s)) is = tt
+  duty_harmless (duties.Send (send_duties.SynAck s)) is = tt
+  duty_harmless (duties.Send (send_duties.Refuse s)) is = tt
+  duty_harmless (duties.Ask (ask_duties.Live s)) is = tt
+  duty_harmless (duties.Ask (ask_duties.AckHeard s)) is = tt
+  duty_harmless (duties.Ask (ask_duties.PlainHandshake s)) is = tt
+  duty_harmless (duties.Ask (ask_duties.PlainData s)) is = tt
+  duty_harmless (duties.Ask (ask_duties.GoIdentity s)) is = tt
+  duty_harmless (duties.Silent (silent_duties.Keep s)) is = tt
+  duty_harmless (duties.Silent (silent_duties.PassFin s)) is = tt
+  duty_harmless (duties.Ask (ask_duties.AckOut s)) is = tt
+  duty_harmless (duties.Send (send_duties.Acknowledge s)) is = tt
+  duty_harmless (duties.Send (send_duties.Again s)) is = tt
+  duty_harmless (duties.Send (send_duties.Answer s)) is = tt
+  duty_harmless (duties.Send (send_duties.ResetAnswer s)) is = tt
+  duty_harmless (duties.Ask (ask_duties.Return s)) is = tt
+  duty_harmless (duties.Ask (ask_duties.AbortSend s)) is = tt
+  duty_harmless (duties.Ask (ask_duties.AbortReceive s)) is = tt
+  duty_harmless (duties.Ask (ask_duties.Announce s id)) is = tt
+  duty_harmless (duties.Ask (ask_duties.Withdraw s id)) is = tt
+  duty_harmless (duties.Send (send_duties.Resend s)) is = tt
+  duty_harmless (duties.Ask (ask_duties.BreakAck s reason)) is = tt
+  duty_harmless (duties.Send (send_duties.BreakReset s reason)) is = tt
+  duty_harmless (duties.Send (send_duties.Reset s)) is = tt
+  duty_harmless (duties.Send (send_duties.ResetNoted s)) is = tt
+  duty_harmless (duties.Ask (ask_duties.Leave s)) is = tt
+  duty_harmless (duties.Ask (ask_duties.LeaveNoted s)) is = tt
+  duty_harmless (duties.Ask (ask_duties.Dead s)) is = tt
+  duty_harmless duties.End is = tt
+
+  first_harmless : (ds : List Duty) (x : Ask) → FirstStands ds p → asks_first values ds p ≡ Some x → IsHarmless x
+  first_harmless [] x first is = cc
+  first_harmless (d ∷ ds) x first is = subst IsHarmless (same_Some (ask_for values d p) x is) (duty_harmless d first)
+
+app_first : (ds : List AppDuty) (a : AppState) (x : Ask) → app_asks_first ds a ≡ Some x → IsHarmless x
+app_first [] a x is = cc
+app_first (d ∷ ds) a x is = subst IsHarmless (same_Some (app_ask d a) x is) (app_harmless d a)
+
+abbrev MemberPasses : Actor Carried → Type 0
+MemberPasses (App a) = Unit {0}
+MemberPasses (Path p) = PathPasses p
+
+member_harmless : (m : Actor Carried) (x : Ask) → MemberPasses m → member_asks values m ≡ Some x → IsHarmless x
+member_harmless (App a) x h is = app_first a.agenda a x is
+member_harmless (Path p) x h is = first_harmless p h p.agenda x h.settled is
+
+-- ---- on lanes that alter nothing
+
+unaltered : {X : Type 0} (o : Option X) (alters : Bool) → alters ≡ false → IfSome o (λ _. alters ≡ true) → o ≡ None
+unaltered None alters plain h = refl
+unaltered (Some x) alters plain h = absurd (both_ways alters plain h)
+
+no_own : (pair : Option Pair) (pairs : List Pair) (fins : List ℕ) (alters : Bool) → alters ≡ false → (o : Option InfiniteMapping) → IfSome o (OwnIs pair pairs fins alters) → o ≡ None
+no_own pair pairs fins alters plain None h = refl
+no_own pair pairs fins alters plain (Some mapping) h = absurd (both_ways alters plain h.may)
+
+option_passes : (c : Profile) (s : Side) (window : ℕ) (acks : List AckCopy) (q : Lane) → q.alters ≡ false → (o : PlainOption) → OptionShows c s window acks q o → is_fail o ≡ false
+option_passes c s window acks q plain (Fail place) shows = absurd (both_ways q.alters plain shows)
+option_passes c s window acks q plain (Capable flag_a flag_c keys) shows = refl
+option_passes c s window acks q plain (Join form) shows = refl
+option_passes c s window acks q plain (Dss next mapping) shows = refl
+option_passes c s window acks q plain (AddAddr echo id address port hmac) shows = refl
+option_passes c s window acks q plain (Remove ids) shows = refl
+option_passes c s window acks q plain (Prio backup) shows = refl
+option_passes c s window acks q plain (FastClose key) shows = refl
+option_passes c s window acks q plain (Reset transient reason) shows = refl
+
+module _ (v u : View) (number : ℕ) (p : PathState Carried) (ab ba : Lane) (to_b : LaneHolds v number ab) (to_a : LaneHolds u number ba) (h : PathShows p.profile p ab ba)
+    (plain_ab : ab.alters ≡ false) (plain_ba : ba.alters ≡ false) where
+  sound : (s : Side) → failing_mapping p.profile (end_at s p) ≡ None
+  sound A = unaltered _ ba.alters plain_ba (failing_alters p.profile A ab ba u number to_a p.a h.a)
+  sound B = unaltered _ ab.alters plain_ab (failing_alters p.profile B ba ab v number to_b p.b h.b)
+
+  own : (s : Side) → (end_at s p).treated.infinite_mapping ≡ None
+  own A = no_own ab.pair ab.pairs ab.fins ab.alters plain_ab p.a.treated.infinite_mapping h.a.pairs.3
+  own B = no_own ba.pair ba.pairs ba.fins ba.alters plain_ba p.b.treated.infinite_mapping h.b.pairs.3
+
+  copies : TellsNoFailure (Path p)
+  copies = Every-map (λ f shows. by f.to f.carried.segment shows) h.copies
+    where
+      by : (to : Side) (sg : PlainSegment) → FlightShows p.profile ab ba to sg → Every (λ o. is_fail o ≡ false) sg.options
+      by B sg shows = Every-map (λ o told. option_passes p.profile A _ ba.acks ab plain_ab o told) shows.options
+      by A sg shows = Every-map (λ o told. option_passes p.profile B _ ab.acks ba plain_ba o told) shows.options
+
+  path_passes : IsSettled p → PathPasses p
+  path_passes settled = record { settled = settled; sound = sound; own = own; copies = copies }
+
+record EachPasses (w : WorldState Carried) : Type 0 where
+  each : (actor : ℕ) (c : ActorCrew Carried) → slice_get w.crew actor ≡ Some c → MemberPasses c.member
+
+shown_passes : (links : Links) (start : Start) (d : Duo) (w : WorldState Carried) → links.alters ≡ false → Holds d → WorldShows links start d w → EachPasses w
+shown_passes links start d w plain held h = subst EachPasses (sym h.is) (record {
+  each = each_actor (λ actor c. MemberPasses c.member) h.cast tt tt (λ number x there. at number x.path (h.settled.each number x there) (h.paths.each number number x (omega arith) there));
+})
+  where
+    holds : Holds (duo_of links (books_in h.cast.books) h.lanes_ab h.lanes_ba h.reader_a h.reader_b)
+    holds = subst Holds h.duo_is held
+
+    at : (number : ℕ) (p : PathState Carried) → IsSettled p → PathThere start h.lanes_ab h.lanes_ba number p → PathPasses p
+    at number p settled there =
+        let out = holds.ab.lanes.each number number there.ab (omega arith) there.ab_there in
+        let back = holds.ba.lanes.each number number there.ba (omega arith) there.ba_there in
+        path_passes _ _ number p there.ab there.ba out back (subst (λ c. PathShows c p there.ab there.ba) (sym there.shows.profile) there.shows)
+        (out.link.alters_is ∙ plain) (back.link.alters_is ∙ plain) settled
+
+each_passes : IsPromised EachPasses
+each_passes start turns plain =
+    let can = plainly start plain in
+    let r = each_run_shows start can turns (free_run can.links (plainly_free start plain) turns (opened_world start)) in
+    shown_passes can.links start (after_events r.events (first_duo can.links start)) (world_run values turns (opened_world start)) refl
+    (any_held can.links.alters can.links.checked (length start.paths) start.buffer start.buffer r.events) r.shows
+
+pub no_failure_is_told : IsPromised NoFailureIsTold
+no_failure_is_told start turns plain = record { each = λ actor c there. by c.member ((each_passes start turns plain).each actor c there) }
+  where
+    by : (m : Actor Carried) → MemberPasses m → TellsNoFailure m
+    by (App a) h = tt
+    by (Path p) h = h.copies
+
+-- ---- control books
+
+either_unfailed : (b : Bool) (c d : Control) → IsUnfailed c.fall → IsUnfailed d.fall → IsUnfailed (if b then c else d).fall
+either_unfailed true c d x y = x
+either_unfailed false c d x y = y
+
+-- an MP_FAIL after which no infinite mapping can be sent changes nothing
+fail_unfailed : (fall : Fall) (only : Bool) → IsUnfailed fall → IsUnfailed (fall_step fall 0 only (events.FailHeard false)).0
+fail_unfailed fall only u = by (not (writes_mappings fall.mode)) only
+  where
+    by : (b only : Bool) → IsUnfailed (if b then stays fall else (if only && false then goes (sending fall.mode) fall else breaks 1 fall)).0
+    by true only = u
+    by false true = u
+    by false false = u
+
+event_unfailed : (fall : Fall) (path : ℕ) (only : Bool) (event : FallEvent) → EventIsHarmless event → IsUnfailed fall → IsUnfailed (fall_step fall path only event).0
+event_unfailed fall path only events.CheckFailed harmless u = absurd harmless
+event_unfailed fall path only (events.FailHeard contiguous) harmless u =
+    subst (λ (b : Bool). IsUnfailed (fall_step fall path only (events.FailHeard b)).0) (sym harmless) (fail_unfailed fall only u)
+event_unfailed fall path only events.PlainHandshake harmless u = unfailed_kept fall path only events.PlainHandshake refl u
+event_unfailed fall path only events.PlainData harmless u = unfailed_kept fall path only events.PlainData refl u
+event_unfailed fall path only events.PlainAck harmless u = unfailed_kept fall path only events.PlainAck refl u
+event_unfailed fall path only events.KeysHeard harmless u = unfailed_kept fall path only events.KeysHeard refl u
+event_unfailed fall path only events.MappingHeard harmless u = unfailed_kept fall path only events.MappingHeard refl u
+event_unfailed fall path only events.AckHeard harmless u = unfailed_kept fall path only events.AckHeard refl u
+event_unfailed fall path only events.InfiniteHeard harmless u = unfailed_kept fall path only events.InfiniteHeard refl u
+event_unfailed fall path only events.Stop harmless u = unfailed_kept fall path only events.Stop refl u
+
+module _ (c : Control) (u : IsUnfailed c.fall) where
+  joined_unfailed : IsUnfailed (record c.fall { joined = true })
+  joined_unfailed = record { finite = u.finite; unfailed = u.unfailed }
+
+  look_unfailed : (n : Notice) (path : ℕ) → IsUnfailed (controlling.after_notice n path c).fall
+  look_unfailed (notices.Withdraw id) path = u
+  look_unfailed _ path = u
+
+  call_unfailed : (call : ControlCall) → CallIsHarmless call → IsUnfailed (controlling.after c call).fall
+  call_unfailed (calls.Look path) harmless = look_unfailed (replying.notice_on c path) path
+  call_unfailed (calls.PeerKey key) harmless = u
+  call_unfailed (calls.Keys own peer) harmless =
+      either_unfailed (own == c.keys.own) (controlling.after_event 0 false events.KeysHeard (controlling.after_peer_key peer c)) c (event_unfailed c.fall 0 false events.KeysHeard tt u) u
+  call_unfailed (calls.Fell path event) harmless = event_unfailed c.fall path (sole c.paths path) event harmless u
+  call_unfailed (calls.JoinBegin path) harmless = either_unfailed _ _ c joined_unfailed u
+  call_unfailed (calls.JoinHeard path token) harmless = either_unfailed _ _ c joined_unfailed u
+  call_unfailed (calls.Live path backup) harmless = u
+  call_unfailed (calls.Dead path) harmless = u
+  call_unfailed (calls.Rate path window rtt) harmless = u
+  call_unfailed (calls.Backup path on) harmless = u
+  call_unfailed (calls.Announce id) harmless = u
+  call_unfailed (calls.Withdraw id) harmless = either_unfailed (controlling.is_known id c) _ c u u
+  call_unfailed (calls.Heard id address port hmac) harmless = u
+  call_unfailed (calls.Echoed id) harmless = either_unfailed (controlling.is_known id c) _ c u u
+  call_unfailed (calls.Removed id) harmless = either_unfailed (controlling.is_known id c) _ c u u
+  call_unfailed calls.FastClose harmless = event_unfailed c.fall 0 false events.Stop tt u
+  call_unfailed (calls.FastHeard key) harmless = either_unfailed (key == c.keys.own) (controlling.after_event 0 false events.Stop c) c (event_unfailed c.fall 0 false events.Stop tt u) u
+
+abbrev AreUnfailed : SixBooks → Type 0
+AreUnfailed six = IsUnfailed six.control_a.fall × IsUnfailed six.control_b.fall
+
+ask_unfailed : (six : SixBooks) (x : Ask) → IsHarmless x → AreUnfailed six → AreUnfailed (after_ask x six)
+ask_unfailed six (asks.Control A call) harmless h = (call_unfailed six.control_a h.0 call harmless, h.1)
+ask_unfailed six (asks.Control B call) harmless h = (h.0, call_unfailed six.control_b h.1 call harmless)
+ask_unfailed six (asks.Send A call) harmless h = h
+ask_unfailed six (asks.Send B call) harmless h = h
+ask_unfailed six (asks.Reassembly A call) harmless h = h
+ask_unfailed six (asks.Reassembly B call) harmless h = h
+ask_unfailed six (asks.Local step) harmless h = h
+
+-- ---- worlds
+
+told_more : (notes : List Note) (n : Note) → list_any note_tells_failure notes ≡ false → note_tells_failure n ≡ false → list_any note_tells_failure (notes ++ n ∷ []) ≡ false
+told_more [] n none one = or_from (note_tells_failure n) false one refl
+told_more (m ∷ notes) n none one =
+    let parts = or_parts (note_tells_failure m) (list_any note_tells_failure notes) none in
+    or_from (note_tells_failure m) (list_any note_tells_failure (notes ++ n ∷ [])) parts.0 (told_more notes n parts.1 one)
+
+record Passing (w : WorldState Carried) : Type 0 where
+  notes : (i : ℕ) (c : ActorCrew Carried) → slice_get w.crew i ≡ Some c → list_any note_tells_failure c.list ≡ false
+  books : AreUnfailed (books_in w.books)
+
+asked_passing : (actor : ℕ) (w : WorldState Carried) (c : ActorCrew Carried) (x : Ask) → slice_get w.crew actor ≡ Some c → IsHarmless x → Passing w → Passing (asked values actor (Some x) c w)
+asked_passing actor w c x there harmless h = record {
+  notes = λ i d at. ⊎_elim
+      (λ here. subst (λ (y : ActorCrew Carried). list_any note_tells_failure y.list ≡ false) here.1
+      (told_more c.list (note_of w.books c.pass x) (h.notes actor c there) (untold x harmless)))
+      (λ other. h.notes i d other.1)
+      (in_set w.crew actor (crew_after values x w.books c) i d at);
+  books = subst AreUnfailed (sym (books_after x c.pass w.books)) (ask_unfailed (books_in w.books) x harmless h.books);
+}
+
+turn_passing : (turn : Turn) (w : WorldState Carried) → EachPasses w → Passing w → Passing (after_turn values turn w)
+turn_passing (Turn.Step actor) w passes h = by (slice_get w.crew actor) refl
+  where
+    takes : (c : ActorCrew Carried) → slice_get w.crew actor ≡ Some c → (o : Option Ask) → member_asks values c.member ≡ o → Passing (asked values actor o c w)
+    takes c there None is = h
+    takes c there (Some x) is = asked_passing actor w c x there (member_harmless c.member x (passes.each actor c there) is) h
+
+    by : (o : Option (ActorCrew Carried)) → slice_get w.crew actor ≡ o → Passing (stepped values actor o w)
+    by None there = h
+    by (Some c) there = takes c there (member_asks values c.member) refl
+turn_passing Turn.Round w passes h = by (all_over w.crew)
+  where
+    by : (b : Bool) → Passing (if b then record w { crew = map (begins (greatest 0 w.crew)) w.crew } else w)
+    by true = record {
+      notes = λ i d at. let found = in_map (begins (greatest 0 w.crew)) w.crew i d at in ap (λ (y : ActorCrew Carried). list_any note_tells_failure y.list) (sym found.2) ∙ h.notes i found.0 found.1;
+      books = h.books;
+    }
+    by false = h
+
+run_passing : (turns : List Turn) (w : WorldState Carried) → ((more : List Turn) → EachPasses (world_run values more w)) → Passing w → Passing (world_run values turns w)
+run_passing [] w ever h = h
+run_passing (turn ∷ turns) w ever h = run_passing turns (after_turn values turn w) (λ more. ever (turn ∷ more)) (turn_passing turn w (ever []) h)
+
+opened_passing : (start : Start) → Passing (opened_world start)
+opened_passing start = record {
+  notes = opened_actors (λ actor c. list_any note_tells_failure c.list ≡ false) start refl refl (λ number plan there. refl);
+  books = (record { finite = refl; unfailed = refl }, record { finite = refl; unfailed = refl });
+}
+
+passing_checks : (w : WorldState Carried) → Passing w → ChecksPass w
+passing_checks w h = record { checks = λ actor. by (slice_get w.crew actor) (λ c there. h.notes actor c there); unfailed = unfailed; finite = finite }
+  where
+    by : (o : Option (ActorCrew Carried)) → ((c : ActorCrew Carried) → o ≡ Some c → list_any note_tells_failure c.list ≡ false) → list_any note_tells_failure (notes_or o) ≡ false
+    by None each = refl
+    by (Some c) each = each c refl
+
+    unfailed : (s : Side) → (control_of s (books_in w.books)).fall.failed ≡ None
+    unfailed A = h.books.0.unfailed
+    unfailed B = h.books.1.unfailed
+
+    finite : (s : Side) → is_infinite (control_of s (books_in w.books)).fall.mode ≡ false
+    finite A = h.books.0.finite
+    finite B = h.books.1.finite
+
+pub checks_pass : IsPromised ChecksPass
+checks_pass start turns plain =
+    passing_checks (world_run values turns (opened_world start))
+    (run_passing turns (opened_world start) (λ more. each_passes start more plain) (opened_passing start))
+
+-- ---- over octets
+
+pub checks_pass_in_octets : IsPromisedOfOctets ChecksPass
+checks_pass_in_octets start turns plain fit =
+    let w : WorldState Carried = world_run values turns (opened_world start) in
+    let h : ChecksPass w = checks_pass start turns plain in
+    subst ChecksPass (sym (run_fresh start turns plain.size fit))
+    (record { checks = λ actor. ap (list_any note_tells_failure) (same_notes_at actor w.crew) ∙ h.checks actor; unfailed = h.unfailed; finite = h.finite })
