@@ -5,5 +5,5 @@
 mod laws;
 mod route;
 
-pub use laws::asked_tokens_are_heard;
+pub use laws::{asked_tokens_are_heard, written_joins_are_found};
 pub use route::join_token;

@@ -3,12 +3,13 @@
 //! to 64 connections that share one listener.
 #![tactic(auto)]
 
-use connection_table::run_many;
+use connection_table::{Many, run_many};
 use file_outside::FileOutside;
 use mptcp_run::{Status, fault_text, run, run_messages};
 use outside_kit::OpenGate;
 use run_outside::command_words;
 use std::alloc::{AllocError, Global};
+use std::env::Env;
 use std::os::fd::AsFd;
 use std::process::ExitCode;
 use std::sync::Wait;
@@ -38,13 +39,18 @@ fn end_of(alloc: Global, status: &Status) -> End {
 }
 
 /// The end of a run of the connections of a list.
+fn end_of_listed(alloc: Global, many: &Many) -> End {
+    End {
+        code: many.code(),
+        line: said(alloc, many.fault_text(alloc)),
+    }
+}
+
+/// Runs the connections of a list.
 fn end_of_many(rt: &HostRuntime, words: &[String]) -> End {
     let mut outside = FileOutside::new(rt, has_output(rt));
     let many = run_many(rt.alloc(), words, &mut outside);
-    End {
-        code: many.code(),
-        line: said(rt.alloc(), many.fault_text(rt.alloc())),
-    }
+    end_of_listed(rt.alloc(), &many)
 }
 
 /// Whether standard output is open. Where it isn't, a file that is opened later may have its number.
@@ -72,10 +78,33 @@ fn run_words<R: Threads + Wait + Sync>(rt: &HostRuntime, threads: &R, words: &[S
     }
 }
 
+/// Whether the first word is `many`, whatever the words behind it are.
+fn is_of_many(rt: &HostRuntime) -> bool {
+    let mut word = [0; 4];
+    matches!(rt.arg(1, &mut word), Ok(4)) && word == *b"many"
+}
+
+/// How a run of the connections of a list ends whose words can't be had: one of them isn't UTF-8, or there is no memory.
+fn many_without_words(status: &Status) -> Many {
+    match status {
+        Status::Memory => Many::Memory,
+        _ => Many::Usage,
+    }
+}
+
+/// The end where the words can't be had.
+fn end_without_words(rt: &HostRuntime, status: &Status) -> End {
+    if is_of_many(rt) {
+        end_of_listed(rt.alloc(), &many_without_words(status))
+    } else {
+        end_of(rt.alloc(), status)
+    }
+}
+
 fn main(rt: HostRuntime) -> ExitCode {
     let end = match command_words(&rt) {
         Ok(words) => run_words(&rt, &rt, &words),
-        Err(status) => end_of(rt.alloc(), &status),
+        Err(status) => end_without_words(&rt, &status),
     };
     if !end.line.is_empty() {
         let _ = eprintln!(rt; "{}", end.line);
