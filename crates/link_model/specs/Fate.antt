@@ -1,6 +1,6 @@
 -- What the lines of a link's script say of the segment of one number from one side. Segments count from 1 in each
 -- direction.
-use Rattle.std.specs.Prelude.{ℕ, Bool, false, ◌&&◌, ◌==◌, nat_le, if◌then◌else◌, List, [], ◌∷◌, Option, Some, None}
+use Rattle.std.specs.Prelude.{ℕ, ◌+◌, Bool, false, ◌&&◌, ◌==◌, nat_le, if◌then◌else◌, List, [], ◌∷◌, Option, Some, None}
 use Rattle.std.specs.List.{list_any}
 use Rattle.outside_kit.specs.declared.side.Side.{Side}
 use Rattle.link_script.specs.declared.script.ScriptLine.{ScriptLine}
@@ -9,6 +9,7 @@ use Rattle.link_script.specs.Places.{same_side}
 use Rattle.link_model.specs.declared.fate.Fate.{Fate}
 use Rattle.link_model.specs.declared.fate.Fate.TheVariants as fate
 use Rattle.link_model.specs.declared.fate.SegmentFate.{SegmentFate}
+use Rattle.link_model.specs.State.{LinkState}
 
 -- a line that names this side and number speaks of this segment
 abbrev pub is_named : Side → ℕ → Side → ℕ → Bool
@@ -61,10 +62,34 @@ is_altered_by from number line = false
 abbrev pub is_altered : Side → ℕ → List ScriptLine → Bool
 is_altered from number lines = list_any (is_altered_by from number) lines
 
--- what becomes of the segment that is handed over at this tick
-abbrev pub segment_fate : Side → ℕ → ℕ → List ScriptLine → SegmentFate
-segment_fate from number now lines = record {
-  arrival = fate_of from number lines;
-  stripped = is_stripped from number now lines;
-  altered = is_altered from number lines;
+-- a line by which the link dies at this tick or before it
+abbrev pub has_died_by : ℕ → ScriptLine → Bool
+has_died_by now (Die path tick) = nat_le tick now
+has_died_by now line = false
+
+-- by one of these lines it is dead at this tick, so that nothing arrives then: at one tick lines come before copies
+abbrev pub is_dead_at : List ScriptLine → ℕ → Bool
+is_dead_at lines now = list_any (has_died_by now) lines
+
+-- a copy that comes to a dead link doesn't arrive
+abbrev pub lost_if : Bool → Fate → Fate
+lost_if dead f = if dead then fate.Lost else f
+
+-- of two copies the death may cut off both, or the second one alone
+abbrev pub twice_unless : Bool → Bool → ℕ → Fate
+twice_unless first_cut second_cut ticks = lost_if first_cut (if second_cut then fate.OnTime else fate.Twice ticks)
+
+-- what comes of a fate on a link that dies, where the segment would arrive at this tick: a copy that the death cuts off doesn't arrive
+abbrev pub cut_short : List ScriptLine → ℕ → Fate → Fate
+cut_short lines on_time fate.OnTime = lost_if (is_dead_at lines on_time) fate.OnTime
+cut_short lines on_time fate.Lost = fate.Lost
+cut_short lines on_time (fate.Late ticks) = lost_if (is_dead_at lines (on_time + ticks)) (fate.Late ticks)
+cut_short lines on_time (fate.Twice ticks) = twice_unless (is_dead_at lines on_time) (is_dead_at lines (on_time + ticks)) ticks
+
+-- what becomes of the segment of this number that is handed over at this tick
+abbrev pub segment_fate : {C : Type 0} → Side → ℕ → ℕ → LinkState C → SegmentFate
+segment_fate from number now link = record {
+  arrival = cut_short link.lines (now + link.delay) (fate_of from number link.lines);
+  stripped = is_stripped from number now link.lines;
+  altered = is_altered from number link.lines;
 }

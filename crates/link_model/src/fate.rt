@@ -1,8 +1,8 @@
 //! What the lines of a script say of one segment.
 
-ghost use Rattle.std.specs.Prelude.{◌≡◌, Option};
+ghost use Rattle.std.specs.Prelude.{◌≡◌, ◌+◌, ◌-◌, ◌^◌, ◌<◌, ◌≤◌, Option};
 ghost use Rattle.std.specs.List.{list_any};
-ghost use Rattle.link_model.specs.Fate.{is_named, fate_told, fate_of, is_stripped_by, is_stripped, is_altered_by, is_altered};
+ghost use Rattle.link_model.specs.Fate.{is_named, fate_told, fate_of, is_stripped_by, is_stripped, is_altered_by, is_altered, has_died_by, is_dead_at, lost_if, twice_unless, cut_short, ticks_of};
 
 use link_script::ScriptLine;
 use outside_kit::Side;
@@ -126,4 +126,68 @@ pub fn is_altered(lines: &[ScriptLine], from: Side, number: u64) -> bool
     ensures { result ≡ is_altered from number lines.now }
 {
     lines.iter().any(|line| is_altered_by(line, from, number))
+}
+
+fn has_died_by(line: &ScriptLine, now: u64) -> bool
+    ensures { result ≡ has_died_by now line.now }
+{
+    match *line {
+        ScriptLine::Die { tick, .. } => tick <= now,
+        _ => false,
+    }
+}
+
+/// Whether the link of these lines is dead at this tick.
+fn is_dead_at(lines: &[ScriptLine], now: u64) -> bool
+    ensures { result ≡ is_dead_at lines.now now }
+{
+    lines.iter().any(|line| has_died_by(line, now))
+}
+
+/// Whether it is dead so many ticks later.
+fn is_dead_after(lines: &[ScriptLine], on_time: u64, ticks: u32) -> bool
+    requires on_time { on_time < 2 ^ 64 - 2 ^ 19 }
+    requires ticks { ticks ≤ 100000 }
+    ensures { result ≡ is_dead_at lines.now (on_time + ticks) }
+{
+    is_dead_at(lines, on_time + u64::from(ticks))
+}
+
+/// A copy that comes to a dead link doesn't arrive.
+fn lost_if(dead: bool, fate: Fate) -> Fate
+    ensures { result ≡ lost_if dead fate }
+{
+    if dead { Fate::Lost } else { fate }
+}
+
+/// Of two copies the death may cut off both, or the second one alone.
+fn twice_unless(first_cut: bool, second_cut: bool, ticks: u32) -> Fate
+    ensures { result ≡ twice_unless first_cut second_cut ticks }
+{
+    if second_cut {
+        lost_if(first_cut, Fate::OnTime)
+    } else {
+        lost_if(first_cut, Fate::Twice { ticks })
+    }
+}
+
+/// What comes of a fate where the link dies, for a segment that would arrive at the tick `on_time`: a copy that the death cuts off
+/// doesn't arrive.
+pub fn cut_short(lines: &[ScriptLine], on_time: u64, fate: Fate) -> Fate
+    requires on_time { on_time < 2 ^ 64 - 2 ^ 19 }
+    requires ticks { ticks_of fate ≤ 100000 }
+    ensures { result ≡ cut_short lines.now on_time fate }
+{
+    match fate {
+        Fate::Lost => Fate::Lost,
+        Fate::OnTime => lost_if(is_dead_at(lines, on_time), Fate::OnTime),
+        Fate::Late { ticks } => {
+            lost_if(is_dead_after(lines, on_time, ticks), Fate::Late { ticks })
+        }
+        Fate::Twice { ticks } => twice_unless(
+            is_dead_at(lines, on_time),
+            is_dead_after(lines, on_time, ticks),
+            ticks,
+        ),
+    }
 }

@@ -155,7 +155,7 @@ impl Machine {
 
     /// What becomes of the segment of this number, handed over at the path's tick.
     fn fate_now(&self, from: Side, number: u64) -> SegmentFate
-        ensures { result ≡ segment_fate from number self.now.clock self.now.link.lines }
+        ensures { result ≡ segment_fate from number self.now.clock self.now.link }
     {
         self.link.segment_fate(from, number, self.clock.now())
     }

@@ -124,7 +124,7 @@ departing_as p t = record {
   from = t.from;
   number = next_number t.from p.link;
   octets = made p.profile.spelling t.from (said_by t.kind p.profile t.from (end_at t.from p));
-  fate = segment_fate t.from (next_number t.from p.link) p.clock p.link.lines;
+  fate = segment_fate t.from (next_number t.from p.link) p.clock p.link;
 }
 
 -- the segment that the next step hands to the link, if it hands one
