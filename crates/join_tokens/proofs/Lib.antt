@@ -1,3 +1,4 @@
 mod TokensShown
 mod PathsNamed
 pub mod JoinsAsked
+mod ArrivalsLent

@@ -1,1 +1,2 @@
 pub mod JoinTokens
+pub mod Arrivals

@@ -1,5 +1,6 @@
 //! What holds of every connection's joins, as clauses of functions that do nothing.
 
+ghost use Rattle.join_tokens.specs.Arrivals.{EachArrivalIsLent};
 ghost use Rattle.join_tokens.specs.JoinTokens.{JoinsAskByTheToken, OctetsShowTheToken, ValuesShowTheToken};
 
 /// A law: at every moment each copy that comes to B next, and asks to join, shows the token of B's key (RFC 8684, section 3.2). Over
@@ -13,4 +14,10 @@ pub fn joins_show_the_token()
 /// B's key: that is the one by which a listener routes them.
 pub fn joins_ask_by_the_token()
     ensures { JoinsAskByTheToken }
+{}
+
+/// A law: of every path, the copy that arrives by its next step is lent exactly where its next ask takes a copy from the link. So a
+/// listener sees each segment before it is heard.
+pub fn each_arrival_is_lent()
+    ensures { EachArrivalIsLent }
 {}
