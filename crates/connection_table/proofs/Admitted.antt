@@ -51,6 +51,7 @@ module _ (c d : Contents) (same : (name : List ℕ) → c name ≡ d name) where
     file_a = if_told names.file_a _ is.file_a;
     file_b = if_told names.file_b _ is.file_b;
     short = is.short;
+    leaves = is.leaves;
   }
 
   inputs_of_same : (names : List Names) (inputs : List Input) → AreInputs c names inputs → AreInputs d names inputs

@@ -10,12 +10,12 @@ use Rattle.link_script.specs.declared.fault.ScriptFault.TheVariants.{Line}
 use Rattle.link_script.specs.declared.fault.ScriptKind.{ScriptKind}
 use Rattle.outside_kit.specs.Outside.{HasRisen}
 use Rattle.run_outside.specs.declared.input.Input.{Input}
-use Rattle.link_script.specs.Reading.{reading}
 use Rattle.connection_list.specs.Lists.{Names, list_reading}
 use Rattle.connection_list.specs.Words.{NamedList}
 use Rattle.listed_inputs.specs.declared.many.Many.{Many}
 use Rattle.listed_inputs.specs.declared.many.Many.TheVariants.{Done, Usage, Load, TooLong, List as Listing, Script, SameToken, Put, Memory}
 use Rattle.listed_inputs.specs.Inputs.{Contents, IsInput, IsLong}
+use Rattle.listed_inputs.specs.Scripts.{listed_reading}
 use Rattle.connection_table.specs.ManyEnds.{AreApart, AreInputs, AreValidInputs, AtFault, IsEnd, IsListedFault, IsOfListed, IsValid, IsValidInput, Says}
 use Rattle.connection_table.specs.Tables.{Entry, holder_of, key_token, opened_entry}
 
@@ -37,7 +37,7 @@ module _ (content : Contents) where
   -- the names tell the one input that there is
   input_is : (names : Names) (x y : Input) → IsValidInput content names x → IsInput content names y → y ≡ x
   input_is names x y valid is =
-      let reads : reading valid.text ≡ Ok y.script = if_told names.script valid.text _ valid.script_told is.script in
+      let reads : listed_reading valid.text ≡ Ok y.script = if_told names.script valid.text _ valid.script_told is.script in
       let script : y.script ≡ x.script = (let both : Ok y.script ≡ Ok x.script = sym reads ∙ valid.script in cc) in
       same_input x y script (if_told names.file_a x.file_a (λ told. y.file_a ≡ told) valid.file_a is.file_a) (if_told names.file_b x.file_b (λ told. y.file_b ≡ told) valid.file_b is.file_b)
 
@@ -87,9 +87,9 @@ module _ (content : Contents) where
 
   -- and its script isn't refused
   not_refused : (names : Names) (x : Input) (line : ℕ) (kind : ScriptKind) → IsValidInput content names x
-      → IfSome (content names.script) (λ told. reading told ≡ Err (Line line kind)) → ⊥
+      → IfSome (content names.script) (λ told. listed_reading told ≡ Err (Line line kind)) → ⊥
   not_refused names x line kind valid refused =
-      let reads : reading valid.text ≡ Err (Line line kind) = if_told names.script valid.text _ valid.script_told refused in
+      let reads : listed_reading valid.text ≡ Err (Line line kind) = if_told names.script valid.text _ valid.script_told refused in
       let both : Ok x.script ≡ Err (Line line kind) = sym valid.script ∙ reads in
       cc
 

@@ -3,7 +3,6 @@ use Rattle.std.specs.Prelude.{ℕ, ◌≡◌, ◌≢◌, ◌⊎◌, ◌+◌, ◌
 use Rattle.std.specs.List.{All, AllZip}
 use Rattle.outside_kit.specs.Outside.{HasRisen, HoldsAfter, HoldsPrefix}
 use Rattle.run_outside.specs.declared.input.Input.{Input}
-use Rattle.link_script.specs.Reading.{reading}
 use Rattle.stream_lanes.specs.Words.{Every}
 use Rattle.connection_list.specs.Words.{NamedList}
 use Rattle.connection_list.specs.Lists.{Names, list_reading}
@@ -11,6 +10,7 @@ use Rattle.listed_inputs.specs.declared.many.Many.{Many}
 use Rattle.listed_inputs.specs.declared.many.Many.TheVariants as ends
 use Rattle.listed_inputs.specs.Causes.{IsInputFault}
 use Rattle.listed_inputs.specs.Inputs.{Contents, IsInput, IsShort}
+use Rattle.listed_inputs.specs.Scripts.{listed_reading}
 use Rattle.connection_table.specs.ManyLines.{lines_from}
 use Rattle.connection_table.specs.ManyRounds.{IsSerialEnd}
 use Rattle.connection_table.specs.Tables.{Connection, Entry, first_of, holder_of, key_token, opened_entry}
@@ -144,7 +144,7 @@ IsEnd content words loads puts log many = IsLoadingFault content words loads.0 l
 pub record IsValidInput (content : Contents) (names : Names) (input : Input) : Type 0 where
   pub text : List ℕ
   pub script_told : content names.script ≡ Some text
-  pub script : reading text ≡ Ok input.script
+  pub script : listed_reading text ≡ Ok input.script
   pub script_short : length text ≤ 65536
   pub file_a : content names.file_a ≡ Some input.file_a
   pub file_b : content names.file_b ≡ Some input.file_b

@@ -1,1 +1,3 @@
+mod AlterLines
+mod Unaltered
 pub mod Adding

@@ -3,11 +3,11 @@ use Rattle.std.specs.Prelude.{ℕ, ◌≡◌, ◌+◌, ◌<◌, ◌≤◌, List,
 use Rattle.link_script.specs.declared.fault.ScriptFault.TheVariants.{Line}
 use Rattle.outside_kit.specs.declared.port.Port.{Port}
 use Rattle.outside_kit.specs.Outside.{HasRisen}
-use Rattle.link_script.specs.Reading.{reading}
 use Rattle.connection_list.specs.Lists.{Names, list_reading}
 use Rattle.listed_inputs.specs.declared.many.Many.{Many}
 use Rattle.listed_inputs.specs.declared.many.Many.TheVariants as ends
 use Rattle.listed_inputs.specs.Inputs.{AreWithin, Contents, IsLong}
+use Rattle.listed_inputs.specs.Scripts.{listed_reading}
 
 -- loads alone were made: what ports hold and their counts are as they were, and the count of loads doesn't fall
 pub record OnlyLoads (old new : ℕ) (ports_old ports_new : Port → ℕ) (held_old held_new : Port → Option (List ℕ)) : Type 0 where
@@ -30,7 +30,7 @@ IsListFault list _ = ⊥
 
 -- the script of this connection
 abbrev pub IsScriptFault : ℕ → List ℕ → Many → Type 0
-IsScriptFault entry text (ends.Script named line kind) = (named ≡ entry) × (reading text ≡ Err (Line line kind))
+IsScriptFault entry text (ends.Script named line kind) = (named ≡ entry) × (listed_reading text ≡ Err (Line line kind))
 IsScriptFault entry text ends.Memory = Unit {0}
 IsScriptFault entry text _ = ⊥
 
@@ -39,6 +39,6 @@ abbrev pub IsInputFault : ℕ → Contents → Names → ℕ → ℕ → Many �
 IsInputFault entry content names old new (ends.Load line) = (line ≡ entry + 1) × HasRisen old new
 IsInputFault entry content names old new (ends.TooLong line) = (line ≡ entry + 1) × IsLong content names
 IsInputFault entry content names old new (ends.Script named line kind) =
-    (named ≡ entry) × (AreWithin content names × IfSome (content names.script) (λ told. reading told ≡ Err (Line line kind)))
+    (named ≡ entry) × (AreWithin content names × IfSome (content names.script) (λ told. listed_reading told ≡ Err (Line line kind)))
 IsInputFault entry content names old new ends.Memory = Unit {0}
 IsInputFault entry content names old new _ = ⊥

@@ -1,8 +1,8 @@
 -- What a connection of a list begins with.
 use Rattle.std.specs.Prelude.{ℕ, ◌≡◌, ◌⊎◌, ◌<◌, ◌≤◌, List, length, Option, Ok, IfSome}
 use Rattle.run_outside.specs.declared.input.Input.{Input}
-use Rattle.link_script.specs.Reading.{reading}
 use Rattle.connection_list.specs.Lists.{Names}
+use Rattle.listed_inputs.specs.Scripts.{LeavesPayload, listed_reading}
 
 -- the content of a name, where it is told
 abbrev pub Contents : Type 0
@@ -23,13 +23,15 @@ pub record AreWithin (content : Contents) (names : Names) : Type 0 where
   pub file_a : IsWithin content names.file_a
   pub file_b : IsWithin content names.file_b
 
--- this is what a connection of these names begins with, as far as the contents are told; none is longer than its limit
+-- this is what a connection of these names begins with, as far as the contents are told; none is longer than its limit, and no payload
+-- is altered
 pub record IsInput (content : Contents) (names : Names) (input : Input) : Type 0 where
-  pub script : IfSome (content names.script) (λ told. reading told ≡ Ok input.script)
+  pub script : IfSome (content names.script) (λ told. listed_reading told ≡ Ok input.script)
   pub within : IsWithin content names.script
   pub file_a : IfSome (content names.file_a) (λ told. input.file_a ≡ told)
   pub file_b : IfSome (content names.file_b) (λ told. input.file_b ≡ told)
   pub short : IsShort input
+  pub leaves : LeavesPayload input.script
 
 -- one of its contents is longer
 pub record IsLong (content : Contents) (names : Names) : Type 0 where

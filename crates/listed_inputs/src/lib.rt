@@ -5,6 +5,7 @@
 
 mod loading;
 mod many;
+mod script;
 
 pub use loading::{connections_of, load, load_input};
 pub use many::Many;

@@ -3,18 +3,17 @@
 ghost use Rattle.std.specs.Prelude.{◌≡◌, ◌<◌, ◌≤◌, ◌∷◌, [], ℕ, List, Ok, IfErr, IfOk, IfSome, OnErr, OnOk, length, map, vec_len};
 ghost use Rattle.outside_kit.specs.Calls as call;
 ghost use Rattle.outside_kit.specs.declared.port.Port.{Port};
-ghost use Rattle.link_script.specs.Reading.{reading};
-ghost use Rattle.link_script.specs.Scripts.{HasRanges};
 ghost use Rattle.run_outside.specs.Plan.{Adds, AddsAll, failed};
 ghost use Rattle.connection_list.specs.Lists.{as_names, list_reading};
 ghost use Rattle.listed_inputs.specs.Causes.{IsInputFault, IsListFault, IsLoadFault, IsScriptFault, OnlyLoads};
 ghost use Rattle.listed_inputs.specs.Inputs.{IsInput, IsWithin};
 ghost use Rattle.listed_inputs.specs.Loads.{InputAdds, loads_of};
+ghost use Rattle.listed_inputs.specs.Scripts.{LeavesPayload, listed_reading};
 ghost use Rattle.listed_inputs.specs.declared.many.Many.TheVariants.{Memory};
 
 use crate::many::Many;
+use crate::script::script_of;
 use connection_list::{ListFault, Listed, read_list};
-use link_script::{Script, ScriptFault, parse};
 use outside_kit::{LoadFault, Outside};
 use pipe_model::Text;
 use run_outside::Input;
@@ -76,20 +75,6 @@ pub fn connections_of(alloc: Global, list: &[u8]) -> Result<Vec<Listed<'_>>, Man
     }
 }
 
-/// What the script of a connection says.
-fn script_of(alloc: Global, entry: u8, text: &[u8]) -> Result<Script, Many>
-    requires { length text.now ≤ 65536 }
-    ensures script { IfOk result (λ script. reading text.now ≡ Ok script) }
-    ensures ranges { IfOk result HasRanges }
-    ensures fault { IfErr result (IsScriptFault entry text.now) }
-{
-    match parse(alloc, text) {
-        Ok(script) => Ok(script),
-        Err(ScriptFault::Line { line, kind }) => Err(Many::Script { entry, line, kind }),
-        Err(ScriptFault::Memory) => Err(Many::Memory),
-    }
-}
-
 /// A file as a text whose parts share its octets. Copies none.
 fn shared(file: Vec<u8>) -> Result<Text, Many>
     ensures file { IfOk result (λ text. text ≡ file.items) }
@@ -110,10 +95,10 @@ fn input_of(
     file_b: Vec<u8>,
 ) -> Result<Input, Many>
     requires { length script.now ≤ 65536 }
-    ensures script { IfOk result (λ input. reading script.now ≡ Ok input.script) }
+    ensures script { IfOk result (λ input. listed_reading script.now ≡ Ok input.script) }
     ensures file_a { IfOk result (λ input. input.file_a ≡ file_a.items) }
     ensures file_b { IfOk result (λ input. input.file_b ≡ file_b.items) }
-    ensures ranges { IfOk result (λ input. HasRanges input.script) }
+    ensures leaves { IfOk result (λ input. LeavesPayload input.script) }
     ensures fault { IfErr result (IsScriptFault entry script.now) }
 {
     Ok(Input {
@@ -129,7 +114,7 @@ fn input_of(
 /// # Errors
 ///
 /// `Load` only where the outside failed, and counted it; `TooLong` where one of the contents is longer than 65,536 octets; `Script` with
-/// the first line of the script that is refused; else `Memory`.
+/// the first line of the script that is refused, one that begins with `alter` being so; else `Memory`.
 pub fn load_input<O: Outside>(
     alloc: Global,
     outside: &mut O,
@@ -137,7 +122,6 @@ pub fn load_input<O: Outside>(
     listed: &Listed<'_>,
 ) -> Result<Input, Many>
     ensures input { IfOk result (IsInput (O.content outside.old) (as_names listed.now)) }
-    ensures ranges { IfOk result (λ input. HasRanges input.script) }
     ensures fault { IfErr result (IsInputFault entry (O.content outside.old) (as_names listed.now)
         (O.load_faults outside.old) (O.load_faults outside.new)) }
     ensures only { OnlyLoads (O.load_faults outside.old) (O.load_faults outside.new)

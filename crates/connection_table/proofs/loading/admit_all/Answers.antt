@@ -39,6 +39,9 @@ returns-in_err-admit-clause-calls_cut g c =
     rw (p.1, p.2) (entry_made c.args.listed.now c.loop-entry.entry-index _ c.loop-entry-test.true _ _ _ inv.calls c.len-number.result (omega (arith, count, inv.count)) _
     c.in_err-admit.field-0.0 c.in_err-admit.ensures.fault c.in_ok-input.ensures.calls)
 
+pub admit-requires-clause-ranges : goal.admit-requires-clause-ranges
+admit-requires-clause-ranges g c = c.in_ok-input.ensures.input.leaves.ranges
+
 pub admit-requires-clause-few : goal.admit-requires-clause-few
 admit-requires-clause-few g c = omega (arith, c.loop-entry.invariant.count, c.loop-entry-test.true, c.requires.few)
 
