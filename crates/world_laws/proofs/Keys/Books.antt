@@ -139,7 +139,7 @@ call_is k right w did s c (control_calls.Keys own other) is h = keys_told _ _ _ 
 call_is k right w did s c (control_calls.Fell path event) is h = same_book _ _ _ c _ refl (fell_confirms path (sole_path c.paths path) event c.fall is) h
 call_is k right w did s c (control_calls.JoinBegin path) is h =
     let d : Control = controlling.after_join (record c { paths = with_phase path Opening c.paths }) in
-    if_book _ _ _ (control.is_sure c.fall.mode) d c (same_book _ _ _ c d refl refl h) h
+    if_book _ _ _ (control.may_join c) d c (same_book _ _ _ c d refl refl h) h
 call_is k right w did s c (control_calls.JoinHeard path token) is h =
     if_book _ _ _ (token == token_of c.keys.own && c.fall.confirmed && (control.is_starting c.fall.mode || control.is_sure c.fall.mode))
     (controlling.after_join c) c (same_book _ _ _ c (controlling.after_join c) refl refl h) h
@@ -191,7 +191,7 @@ call_joined c (control_calls.Look path) is = notice_joined (control.notice_on c 
 call_joined c (control_calls.PeerKey key) is = is
 call_joined c (control_calls.Keys own other) is = either_joined (own == c.keys.own) _ _ (fell_joined 0 false events.KeysHeard c.fall is) is
 call_joined c (control_calls.Fell path event) is = fell_joined path (sole_path c.paths path) event c.fall is
-call_joined c (control_calls.JoinBegin path) is = either_joined (control.is_sure c.fall.mode) _ _ refl is
+call_joined c (control_calls.JoinBegin path) is = either_joined (control.may_join c) _ _ refl is
 call_joined c (control_calls.JoinHeard path token) is =
     either_joined (token == token_of c.keys.own && c.fall.confirmed && (control.is_starting c.fall.mode || control.is_sure c.fall.mode)) _ _ refl is
 call_joined c (control_calls.Live path backup) is = is
