@@ -578,7 +578,7 @@ module _ (c : Profile) (s : Side) (out back : Lane) where
   -- ---- the FIN
 
   -- behind the FIN nothing is kept
-  none_there : (i byte : ℕ) → slice_get {A = Option ℕ} [] i ≡ Some (Some byte) → ⊥
+  none_there : (i byte : ℕ) → slice_get {X = Option ℕ} [] i ≡ Some (Some byte) → ⊥
   none_there zero byte there = cc
   none_there (suc i) byte there = cc
 
