@@ -1,5 +1,5 @@
 -- The timer of an end is settled as a lane's is, its timeout is a second or more, and its flight is small.
-use Rattle.std.proofs.Common.{◌≡◌, refl, ℕ, ◌+◌, ◌<◌, ◌≤◌, Bool, true, false, cond, ◌||◌, if◌then◌else◌, is_none, Option, Some, None, List, [], ◌∷◌, length, map, All, sum_by, arith}
+use Rattle.std.proofs.Common.{◌≡◌, refl, ℕ, ◌+◌, ◌-◌, ◌<◌, ◌≤◌, Bool, true, false, cond, ◌||◌, if◌then◌else◌, is_none, Option, Some, None, List, [], ◌∷◌, length, map, All, sum_by, arith}
 use Rattle.std.proofs.lemmas.List.Elements.{All-head, All-tail}
 use Rattle.std.proofs.lemmas.List.Sums.{sum_by-cons}
 use Rattle.loss_recovery.specs.declared.timers.Timing.{Timing}
