@@ -119,7 +119,7 @@ control_kind c (control_calls.PeerKey key) = tt
 control_kind c (control_calls.Keys own peer) = either_kind (control_calls.Keys own peer) (own == c.keys.own) _ _ tt tt
 control_kind c (control_calls.Fell path event) = tt
 control_kind c (control_calls.JoinBegin path) =
-    either_kind (control_calls.JoinBegin path) (control.is_sure c.fall.mode) _ _ tt
+    either_kind (control_calls.JoinBegin path) (control.may_join c) _ _ tt
     (either_kind (control_calls.JoinBegin path) _ control_replies.NotYet (control_replies.Never c.fall.mode) tt tt)
 control_kind c (control_calls.JoinHeard path token) =
     either_kind (control_calls.JoinHeard path token) _ (control_replies.UnknownToken _) _ tt

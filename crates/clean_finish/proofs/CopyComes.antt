@@ -445,7 +445,7 @@ module _ {s : Side} {keys : Keys} {k j : Setting} {c : Profile} {begun begun_bac
             up p q is = omega (arith, p, q, is)
 
         says : items h x told answer ≡ heard_by keys x.telling.next (window_told false x.window) x.brings
-        says = says_are c keys x s x.brings opens keyed small (some_control came counts) few_octets j.total small_total brings
+        says = says_are c keys x s x.brings opens keyed small (some_control came counts) few_octets j.total small_total brings h.back.control_came h.back.keys_came counts
           where
             some_control : 1 ≤ h.back.control_came → CountsAs h.back.control_came h.back.keys_came x.control x.keys x.brings → 1 ≤ x.control
             some_control p is = control_some h.back.control_came h.back.keys_came x.control x.keys x.brings opens is

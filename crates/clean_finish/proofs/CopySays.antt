@@ -13,7 +13,8 @@ use Rattle.actor_desk.specs.Words.{is_nil}
 use Rattle.path_agenda.specs.declared.heard.Heard.{Heard}
 use Rattle.path_agenda.specs.declared.heard.Heard.TheVariants as says
 use Rattle.path_agenda.specs.Items.{wants_ack}
-use Rattle.path_rules.specs.Arriving.{copy_of, items_of, is_mapping, held_of, held_if, checksum_heard}
+use Rattle.mptcp_options.specs.declared.capable.CapableKeys.TheVariants.{WithData}
+use Rattle.path_rules.specs.Arriving.{copy_of, items_of, is_mapping, mapping_items, held_of, held_if, key_held, checksum_heard}
 use Rattle.path_rules.specs.Deliver.{kept_of}
 use Rattle.path_rules.specs.Joins.{is_joined}
 use Rattle.path_rules.specs.OptionsOut.{mapping_of, bare_mapping, checksum_in, checksum_told}
@@ -45,28 +46,29 @@ module _ (c : Profile) (keys : Keys) (x : Sent) where
   -- what it says
   pub says_are : (q : Side) (b : Brings) → is_opening b ≡ false → (shows_keys b ≡ true → q ≡ B) → nat_lt x.telling.next (2 ^ 62) ≡ true
       → 1 ≤ x.control → x.low + length (octets_of b) ≤ 2 ^ 62 → (own : ℕ) → own ≤ 2 ^ 62 → BringsAs own x.low x.edge b
-      → as_says q b ≡ heard_by keys x.telling.next (window_told false x.window) b
-  says_are q OpensSubflow e key small one few own most is = absurd (both_ways _ e refl)
-  says_are A ShowsKeys e key small one few own most is = absurd (not_b (key refl))
-  says_are B ShowsKeys e key small one few own most is = refl
-  says_are A (FirstPiece octets) e key small one few own most is = absurd (not_b (key refl))
-  says_are B (FirstPiece octets) e key small one few own most is =
-      ap (λ (b : Bool). says.Keys keys.b keys.a ∷ ((if b then says.Mapping false ∷ [] else []) ++ []))
+      → (control keys_before : ℕ) → CountsAs control keys_before x.control x.keys b → as_says q b ≡ heard_by keys x.telling.next (window_told false x.window) b
+  says_are q OpensSubflow e key small one few own most is control keys_before counts = absurd (both_ways _ e refl)
+  says_are A ShowsKeys e key small one few own most is control keys_before counts = absurd (not_b (key refl))
+  says_are B ShowsKeys e key small one few own most is control keys_before counts = refl
+  says_are A (FirstPiece octets) e key small one few own most is control keys_before counts = absurd (not_b (key refl))
+  says_are B (FirstPiece octets) e key small one few own most is control keys_before counts =
+      ap (λ (b : Bool). says.Keys keys.b keys.a ∷ ((if b then mapping_items 0 1 (length octets) false else []) ++ [])) (lt-ltb 0 (length octets) counts.3)
+      ∙ ap (λ (b : Bool). says.Keys keys.b keys.a ∷ ((if b then says.Mapping false ∷ [] else []) ++ []))
       (fits_mapping 0 1 (length octets) (omega arith) (from_none x.low (length octets) few))
     where
       from_none : (l n : ℕ) → l + n ≤ 2 ^ 62 → 0 + n ≤ 2 ^ 62
       from_none l n less = omega (arith, less)
-  says_are q (Piece octets) e key small one few own most is =
+  says_are q (Piece octets) e key small one few own most is control keys_before counts =
       rw (small, fits_mapping x.low (x.low + x.control) (length octets) (at_one x.low one) few) refl
     where
       at_one : {n : ℕ} (l : ℕ) → 1 ≤ n → 1 ≤ l + n
       at_one l less = omega (arith, less)
-  says_are q Acknowledges e key small one few own most is = rw small refl
-  says_are q (EndsStream place) e key small one few own most is = rw (small, le-leb place (2 ^ 62) (below is)) refl
+  says_are q Acknowledges e key small one few own most is control keys_before counts = rw small refl
+  says_are q (EndsStream place) e key small one few own most is control keys_before counts = rw (small, le-leb place (2 ^ 62) (below is)) refl
     where
       below : place ≡ own → place ≤ 2 ^ 62
       below same = omega (arith, same, most)
-  says_are q EndsSubflow e key small one few own most is = rw small refl
+  says_are q EndsSubflow e key small one few own most is control keys_before counts = rw small refl
 
   abbrev as_held : Side → Brings → List KeptMapping
   as_held q b = held_of c q (meant (said c keys (peer q) (record x { brings = b })))
@@ -93,9 +95,10 @@ module _ (c : Profile) (keys : Keys) (x : Sent) where
   held_are B ShowsKeys e key path one few own control keys_before is counts = nothing (is_joined c)
   held_are A (FirstPiece octets) e key path one few own control keys_before is counts = absurd (not_b (key refl))
   held_are B (FirstPiece octets) e key path one few own control keys_before is counts =
-      ap (λ (b : Bool). (if b then [] else held_if c B 0 1 (length octets) false (checksum_told c (mapping_of c A x.low (x.low + x.control) octets).checksum)) ++ []) path
+      ap (λ (b : Bool). (if b then [] else key_held c B (WithData keys.a keys.b (length octets) (checksum_told c (mapping_of c A x.low (x.low + x.control) octets).checksum))) ++ []) path
+      ∙ (ap (λ (b : Bool). (if b then held_if c B 0 1 (length octets) false (checksum_told c (mapping_of c A x.low (x.low + x.control) octets).checksum) else []) ++ []) (lt-ltb 0 (length octets) counts.3)
       ∙ (first x.low x.control is.1 counts.1 (from_none x.low (length octets) few)
-      ∙ sym (ap (λ (b : Bool). if b then [] else kept_piece c B x octets ∷ []) (some_nil octets counts.3)))
+      ∙ sym (ap (λ (b : Bool). if b then [] else kept_piece c B x octets ∷ []) (some_nil octets counts.3))))
     where
       from_none : (l n : ℕ) → l + n ≤ 2 ^ 62 → 0 + n ≤ 2 ^ 62
       from_none l n less = omega (arith, less)

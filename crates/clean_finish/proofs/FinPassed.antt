@@ -4,7 +4,7 @@ use Rattle.std.proofs.lemmas.Bool.{both_ways}
 use Rattle.outside_kit.specs.declared.side.Side.{Side}
 use Rattle.outside_kit.specs.declared.side.Side.TheVariants.{B}
 use Rattle.outside_kit.specs.Side.{peer}
-use Rattle.subflow_recv.specs.Receiving.{after_advance}
+use Rattle.subflow_recv.specs.Receiving.{after_pass}
 use Rattle.subflow_tcp.specs.declared.handshake.State.{State}
 use Rattle.subflow_tcp.specs.declared.handshake.State.TheVariants as states
 use Rattle.subflow_tcp.specs.States.{after_fin_passed}
@@ -76,7 +76,7 @@ module _ {s : Side} {keys : Keys} {k j : Setting} {c : Profile} {begun begun_bac
         same is = omega (arith, is)
 
     abbrev pub end_now : PathEnd
-    end_now = end_after h refl x false hand (after_advance (m.end.tcp.recv.edge + 1) m.end.tcp.recv) (after_fin_passed m.end.tcp.state) m.end.sending
+    end_now = end_after h refl x false hand (after_pass m.end.tcp.recv) (after_fin_passed m.end.tcp.state) m.end.sending
         m.end.receiving m.end.modes m.end.treated m.arrived
 
     module _ (una : 1 ≤ m.end.tcp.send.una) (came : 1 ≤ h.back.control_came) (clear : 1 ≤ h.out.clear) (is_open : IsOpen m.end.tcp.send.finished m.end.tcp.state) where
@@ -270,6 +270,6 @@ module _ {s : Side} {keys : Keys} {k j : Setting} {c : Profile} {begun begun_bac
           (asks : (h.stage_back.ask ≡ false) ⊎ (Has (duties.Ask (ask_duties.Window s)) ds ⊎ (Has (duties.Ask (ask_duties.AckOut s)) ds × (m.end.treated.asked ≡ true))))
         where
           abbrev pub fin_passed : Facing s keys k j c begun begun_back (record m { end = end_now }) n clock until ds
-          fin_passed = brought h refl x false hand (after_advance (m.end.tcp.recv.edge + 1) m.end.tcp.recv) (after_fin_passed m.end.tcp.state) m.end.sending
+          fin_passed = brought h refl x false hand (after_pass m.end.tcp.recv) (after_fin_passed m.end.tcp.state) m.end.sending
               m.end.receiving m.end.modes m.end.treated m.arrived h.stage_back.ask some_sent owes acknowledges events (inr (inr (inl more)))
               (λ e. (e, no_bytes, no_fin)) asks all_of control_is shown_is (further m.end.tcp.recv.edge) own_passed reads_on receives_on h.apps_back.whole refl

@@ -1,5 +1,5 @@
 -- The steps in which the receive edge moves over the peer's FIN, or stays.
-use Rattle.std.proofs.Common.{◌≡◌, refl, sym, subst, ap, ◌∙◌, ℕ, zero, suc, ◌+◌, ◌-◌, ◌^◌, ◌<◌, ◌≤◌, min, max, nat_lt, Bool, true, false, if◌then◌else◌, ◌&&◌, ◌⊎◌, inl, inr, ⊎_elim, Option, Some, None, List, [], ◌∷◌, drop, arith}
+use Rattle.std.proofs.Common.{◌≡◌, refl, sym, subst, ap, ◌∙◌, ℕ, ◌+◌, ◌-◌, ◌^◌, ◌<◌, ◌≤◌, min, max, nat_lt, Bool, true, false, if◌then◌else◌, ◌&&◌, ◌⊎◌, inl, inr, ⊎_elim, Option, Some, None, List, [], ◌∷◌, arith}
 use Rattle.std.proofs.lemmas.Bool.{cases_lt, le-ltb, lt-ltb, eq-eqb, ne_eqb}
 use Rattle.outside_kit.specs.declared.side.Side.TheVariants.{A, B}
 use Rattle.subflow_tcp.specs.Closing.{is_fin_next, after_passing_fin}
@@ -57,14 +57,6 @@ there : (tcp : EndState) → tcp.fin_at ≡ Some tcp.recv.edge → tcp.recv.edge
 there tcp fin few =
     ap (λ (o : Option ℕ). is_at tcp.recv.edge o && nat_lt tcp.recv.edge (2 ^ 62)) fin
     ∙ (ap (λ (b : Bool). b && nat_lt tcp.recv.edge (2 ^ 62)) (eq-eqb tcp.recv.edge tcp.recv.edge refl) ∙ lt-ltb tcp.recv.edge (2 ^ 62) few)
-
-drop_none : (n : ℕ) (xs : List (Option ℕ)) → xs ≡ [] → drop n xs ≡ []
-drop_none n [] is = none n
-  where
-    none : (x : ℕ) → drop {A = Option ℕ} x [] ≡ []
-    none zero = refl
-    none (suc x) = refl
-drop_none n (x ∷ xs) is = cc
 
 module _ (start : Start) (plan : PathPlan) (k j : Setting) (s v : Lane) (t0 u0 : ℕ)
     (going : Going k s t0 all_left s) (going_back : Going j v u0 all_left v)
@@ -135,7 +127,7 @@ module _ (start : Start) (plan : PathPlan) (k j : Setting) (s v : Lane) (t0 u0 :
                   sent = f.sent;
                   hand = refl;
                   idle = record {
-                    places = drop_none (p.a.tcp.recv.edge + 1 - p.a.tcp.recv.edge) p.a.tcp.recv.places f.places;
+                    places = refl;
                     incoming = refl;
                     fin = f.fin ∙ fin_is view.own.subflow.come.edge come.0 come.1 (received view f.sent f.hand f.brings);
                   };
@@ -255,7 +247,7 @@ module _ (start : Start) (plan : PathPlan) (k j : Setting) (s v : Lane) (t0 u0 :
                   sent = f.sent;
                   hand = refl;
                   idle = record {
-                    places = drop_none (p.b.tcp.recv.edge + 1 - p.b.tcp.recv.edge) p.b.tcp.recv.places f.places;
+                    places = refl;
                     incoming = refl;
                     fin = f.fin ∙ fin_is view.own.subflow.come.edge come.0 come.1 (received view f.sent f.hand f.brings);
                   };

@@ -12,7 +12,7 @@ use Rattle.send_book.specs.State.{Sending as SendBook, acked_len}
 use Rattle.send_book.specs.Steps.{part_of, change_part}
 use Rattle.subflow_send.specs.declared.record.RecordKind.TheVariants.{Data}
 use Rattle.subflow_send.specs.Records.{Record, Tile, span_of}
-use Rattle.subflow_send.specs.Rules.{is_unsent, octets_under_way}
+use Rattle.subflow_send.specs.Rules.{is_unsent, acknowledged_in, octets_under_way}
 use Rattle.subflow_send.specs.Sendings.{never_sent}
 use Rattle.subflow_send.proofs.Whole.{Tile-push}
 use Rattle.subflow_tcp.specs.Sizes.{room}
@@ -34,8 +34,11 @@ use Rattle.clean_finish.proofs.Ways.{map_end}
 use Rattle.clean_finish.proofs.Spans.{spans_more}
 
 -- what isn't sent isn't under way
-flight_same : (rs : List Record) (r : Record) → is_unsent r ≡ true → sum_by octets_under_way (rs ++ r ∷ []) ≡ sum_by octets_under_way rs
-flight_same rs r unsent = sum_by-append octets_under_way rs (r ∷ []) ∙ (ap (λ (b : Bool). sum_by octets_under_way rs + (0 + (if b then 0 else length r.piece))) unsent ∙ none (sum_by octets_under_way rs))
+flight_same : (una : ℕ) (rs : List Record) (r : Record) → is_unsent r ≡ true → sum_by (octets_under_way una) (rs ++ r ∷ []) ≡ sum_by (octets_under_way una) rs
+flight_same una rs r unsent =
+    sum_by-append (octets_under_way una) rs (r ∷ [])
+    ∙ (ap (λ (b : Bool). sum_by (octets_under_way una) rs + (0 + (if b then 0 else length r.piece - acknowledged_in una r))) unsent
+    ∙ none (sum_by (octets_under_way una) rs))
   where
     none : (x : ℕ) → x + (0 + 0) ≡ x
     none x = omega arith
@@ -151,7 +154,7 @@ module _ {s : Side} {keys : Keys} {k j : Setting} {c : Profile} {begun begun_bac
           next = next h.out.granted h.out.control_sent h.own.subflow.records.next nothing_waits piece_long;
           finished = h.own.subflow.records.finished;
           control = h.own.subflow.records.control;
-          fits = subst (λ (x : ℕ). count ≤ m.end.tcp.congestion.reno.window - x) (sym (flight_same m.end.tcp.send.records waits refl)) fits;
+          fits = subst (λ (x : ℕ). count ≤ m.end.tcp.congestion.reno.window - x) (sym (flight_same m.end.tcp.send.una m.end.tcp.send.records waits refl)) fits;
         }
           where
             position : {nxt w d : ℕ} → nxt ≡ 1 + h.out.granted + w + (d - 1) → w ≡ 0 → d ≡ 1 → nxt ≡ h.out.granted + 1

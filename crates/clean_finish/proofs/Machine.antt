@@ -1,11 +1,11 @@
 -- The timer of an end is settled as a lane's is, its timeout is a second or more, and its flight is small.
-use Rattle.std.proofs.Common.{◌≡◌, refl, ℕ, ◌+◌, ◌<◌, ◌≤◌, Bool, true, false, cond, ◌||◌, if◌then◌else◌, is_none, Option, Some, None, List, [], ◌∷◌, length, map, All, sum_by, arith}
+use Rattle.std.proofs.Common.{◌≡◌, refl, ℕ, ◌+◌, ◌-◌, ◌<◌, ◌≤◌, Bool, true, false, cond, ◌||◌, if◌then◌else◌, is_none, Option, Some, None, List, [], ◌∷◌, length, map, All, sum_by, arith}
 use Rattle.std.proofs.lemmas.List.Elements.{All-head, All-tail}
 use Rattle.std.proofs.lemmas.List.Sums.{sum_by-cons}
 use Rattle.loss_recovery.specs.declared.timers.Timing.{Timing}
 use Rattle.loss_recovery.specs.Timers.{measured}
 use Rattle.subflow_send.specs.Records.{Record, span_of, Follow, Tile}
-use Rattle.subflow_send.specs.Rules.{octets_under_way, is_unsent}
+use Rattle.subflow_send.specs.Rules.{acknowledged_in, octets_under_way, is_unsent}
 use Rattle.pace.specs.Rules.{tick_or}
 use Rattle.clean_finish.specs.Machine.{seen_timer, SettlesAsALane, IsLong, StaysLong, IsPiece, FlightsAreSmall}
 
@@ -34,29 +34,29 @@ stays_long = record {
     by None now t long = long
     by (Some first) now t long = omega arith
 
-under_way_within : (r : Record) → octets_under_way r ≤ length r.piece
-under_way_within r = by (is_unsent r)
+under_way_within : (una : ℕ) (r : Record) → octets_under_way una r ≤ length r.piece
+under_way_within una r = by (is_unsent r)
   where
-    by : (unsent : Bool) → (if unsent then 0 else length r.piece) ≤ length r.piece
+    by : (unsent : Bool) → (if unsent then 0 else length r.piece - acknowledged_in una r) ≤ length r.piece
     by true = omega arith
     by false = omega arith
 
 -- records that follow one another have no more octets under way than positions
-follow_small : (payload from to : ℕ) (rs : List Record) → Follow from to (map span_of rs) → All (IsPiece payload) rs
-    → sum_by octets_under_way rs + from ≤ to
-follow_small payload from to [] f pieces = omega (arith, f)
-follow_small payload from to (r ∷ rs) f pieces =
-    let rest = follow_small payload (span_of r).1 to rs f.2 (All-tail (IsPiece payload) r rs pieces) in
+follow_small : (una payload from to : ℕ) (rs : List Record) → Follow from to (map span_of rs) → All (IsPiece payload) rs
+    → sum_by (octets_under_way una) rs + from ≤ to
+follow_small una payload from to [] f pieces = omega (arith, f)
+follow_small una payload from to (r ∷ rs) f pieces =
+    let rest = follow_small una payload (span_of r).1 to rs f.2 (All-tail (IsPiece payload) r rs pieces) in
     let piece = All-head (IsPiece payload) r rs pieces in
-    omega (arith, f.0, piece, rest, under_way_within r, sum_by-cons octets_under_way r rs)
+    omega (arith, f.0, piece, rest, under_way_within una r, sum_by-cons (octets_under_way una) r rs)
 
 tile_small : (payload una nxt : ℕ) (rs : List Record) → Tile una nxt (map span_of rs) → All (IsPiece payload) rs
-    → sum_by octets_under_way rs + una < nxt + payload + 1
+    → sum_by (octets_under_way una) rs + una < nxt + payload + 1
 tile_small payload una nxt [] t pieces = omega (arith, t)
 tile_small payload una nxt (r ∷ rs) t pieces =
-    let rest = follow_small payload _ nxt rs t.2 (All-tail (IsPiece payload) r rs pieces) in
+    let rest = follow_small una payload _ nxt rs t.2 (All-tail (IsPiece payload) r rs pieces) in
     let piece = All-head (IsPiece payload) r rs pieces in
-    omega (arith, t.1, piece, rest, under_way_within r, sum_by-cons octets_under_way r rs)
+    omega (arith, t.1, piece, rest, under_way_within una r, sum_by-cons (octets_under_way una) r rs)
 
 pub flights_are_small : FlightsAreSmall
 flights_are_small payload v tile pieces = tile_small payload v.una v.nxt v.records tile pieces

@@ -1,5 +1,5 @@
 -- What comes behind a SYN in order is taken by the subflow.
-use Rattle.std.proofs.Common.{◌≡◌, refl, ap, ◌∙◌, ℕ, ◌+◌, ◌-◌, ◌^◌, ◌==◌, ◌<◌, ◌≤◌, nat_lt, nat_le, Bool, true, false, not, ◌&&◌, ◌||◌, if◌then◌else◌, Option, Some, arith}
+use Rattle.std.proofs.Common.{◌≡◌, refl, ap, ◌∙◌, ℕ, ◌+◌, ◌-◌, ◌^◌, ◌==◌, ◌<◌, ◌≤◌, nat_lt, nat_le, Bool, true, false, not, ◌&&◌, ◌||◌, if◌then◌else◌, Option, Some, length, arith}
 use Rattle.std.proofs.lemmas.Bool.{both_ways, le-ltb, lt-ltb, le-leb, ne_eqb}
 use Rattle.outside_kit.specs.declared.side.Side.{Side}
 use Rattle.outside_kit.specs.declared.side.Side.TheVariants.{A, B}
@@ -7,7 +7,7 @@ use Rattle.path_segments.specs.Laws.{meant}
 use Rattle.subflow_tcp.specs.declared.handshake.State.{State}
 use Rattle.subflow_tcp.specs.declared.handshake.State.TheVariants as states
 use Rattle.subflow_tcp.specs.declared.verdicts.Meaning.TheVariants as means
-use Rattle.subflow_tcp.specs.Judging.{is_in_window, is_acceptable, is_repeated_syn, meaning_acknowledging, meaning_at, meaning_connected, meaning_of, meaning_outside, meaning_placed, meaning_within}
+use Rattle.subflow_tcp.specs.Judging.{is_in_window, ends_in_window, is_at_right_edge, is_acceptable, is_repeated_syn, meaning_acknowledging, meaning_at, meaning_connected, meaning_of, meaning_outside, meaning_placed, meaning_within}
 use Rattle.subflow_tcp.specs.Segments.{Copy as SubflowCopy, occupied}
 use Rattle.subflow_tcp.specs.State.{EndState}
 use Rattle.subflow_tcp.specs.States.{is_half_open}
@@ -41,8 +41,8 @@ judges q came una finished state c s (HalfOpen side one low is) some = rw is ref
 judges q came una finished state c s (Open one high is) some = connected_open state finished c s is
 
 -- at the receive edge
-at_edge : (edge len : ℕ) → is_acceptable edge edge len ≡ true
-at_edge edge len = ap (λ (b : Bool). b || (nat_lt 0 len && is_in_window edge (edge + (len - 1)))) here
+at_edge : (edge : ℕ) (c : SubflowCopy) → is_acceptable edge edge c ≡ true
+at_edge edge c = ap (λ (b : Bool). b || (ends_in_window edge edge (occupied c) || is_at_right_edge edge edge (length c.payload))) here
   where
     less : edge < edge + 1048576
     less = omega arith
@@ -62,7 +62,7 @@ taken_there c s pos acknowledged far far_edge position same is syn reset ahead s
     ∙ (ap (λ (b : Bool). if b then means.RepeatedSyn else meaning_placed c.position c s) (no_syn (not s.numbers.opens) c.syn _ syn)
     ∙ (ap (λ (o : Option ℕ). meaning_placed o c s) position
     ∙ (ap (λ (b : Bool). if b then meaning_within pos c s else meaning_outside c)
-    (ap (λ (n : ℕ). is_acceptable s.recv.edge n (occupied c)) same ∙ at_edge s.recv.edge (occupied c))
+    (ap (λ (n : ℕ). is_acceptable s.recv.edge n c) same ∙ at_edge s.recv.edge c)
     ∙ (ap (λ (b : Bool). if b then (if pos == s.recv.edge then means.Kills else means.Challenged)
     else (if c.syn then means.Challenged else meaning_acknowledging c.acknowledged pos s)) reset
     ∙ (ap (λ (b : Bool). if b then means.Challenged else meaning_acknowledging c.acknowledged pos s) syn

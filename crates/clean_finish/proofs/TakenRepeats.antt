@@ -60,11 +60,12 @@ module _ (c : Profile) (keys : Keys) (s : Side) where
 
   place_first : (q : Side) (x : Sent) (octets : List ℕ) → place_in_first (items_by q (record x { brings = FirstPiece octets })) ≡ None
   place_first A x octets = refl
-  place_first B x octets = by (is_mapping 0 1 (length octets))
+  place_first B x octets = by (nat_lt 0 (length octets)) (is_mapping 0 1 (length octets))
     where
-      by : (b : Bool) → place_in_first (says.Keys keys.b keys.a ∷ ((if b then says.Mapping false ∷ [] else []) ++ [])) ≡ None
-      by true = refl
-      by false = refl
+      by : (some b : Bool) → place_in_first (says.Keys keys.b keys.a ∷ ((if some then (if b then says.Mapping false ∷ [] else []) else []) ++ [])) ≡ None
+      by true true = refl
+      by true false = refl
+      by false b = refl
 
   module _ (x : Sent) (small : nat_lt x.telling.next (2 ^ 62) ≡ true) where
     place_piece : (q : Side) (octets : List ℕ) → place_in_first (items_by q (record x { brings = Piece octets })) ≡ Some x.telling.next

@@ -1,5 +1,5 @@
 -- What a side's control book answers: one definition for each call that has an answer of its own.
-use Rattle.std.specs.Prelude.{ℕ, ◌==◌, Bool, true, false, not, ◌&&◌, ◌||◌, if◌then◌else◌, Option, Some, None}
+use Rattle.std.specs.Prelude.{ℕ, ◌==◌, Bool, true, false, not, ◌&&◌, ◌||◌, if◌then◌else◌, Option, Some, None, is_none}
 use Rattle.key_material.specs.declared.address.Address.{Address}
 use Rattle.key_material.specs.KeyDigest.{token_of}
 use Rattle.key_material.specs.AddressHmac.{add_addr64_of}
@@ -94,11 +94,18 @@ fell_reply path event c = reply.Verdict (fall_step c.fall path (sole c.paths pat
 abbrev pub begin : Control → ControlReply
 begin c = reply.Begin c.keys.own (peer_or_zero c.keys.peer)
 
--- a join begins where the side is sure; while it is starting, and path 0 stands, it has to wait
+-- a join may begin: the side is sure, and no check of it failed, for after MP_FAIL on its only subflow a connection stays on that
+-- (RFC 8684, section 3.7)
+abbrev pub may_join : Control → Bool
+may_join c = is_sure c.fall.mode && is_none c.fall.failed
+
+-- a join has to wait: the side is starting, path 0 stands, and no check failed
+abbrev pub join_waits : Control → Bool
+join_waits c = is_starting c.fall.mode && (stands c.paths 0 && is_none c.fall.failed)
+
+-- a join begins, waits, or never begins
 abbrev pub join_begin_reply : Control → ControlReply
-join_begin_reply c =
-    if is_sure c.fall.mode then begin c
-    else (if is_starting c.fall.mode && stands c.paths 0 then reply.NotYet else reply.Never c.fall.mode)
+join_begin_reply c = if may_join c then begin c else (if join_waits c then reply.NotYet else reply.Never c.fall.mode)
 
 -- a join is answered where the token is the side's, and the side is confirmed, and starting or sure
 abbrev pub join_heard_reply : ℕ → Control → ControlReply

@@ -17,7 +17,7 @@ use Rattle.control_book.specs.declared.call.Notice.{Notice}
 use Rattle.control_book.specs.declared.call.Notice.TheVariants as notice
 use Rattle.control_book.specs.Registry.{every_path, stands, lives, sole, lowest_living, with_phase, with_row, with_removed}
 use Rattle.control_book.specs.Control.{Control, with_withdrawal}
-use Rattle.control_book.specs.Replies.{is_sure, is_starting, notice_on, is_right}
+use Rattle.control_book.specs.Replies.{is_sure, is_starting, may_join, notice_on, is_right}
 
 -- an address that was told to be taken back is no longer to be told on that path
 abbrev pub after_notice : Notice → ℕ → Control → Control
@@ -52,9 +52,9 @@ after_fell path event c = after_event path (sole c.paths path) event c
 abbrev pub after_join : Control → Control
 after_join c = record c { fall = record c.fall { joined = true } }
 
--- JoinBegin: at a sure side the path opens, and the side has begun a join
+-- JoinBegin: where a join may begin the path opens, and the side has begun one
 abbrev pub after_join_begin : ℕ → Control → Control
-after_join_begin path c = if is_sure c.fall.mode then after_join (record c { paths = with_phase path Opening c.paths }) else c
+after_join_begin path c = if may_join c then after_join (record c { paths = with_phase path Opening c.paths }) else c
 
 -- JoinHeard: where the token is the side's, and the side is confirmed, and starting or sure, it has answered a join
 abbrev pub after_join_heard : ℕ → Control → Control

@@ -73,7 +73,7 @@ impl Model for ControlBook {
 impl ControlBook {
     ghost use Rattle.control_book.specs.Control.{new_control};
     ghost use Rattle.control_book.specs.Steps.{after_look, after_peer_key, after_keys, after_fell, after_join_begin, after_join_heard, after_live, after_dead, after_backup, after_rate, after_announce, after_withdraw, after_heard, after_echoed, after_removed, after_fast_close, after_fast_heard, is_known, after_event};
-    ghost use Rattle.control_book.specs.Replies.{carries, resets, announcement, notice_on, look_reply, keys_reply, fell_reply, begin, join_begin_reply, join_heard_reply, rate_reply, is_right, address_reply, fast_heard_reply};
+    ghost use Rattle.control_book.specs.Replies.{carries, resets, announcement, notice_on, look_reply, keys_reply, fell_reply, begin, may_join, join_waits, join_begin_reply, join_heard_reply, rate_reply, is_right, address_reply, fast_heard_reply};
 
     /// The book of a side whose connection opens, with the side's own key: starting, unconfirmed, not joined and nothing
     /// failed; path 0 opens, and no other lives or opens.
@@ -157,13 +157,27 @@ impl ControlBook {
         }
     }
 
+    /// Whether a join may begin: the side is sure, and no check of it failed (RFC 8684, section 3.7).
+    fn may_join(&self) -> bool
+        ensures { result ≡ may_join self.now }
+    {
+        is_sure(self.fall.mode) && self.fall.failed.is_none()
+    }
+
+    /// Whether a join has to wait: the side is starting, path 0 lives or opens, and no check failed.
+    fn join_waits(&self) -> bool
+        ensures { result ≡ join_waits self.now }
+    {
+        self.fall.mode.is_starting() && stands(&self.paths, 0) && self.fall.failed.is_none()
+    }
+
     fn join_begin_reply(&self) -> ControlReply
         ensures { result ≡ join_begin_reply self.now }
     {
-        if is_sure(self.fall.mode) {
+        if self.may_join() {
             return self.begin();
         }
-        if self.fall.mode.is_starting() && stands(&self.paths, 0) {
+        if self.join_waits() {
             return ControlReply::NotYet;
         }
         ControlReply::Never(self.fall.mode)
@@ -301,7 +315,7 @@ impl ControlBook {
     fn join_begin(&mut self, path: u8)
         ensures { self.new ≡ after_join_begin path self.old }
     {
-        if is_sure(self.fall.mode) {
+        if self.may_join() {
             set_phase(&mut self.paths, path, Phase::Opening);
             self.fall.joined = true;
         }

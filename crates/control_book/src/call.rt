@@ -123,7 +123,7 @@ pub enum ControlReply {
     },
     /// The join has to wait: the side isn't sure yet.
     NotYet,
-    /// The path won't be joined in this mode.
+    /// The path won't be joined: the side is in this mode, or a check of it failed.
     Never(Mode),
     /// The token isn't the side's, which is this.
     UnknownToken {

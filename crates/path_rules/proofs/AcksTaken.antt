@@ -5,7 +5,7 @@ use Rattle.subflow_tcp.specs.declared.handshake.State.TheVariants as phase
 use Rattle.subflow_tcp.specs.declared.verdicts.Meaning.{Meaning}
 use Rattle.subflow_tcp.specs.declared.verdicts.Meaning.TheVariants as means
 use Rattle.subflow_tcp.specs.Judging.{is_syn_alone, is_acceptable, is_repeated_syn, meaning_answer, meaning_answering, meaning_opening, meaning_outside, meaning_acknowledging, meaning_within, meaning_placed, meaning_connected, meaning_at}
-use Rattle.subflow_tcp.specs.Segments.{Copy, occupied}
+use Rattle.subflow_tcp.specs.Segments.{Copy}
 use Rattle.subflow_tcp.specs.State.{EndState, is_at_limit}
 use Rattle.subflow_tcp.specs.States.{is_half_open}
 use Rattle.path_rules.specs.Arriving.{IsTakenAs}
@@ -45,7 +45,7 @@ module _ (c : Copy) (s : EndState) where
 
   placed : (o : Option ℕ) → AcknowledgesSent (meaning_placed o c s)
   placed None = outside
-  placed (Some pos) = chosen_by (is_acceptable s.recv.edge pos (occupied c))
+  placed (Some pos) = chosen_by (is_acceptable s.recv.edge pos c)
     where
       chosen_by : (b : Bool) → AcknowledgesSent (if b then meaning_within pos c s else meaning_outside c)
       chosen_by true = within pos

@@ -17,7 +17,7 @@ use Rattle.key_material.specs.declared.address.Address.{Address}
 use Rattle.path_agenda.specs.declared.heard.Heard.{Heard}
 use Rattle.path_agenda.specs.declared.heard.Heard.TheVariants as says
 use Rattle.path_agenda.specs.declared.notice.PeerNotice.TheVariants as notes
-use Rattle.path_rules.specs.Arriving.{HeardOption, is_mapping, mapping_items, ack_items, data_fin_items, infinite_items, map_items, key_items, join_items, address_items, item_removed, items_in}
+use Rattle.path_rules.specs.Arriving.{HeardOption, is_mapping, mapping_items, ack_items, data_fin_items, infinite_items, map_items, first_items, key_items, join_items, address_items, item_removed, items_in}
 use Rattle.path_agenda.specs.Items.{IsFair}
 
 fair_ack : (next : Option (Option ℕ)) (window : ℕ) → All IsFair (ack_items next window)
@@ -42,6 +42,13 @@ fair_mapping place position count fin = by (is_mapping place position count)
     by : (b : Bool) → All IsFair (if b then says.Mapping fin ∷ [] else [])
     by true = All-cons IsFair (says.Mapping fin) [] tt (All-nil IsFair)
     by false = All-nil IsFair
+
+fair_first : (len : ℕ) → All IsFair (first_items len)
+fair_first len = by (nat_lt 0 len) (fair_mapping 0 1 len false)
+  where
+    by : (b : Bool) → All IsFair (mapping_items 0 1 len false) → All IsFair (if b then mapping_items 0 1 len false else [])
+    by true fair = fair
+    by false fair = All-nil IsFair
 
 fair_infinite : (place : ℕ) (position : Option ℕ) → All IsFair (infinite_items place position)
 fair_infinite place position = by (nat_lt place (2 ^ 62))
@@ -68,7 +75,7 @@ fair_keys A (WithData sender receiver len checksum) = All-nil IsFair
 fair_keys B NoKey = All-nil IsFair
 fair_keys B (Sender sender) = All-nil IsFair
 fair_keys B (Both sender receiver) = All-cons IsFair (says.Keys receiver sender) [] tt (All-nil IsFair)
-fair_keys B (WithData sender receiver len checksum) = All-cons IsFair (says.Keys receiver sender) (mapping_items 0 1 len false) tt (fair_mapping 0 1 len false)
+fair_keys B (WithData sender receiver len checksum) = All-cons IsFair (says.Keys receiver sender) (first_items len) tt (fair_first len)
 
 fair_join : (s : Side) (form : JoinForm) → All IsFair (join_items s form)
 fair_join A (Syn backup id token nonce) = All-nil IsFair

@@ -1,5 +1,5 @@
 -- A reset far ahead of what an end expects does the same to it, whether its position is heard or not.
-use Rattle.std.proofs.Common.{◌≡◌, refl, sym, ◌∙◌, ap, ℕ, ◌+◌, ◌-◌, ◌^◌, ◌<◌, ◌≤◌, ◌⊎◌, inl, inr, ⊎_elim, nat_lt, ◌&&◌, ◌||◌, Bool, true, false, if◌then◌else◌, List, [], Option, Some, None, option_map, arith}
+use Rattle.std.proofs.Common.{◌≡◌, refl, sym, ◌∙◌, ap, ℕ, ◌+◌, ◌-◌, ◌^◌, ◌<◌, ◌≤◌, ◌⊎◌, inl, inr, ⊎_elim, nat_lt, ◌==◌, ◌&&◌, ◌||◌, Bool, true, false, if◌then◌else◌, List, [], length, Option, Some, None, option_map, arith}
 use Rattle.std.proofs.lemmas.Bool.{cases_lt}
 use Rattle.std.proofs.lemmas.Int.{ints}
 use Rattle.std.specs.Option.{IsSome}
@@ -26,7 +26,7 @@ use Rattle.subflow_tcp.specs.declared.handshake.State.TheVariants as phase
 use Rattle.subflow_tcp.specs.declared.segments.Outgoing.{Outgoing}
 use Rattle.subflow_tcp.specs.declared.verdicts.Meaning.{Meaning}
 use Rattle.subflow_tcp.specs.declared.verdicts.Meaning.TheVariants as means
-use Rattle.subflow_tcp.specs.Judging.{is_in_window, is_acceptable, is_repeated_syn, meaning_answering, meaning_within, meaning_connected, meaning_at, meaning_of}
+use Rattle.subflow_tcp.specs.Judging.{is_in_window, ends_in_window, is_at_right_edge, is_acceptable, is_repeated_syn, meaning_answering, meaning_within, meaning_connected, meaning_at, meaning_of}
 use Rattle.subflow_tcp.specs.Segments.{Copy, occupied}
 use Rattle.subflow_tcp.specs.State.{EndState, is_at_limit}
 use Rattle.path_agenda.specs.declared.heard.Heard.{Heard}
@@ -93,13 +93,24 @@ module _ (spelling : Spelling) (from : Side) (expected : Expected) where
 far_outside : (edge pos : ℕ) → edge + 2 ^ 31 ≤ pos → is_in_window edge pos ≡ false
 far_outside edge pos far = grind arith
 
-far_unacceptable : (edge pos len : ℕ) → edge + 2 ^ 31 ≤ pos → is_acceptable edge pos len ≡ false
-far_unacceptable edge pos len far = by (nat_lt 0 len) (far_outside edge pos far) (far_outside edge (pos + (len - 1)) (omega (arith, far)))
+far_end : (edge pos len : ℕ) → edge + 2 ^ 31 ≤ pos → ends_in_window edge pos len ≡ false
+far_end edge pos len far = by (nat_lt 0 len) (far_outside edge (pos + (len - 1)) (omega (arith, far)))
   where
-    by : (b : Bool) → is_in_window edge pos ≡ false → is_in_window edge (pos + (len - 1)) ≡ false
-        → (is_in_window edge pos || (b && is_in_window edge (pos + (len - 1)))) ≡ false
-    by true first last = rw (first, last) refl
-    by false first last = rw first refl
+    by : (b : Bool) → is_in_window edge (pos + (len - 1)) ≡ false → (b && is_in_window edge (pos + (len - 1))) ≡ false
+    by true last = last
+    by false last = refl
+
+far_right_edge : (edge pos octets : ℕ) → edge + 2 ^ 31 ≤ pos → is_at_right_edge edge pos octets ≡ false
+far_right_edge edge pos octets far = grind arith
+
+far_unacceptable : (edge pos : ℕ) (c : Copy) → edge + 2 ^ 31 ≤ pos → is_acceptable edge pos c ≡ false
+far_unacceptable edge pos c far = by _ _ _ (far_outside edge pos far) (far_end edge pos (occupied c) far) (far_right_edge edge pos (length c.payload) far)
+  where
+    by : (x y z : Bool) → x ≡ false → y ≡ false → z ≡ false → (x || (y || z)) ≡ false
+    by false false false first last at = refl
+    by true y z first last at = first
+    by false true z first last at = last
+    by false false true first last at = at
 
 module _ (c : Copy) (pos : ℕ) (tcp : EndState) (far : tcp.recv.edge + 2 ^ 31 ≤ pos) where
   abbrev placed : Copy
@@ -112,7 +123,7 @@ module _ (c : Copy) (pos : ℕ) (tcp : EndState) (far : tcp.recv.edge + 2 ^ 31 �
   connected =
       ap (λ (b : Bool). if is_at_limit tcp then means.Ignored
       else (if is_repeated_syn placed tcp then means.RepeatedSyn else (if b then meaning_within pos placed tcp else means.Ignored)))
-      (sym (far_unacceptable tcp.recv.edge pos (occupied c) far))
+      (sym (far_unacceptable tcp.recv.edge pos placed far))
 
   answering : (acknowledged : Option ℕ) → meaning_answering acknowledged nowhere tcp ≡ meaning_answering acknowledged placed tcp
   answering None = refl

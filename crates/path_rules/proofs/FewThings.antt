@@ -40,7 +40,7 @@ use Rattle.path_segments.specs.declared.segment.PathOption.TheVariants.{Capable,
 use Rattle.path_segments.specs.declared.spelling.Spelling.{Spelling}
 use Rattle.path_segments.specs.Heard.{place_heard, heard_mapping, heard_option, heard_options, heard_in, heard_segment, known_or, known_in, HeardSegment}
 use Rattle.path_agenda.specs.declared.heard.Heard.{Heard}
-use Rattle.path_rules.specs.Arriving.{HeardOption, ack_items, mapping_items, map_items, key_items, join_items, address_items, item_removed, items_in, SaysFew}
+use Rattle.path_rules.specs.Arriving.{HeardOption, ack_items, mapping_items, map_items, first_items, key_items, join_items, address_items, item_removed, items_in, SaysFew}
 use Rattle.path_rules.specs.FewThings.{is_priority, CopiesSayFew, CopiesHaveFewPriorities}
 
 -- ---- octets
@@ -146,6 +146,13 @@ module _ (joined : Bool) (s : Side) (window : ℕ) (spelling : Spelling) (from :
   map_few (Some (Infinite None position)) = omega arith
   map_few (Some (Infinite (Some place) position)) = one_if _ _
 
+  first_few : (len : ℕ) → length (first_items len) ≤ 1
+  first_few len = by (nat_lt 0 len) (one_if _ _)
+    where
+      by : (b : Bool) → length (mapping_items 0 1 len false) ≤ 1 → length (if b then mapping_items 0 1 len false else []) ≤ 1
+      by true few = few
+      by false few = omega arith
+
   keys_few : (t : Side) (keys : CapableKeys) → length (key_items t keys) ≤ 2
   keys_few A NoKey = omega arith
   keys_few A (Sender sender) = omega arith
@@ -154,7 +161,7 @@ module _ (joined : Bool) (s : Side) (window : ℕ) (spelling : Spelling) (from :
   keys_few B NoKey = omega arith
   keys_few B (Sender sender) = omega arith
   keys_few B (Both sender receiver) = omega arith
-  keys_few B (WithData sender receiver len checksum) = let few : length (mapping_items 0 1 len false) ≤ 1 = one_if _ _ in omega (arith, few)
+  keys_few B (WithData sender receiver len checksum) = omega (arith, first_few len)
 
   capable_few : (joins flag_a flag_c : Bool) (keys : CapableKeys) → length (items_in joins s window (Capable flag_a flag_c keys)) ≤ 3
   capable_few true flag_a flag_c keys = omega arith

@@ -69,7 +69,7 @@ use Rattle.path_rules.proofs.Happening.{event_lowers}
 use Rattle.path_rules.proofs.Ranking.{Rests, same_rests, goes_calm, sent_calm, agenda_calm, Lowers, lowers}
 use Rattle.path_rules.proofs.Resting.{sent_same, check_failed_same, sending_same, receiving_same}
 use Rattle.path_rules.proofs.Fallen.{after_a_verdict}
-use Rattle.path_rules.proofs.Sendings.{Fits, sent_count, sent_outstanding, none_unsent, pushed_outstanding, pushed_count, filled_drop, piece_fits, infinite_fits}
+use Rattle.path_rules.proofs.Sendings.{Fits, sent_count, sent_outstanding, none_unsent, pushed_outstanding, some_open, pushed_count, filled_drop, piece_fits, infinite_fits}
 
 -- the record of a granted piece
 abbrev pushed : Profile → Side → Grant → PathEnd → Record
@@ -85,10 +85,11 @@ pushed c s grant e = record {
 granted_work : (c : Profile) (s : Side) (grant : Grant) (e : PathEnd) → first_unsent e ≡ None → IsSomeOf (payload_size c) grant.piece
     → payload_size c ≤ room e.tcp → work (granted c s grant.span grant.piece e) < work e
 granted_work c s grant e none kind fits =
-    let idle = none_unsent e.tcp.send.records none in
-    let some : 1 ≤ length grant.piece = kind.some in
+    let una : ℕ = e.tcp.send.una in
+    let idle = none_unsent una e.tcp.send.records none in
+    let some = some_open una e.tcp.send.nxt (length grant.piece) kind.some in
     let most : length grant.piece ≤ payload_size c = kind.most in
-    omega (arith, some, most, fits, idle.0, idle.1, pushed_outstanding e.tcp.send.records (pushed c s grant e), pushed_count e.tcp.send.records (pushed c s grant e) refl)
+    omega (arith, some, most, fits, idle.0, idle.1, pushed_outstanding una e.tcp.send.records (pushed c s grant e), pushed_count e.tcp.send.records (pushed c s grant e) refl)
 
 -- a granted piece is of the asked kind
 grant_kind : (path max : ℕ) (standby : Bool) (s : Side) (r : Reply) (grant : Grant) → grant_in r ≡ Some grant
@@ -232,12 +233,12 @@ module _ {C : Type 0} where
       lowers p (sent_on k A (unsent_segment A p) (having_sent_unsent A p) p.agenda p)
       (sent_calm k A (unsent_segment A p) (having_sent_unsent A p) p.agenda p t (same_rests p.clock p.a (having_sent_unsent A p) refl))
       (Then.Stays (omega arith) (Then.Stays (omega arith)
-      (omega (arith, sent_count p.clock p.a.tcp.send.records r is, sent_outstanding p.clock p.a.tcp.send.records))))
+      (omega (arith, sent_count p.clock p.a.tcp.send.records r is, sent_outstanding p.clock p.a.tcp.send.una p.a.tcp.send.records))))
   unsent_less k B r p t is =
       lowers p (sent_on k B (unsent_segment B p) (having_sent_unsent B p) p.agenda p)
       (sent_calm k B (unsent_segment B p) (having_sent_unsent B p) p.agenda p t (same_rests p.clock p.b (having_sent_unsent B p) refl))
       (Then.Stays (omega arith) (Then.Stays (omega arith)
-      (omega (arith, sent_count p.clock p.b.tcp.send.records r is, sent_outstanding p.clock p.b.tcp.send.records))))
+      (omega (arith, sent_count p.clock p.b.tcp.send.records r is, sent_outstanding p.clock p.b.tcp.send.una p.b.tcp.send.records))))
 
   granted_less : (s : Side) (grant : Grant) (p : PathState C) → TakesTime p → first_unsent (end_at s p) ≡ None → IsSomeOf (payload_size p.profile) grant.piece
       → payload_size p.profile ≤ room (end_at s p).tcp

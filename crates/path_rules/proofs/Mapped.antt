@@ -61,7 +61,11 @@ within_keys c A keys = All-nil IsWithin
 within_keys c B NoKey = All-nil IsWithin
 within_keys c B (Sender sender) = All-nil IsWithin
 within_keys c B (Both sender receiver) = All-nil IsWithin
-within_keys c B (WithData sender receiver len checksum) = within_if c B 0 1 len false checksum
+within_keys c B (WithData sender receiver len checksum) = by (nat_lt 0 len) (within_if c B 0 1 len false checksum)
+  where
+    by : (b : Bool) → All IsWithin (held_if c B 0 1 len false checksum) → All IsWithin (if b then held_if c B 0 1 len false checksum else [])
+    by true within = within
+    by false within = All-nil IsWithin
 
 within_map : (c : Profile) (s : Side) (mapping : Option (PathMapping (Option ℕ))) → All IsWithin (map_held c s mapping)
 within_map c s None = All-nil IsWithin

@@ -6,7 +6,7 @@ use Rattle.subflow_tcp.specs.declared.handshake.State.TheVariants as phase
 use Rattle.subflow_tcp.specs.declared.verdicts.Meaning.{Meaning}
 use Rattle.subflow_tcp.specs.declared.verdicts.Meaning.TheVariants as means
 use Rattle.subflow_tcp.specs.Judging.{is_acceptable, is_repeated_syn, meaning_answering, meaning_opening, meaning_outside, meaning_acknowledging, meaning_within, meaning_placed, meaning_connected, meaning_at, meaning_of}
-use Rattle.subflow_tcp.specs.Segments.{Copy, occupied}
+use Rattle.subflow_tcp.specs.Segments.{Copy}
 use Rattle.subflow_tcp.specs.State.{EndState, is_at_limit}
 use Rattle.subflow_tcp.specs.Taking.{after_holding}
 use Rattle.path_rules.specs.Arriving.{IsTakenAs, with_payload}
@@ -26,7 +26,7 @@ module _ (position : ℕ) (octets : List ℕ) (s : EndState) where
 
   placed : (pos : Option ℕ) (c : Copy) → meaning_placed pos c held ≡ meaning_placed pos c s
   placed None c = refl
-  placed (Some pos) c = ap (λ (m : Meaning). if is_acceptable s.recv.edge pos (occupied c) then m else meaning_outside c) (within pos c)
+  placed (Some pos) c = ap (λ (m : Meaning). if is_acceptable s.recv.edge pos c then m else meaning_outside c) (within pos c)
 
   connected : (c : Copy) → meaning_connected c held ≡ meaning_connected c s
   connected c =

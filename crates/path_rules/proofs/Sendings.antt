@@ -7,7 +7,7 @@ use Rattle.std.proofs.lemmas.Bool.{ltb-true}
 use Rattle.dss_mapping.specs.declared.kept.KeptMapping.{KeptMapping}
 use Rattle.subflow_recv.specs.Receiving.{filled}
 use Rattle.subflow_send.specs.Records.{Record}
-use Rattle.subflow_send.specs.Rules.{is_unsent, first_unsent_sent, octets_under_way}
+use Rattle.subflow_send.specs.Rules.{is_unsent, first_unsent_sent, acknowledged_in, octets_under_way}
 use Rattle.subflow_tcp.specs.State.{EndState}
 use Rattle.path_rules.specs.Deliver.{Piece, piece_in, some_piece, is_whole, is_right, count_in, piece_by, piece_at, infinite_piece}
 use Rattle.path_store.specs.declared.infinite_mapping.InfiniteMapping.{InfiniteMapping}
@@ -24,30 +24,38 @@ sent_count now (x ∷ xs) r e = by (is_unsent x) refl (sent_count now xs r) e
     by true is rest e = rw is (omega arith)
     by false is rest e = rw is (omega (arith, rest e))
 
-pub sent_outstanding : (now : ℕ) (rs : List Record) → outstanding (first_unsent_sent now rs) ≡ outstanding rs
-sent_outstanding now [] = refl
-sent_outstanding now (x ∷ xs) = by (is_unsent x) refl (sent_outstanding now xs)
+pub sent_outstanding : (now una : ℕ) (rs : List Record) → outstanding una (first_unsent_sent now rs) ≡ outstanding una rs
+sent_outstanding now una [] = refl
+sent_outstanding now una (x ∷ xs) = by (is_unsent x) refl (sent_outstanding now una xs)
   where
-    by : (b : Bool) → is_unsent x ≡ b → outstanding (first_unsent_sent now xs) ≡ outstanding xs → outstanding (first_unsent_sent now (x ∷ xs)) ≡ outstanding (x ∷ xs)
+    by : (b : Bool) → is_unsent x ≡ b → outstanding una (first_unsent_sent now xs) ≡ outstanding una xs → outstanding una (first_unsent_sent now (x ∷ xs)) ≡ outstanding una (x ∷ xs)
     by true is rest = rw is refl
     by false is rest = rw is (omega (arith, rest))
 
 -- where nothing is to be sent, all is under way
-pub none_unsent : (rs : List Record) → find is_unsent rs ≡ None → (unsent_count rs ≡ 0) × (sum_by octets_under_way rs ≡ outstanding rs)
-none_unsent [] e = (refl, refl)
-none_unsent (x ∷ xs) e = by (is_unsent x) refl (none_unsent xs) e
+pub none_unsent : (una : ℕ) (rs : List Record) → find is_unsent rs ≡ None → (unsent_count rs ≡ 0) × (sum_by (octets_under_way una) rs ≡ outstanding una rs)
+none_unsent una [] e = (refl, refl)
+none_unsent una (x ∷ xs) e = by (is_unsent x) refl (none_unsent una xs) e
   where
-    by : (b : Bool) → is_unsent x ≡ b → (find is_unsent xs ≡ None → (unsent_count xs ≡ 0) × (sum_by octets_under_way xs ≡ outstanding xs))
+    by : (b : Bool) → is_unsent x ≡ b → (find is_unsent xs ≡ None → (unsent_count xs ≡ 0) × (sum_by (octets_under_way una) xs ≡ outstanding una xs))
         → cond b (Some x) (find is_unsent xs) ≡ None
-        → (unsent_count (x ∷ xs) ≡ 0) × (sum_by octets_under_way (x ∷ xs) ≡ outstanding (x ∷ xs))
+        → (unsent_count (x ∷ xs) ≡ 0) × (sum_by (octets_under_way una) (x ∷ xs) ≡ outstanding una (x ∷ xs))
     by true is rest e = cc
     by false is rest e =
         let more = rest e in
-        (rw is (omega (arith, more.0)), rw (sum_by-cons octets_under_way x xs, is) (omega (arith, more.1)))
+        (rw is (omega (arith, more.0)), rw (sum_by-cons (octets_under_way una) x xs, is) (omega (arith, more.1)))
 
-pub pushed_outstanding : (rs : List Record) (r : Record) → outstanding (rs ++ r ∷ []) ≡ outstanding rs + length r.piece
-pushed_outstanding [] r = omega arith
-pushed_outstanding (x ∷ xs) r = omega (arith, pushed_outstanding xs r)
+pub pushed_outstanding : (una : ℕ) (rs : List Record) (r : Record) → outstanding una (rs ++ r ∷ []) ≡ outstanding una rs + (length r.piece - acknowledged_in una r)
+pushed_outstanding una [] r = omega arith
+pushed_outstanding una (x ∷ xs) r = omega (arith, pushed_outstanding una xs r)
+
+-- of a piece with octets one at least isn't acknowledged
+pub some_open : (una pos len : ℕ) → 1 ≤ len → 1 ≤ len - (if nat_lt una (pos + len) then una - pos else 0)
+some_open una pos len some = by (nat_lt una (pos + len)) refl
+  where
+    by : (b : Bool) → nat_lt una (pos + len) ≡ b → 1 ≤ len - (if b then una - pos else 0)
+    by true is = omega (arith, some, ltb-true una (pos + len) is)
+    by false is = omega (arith, some)
 
 pub pushed_count : (rs : List Record) (r : Record) → is_unsent r ≡ true → unsent_count (rs ++ r ∷ []) ≡ unsent_count rs + 1
 pushed_count [] r is = rw is (omega arith)

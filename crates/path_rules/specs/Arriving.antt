@@ -123,11 +123,15 @@ map_items (Some (End (Some place) checksum)) = data_fin_items place
 map_items (Some (Infinite (Some place) position)) = infinite_items place position
 map_items _ = []
 
--- MP_CAPABLE by the keys that it shows; B hears both, and the mapping of place 0 at position 1 with the first piece
+-- the mapping of place 0 at position 1 of the first piece; one of no octets maps nothing
+abbrev pub first_items : ℕ → List Heard
+first_items len = if nat_lt 0 len then mapping_items 0 1 len false else []
+
+-- MP_CAPABLE by the keys that it shows; B hears both, and the mapping of the first piece
 abbrev pub key_items : Side → CapableKeys → List Heard
 key_items A (Sender sender) = says.PeerKey sender ∷ []
 key_items B (Both sender receiver) = says.Keys receiver sender ∷ []
-key_items B (WithData sender receiver len checksum) = says.Keys receiver sender ∷ mapping_items 0 1 len false
+key_items B (WithData sender receiver len checksum) = says.Keys receiver sender ∷ first_items len
 key_items _ _ = []
 
 -- A hears the answer to its SYN, and B the SYN and the third segment
@@ -183,9 +187,9 @@ abbrev pub map_held : Profile → Side → Option (PathMapping (Option ℕ)) →
 map_held c s (Some (Bytes (Some place) (Some position) len fin checksum)) = held_if c s place position len fin checksum
 map_held c s _ = []
 
--- MP_CAPABLE with the first piece, which B hears, maps place 0 at position 1
+-- MP_CAPABLE with the first piece, which B hears, maps place 0 at position 1, unless the piece has no octets
 abbrev pub key_held : Profile → Side → CapableKeys → List KeptMapping
-key_held c B (WithData sender receiver len checksum) = held_if c B 0 1 len false checksum
+key_held c B (WithData sender receiver len checksum) = if nat_lt 0 len then held_if c B 0 1 len false checksum else []
 key_held c _ _ = []
 
 -- of one option; MP_CAPABLE maps nothing on a path that joins

@@ -4,7 +4,7 @@ use Rattle.std.specs.Prelude.{ℕ, ◌+◌, ◌-◌, ◌*◌, nat_le, if◌then�
 use Rattle.link_model.specs.declared.flight.Flight.{Flight}
 use Rattle.subflow_recv.specs.Receiving.{filled}
 use Rattle.subflow_send.specs.Records.{Record}
-use Rattle.subflow_send.specs.Rules.{is_unsent}
+use Rattle.subflow_send.specs.Rules.{is_unsent, acknowledged_in}
 use Rattle.path_rules.specs.Ends.{PathEnd, Notices}
 use Rattle.path_rules.specs.Noticing.{is_carried}
 use Rattle.path_rules.specs.State.{PathState}
@@ -48,10 +48,10 @@ bytes_left p = held p.a + held p.b
 
 -- ---- sendings
 
--- octets of records, to be sent or under way
-abbrev pub outstanding : List Record → ℕ
-outstanding [] = 0
-outstanding (r ∷ rs) = length r.piece + outstanding rs
+-- octets of records that aren't acknowledged, to be sent or under way
+abbrev pub outstanding : ℕ → List Record → ℕ
+outstanding una [] = 0
+outstanding una (r ∷ rs) = (length r.piece - acknowledged_in una r) + outstanding una rs
 
 -- records to be sent
 abbrev pub unsent_count : List Record → ℕ
@@ -65,7 +65,7 @@ notes_left n = length n.queue + (if is_carried n then 1 else 0)
 -- each octet of room may become a piece, which is sent once; so is what is to be noted
 abbrev pub work : PathEnd → ℕ
 work e =
-    2 * (e.tcp.congestion.reno.window - outstanding e.tcp.send.records) + unsent_count e.tcp.send.records + notes_left e.notices
+    2 * (e.tcp.congestion.reno.window - outstanding e.tcp.send.una e.tcp.send.records) + unsent_count e.tcp.send.records + notes_left e.notices
 
 -- at both ends
 abbrev pub sendings_left : {C : Type 0} → PathState C → ℕ

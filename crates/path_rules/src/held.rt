@@ -80,7 +80,7 @@ impl Profile {
         }
     }
 
-    /// The mapping of an MP_CAPABLE with data, which B hears.
+    /// The mapping of an MP_CAPABLE with data, which B hears; data of no octets map nothing.
     fn key_held(&self, side: Side, keys: CapableKeys) -> Option<KeptMapping>
         ensures { option_to_list result ≡ key_held self.now side keys }
     {
@@ -92,7 +92,7 @@ impl Profile {
                     checksum,
                     ..
                 },
-            ) => self.held_if(Side::B, 0, 1, length, false, checksum),
+            ) if length > 0 => self.held_if(Side::B, 0, 1, length, false, checksum),
             _ => None,
         }
     }

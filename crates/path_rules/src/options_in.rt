@@ -8,7 +8,7 @@ ghost use Rattle.path_segments.specs.HeardSegments.{heard_value};
 ghost use Rattle.path_segments.specs.Options.{plain_option};
 ghost use Rattle.path_agenda.specs.declared.heard.Heard.TheVariants as says;
 ghost use Rattle.path_agenda.specs.Items.{IsFair};
-ghost use Rattle.path_rules.specs.Arriving.{ack_items, is_mapping, mapping_items, infinite_items, map_items, data_fin_items, key_items, join_items, address_items, item_removed, items_in, items_of, SaysFew, owes_by, opens_by, asks_capable, edge_held, has_data_ack, octets_acked, is_plain_ack};
+ghost use Rattle.path_rules.specs.Arriving.{ack_items, is_mapping, mapping_items, infinite_items, map_items, data_fin_items, first_items, key_items, join_items, address_items, item_removed, items_in, items_of, SaysFew, owes_by, opens_by, asks_capable, edge_held, has_data_ack, octets_acked, is_plain_ack};
 
 use key_material::Address;
 use mptcp_options::{CapableKeys, JoinForm};
@@ -65,7 +65,7 @@ fn put_keys(items: &mut Items, side: Side, keys: CapableKeys)
             },
         ) => {
             put_both(items, receiver, sender);
-            put_mapping(items, 0, 1, length, false);
+            put_first(items, length);
         }
         _ => {}
     }
@@ -86,6 +86,16 @@ fn put_mapping(items: &mut Items, place: u64, position: Pos, count: u16, fin: bo
 {
     if is_mapping(place, position, count) {
         put(items, Heard::Mapping { fin });
+    }
+}
+
+/// The mapping of the first piece, which stands at place 0 and position 1; one of no octets maps nothing.
+fn put_first(items: &mut Items, count: u16)
+    requires { length items.old.items + length (first_items count) ≤ 37 }
+    ensures { items.new.items ≡ items.old.items ++ first_items count }
+{
+    if count > 0 {
+        put_mapping(items, 0, 1, count, false);
     }
 }
 

@@ -69,6 +69,11 @@ new_octets Outside = 0
 abbrev pub after_advance : ℕ → Receiving → Receiving
 after_advance to v = record v { edge = to; places = drop (to - v.edge) v.places; incoming = None }
 
+-- the edge moves over a position that no octet occupies, that of the peer's SYN or FIN; no octet of the stream stands behind a FIN,
+-- and what came for there is forgotten (RFC 9293, section 3.10.7.4)
+abbrev pub after_pass : Receiving → Receiving
+after_pass v = record v { edge = v.edge + 1; places = []; incoming = None }
+
 -- what lies at or past this position is forgotten
 abbrev pub after_forget_from : ℕ → Receiving → Receiving
 after_forget_from pos v = record v { places = cut (pos - v.edge) v.places; incoming = None }

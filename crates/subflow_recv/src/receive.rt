@@ -37,7 +37,7 @@ impl Model for SubflowRecv {
 }
 
 impl SubflowRecv {
-    ghost use Rattle.subflow_recv.specs.Receiving.{filled, kept_count, opening, window_end, is_outside, with_octets, acceptance_of, new_octets, after_accept, after_hold, after_keep_held, without_held, after_advance, after_forget_from};
+    ghost use Rattle.subflow_recv.specs.Receiving.{filled, kept_count, opening, window_end, is_outside, with_octets, acceptance_of, new_octets, after_accept, after_hold, after_keep_held, without_held, after_advance, after_pass, after_forget_from};
 
     /// A side to which nothing has come: the edge is position 0, that of the peer's SYN. From the edge on `window`
     /// positions are in the window, at least one. Takes no memory.
@@ -181,12 +181,14 @@ impl SubflowRecv {
     }
 
     /// Moves the edge over one position that no octet occupies, that of the peer's SYN or FIN (RFC 9293, section 3.4).
-    /// An octet that came for it is let go, and a payload that is held. Takes no memory.
+    /// Behind a FIN the stream has no octets: all that are kept are forgotten, and a payload that is held. Takes no memory.
     pub fn pass(&mut self)
         requires { self.old.edge < 2 ^ 62 }
-        ensures { self.new ≡ after_advance (self.old.edge + 1) self.old }
+        ensures { self.new ≡ after_pass self.old }
     {
-        self.kept.drop_front(self.kept.from() + 1);
+        let to = self.kept.from() + 1;
+        self.kept.drop_front(to);
+        self.kept.cut_back(to);
     }
 
     /// Forgets every octet at or past the position `pos`, so that what comes for it is kept again, and the payload that is

@@ -1,5 +1,5 @@
 -- The SYN, the pieces and the FIN as one list of records.
-use Rattle.std.proofs.Common.{◌≡◌, ℕ, ◌+◌, ◌-◌, ◌<◌, ◌≤◌, ◌^◌, Bool, true, false, ◌||◌, if◌then◌else◌, Option, Some, None, List, [], ◌∷◌, ◌++◌, length, map, find, refl, sym, ap, ◌∙◌, subst, arith, append-nil, append_assoc, true≢false}
+use Rattle.std.proofs.Common.{◌≡◌, ℕ, ◌+◌, ◌-◌, ◌<◌, ◌≤◌, ◌^◌, Bool, true, false, nat_lt, ◌||◌, if◌then◌else◌, Option, Some, None, List, [], ◌∷◌, ◌++◌, length, map, find, refl, sym, ap, ◌∙◌, subst, arith, append-nil, append_assoc, true≢false}
 use Rattle.std.specs.Prelude.{is_some, IsSome}
 use Rattle.std.specs.List.{list_any, sum_by}
 use Rattle.std.specs.Option.{option_map}
@@ -8,9 +8,10 @@ use Rattle.std.proofs.lemmas.List.Sums.{sum_by-cons, sum_by-append}
 use Rattle.subflow_send.specs.declared.pieces.Piece.{Piece}
 use Rattle.subflow_send.specs.declared.record.Sending.{Sending}
 use Rattle.subflow_send.specs.Sendings.{sent_again, first_at_an_expiry, to_be_sent}
-use Rattle.subflow_send.specs.Records.{Record, span_of, Follow, Tile}
-use Rattle.subflow_send.specs.Rules.{syn_record, fin_record, is_unsent, first_unsent_sent, expired_records, unsent_again, octets_under_way}
-use Rattle.subflow_send.specs.Pieces.{piece_record, syn_records, fin_records, all_records, unsent_sending, piece_under_way, is_unsent_piece, sent_pieces, IsKept}
+use Rattle.subflow_send.specs.Records.{Record, span_of, end_of, Follow, Tile}
+use Rattle.subflow_send.specs.Rules.{syn_record, fin_record, is_unsent, first_unsent_sent, expired_records, unsent_again, acknowledged_in, octets_under_way}
+use Rattle.subflow_send.proofs.PieceLoops.{lt_true}
+use Rattle.subflow_send.specs.Pieces.{piece_record, syn_records, fin_records, all_records, unsent_sending, piece_under_way, sent_below, is_unsent_piece, sent_pieces, IsKept}
 
 -- ---- the positions don't change where only sendings do
 syn_spans : (s s' : Option Sending) → is_some s' ≡ is_some s → map span_of (syn_records s') ≡ map span_of (syn_records s)
@@ -222,31 +223,77 @@ no_pieces [] (p ∷ ps) none e = cc
 no_pieces (p ∷ ps) ps' none e = absurd (omega arith)
 
 -- ---- octets under way
-nothing-flag : (b : Bool) (n : ℕ) → n ≡ 0 → (if b then n else n) ≡ n
-nothing-flag true n e = refl
-nothing-flag false n e = refl
+none_if : (b : Bool) (n : ℕ) → n ≡ 0 → (if b then 0 else n) ≡ 0
+none_if true n e = refl
+none_if false n e = e
 
-flight-syn : (syn : Option Sending) → sum_by octets_under_way (syn_records syn) ≡ 0
-flight-syn None = refl
-flight-syn (Some s) = rw (sum_by-cons octets_under_way (syn_record s) []) (let none = nothing-flag s.unsent 0 refl in omega (arith, none))
+some_if : (b : Bool) (n : ℕ) → n ≡ 0 → (if b then n else 0) ≡ 0
+some_if true n e = e
+some_if false n e = refl
 
-flight-fin : (pos : ℕ) (fin : Option Sending) → sum_by octets_under_way (fin_records pos fin) ≡ 0
-flight-fin pos None = refl
-flight-fin pos (Some s) = rw (sum_by-cons octets_under_way (fin_record pos s) []) (let none = nothing-flag s.unsent 0 refl in omega (arith, none))
+less_none : (len n : ℕ) → n ≡ 0 → len - n ≡ len
+less_none len n e = omega (arith, e)
 
-flight-pieces : (ps : List Piece) → sum_by octets_under_way (map piece_record ps) ≡ sum_by piece_under_way ps
-flight-pieces [] = refl
-flight-pieces (p ∷ ps) = rw (sum_by-cons octets_under_way (piece_record p) (map piece_record ps), sum_by-cons piece_under_way p ps, flight-pieces ps) refl
+-- the SYN and the FIN have no octets
+none_in : (una : ℕ) (r : Record) → length r.piece ≡ 0 → octets_under_way una r ≡ 0
+none_in una r e = none_if (is_unsent r) (length r.piece - acknowledged_in una r) (omega (arith, e))
 
-pub flight-all : (syn : Option Sending) (ps : List Piece) (pos : ℕ) (fin : Option Sending) → sum_by piece_under_way ps ≡ sum_by octets_under_way (all_records syn ps pos fin)
-flight-all syn ps pos fin =
+flight-fin : (una pos : ℕ) (fin : Option Sending) → sum_by (octets_under_way una) (fin_records pos fin) ≡ 0
+flight-fin una pos None = refl
+flight-fin una pos (Some s) = rw (sum_by-cons (octets_under_way una) (fin_record pos s) []) (omega (arith, none_in una (fin_record pos s) refl))
+
+-- a piece that begins at SND.UNA or past it is under way whole
+flight-one : (una : ℕ) (p : Piece) → una ≤ p.pos → octets_under_way una (piece_record p) ≡ piece_under_way p
+flight-one una p past =
+    ap (λ (n : ℕ). if is_unsent_piece p then 0 else n)
+    (less_none (length p.bytes) (acknowledged_in una (piece_record p)) (some_if (nat_lt una (end_of (piece_record p))) (una - p.pos) (omega (arith, past))))
+
+-- so are those that follow one another from there on
+flight-past : (una from nxt : ℕ) (ps : List Piece) (fin : Option Sending) → Follow from nxt (map span_of (map piece_record ps ++ fin_records (nxt - 1) fin)) → una ≤ from
+    → sum_by (octets_under_way una) (map piece_record ps) ≡ sum_by piece_under_way ps
+flight-past una from nxt [] fin f past = refl
+flight-past una from nxt (p ∷ ps) fin f past =
+    let rest = flight-past una (end_of (piece_record p)) nxt ps fin f.2 (omega (arith, f.1, past)) in
+    let one = flight-one una p (omega (arith, f.0, past)) in
+    omega (arith, rest, one, sum_by-cons (octets_under_way una) (piece_record p) (map piece_record ps), sum_by-cons piece_under_way p ps)
+
+-- of the piece in which SND.UNA lies what is below that is acknowledged
+partly : (una pos len : ℕ) (b : Bool) → pos ≤ una → una < pos + len
+    → (if b then 0 else len - (if nat_lt una (pos + len) then una - pos else 0)) + (if b then 0 else una - pos) ≡ (if b then 0 else len)
+partly una pos len true from to = refl
+partly una pos len false from to = rw (lt_true una (pos + len) to) (omega (arith, from, to))
+
+one_partly : (una : ℕ) (p : Piece) (ps : List Piece) → p.pos ≤ una → una < end_of (piece_record p)
+    → octets_under_way una (piece_record p) + sent_below una (p ∷ ps) ≡ piece_under_way p
+one_partly una p ps from to = partly una p.pos (length p.bytes) (is_unsent_piece p) from to
+
+none_below : (una : ℕ) (ps : List Piece) → una ≡ 0 → sent_below una ps ≡ 0
+none_below una [] e = refl
+none_below una (p ∷ ps) e = none_if (is_unsent_piece p) (una - p.pos) (omega (arith, e))
+
+pub flight-all : (una nxt : ℕ) (syn : Option Sending) (ps : List Piece) (fin : Option Sending) → Tile una nxt (map span_of (all_records syn ps (nxt - 1) fin))
+    → sum_by (octets_under_way una) (all_records syn ps (nxt - 1) fin) + sent_below una ps ≡ sum_by piece_under_way ps
+flight-all una nxt None [] fin t = omega (arith, flight-fin una (nxt - 1) fin)
+flight-all una nxt None (p ∷ ps) fin t =
+    let rest = flight-past una (end_of (piece_record p)) nxt ps fin t.2 (omega (arith, t.1)) in
     omega (
       arith,
-      flight-syn syn,
-      flight-fin pos fin,
-      flight-pieces ps,
-      sum_by-append octets_under_way (syn_records syn) (map piece_record ps ++ fin_records pos fin),
-      sum_by-append octets_under_way (map piece_record ps) (fin_records pos fin),
+      rest,
+      one_partly una p ps t.0 t.1,
+      flight-fin una (nxt - 1) fin,
+      sum_by-append (octets_under_way una) (map piece_record (p ∷ ps)) (fin_records (nxt - 1) fin),
+      sum_by-cons (octets_under_way una) (piece_record p) (map piece_record ps),
+      sum_by-cons piece_under_way p ps,
+    )
+flight-all una nxt (Some s) ps fin t =
+    omega (
+      arith,
+      flight-past una 1 nxt ps fin t.2 (omega (arith, t.1)),
+      none_below una ps (omega (arith, t.1)),
+      none_in una (syn_record s) refl,
+      flight-fin una (nxt - 1) fin,
+      sum_by-append (octets_under_way una) (map piece_record ps) (fin_records (nxt - 1) fin),
+      sum_by-cons (octets_under_way una) (syn_record s) (map piece_record ps ++ fin_records (nxt - 1) fin),
     )
 
 -- ---- one record more

@@ -58,9 +58,14 @@ sending_of r = r.sending
 abbrev pub piece_len : Piece → ℕ
 piece_len p = length p.bytes
 
--- the octets of a piece that are under way: none where it is to be sent
+-- the octets of a piece that are sent, acknowledged or not: none where it is to be sent
 abbrev pub piece_under_way : Piece → ℕ
 piece_under_way p = if is_unsent_piece p then 0 else length p.bytes
+
+-- the octets of the first piece that are sent and lie below this position
+abbrev pub sent_below : ℕ → List Piece → ℕ
+sent_below pos [] = 0
+sent_below pos (p ∷ ps) = if is_unsent_piece p then 0 else pos - p.pos
 
 -- whether the first piece ends at or before this position
 abbrev pub first_is_covered : ℕ → List Piece → Bool

@@ -117,13 +117,17 @@ was_first_at_expiry r = r.sending.first_at_expiry
 abbrev pub again_at_expiry : SendState → Bool
 again_at_expiry v = option_map_or was_first_at_expiry (slice_get v.records 0) false
 
--- the octets of a record that are under way
-abbrev pub octets_under_way : Record → ℕ
-octets_under_way r = if is_unsent r then 0 else length r.piece
+-- the octets of a record that are acknowledged while it isn't acknowledged whole: SND.UNA lies in it
+abbrev pub acknowledged_in : ℕ → Record → ℕ
+acknowledged_in una r = if nat_lt una (end_of r) then una - r.pos else 0
+
+-- the octets of a record that are under way: none where it is to be sent
+abbrev pub octets_under_way : ℕ → Record → ℕ
+octets_under_way una r = if is_unsent r then 0 else length r.piece - acknowledged_in una r
 
 -- the octets of data that are under way: neither acknowledged nor to be sent
 abbrev pub flight : SendState → ℕ
-flight v = sum_by octets_under_way v.records
+flight v = sum_by (octets_under_way v.una) v.records
 
 -- ---- by position, and the FIN by itself
 -- its first position is this one

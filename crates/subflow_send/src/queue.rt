@@ -5,7 +5,7 @@ ghost use Rattle.std.specs.Option.{option_map};
 ghost use Rattle.subflow_send.specs.declared.pieces.Piece.{Piece};
 ghost use Rattle.subflow_send.specs.Records.{record_of};
 ghost use Rattle.subflow_send.specs.Rules.{stands_at, is_unsent, first_sent, expired_records, last_covered};
-ghost use Rattle.subflow_send.specs.Pieces.{piece_record, piece_len, piece_under_way, is_unsent_piece, unsent_piece, uncovered_pieces, first_is_covered, sent_piece, sent_pieces, sending_of};
+ghost use Rattle.subflow_send.specs.Pieces.{piece_record, piece_len, piece_under_way, is_unsent_piece, unsent_piece, uncovered_pieces, first_is_covered, sent_below, sent_piece, sent_pieces, sending_of};
 
 use crate::pieces::{Piece, last_covered, next_unsent, piece_at, unsend_from};
 use crate::record::{RecordRef, Sending};
@@ -20,7 +20,7 @@ pub(crate) struct PieceQueue {
     items: VecDeque<Piece>,
     /// No piece before this place is to be sent.
     sent_to: usize,
-    /// How many octets are under way.
+    /// How many octets of pieces are sent and not to be sent again, acknowledged or not.
     under_way: u64,
 }
 
@@ -197,10 +197,20 @@ impl PieceQueue {
         self.under_way = 0;
     }
 
-    /// How many octets are under way.
+    /// How many octets of pieces are sent and not to be sent again, acknowledged or not.
     pub(crate) fn under_way(&self) -> u64
         ensures { result ≡ sum_by piece_under_way self.now }
     {
         self.under_way
+    }
+
+    /// How many octets of the first piece lie below this position, where it isn't to be sent.
+    pub(crate) fn sent_below(&self, pos: Pos) -> u64
+        ensures { result ≡ sent_below pos self.now }
+    {
+        match self.items.front() {
+            Some(first) if !first.sending.unsent => pos.saturating_sub(first.pos),
+            _ => 0,
+        }
     }
 }

@@ -348,11 +348,11 @@ impl SubflowSend {
         }
     }
 
-    /// The octets of data that are under way: of records that are neither acknowledged whole nor to be sent.
+    /// The octets of data that are under way: neither acknowledged nor of records that are to be sent (RFC 5681, section 2).
     pub fn flight(&self) -> u64
         ensures { result ≡ flight self.now }
     {
-        self.pieces.under_way()
+        self.pieces.under_way() - self.pieces.sent_below(self.una)
     }
 }
 

@@ -1,5 +1,5 @@
 -- What a segment that arrives can mean for an end.
-use Rattle.std.proofs.Common.{◌≡◌, ℕ, ◌+◌, ◌-◌, ◌^◌, ◌<◌, Bool, true, false, true≢false, nat_lt, nat_le, if◌then◌else◌, Option, Some, None, List, refl, sym, ap, ◌∙◌, subst, arith}
+use Rattle.std.proofs.Common.{◌≡◌, ℕ, ◌+◌, ◌-◌, ◌^◌, ◌<◌, ◌≤◌, Bool, true, false, true≢false, nat_lt, nat_le, if◌then◌else◌, Option, Some, None, List, length, refl, sym, ap, ◌∙◌, subst, arith}
 use Rattle.std.specs.Prelude.{◌&&◌, ◌||◌, ◌==◌}
 use Rattle.std.proofs.lemmas.Bool.{ltb-true, leb-false}
 use Rattle.subflow_tcp.specs.declared.handshake.State.{State}
@@ -9,7 +9,7 @@ use Rattle.subflow_tcp.specs.declared.verdicts.Meaning.TheVariants as means
 use Rattle.subflow_tcp.specs.States.{is_behind_fin, is_half_open, may_finish}
 use Rattle.subflow_tcp.specs.State.{EndState, IsFinTold, is_at_limit}
 use Rattle.subflow_tcp.specs.Segments.{Copy, occupied}
-use Rattle.subflow_tcp.specs.Judging.{is_syn_alone, is_repeated_syn, is_in_window, is_acceptable, meaning_outside, meaning_acknowledging, meaning_within, meaning_placed, meaning_connected, meaning_answer, meaning_answering, meaning_opening, meaning_at, meaning_of, IsBelow}
+use Rattle.subflow_tcp.specs.Judging.{is_syn_alone, is_repeated_syn, is_in_window, ends_in_window, is_at_right_edge, is_acceptable, meaning_outside, meaning_acknowledging, meaning_within, meaning_placed, meaning_connected, meaning_answer, meaning_answering, meaning_opening, meaning_at, meaning_of, IsBelow}
 use Rattle.subflow_tcp.specs.Taking.{after_keeping_for, is_kept}
 
 -- ---- where a segment may stand that is taken
@@ -35,15 +35,20 @@ edge-below s e = leb-false (2 ^ 61) s.recv.edge (or-right (nat_le (2 ^ 61) s.sen
 window-below : (edge pos : ℕ) → is_in_window edge pos ≡ true → pos < edge + 1048576
 window-below edge pos e = ltb-true pos (edge + 1048576) (and-right (nat_le edge pos) (nat_lt pos (edge + 1048576)) e)
 
-acceptable-below : (edge pos len : ℕ) → is_acceptable edge pos len ≡ true → pos < edge + 1048576
-acceptable-below edge pos len e = by (is_in_window edge pos) refl
+ends-below : (edge pos len : ℕ) → ends_in_window edge pos len ≡ true → pos < edge + 1048576
+ends-below edge pos len e = omega (arith, window-below edge (pos + (len - 1)) (and-right (nat_lt 0 len) (is_in_window edge (pos + (len - 1))) e))
+
+at-edge : (edge pos octets : ℕ) → is_at_right_edge edge pos octets ≡ true → pos ≡ edge + 1048576
+at-edge edge pos octets e = grind (arith, and-right (octets == 0) (pos == edge + 1048576) e)
+
+acceptable-below : (edge pos : ℕ) (c : Copy) → is_acceptable edge pos c ≡ true → pos ≤ edge + 1048576
+acceptable-below edge pos c e = by (is_in_window edge pos) (ends_in_window edge pos (occupied c)) refl refl e
   where
-    by : (b : Bool) → is_in_window edge pos ≡ b → pos < edge + 1048576
-    by true h = window-below edge pos h
-    by false h =
-        let last : (nat_lt 0 len && is_in_window edge (pos + (len - 1))) ≡ true =
-        sym (ap (λ b. b || (nat_lt 0 len && is_in_window edge (pos + (len - 1)))) h) ∙ e in
-        omega (arith, window-below edge (pos + (len - 1)) (and-right (nat_lt 0 len) (is_in_window edge (pos + (len - 1))) last))
+    by : (a b : Bool) → is_in_window edge pos ≡ a → ends_in_window edge pos (occupied c) ≡ b → (a || (b || is_at_right_edge edge pos (length c.payload))) ≡ true
+        → pos ≤ edge + 1048576
+    by true b is ends both = omega (arith, window-below edge pos is)
+    by false true is ends both = omega (arith, ends-below edge pos (occupied c) ends)
+    by false false is ends both = omega (arith, at-edge edge pos (length c.payload) both)
 
 -- ---- what holds of each meaning that an end with the peer's SYN finds holds of what it means
 module _ (P : Meaning → Type 0) where
@@ -81,8 +86,8 @@ module _ (P : Meaning → Type 0) where
   at-placed : Each → (o : Option ℕ) (c : Copy) (s : EndState) → s.recv.edge < 2 ^ 61 → P (meaning_placed o c s)
   at-placed all None c s h = at-outside all c
   at-placed all (Some pos) c s h =
-      chosen (is_acceptable s.recv.edge pos (occupied c)) (meaning_within pos c s) (meaning_outside c)
-      (λ e. at-within all pos c s (omega (arith, h, acceptable-below s.recv.edge pos (occupied c) e)))
+      chosen (is_acceptable s.recv.edge pos c) (meaning_within pos c s) (meaning_outside c)
+      (λ e. at-within all pos c s (omega (arith, h, acceptable-below s.recv.edge pos c e)))
       (λ _. at-outside all c)
 
   pub at-connected : Each → (c : Copy) (s : EndState) → P (meaning_connected c s)
@@ -216,7 +221,7 @@ module _ (places : List (Option ℕ)) (incoming : Option (List (Option ℕ))) (c
 
   placed-beside : (o : Option ℕ) → meaning_placed o c (beside places incoming s) ≡ meaning_placed o c s
   placed-beside None = refl
-  placed-beside (Some pos) = ap (λ (m : Meaning). if is_acceptable s.recv.edge pos (occupied c) then m else meaning_outside c) (within-beside pos)
+  placed-beside (Some pos) = ap (λ (m : Meaning). if is_acceptable s.recv.edge pos c then m else meaning_outside c) (within-beside pos)
 
   connected-beside : meaning_connected c (beside places incoming s) ≡ meaning_connected c s
   connected-beside =

@@ -1,5 +1,5 @@
 -- What a segment that arrives means for an end, rule by rule in their order (RFC 9293, section 3.10.7; RFC 5961).
-use Rattle.std.specs.Prelude.{ℕ, ◌+◌, ◌-◌, ◌^◌, ◌<◌, Bool, false, not, ◌&&◌, ◌||◌, ◌==◌, nat_lt, nat_le, if◌then◌else◌, is_none, Option, Some, None}
+use Rattle.std.specs.Prelude.{ℕ, ◌+◌, ◌-◌, ◌^◌, ◌<◌, Bool, false, not, ◌&&◌, ◌||◌, ◌==◌, nat_lt, nat_le, if◌then◌else◌, is_none, Option, Some, None, length}
 use Rattle.subflow_tcp.specs.declared.handshake.State.{State}
 use Rattle.subflow_tcp.specs.declared.handshake.State.TheVariants.{Waiting, Listen, SynSent, Dead}
 use Rattle.subflow_tcp.specs.declared.verdicts.Meaning.{Meaning}
@@ -42,9 +42,19 @@ is_repeated_syn c s = not s.numbers.opens && (c.syn && (not c.rst && (is_none c.
 abbrev pub is_in_window : ℕ → ℕ → Bool
 is_in_window edge pos = nat_le edge pos && nat_lt pos (edge + 1048576)
 
--- it begins in the window, or its last position lies there
-abbrev pub is_acceptable : ℕ → ℕ → ℕ → Bool
-is_acceptable edge pos len = is_in_window edge pos || (nat_lt 0 len && is_in_window edge (pos + (len - 1)))
+-- it occupies positions, and the last one lies in the window
+abbrev pub ends_in_window : ℕ → ℕ → ℕ → Bool
+ends_in_window edge pos len = nat_lt 0 len && is_in_window edge (pos + (len - 1))
+
+-- it has no octets, and stands at the right edge, the position after the window, as what a peer sends that has filled the window
+abbrev pub is_at_right_edge : ℕ → ℕ → ℕ → Bool
+is_at_right_edge edge pos octets = octets == 0 && pos == edge + 1048576
+
+-- it begins in the window, or ends there, or has no octets and stands at the right edge (RFC 9293, section 3.10.7.4, which has not
+-- the last)
+abbrev pub is_acceptable : ℕ → ℕ → Copy → Bool
+is_acceptable edge pos c =
+    is_in_window edge pos || (ends_in_window edge pos (occupied c) || is_at_right_edge edge pos (length c.payload))
 
 -- a segment outside the window is answered, a reset there isn't
 abbrev pub meaning_outside : Copy → Meaning
@@ -66,7 +76,7 @@ meaning_within pos c s =
 -- a segment that begins at no position is outside, as is one that isn't acceptable
 abbrev pub meaning_placed : Option ℕ → Copy → EndState → Meaning
 meaning_placed None c s = meaning_outside c
-meaning_placed (Some pos) c s = if is_acceptable s.recv.edge pos (occupied c) then meaning_within pos c s else meaning_outside c
+meaning_placed (Some pos) c s = if is_acceptable s.recv.edge pos c then meaning_within pos c s else meaning_outside c
 
 -- at the limit of positions nothing counts; else a repeated SYN is told apart first
 abbrev pub meaning_connected : Copy → EndState → Meaning

@@ -26,7 +26,8 @@ impl Subflow {
         self.fin_at == Some(self.recv.edge()) && self.recv.edge() < 1 << 62
     }
 
-    /// Moves the receive edge over the peer's FIN: the state is CloseWait, Closing or TimeWait. Takes no memory.
+    /// Moves the receive edge over the peer's FIN, and forgets what is kept behind it: the state is CloseWait, Closing or
+    /// TimeWait. Takes no memory.
     pub fn pass_fin(&mut self)
         requires { IsTrue (is_fin_next self.old) }
         ensures { self.new ≡ after_passing_fin self.old }

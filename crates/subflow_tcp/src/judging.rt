@@ -3,7 +3,7 @@ ghost use Rattle.std.specs.Prelude.{◌≡◌, ◌+◌, ◌^◌, ◌<◌, ◌≤
 ghost use Rattle.segment_wire.specs.Reading.{segment_of};
 ghost use Rattle.subflow_tcp.specs.Segments.{copy_of, occupied};
 ghost use Rattle.subflow_tcp.specs.Spelling.{heard};
-ghost use Rattle.subflow_tcp.specs.Judging.{is_syn_alone, is_at, is_in_window, is_acceptable, meaning_outside, meaning_answer, IsBelow};
+ghost use Rattle.subflow_tcp.specs.Judging.{is_syn_alone, is_at, is_in_window, ends_in_window, is_at_right_edge, is_acceptable, meaning_outside, meaning_answer, IsBelow};
 
 use crate::end::Subflow;
 use crate::handshake::State;
@@ -40,13 +40,31 @@ fn is_in_window(edge: Pos, pos: Pos) -> bool
     edge <= pos && pos < edge + WINDOW
 }
 
-/// Whether a segment at this position that occupies so many begins or ends in the window behind this edge.
-fn is_acceptable(edge: Pos, pos: Pos, len: u64) -> bool
+/// Whether a segment at this position that occupies so many ends in the window behind this edge.
+fn ends_in_window(edge: Pos, pos: Pos, len: u64) -> bool
     requires { edge ≤ 2 ^ 62 }
-    ensures value { result ≡ is_acceptable edge pos len }
-    ensures below { IsTrue result → pos < edge + 1048576 }
+    ensures { result ≡ ends_in_window edge pos len }
 {
-    is_in_window(edge, pos) || len > 0 && is_in_window(edge, pos.saturating_add(len - 1))
+    len > 0 && is_in_window(edge, pos.saturating_add(len - 1))
+}
+
+/// Whether a segment of so many octets has none and stands at the position after the window behind this edge.
+fn is_at_right_edge(edge: Pos, pos: Pos, octets: usize) -> bool
+    requires { edge ≤ 2 ^ 62 }
+    ensures { result ≡ is_at_right_edge edge pos octets }
+{
+    octets == 0 && pos == edge + WINDOW
+}
+
+/// Whether a segment at this position begins or ends in the window behind this edge, or stands at its end without octets.
+fn is_acceptable(edge: Pos, pos: Pos, arriving: &Arriving<'_>) -> bool
+    requires { edge ≤ 2 ^ 62 }
+    ensures value { result ≡ is_acceptable edge pos (copy_of arriving.now) }
+    ensures below { IsTrue result → pos ≤ edge + 1048576 }
+{
+    is_in_window(edge, pos)
+        || ends_in_window(edge, pos, occupied(arriving))
+        || is_at_right_edge(edge, pos, arriving.payload.len())
 }
 
 /// Outside the window.
@@ -127,7 +145,7 @@ impl Subflow {
             return Meaning::RepeatedSyn;
         }
         match arriving.position {
-            Some(pos) if is_acceptable(self.recv.edge(), pos, occupied(arriving)) => {
+            Some(pos) if is_acceptable(self.recv.edge(), pos, arriving) => {
                 self.meaning_within(pos, arriving)
             }
             _ => meaning_outside(arriving),

@@ -16,7 +16,7 @@ use Rattle.subflow_send.specs.declared.record.AckKind.TheVariants as acks
 use Rattle.subflow_tcp.specs.declared.handshake.State.{State as EndPhase}
 use Rattle.subflow_tcp.specs.declared.handshake.State.TheVariants as phase
 use Rattle.loss_recovery.specs.declared.windows.Told.{Told}
-use Rattle.subflow_tcp.specs.Segments.{Copy, occupied}
+use Rattle.subflow_tcp.specs.Segments.{Copy}
 use Rattle.subflow_tcp.specs.declared.segments.Hint.{Hint}
 use Rattle.subflow_tcp.specs.declared.verdicts.Meaning.{Meaning}
 use Rattle.subflow_tcp.specs.declared.verdicts.Meaning.TheVariants as means
@@ -224,7 +224,7 @@ module _ (c : Copy) (t : EndState) where
 
   placed_fits : (o : Option ℕ) → Fits (meaning_placed o c t) t
   placed_fits None = outside_fits
-  placed_fits (Some pos) = by (is_acceptable t.recv.edge pos (occupied c))
+  placed_fits (Some pos) = by (is_acceptable t.recv.edge pos c)
     where
       by : (b : Bool) → Fits (if b then meaning_within pos c t else meaning_outside c) t
       by true = within_fits pos

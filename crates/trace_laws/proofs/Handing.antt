@@ -96,7 +96,7 @@ module _ (c : Profile) (s : Side) (span : Span) (piece : List ℕ) (e : PathEnd)
   unsent_is none = find_pushed e.tcp.send.records pushed none refl
 
   same_room : room then_granted.tcp ≡ room e.tcp
-  same_room = ap (λ (n : ℕ). e.tcp.congestion.reno.window - n) (sum_by_push octets_under_way e.tcp.send.records pushed ∙ (let n = sum_by octets_under_way e.tcp.send.records in omega arith))
+  same_room = ap (λ (n : ℕ). e.tcp.congestion.reno.window - n) (sum_by_push (octets_under_way e.tcp.send.una) e.tcp.send.records pushed ∙ (let n = sum_by (octets_under_way e.tcp.send.una) e.tcp.send.records in omega arith))
 
   never_closed : (x : EndPhase) → may_finish x ≡ true → is_closed_to_segments x ≡ false
   never_closed phase.Established may = refl

@@ -132,7 +132,7 @@ call_unread c (control_calls.PeerKey key) = λ unread. unread
 call_unread c (control_calls.Keys own other) =
     if_unread (own == c.keys.own) c.fall (controlling.after_event 0 false events.KeysHeard (controlling.after_peer_key other c)) c (event_unread 0 false events.KeysHeard c.fall) (λ unread. unread)
 call_unread c (control_calls.Fell path event) = event_unread path (sole_path c.paths path) event c.fall
-call_unread c (control_calls.JoinBegin path) = if_unread (control.is_sure c.fall.mode) c.fall _ c (λ unread. unread) (λ unread. unread)
+call_unread c (control_calls.JoinBegin path) = if_unread (control.may_join c) c.fall _ c (λ unread. unread) (λ unread. unread)
 call_unread c (control_calls.JoinHeard path token) = if_unread _ c.fall (controlling.after_join c) c (λ unread. unread) (λ unread. unread)
 call_unread c (control_calls.Live path backup) = λ unread. unread
 call_unread c (control_calls.Dead path) = λ unread. unread

@@ -342,7 +342,7 @@ call_falls c (control_calls.Keys own other) =
     if_fallen (own == c.keys.own) c.fall (controlling.after_event 0 false events.KeysHeard (controlling.after_peer_key other c)) c (keys_falls c.fall) (same_fall c.fall)
 call_falls c (control_calls.Fell path event) = event_falls path (sole_path c.paths path) event c.fall
 call_falls c (control_calls.JoinBegin path) =
-    if_joined (control.is_sure c.fall.mode) c _ (λ sure. record { was = sure_plain c.fall.mode c.fall.joined sure; mode = sure_plain c.fall.mode true sure ∙ sym (sure_plain c.fall.mode c.fall.joined sure); joined = refl; loose = inl refl; unjoined = sure_apart c.fall.mode sure })
+    if_joined (control.may_join c) c _ (λ may. let sure = (and_parts (control.is_sure c.fall.mode) (is_none c.fall.failed) may).0 in record { was = sure_plain c.fall.mode c.fall.joined sure; mode = sure_plain c.fall.mode true sure ∙ sym (sure_plain c.fall.mode c.fall.joined sure); joined = refl; loose = inl refl; unjoined = sure_apart c.fall.mode sure })
 call_falls c (control_calls.JoinHeard path token) =
     let begun : Bool = control.is_starting c.fall.mode || control.is_sure c.fall.mode in
     if_joined (token == token_of c.keys.own && c.fall.confirmed && begun) c (controlling.after_join c)

@@ -1,6 +1,6 @@
 -- A path that joins the connection does nothing before it is begun, and nothing where it died before: its ends say nothing, nothing
 -- is under way, no timer runs, and what it has to do comes to nothing, but that it asks whether it may begin.
-use Rattle.std.proofs.Common.{◌≡◌, refl, sym, ◌∙◌, ap, subst, ℕ, ◌+◌, not, ◌&&◌, ◌||◌, nat_lt, nat_le, Bool, true, false, if◌then◌else◌, Option, Some, None, List, [], ◌∷◌, ◌++◌}
+use Rattle.std.proofs.Common.{◌≡◌, refl, sym, ◌∙◌, ap, subst, ℕ, ◌+◌, not, is_none, ◌&&◌, ◌||◌, nat_lt, nat_le, Bool, true, false, if◌then◌else◌, Option, Some, None, List, [], ◌∷◌, ◌++◌}
 use Rattle.std.proofs.lemmas.Bool.{and_parts, and_from, false≢true}
 use Rattle.std.proofs.lemmas.Option.{same_Some}
 use Rattle.std.specs.List.{list_all}
@@ -17,8 +17,7 @@ use Rattle.subflow_tcp.specs.States.{is_closed_to_segments, is_opening, is_dead,
 use Rattle.loss_recovery.specs.Timers.{timer_settled}
 use Rattle.control_book.specs.declared.call.ControlReply.TheVariants.{NotYet, Never}
 use Rattle.control_book.specs.Control.{Control}
-use Rattle.control_book.specs.Registry.{stands as stands_path}
-use Rattle.control_book.specs.Replies.{is_sure, is_starting, begin, join_begin_reply}
+use Rattle.control_book.specs.Replies.{is_sure, join_waits, begin, join_begin_reply}
 use Rattle.actor_desk.specs.declared.ask.Ask.{Ask}
 use Rattle.actor_desk.specs.declared.ask.Reply.{Reply}
 use Rattle.actor_desk.specs.declared.ask.Reply.TheVariants as replies
@@ -189,8 +188,9 @@ line_own (line ∷ lines) = refl
 
 -- as long as A's side isn't sure no join is begun
 unsure_begin : (c : Control) → is_sure c.fall.mode ≡ false → keys_begun (replies.Control (join_begin_reply c)) ≡ None
-unsure_begin c unsure = ap (λ (b : Bool). keys_begun (replies.Control (if b then begin c else (if is_starting c.fall.mode && stands_path c.paths 0 then NotYet else Never c.fall.mode)))) unsure
-    ∙ by (is_starting c.fall.mode && stands_path c.paths 0)
+unsure_begin c unsure =
+    ap (λ (b : Bool). keys_begun (replies.Control (if b && is_none c.fall.failed then begin c else (if join_waits c then NotYet else Never c.fall.mode)))) unsure
+    ∙ by (join_waits c)
   where
     by : (b : Bool) → keys_begun (replies.Control (if b then NotYet else Never c.fall.mode)) ≡ None
     by true = refl

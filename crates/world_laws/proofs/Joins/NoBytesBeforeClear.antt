@@ -11,7 +11,7 @@ use Rattle.control_book.specs.declared.call.ControlCall.TheVariants as control_c
 use Rattle.control_book.specs.declared.call.ControlReply.TheVariants as control_replies
 use Rattle.control_book.specs.declared.registry.Phase.TheVariants.{Opening}
 use Rattle.control_book.specs.Control.{Control}
-use Rattle.control_book.specs.Registry.{sole as sole_path, stands as stands_path, with_phase}
+use Rattle.control_book.specs.Registry.{sole as sole_path, with_phase}
 use Rattle.control_book.specs.Replies as control
 use Rattle.control_book.specs.Steps as controlling
 use Rattle.subflow_send.specs.Records.{Record}
@@ -178,7 +178,7 @@ module _ {C : Type 0} (k : Codec C) where
   -- ---- what the control books are asked
 
   begins_joined : (path : ℕ) (c : Control) → is_some (keys_begun (replies.Control (control.join_begin_reply c))) ≡ true → (controlling.after c (control_calls.JoinBegin path)).fall.joined ≡ true
-  begins_joined path c = by (control.is_sure c.fall.mode) (control.is_starting c.fall.mode && stands_path c.paths 0)
+  begins_joined path c = by (control.may_join c) (control.join_waits c)
     where
       by : (x y : Bool) → is_some (keys_begun (replies.Control (if x then control.begin c else (if y then control_replies.NotYet else control_replies.Never c.fall.mode)))) ≡ true
           → (if x then controlling.after_join (record c { paths = with_phase path Opening c.paths }) else c).fall.joined ≡ true

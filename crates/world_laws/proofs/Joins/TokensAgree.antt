@@ -21,7 +21,7 @@ use Rattle.control_book.specs.declared.call.Notice.{Notice}
 use Rattle.control_book.specs.declared.call.Notice.TheVariants as notices
 use Rattle.control_book.specs.declared.registry.Phase.TheVariants.{Opening}
 use Rattle.control_book.specs.Control.{Control}
-use Rattle.control_book.specs.Registry.{sole as sole_path, stands as stands_path, with_phase}
+use Rattle.control_book.specs.Registry.{sole as sole_path, with_phase}
 use Rattle.control_book.specs.SameAddress.{is_same}
 use Rattle.control_book.specs.Replies as control
 use Rattle.control_book.specs.Steps as controlling
@@ -499,7 +499,7 @@ module _ (key_a key_b : ℕ) where
   call_keeps six c (control_calls.Fell path event) is sign fine = fell_keeps c path event is sign
   call_keeps six c (control_calls.JoinBegin path) is sign fine =
       let d : Control = controlling.after_join (record c { paths = with_phase path Opening c.paths }) in
-      if_keeps (control.is_sure c.fall.mode) c d c (λ sure. keyed_keeps c d (fine.sure sure) (λ gone. gone)) (same_keeps c c refl refl)
+      if_keeps (control.may_join c) c d c (λ may. keyed_keeps c d (fine.sure (and_parts (control.is_sure c.fall.mode) (is_none c.fall.failed) may).0) (λ gone. gone)) (same_keeps c c refl refl)
   call_keeps six c (control_calls.JoinHeard path token) is sign fine = cc
   call_keeps six c (control_calls.Live path backup) is sign fine = same_keeps c _ refl refl
   call_keeps six c (control_calls.Dead path) is sign fine = same_keeps c _ refl refl
@@ -552,7 +552,7 @@ module _ (key_a key_b : ℕ) where
   told_gains d (Some mode) same fine = λ is. knew_past d fine (ap is_starting same ∙ is)
 
   begin_told : (T : Type 0) (c : Control) → (is_starting c.fall.mode ≡ false → T) → ModeGains T (replies.Control (control.join_begin_reply c))
-  begin_told T c past = by (control.is_sure c.fall.mode) (control.is_starting c.fall.mode && stands_path c.paths 0)
+  begin_told T c past = by (control.may_join c) (control.join_waits c)
     where
       by : (x y : Bool) → ModeGains T (replies.Control (if x then control.begin c else (if y then control_replies.NotYet else control_replies.Never c.fall.mode)))
       by true y = tt

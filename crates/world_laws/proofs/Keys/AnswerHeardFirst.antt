@@ -22,7 +22,7 @@ use Rattle.subflow_tcp.specs.declared.segments.Outgoing.{Outgoing}
 use Rattle.subflow_tcp.specs.declared.verdicts.Meaning.{Meaning}
 use Rattle.subflow_tcp.specs.declared.verdicts.Meaning.TheVariants as means
 use Rattle.subflow_tcp.specs.Judging.{is_syn_alone, is_acceptable, is_repeated_syn, meaning_acknowledging, meaning_outside, meaning_placed, meaning_within, meaning_answer, meaning_answering, meaning_opening, meaning_connected, meaning_at}
-use Rattle.subflow_tcp.specs.Segments.{Copy, occupied}
+use Rattle.subflow_tcp.specs.Segments.{Copy}
 use Rattle.subflow_tcp.specs.State.{EndState, is_at_limit}
 use Rattle.subflow_tcp.specs.States as states
 use Rattle.subflow_tcp.specs.States.{is_half_open}
@@ -266,7 +266,7 @@ connected_meaning c s P any = at_limit (is_at_limit s)
 
     placed : (o : Option ℕ) → P (meaning_placed o c s)
     placed None = outside c.rst
-    placed (Some pos) = acceptable (is_acceptable s.recv.edge pos (occupied c))
+    placed (Some pos) = acceptable (is_acceptable s.recv.edge pos c)
       where
         acceptable : (b : Bool) → P (if b then meaning_within pos c s else meaning_outside c)
         acceptable true = within pos c.rst refl

@@ -34,7 +34,7 @@ use Rattle.path_agenda.specs.declared.notice.PeerNotice.{PeerNotice}
 use Rattle.path_agenda.specs.declared.notice.PeerNotice.TheVariants as notes
 use Rattle.world_laws.proofs.Announcements.NothingKnown.{removed_each}
 use Rattle.path_rules.specs.declared.modes.Modes.{Modes}
-use Rattle.path_rules.specs.Arriving.{address_items, options_heard, ack_items, is_mapping, mapping_items, data_fin_items, infinite_items, map_items, key_items, join_items, items_in, items_of}
+use Rattle.path_rules.specs.Arriving.{address_items, options_heard, ack_items, is_mapping, mapping_items, data_fin_items, infinite_items, map_items, first_items, key_items, join_items, items_in, items_of}
 use Rattle.path_rules.specs.Ends.{PathEnd}
 use Rattle.path_rules.specs.Joins.{is_joined, peer_key_of, join_options, third_options}
 use Rattle.path_store.specs.declared.infinite_mapping.InfiniteMapping.{InfiniteMapping}
@@ -545,6 +545,13 @@ module _ (k : Secrets) (right : Bool) (w : Side → Type 0) (did : Deed → Side
     join_items_are B (Third hmac) h = every_one _ (h.0, (tt, h.1))
     join_items_are B (Answer backup id hmac nonce) h = Every-nil _
 
+  first_items_are : (len : ℕ) → Every (ItemIs false B) (first_items len)
+  first_items_are len = by (nat_lt 0 len) (mapping_items_are false B 0 1 len false)
+    where
+      by : (b : Bool) → Every (ItemIs false B) (mapping_items 0 1 len false) → Every (ItemIs false B) (if b then mapping_items 0 1 len false else [])
+      by true are = are
+      by false are = Every-nil _
+
   key_items_are : (s : Side) (keys : CapableKeys) → KeysAre k right (peer s) keys → ShownBy (peer s) keys → Every (ItemIs false s) (key_items s keys)
   key_items_are A NoKey h shown = Every-nil _
   key_items_are A (Sender sender) h shown = every_one _ h
@@ -553,7 +560,7 @@ module _ (k : Secrets) (right : Bool) (w : Side → Type 0) (did : Deed → Side
   key_items_are B NoKey h shown = Every-nil _
   key_items_are B (Sender sender) h shown = Every-nil _
   key_items_are B (Both sender receiver) h shown = every_one _ (refl, (h.1, h.0, shown))
-  key_items_are B (WithData sender receiver len checksum) h shown = Every-append {xs = says.Keys receiver sender ∷ []} (every_one _ (refl, (h.1, h.0, shown))) (mapping_items_are false B 0 1 len false)
+  key_items_are B (WithData sender receiver len checksum) h shown = Every-append {xs = says.Keys receiver sender ∷ []} (every_one _ (refl, (h.1, h.0, shown))) (first_items_are len)
 
   -- MP_CAPABLE says nothing on a path that joins
   capable_heard : (joined : Bool) (s : Side) (keys : CapableKeys) → (sure_if k right joined ≡ true → KeysAre k right (peer s) keys) × (joined ≡ false → ShownBy (peer s) keys)

@@ -10,7 +10,7 @@ use Rattle.control_book.specs.declared.call.ControlReply.TheVariants as control_
 use Rattle.control_book.specs.declared.call.Notice.{Notice}
 use Rattle.control_book.specs.declared.call.Notice.TheVariants as notices
 use Rattle.control_book.specs.Control.{Control, peer_or_zero, is_path, withdrawals_on}
-use Rattle.control_book.specs.Registry.{sole as sole_path, stands as stands_path, with_phase, lowest_living}
+use Rattle.control_book.specs.Registry.{sole as sole_path, with_phase, lowest_living}
 use Rattle.control_book.specs.declared.registry.Phase.TheVariants.{Opening}
 use Rattle.key_material.specs.AddressHmac.{add_addr64_of}
 use Rattle.key_material.specs.KeyDigest.{token_of}
@@ -139,7 +139,7 @@ call_is k right w did s c (control_calls.Keys own other) is h = keys_told _ _ _ 
 call_is k right w did s c (control_calls.Fell path event) is h = same_book _ _ _ c _ refl (fell_confirms path (sole_path c.paths path) event c.fall is) h
 call_is k right w did s c (control_calls.JoinBegin path) is h =
     let d : Control = controlling.after_join (record c { paths = with_phase path Opening c.paths }) in
-    if_book _ _ _ (control.is_sure c.fall.mode) d c (same_book _ _ _ c d refl refl h) h
+    if_book _ _ _ (control.may_join c) d c (same_book _ _ _ c d refl refl h) h
 call_is k right w did s c (control_calls.JoinHeard path token) is h =
     if_book _ _ _ (token == token_of c.keys.own && c.fall.confirmed && (control.is_starting c.fall.mode || control.is_sure c.fall.mode))
     (controlling.after_join c) c (same_book _ _ _ c (controlling.after_join c) refl refl h) h
@@ -191,7 +191,7 @@ call_joined c (control_calls.Look path) is = notice_joined (control.notice_on c 
 call_joined c (control_calls.PeerKey key) is = is
 call_joined c (control_calls.Keys own other) is = either_joined (own == c.keys.own) _ _ (fell_joined 0 false events.KeysHeard c.fall is) is
 call_joined c (control_calls.Fell path event) is = fell_joined path (sole_path c.paths path) event c.fall is
-call_joined c (control_calls.JoinBegin path) is = either_joined (control.is_sure c.fall.mode) _ _ refl is
+call_joined c (control_calls.JoinBegin path) is = either_joined (control.may_join c) _ _ refl is
 call_joined c (control_calls.JoinHeard path token) is =
     either_joined (token == token_of c.keys.own && c.fall.confirmed && (control.is_starting c.fall.mode || control.is_sure c.fall.mode)) _ _ refl is
 call_joined c (control_calls.Live path backup) is = is
@@ -223,7 +223,7 @@ call_keyed c (control_calls.Look path) is = notice_keyed (control.notice_on c pa
 call_keyed c (control_calls.PeerKey key) is = refl
 call_keyed c (control_calls.Keys own other) is = either_keyed (own == c.keys.own) _ _ refl is
 call_keyed c (control_calls.Fell path event) is = is
-call_keyed c (control_calls.JoinBegin path) is = either_keyed (control.is_sure c.fall.mode) _ _ is is
+call_keyed c (control_calls.JoinBegin path) is = either_keyed (control.may_join c) _ _ is is
 call_keyed c (control_calls.JoinHeard path token) is =
     either_keyed (token == token_of c.keys.own && c.fall.confirmed && (control.is_starting c.fall.mode || control.is_sure c.fall.mode)) _ _ is is
 call_keyed c (control_calls.Live path backup) is = is
@@ -281,7 +281,7 @@ keys_untold test noted own c same =
 
 begin_untold : (test : Reply → Bool) → ((own other : ℕ) → test (replies.Control (control_replies.Begin own other)) ≡ false) → test (replies.Control control_replies.NotYet) ≡ false
     → ((mode : Mode) → test (replies.Control (control_replies.Never mode)) ≡ false) → (c : Control) → test (replies.Control (control.join_begin_reply c)) ≡ false
-begin_untold test begins not_yet never c = by (control.is_sure c.fall.mode) (control.is_starting c.fall.mode && stands_path c.paths 0)
+begin_untold test begins not_yet never c = by (control.may_join c) (control.join_waits c)
   where
     by : (a b : Bool) → test (replies.Control (if a then control.begin c else (if b then control_replies.NotYet else control_replies.Never c.fall.mode))) ≡ false
     by true b = begins c.keys.own (peer_or_zero c.keys.peer)

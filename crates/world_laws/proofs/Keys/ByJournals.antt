@@ -133,7 +133,7 @@ call_carries P c (control_calls.Look path) is was closes = by (controlling.notic
 call_carries P c (control_calls.PeerKey key) is was closes = was is
 call_carries P c (control_calls.Keys own other) is was closes = if_carries P (own == c.keys.own) c _ is refl was
 call_carries P c (control_calls.Fell path event) is was closes = was is
-call_carries P c (control_calls.JoinBegin path) is was closes = if_carries P (controlling.is_sure c.fall.mode) c _ is refl was
+call_carries P c (control_calls.JoinBegin path) is was closes = if_carries P (controlling.may_join c) c _ is refl was
 call_carries P c (control_calls.JoinHeard path token) is was closes = if_carries P _ c _ is refl was
 call_carries P c (control_calls.Live path backup) is was closes = was is
 call_carries P c (control_calls.Dead path) is was closes = was is

@@ -1,6 +1,6 @@
 -- No control book is told another key than its own: what an end hears are the keys that were drawn.
-use Rattle.std.proofs.Common.{◌≡◌, refl, sym, ◌∙◌, ap, subst, ℕ, zero, suc, ◌+◌, ◌==◌, ◌&&◌, ◌||◌, not, is_some, nat_lt, ⊎_elim, Bool, true, false, if◌then◌else◌, Option, Some, None, List, [], ◌∷◌, map, arith}
-use Rattle.std.proofs.lemmas.Bool.{lt-ltb, both_ways, false≢true}
+use Rattle.std.proofs.Common.{◌≡◌, refl, sym, ◌∙◌, ap, subst, ℕ, zero, suc, ◌+◌, ◌==◌, ◌&&◌, ◌||◌, not, is_some, is_none, nat_lt, ⊎_elim, Bool, true, false, if◌then◌else◌, Option, Some, None, List, [], ◌∷◌, map, arith}
+use Rattle.std.proofs.lemmas.Bool.{and_parts, lt-ltb, both_ways, false≢true}
 use Rattle.std.proofs.lemmas.Option.{same_Some}
 use Rattle.std.specs.List.{slice_get}
 use Rattle.std.specs.Option.{IfSome}
@@ -14,7 +14,7 @@ use Rattle.control_book.specs.declared.call.ControlCall.{ControlCall}
 use Rattle.control_book.specs.declared.call.ControlCall.TheVariants as control_calls
 use Rattle.control_book.specs.declared.call.ControlReply.TheVariants as control_replies
 use Rattle.control_book.specs.Control.{Control, peer_or_zero}
-use Rattle.control_book.specs.Registry.{sole as sole_path, stands as stands_path, with_phase}
+use Rattle.control_book.specs.Registry.{sole as sole_path, with_phase}
 use Rattle.control_book.specs.declared.registry.Phase.TheVariants.{Opening}
 use Rattle.key_material.specs.KeyDigest.{token_of}
 use Rattle.join_handshake.specs.declared.hearing.JoinSyn.{JoinSyn as Asked}
@@ -348,7 +348,7 @@ module _ (key_a key_b : ℕ) (right : Bool) where
   -- a book that lets a join go on has the peer's key, and joined by that
   begins_so : (also : Deed → Side → Type 0) (six : SixBooks) (path : ℕ) → (right ≡ true → SureHasKey six) → BooksAre six
       → IfSome (keys_begun (replies.Control (control.join_begin_reply six.control_a))) (BeginIs (with_nonces 0 0) right (Joined (after_ask (asks.Control A (control_calls.JoinBegin path)) six)) (Past (after_ask (asks.Control A (control_calls.JoinBegin path)) six) also) A)
-  begins_so also six path knows h = by (control.is_sure six.control_a.fall.mode) refl (control.is_starting six.control_a.fall.mode && stands_path six.control_a.paths 0)
+  begins_so also six path knows h = by (control.may_join six.control_a) refl (control.join_waits six.control_a)
     where
       c : Control
       c = six.control_a
@@ -356,12 +356,12 @@ module _ (key_a key_b : ℕ) (right : Bool) where
       begun : (x : Bool) → Type 0
       begun x = (if x then controlling.after_join (record c { paths = with_phase path Opening c.paths }) else c).fall.joined ≡ true
 
-      by : (x : Bool) → control.is_sure c.fall.mode ≡ x → (y : Bool)
+      by : (x : Bool) → control.may_join c ≡ x → (y : Bool)
           → IfSome (keys_begun (replies.Control (if x then control.begin c else (if y then control_replies.NotYet else control_replies.Never c.fall.mode))))
           (BeginIs (with_nonces 0 0) right (Joined (after_ask (asks.Control A (control_calls.JoinBegin path)) six)) (Past (after_ask (asks.Control A (control_calls.JoinBegin path)) six) also) A)
-      by true sure y = (h.a.own_is, (subst begun (sym sure) refl, λ is. ap peer_or_zero (knows is sure)))
-      by false sure true = tt
-      by false sure false = tt
+      by true may y = (h.a.own_is, (subst begun (sym may) refl, λ is. ap peer_or_zero (knows is (and_parts (control.is_sure c.fall.mode) (is_none c.fall.failed) may).0)))
+      by false may true = tt
+      by false may false = tt
 
   heard_so : (s : Side) (token : ℕ) (c : Control) (u : Side → Type 0) (gone : Deed → Side → Type 0) (T : Type 0) → ((controlling.after_join_heard token c).fall.joined ≡ true → u s)
       → BookIs (drawn_key (with_nonces 0 0) right s) (drawn_key (with_nonces 0 0) right (peer s)) T c

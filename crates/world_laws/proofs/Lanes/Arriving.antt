@@ -32,7 +32,7 @@ use Rattle.stream_lanes.proofs.Lists.{Every-nil, Every-append}
 use Rattle.path_agenda.specs.declared.heard.Heard.{Heard}
 use Rattle.path_agenda.specs.declared.heard.Heard.TheVariants as says
 use Rattle.path_agenda.specs.declared.notice.PeerNotice.TheVariants as notes
-use Rattle.path_rules.specs.Arriving.{ack_items, is_mapping, mapping_items, map_items, key_items, join_items, items_in, held_if, map_held, key_held, held_in, checksum_heard}
+use Rattle.path_rules.specs.Arriving.{ack_items, is_mapping, mapping_items, map_items, first_items, key_items, join_items, items_in, held_if, map_held, key_held, held_in, checksum_heard}
 use Rattle.path_rules.specs.Joins.{is_joined}
 use Rattle.path_rules.specs.Deliver.{kept_of}
 use Rattle.path_rules.specs.State.{Profile}
@@ -61,6 +61,13 @@ module _ (acks : List AckCopy) (p : Lane) (window : ℕ) where
       by true = one (says.Mapping false) tt
       by false = Every-nil _
 
+  first_says : (len : ℕ) → Says (first_items len)
+  first_says len = by (nat_lt 0 len) (mapping_says 0 1 len)
+    where
+      by : (b : Bool) → Says (mapping_items 0 1 len false) → Says (if b then mapping_items 0 1 len false else [])
+      by true says_it = says_it
+      by false says_it = Every-nil _
+
   map_says : (c : Profile) (from : Side) (o : Option (PathMapping ℕ)) → MappingShows c from o p → Says (map_items (option_map meant_mapping o))
   map_says c from None h = Every-nil _
   map_says c from (Some (Bytes place position len true checksum)) h = absurd h
@@ -80,7 +87,7 @@ module _ (acks : List AckCopy) (p : Lane) (window : ℕ) where
   keys_say B NoKey = Every-nil _
   keys_say B (Sender sender) = Every-nil _
   keys_say B (Both sender receiver) = one _ tt
-  keys_say B (WithData sender receiver len checksum) = every_cons _ _ tt (mapping_says 0 1 len)
+  keys_say B (WithData sender receiver len checksum) = every_cons _ _ tt (first_says len)
 
   join_says : (s : Side) (form : JoinForm) → Says (join_items s form)
   join_says A (joins.Answer backup id hmac nonce) = one _ tt
@@ -136,7 +143,11 @@ module _ (c : Profile) (window : ℕ) (acks : List AckCopy) (p : Lane) where
   keys_hold B NoKey h = Every-nil _
   keys_hold B (Sender sender) h = Every-nil _
   keys_hold B (Both sender receiver) h = Every-nil _
-  keys_hold B (WithData sender receiver len checksum) h = if_held B 0 1 len checksum h.0 h.1
+  keys_hold B (WithData sender receiver len checksum) h = by (nat_lt 0 len) (if_held B 0 1 len checksum h.0 h.1)
+    where
+      by : (b : Bool) → Held (held_if c B 0 1 len false checksum) → Held (if b then held_if c B 0 1 len false checksum else [])
+      by true holds = holds
+      by false holds = Every-nil _
 
   option_holds : (s : Side) (o : PlainOption) → OptionShows c (peer s) window acks p o → Held (held_in c s (meant_option o))
   option_holds s (Capable flag_a flag_c keys) h = by (is_joined c)

@@ -12,7 +12,7 @@ use Rattle.subflow_tcp.specs.declared.handshake.State.TheVariants as phase
 use Rattle.subflow_tcp.specs.declared.verdicts.Meaning.{Meaning}
 use Rattle.subflow_tcp.specs.declared.verdicts.Meaning.TheVariants as means
 use Rattle.subflow_tcp.specs.Judging as judging
-use Rattle.subflow_tcp.specs.Segments.{Copy, occupied}
+use Rattle.subflow_tcp.specs.Segments.{Copy}
 use Rattle.subflow_tcp.specs.State.{EndState, is_at_limit}
 use Rattle.subflow_tcp.specs.States as states
 use Rattle.stream_lanes.specs.Lane.{Lane}
@@ -214,7 +214,7 @@ module _ (c : Copy) (s : EndState) (u : Bool) where
 
   placed_fits : (o : Option ℕ) → c.position ≡ o → Fitting c u (judging.meaning_placed o c s)
   placed_fits None at = outside_fits
-  placed_fits (Some pos) at = fits_if c (judging.is_acceptable s.recv.edge pos (occupied c)) (judging.meaning_within pos c s) (judging.meaning_outside c) (λ is. within_fits pos at) (λ is. outside_fits)
+  placed_fits (Some pos) at = fits_if c (judging.is_acceptable s.recv.edge pos c) (judging.meaning_within pos c s) (judging.meaning_outside c) (λ is. within_fits pos at) (λ is. outside_fits)
 
   connected_fits : Fitting c u (judging.meaning_connected c s)
   connected_fits = fits_if c (is_at_limit s) means.Ignored (if judging.is_repeated_syn c s then means.RepeatedSyn else judging.meaning_placed c.position c s) (λ is. record { fits = tt })

@@ -1,6 +1,6 @@
 -- What the receiver's half of an end makes of the lanes: mappings that are learned, bytes that are placed, an end that is told, and
 -- the FIN.
-use Rattle.std.proofs.Common.{◌≡◌, refl, sym, ap, subst, ℕ, suc, ◌+◌, ◌-◌, ◌<◌, ◌≤◌, nat_lt, nat_le, ◌&&◌, inl, inr, ⊎_elim, Bool, true, false, if◌then◌else◌, filter, find, Option, Some, None, List, [], ◌∷◌, length, take, drop, arith, not, ◌∙◌, ◌⊎◌, ◌*◌, ◌/◌, true≢false, ◌==◌, ◌||◌, ◌^◌, is_some}
+use Rattle.std.proofs.Common.{◌≡◌, refl, sym, ap, subst, ℕ, zero, suc, ◌+◌, ◌-◌, ◌<◌, ◌≤◌, nat_lt, nat_le, ◌&&◌, inl, inr, ⊎_elim, Bool, true, false, if◌then◌else◌, filter, find, Option, Some, None, List, [], ◌∷◌, length, take, drop, arith, not, ◌∙◌, ◌⊎◌, ◌*◌, ◌/◌, true≢false, ◌==◌, ◌||◌, ◌^◌, is_some}
 use Rattle.std.proofs.lemmas.Bool.{and_parts, ltb-true, leb-true, eqb-true, false≢true, both_ways, and_from, eq-eqb}
 use Rattle.std.proofs.lemmas.List.{append-nil, length-take, length-drop, length-map}
 use Rattle.std.proofs.lemmas.Option.{same_Some}
@@ -14,7 +14,7 @@ use Rattle.dss_mapping.specs.Learning.{first_of, others_of, learn_of, after_skip
 use Rattle.dss_mapping.specs.Mappings.{Mappings, run_of, mapping_at, after_learn, octets_of}
 use Rattle.dss_mapping.specs.Runs.{covers}
 use Rattle.reassembly_book.specs.declared.call.ReassemblyReply.TheVariants as reassembly_replies
-use Rattle.subflow_recv.specs.Receiving.{Receiving, filled, after_advance}
+use Rattle.subflow_recv.specs.Receiving.{Receiving, filled, after_advance, after_pass}
 use Rattle.subflow_tcp.specs.Closing.{is_fin_next, after_passing_fin}
 use Rattle.subflow_tcp.specs.Judging.{is_at}
 use Rattle.subflow_tcp.specs.State.{EndState}
@@ -27,7 +27,7 @@ use Rattle.stream_lanes.specs.Moves.{takes_placed, ack_copy, sub_next, in_order,
 use Rattle.stream_lanes.specs.View.{View}
 use Rattle.stream_lanes.specs.Words.{Every, From}
 use Rattle.stream_lanes.proofs.Checking.{came_within, came_cases, checksum_shows, came_unaltered}
-use Rattle.stream_lanes.proofs.Lists.{Every-map, Every-push, Has-more, in_drop}
+use Rattle.stream_lanes.proofs.Lists.{Every-map, Every-push, Has-more}
 use Rattle.stream_lanes.proofs.Bytes.{From-take, From-filled, part_is_honest}
 use Rattle.path_rules.specs.Ends.{PathEnd}
 use Rattle.path_rules.specs.Passing.{having_asked, after_pass_fin, place_passed, plain_fin}
@@ -577,19 +577,10 @@ module _ (c : Profile) (s : Side) (out back : Lane) where
 
   -- ---- the FIN
 
-  -- no byte stands behind the FIN of the lane
-  none_behind : (v : View) (path : ℕ) (position : ℕ) → LaneHolds v path back → (recv : Receiving) → recv.edge ≡ position → HasFin back.fins position → IsAtEdge recv back
-      → (i byte : ℕ) → slice_get recv.places i ≡ Some (Some byte) → ⊥
-  none_behind v path position holds recv is has at i byte there =
-      let fin : IsFin path v back.sent has.item = holds.fins.each has.at has.item has.there in
-      let last : has.item ≡ length back.sent = fin.last in
-      let edge_is = at.edge_is in
-      let within = came_within back.alters back.pieces back.sent (back.edge + i) byte (holds.bytes.came.each i (back.edge + i) byte refl (at.under.each i byte there)) in
-      let position_is = has.holds in
-      absurd (omega (arith, last, edge_is, within, is, position_is))
-
-  dropped_one : (edge : ℕ) (places : List (Option ℕ)) (i byte : ℕ) → slice_get (drop (edge + 1 - edge) places) i ≡ Some (Some byte) → slice_get places (suc i) ≡ Some (Some byte)
-  dropped_one edge places i byte there = in_drop (edge + 1 - edge) places i (suc i) (Some byte) (omega arith) there
+  -- behind the FIN nothing is kept
+  none_there : (i byte : ℕ) → slice_get {X = Option ℕ} [] i ≡ Some (Some byte) → ⊥
+  none_there zero byte there = cc
+  none_there (suc i) byte there = cc
 
   -- the lane hears the FIN, and acknowledges it where nothing is to be asked before
   module _ (v : View) (path : ℕ) (e : PathEnd) (holds : LaneHolds v path back) (h : EndShows c s e out back) where
@@ -607,12 +598,12 @@ module _ (c : Profile) (s : Side) (out back : Lane) where
       passed_sender = state_shows c s (knowledge_of e) out e.tcp.state (states.after_fin_passed e.tcp.state) e.tcp.send (fin_passed_back e.tcp.state) h.sender
 
       passed_receiver : (p : Lane) → p.edge ≡ back.edge → p.fin_in ≡ true → p.fins ≡ back.fins → p.maps ≡ back.maps → p.receiver_plain ≡ back.receiver_plain
-          → ReceiverShows (after_advance next_edge e.tcp.recv) e.tcp.fin_at e.receiving.mappings.live (identity_of e) p
+          → ReceiverShows (after_pass e.tcp.recv) e.tcp.fin_at e.receiving.mappings.live (identity_of e) p
       passed_receiver p edge fin fins maps mode = record {
         same_mode = mode ∙ h.receiver.same_mode;
         edge = inr (record {
           at_is = fin_is ∙ ap (λ n. Some n) here ∙ ap (λ n. Some (suc n)) (sym edge);
-          none = λ i byte there. none_behind v path at holds e.tcp.recv (sym same) has near (suc i) byte (dropped_one e.tcp.recv.edge e.tcp.recv.places i byte there);
+          none = λ i byte there. absurd (none_there i byte there);
           edge_is = let edge_is = near.edge_is in omega (arith, edge_is, edge);
           fin_in = fin;
         });

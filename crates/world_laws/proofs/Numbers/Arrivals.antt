@@ -37,7 +37,7 @@ use Rattle.actor_desk.specs.Words.{is_nil}
 use Rattle.path_agenda.specs.declared.heard.Heard.{Heard}
 use Rattle.path_agenda.specs.declared.heard.Heard.TheVariants as says
 use Rattle.path_agenda.specs.declared.keys.KeyPair.{KeyPair}
-use Rattle.path_rules.specs.Arriving.{copy_of, ack_items, is_mapping, mapping_items, map_items, key_items, join_items, items_in, items_of, HeardOption, hint_of, reset_by, owing_if, owes_by, asked_in, is_taken, with_payload, with_answer, answered_in, cleared_in, judged_in, taken_as, after_judged, position_numbered, item_removed}
+use Rattle.path_rules.specs.Arriving.{copy_of, ack_items, is_mapping, mapping_items, map_items, first_items, key_items, join_items, items_in, items_of, HeardOption, hint_of, reset_by, owing_if, owes_by, asked_in, is_taken, with_payload, with_answer, answered_in, cleared_in, judged_in, taken_as, after_judged, position_numbered, item_removed}
 use Rattle.path_rules.specs.declared.modes.Modes.{Modes}
 use Rattle.path_rules.specs.Joining.{with_keys, syn_alone, is_listening, joined_by}
 use Rattle.path_rules.specs.Joins.{is_joined, join_answer}
@@ -69,6 +69,13 @@ acks_tell (Some n) window h = tell_if (nat_lt n (2 ^ 62)) (says.DataAck n window
 mapping_tells : (place position count : ℕ) (fin : Bool) → Tell (mapping_items place position count fin)
 mapping_tells place position count fin = tell_if (is_mapping place position count) (says.Mapping fin) tt
 
+first_tells : (len : ℕ) → Tell (first_items len)
+first_tells len = by (nat_lt 0 len) (mapping_tells 0 1 len false)
+  where
+    by : (b : Bool) → Tell (mapping_items 0 1 len false) → Tell (if b then mapping_items 0 1 len false else [])
+    by true tells = tells
+    by false tells = Every-nil ItemTells
+
 map_tells : (o : Option (PathMapping ℕ)) → IfSome o MappingIsShort → Tell (map_items (option_map meant_mapping o))
 map_tells None h = Every-nil ItemTells
 map_tells (Some (Bytes place position len fin checksum)) h = mapping_tells place position (octets_in len fin) fin
@@ -83,7 +90,7 @@ keys_tell A (WithData sender receiver len checksum) h = Every-nil ItemTells
 keys_tell B NoKey h = Every-nil ItemTells
 keys_tell B (Sender sender) h = Every-nil ItemTells
 keys_tell B (Both sender receiver) h = one (says.Keys receiver sender) (h.1, h.0)
-keys_tell B (WithData sender receiver len checksum) h = every_cons (says.Keys receiver sender) (mapping_items 0 1 len false) (h.1, h.0) (mapping_tells 0 1 len false)
+keys_tell B (WithData sender receiver len checksum) h = every_cons (says.Keys receiver sender) (first_items len) (h.1, h.0) (first_tells len)
 
 joins_tell : (s : Side) (form : JoinForm) → FormFits form → Tell (join_items s form)
 joins_tell A (joins.Answer backup id hmac nonce) h = one (says.Join (joins.Answer backup id hmac nonce)) h

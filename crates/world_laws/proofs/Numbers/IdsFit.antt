@@ -19,7 +19,7 @@ use Rattle.control_book.specs.declared.call.Notice.{Notice}
 use Rattle.control_book.specs.declared.call.Notice.TheVariants as notice
 use Rattle.control_book.specs.Registry.{every_path, lives, with_phase, with_removed}
 use Rattle.control_book.specs.Control.{Control, no_withdrawals, new_control, withdrawals_on, with_withdrawal}
-use Rattle.control_book.specs.Replies.{notice_on, is_right, is_starting, is_sure}
+use Rattle.control_book.specs.Replies.{notice_on, is_right, is_starting, is_sure, may_join}
 use Rattle.control_book.specs.Steps.{after, after_event, after_join, after_notice, is_known, withdrawn, withdrawn_on}
 
 abbrev pub AreIds : List Bool → Type 0
@@ -95,7 +95,7 @@ call_fits c (call.Look path) h = notice_fits (notice_on c path) path c h
 call_fits c (call.PeerKey key) h = record { due = h.due; withdrawals = h.withdrawals }
 call_fits c (call.Keys own peer) h = either (own == c.keys.own) _ _ (record { due = h.due; withdrawals = h.withdrawals }) h
 call_fits c (call.Fell path event) h = record { due = h.due; withdrawals = h.withdrawals }
-call_fits c (call.JoinBegin path) h = either (is_sure c.fall.mode) (after_join (record c { paths = with_phase path Opening c.paths })) c (record { due = h.due; withdrawals = h.withdrawals }) h
+call_fits c (call.JoinBegin path) h = either (may_join c) (after_join (record c { paths = with_phase path Opening c.paths })) c (record { due = h.due; withdrawals = h.withdrawals }) h
 call_fits c (call.JoinHeard path token) h =
     either (token == token_of c.keys.own && c.fall.confirmed && (is_starting c.fall.mode || is_sure c.fall.mode)) (after_join c) c (record { due = h.due; withdrawals = h.withdrawals }) h
 call_fits c (call.Live path backup) h = record { due = h.due; withdrawals = h.withdrawals }

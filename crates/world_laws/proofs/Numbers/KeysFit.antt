@@ -13,7 +13,7 @@ use Rattle.control_book.specs.declared.call.ControlReply.TheVariants as answers
 use Rattle.control_book.specs.declared.call.Notice.{Notice}
 use Rattle.control_book.specs.declared.call.Notice.TheVariants as notices
 use Rattle.control_book.specs.Control.{Control, peer_or_zero, withdrawals_on}
-use Rattle.control_book.specs.Registry.{stands as stands_path, sole, standby}
+use Rattle.control_book.specs.Registry.{sole, standby}
 use Rattle.control_book.specs.Replies as control
 use Rattle.control_book.specs.Steps as controlling
 use Rattle.control_book.specs.Replies.{address_notice, announcement, carries, look_reply, resets}
@@ -69,9 +69,9 @@ module _ (c : Control) (h : KeysAreShort c.keys) where
   both_short = (h.own, peer_short c.keys.peer h.peer)
 
   begin_keys : IfSome (keys_begun (replies.Control (control.join_begin_reply c))) AreKeys
-  begin_keys = by (control.is_sure c.fall.mode) (control.is_starting c.fall.mode && stands_path c.paths 0)
+  begin_keys = by (control.may_join c) (control.join_waits c)
     where
-      by : (sure waits : Bool) → IfSome (keys_begun (replies.Control (if sure then control.begin c else (if waits then answers.NotYet else answers.Never c.fall.mode)))) AreKeys
+      by : (may waits : Bool) → IfSome (keys_begun (replies.Control (if may then control.begin c else (if waits then answers.NotYet else answers.Never c.fall.mode)))) AreKeys
       by true waits = both_short
       by false true = tt
       by false false = tt

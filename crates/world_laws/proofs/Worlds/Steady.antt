@@ -1,12 +1,12 @@
 -- At every moment the world is steady: each path may do what it does next, as the other side and the control books let it.
-use Rattle.std.proofs.Common.{◌≡◌, refl, sym, ◌∙◌, subst, ℕ, suc, ◌⊎◌, inl, inr, ⊎_elim, Bool, true, false, if◌then◌else◌, Option, Some, None, List, [], ◌∷◌, map}
-use Rattle.std.proofs.lemmas.Bool.{false≢true}
+use Rattle.std.proofs.Common.{◌≡◌, refl, sym, ◌∙◌, subst, ℕ, suc, ◌⊎◌, inl, inr, ⊎_elim, is_none, Bool, true, false, if◌then◌else◌, Option, Some, None, List, [], ◌∷◌, map}
+use Rattle.std.proofs.lemmas.Bool.{and_parts, false≢true}
 use Rattle.std.specs.List.{slice_get}
 use Rattle.outside_kit.specs.declared.side.Side.TheVariants.{A, B}
 use Rattle.control_book.specs.declared.call.ControlCall.{ControlCall}
 use Rattle.control_book.specs.declared.call.ControlCall.TheVariants as calls
 use Rattle.control_book.specs.Control.{Control}
-use Rattle.control_book.specs.Replies.{is_sure}
+use Rattle.control_book.specs.Replies.{is_sure, may_join}
 use Rattle.control_book.specs.Steps as controlling
 use Rattle.stream_lanes.specs.Words.{Every}
 use Rattle.stream_lanes.proofs.Lists.{in_set, in_map}
@@ -49,12 +49,12 @@ module _ (start : Start) where
   same_at_a six call ask none is = inl (sym (same_joined six.control_a call none) ∙ is)
 
   begins_at_a : (six : SixBooks) (path : ℕ) → Joins six.control_a (calls.JoinBegin path)
-  begins_at_a six path is = by (is_sure six.control_a.fall.mode) _ refl is
+  begins_at_a six path is = by (may_join six.control_a) _ refl is
     where
-      by : (b : Bool) (d : Control) → is_sure six.control_a.fall.mode ≡ b → (if b then d else six.control_a).fall.joined ≡ true
+      by : (b : Bool) (d : Control) → may_join six.control_a ≡ b → (if b then d else six.control_a).fall.joined ≡ true
           → (six.control_a.fall.joined ≡ true) ⊎ (is_sure six.control_a.fall.mode ≡ true)
-      by true d sure is = inr sure
-      by false d sure is = inl is
+      by true d may is = inr (and_parts (is_sure six.control_a.fall.mode) (is_none six.control_a.fall.failed) may).0
+      by false d may is = inl is
 
   joins_at_a : (six : SixBooks) (call : ControlCall) → Asks six (asks.Control A call) → Joins six.control_a call
   joins_at_a six (calls.Look path) ask = same_at_a six (calls.Look path) ask tt
