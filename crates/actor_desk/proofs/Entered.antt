@@ -2,7 +2,7 @@
 use Rattle.std.proofs.Common.{◌≡◌, sym, ap, subst, false, [], ◌∷◌, Some, Result, Ok, Err}
 use Rattle.std.proofs.lemmas.List.{map-append}
 use Rattle.std.specs.Prelude.{IfOk, OnOk, OnErr}
-use Rattle.outside_kit.specs.declared.side.Side.TheVariants.{A, B}
+use Rattle.sides.specs.declared.side.Side.TheVariants.{A, B}
 use Rattle.stamped_book.specs.declared.stamped.Pass.{Pass}
 use Rattle.stamped_book.specs.declared.stamped.Refusal.{Refusal}
 use Rattle.stamped_book.specs.Journal.{Journaled, book_of}

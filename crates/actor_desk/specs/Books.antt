@@ -1,6 +1,6 @@
 -- The six books with their journals, and what a call makes of them.
 use Rattle.std.specs.Prelude.{ℕ, ◌+◌, []}
-use Rattle.outside_kit.specs.declared.side.Side.{Side}
+use Rattle.sides.specs.declared.side.Side.{Side}
 use Rattle.stamped_book.specs.declared.stamped.Pass.{Pass}
 use Rattle.stamped_book.specs.Journal.{Journaled, book_of}
 use Rattle.stamped_book.specs.Entering.{next_stamp, after_entering}

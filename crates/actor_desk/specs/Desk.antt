@@ -1,7 +1,7 @@
 -- The six books of a connection, and what they answer: each call by the book's own definitions.
 use Rattle.std.specs.Prelude.{ℕ, Option, Some, None, List, ◌∷◌}
-use Rattle.outside_kit.specs.declared.side.Side.{Side}
-use Rattle.outside_kit.specs.declared.side.Side.TheVariants as side
+use Rattle.sides.specs.declared.side.Side.{Side}
+use Rattle.sides.specs.declared.side.Side.TheVariants as side
 use Rattle.send_book.specs.State as sending
 use Rattle.send_book.specs.Steps as sending_steps
 use Rattle.send_book.specs.declared.call.SendCall.{SendCall}

@@ -1,7 +1,7 @@
 -- Actors' lists and books' journals: when they are paired and chained, and the order of all steps.
 use Rattle.std.specs.Prelude.{ℕ, ◌≡◌, ◌+◌, ◌<◌, ◌==◌, ◌&&◌, ◌||◌, Bool, true, false, nat_lt, if◌then◌else◌, List, [], ◌∷◌, map, filter}
 use Rattle.std.specs.List.{Contains}
-use Rattle.outside_kit.specs.declared.side.Side.{Side}
+use Rattle.sides.specs.declared.side.Side.{Side}
 use Rattle.stamped_book.specs.declared.stamped.Entry.{Entry}
 use Rattle.send_book.specs.declared.call.SendCall.{SendCall}
 use Rattle.send_book.specs.declared.call.SendReply.{SendReply}

@@ -1,6 +1,6 @@
 -- What a desk notes of the calls at each book, and what a call adds to it.
 use Rattle.std.specs.Prelude.{◌<◌, ◌^◌, ◌≡◌, Option, Some, None, List, [], ◌∷◌, ◌++◌, map}
-use Rattle.outside_kit.specs.declared.side.Side.TheVariants as side
+use Rattle.sides.specs.declared.side.Side.TheVariants as side
 use Rattle.stamped_book.specs.declared.stamped.Pass.{Pass}
 use Rattle.actor_desk.specs.declared.ask.Ask.{Ask}
 use Rattle.actor_desk.specs.declared.ask.Ask.TheVariants as asks

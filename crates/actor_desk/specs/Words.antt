@@ -1,7 +1,7 @@
 -- Words on choices and lists that the rules of actors share.
 use Rattle.std.specs.Prelude.{Bool, true, false, List, [], ◌∷◌}
-use Rattle.outside_kit.specs.declared.side.Side.{Side}
-use Rattle.outside_kit.specs.declared.side.Side.TheVariants.{A, B}
+use Rattle.sides.specs.declared.side.Side.{Side}
+use Rattle.sides.specs.declared.side.Side.TheVariants.{A, B}
 
 -- that of A or that of B
 abbrev pub pick : {X : Type 0} → Side → X → X → X

@@ -1,9 +1,9 @@
 //! What an actor asks at a step, and what it is answered.
 
 use control_book::{ControlCall, ControlReply};
-use outside_kit::Side;
 use reassembly_book::{ReassemblyCall, ReassemblyReply};
 use send_book::{SendCall, SendReply};
+use sides::Side;
 
 /// A step that an actor makes by itself, at no book.
 #[derive(Clone, Copy)]

@@ -10,9 +10,9 @@ ghost use Rattle.stamped_book.specs.declared.stamped.Refusal.TheVariants as refu
 use crate::ask::{Ask, Reply};
 use crate::desk::Desk;
 use control_book::{ControlBook, ControlCall, ControlReply};
-use outside_kit::Side;
 use reassembly_book::{ReassemblyBook, ReassemblyCall, ReassemblyReply};
 use send_book::{SendBook, SendCall, SendReply, marks_tile};
+use sides::Side;
 use stamped_book::{Pass, Refusal, Stamped};
 use std::alloc::{AllocError, Global};
 use std::marker::Model;

@@ -1,6 +1,6 @@
 -- What a caller asks.
 use Rattle.std.specs.Prelude.{ℕ, ◌-◌, ◌==◌, Option, Some, None, [], ◌∷◌, if◌then◌else◌}
-use Rattle.outside_kit.specs.declared.side.Side.TheVariants as side
+use Rattle.sides.specs.declared.side.Side.TheVariants as side
 use Rattle.send_book.specs.declared.call.SendCall.{SendCall}
 use Rattle.send_book.specs.declared.call.SendCall.TheVariants as calls
 use Rattle.actor_desk.specs.declared.ask.Ask.{Ask}

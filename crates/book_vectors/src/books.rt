@@ -11,9 +11,9 @@ mod words;
 use case_fields::{CaseFault, put_word};
 use control::open_control;
 use control_book::ControlBook;
-use outside_kit::Side;
 use reassembly::{Reading, empty_reassembly, open_reassembly};
 use send::{Writing, empty_send, open_send};
+use sides::Side;
 use std::alloc::{AllocError, Global};
 
 /// Which book is asked.

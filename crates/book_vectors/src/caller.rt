@@ -4,9 +4,9 @@ ghost use Rattle.actor_desk.specs.Bounds.{TakesReply};
 ghost use Rattle.actor_desk.specs.Kinds.{CanBeAsked};
 
 use actor_desk::{Actor, Ask, Reply};
-use outside_kit::Side;
-use pipe_model::Text;
+use octet_text::Text;
 use send_book::SendCall;
+use sides::Side;
 use std::alloc::{AllocError, Global};
 
 /// What is asked.

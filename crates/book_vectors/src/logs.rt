@@ -14,7 +14,7 @@ use case_fields::{
     word_at,
 };
 use note::note_of;
-use pipe_model::Text;
+use octet_text::Text;
 use run_log::{LogFault, Outcome, Turn, line, opening, outcome_line, read_log, round_line};
 use std::alloc::{AllocError, Global};
 

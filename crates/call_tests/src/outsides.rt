@@ -1,4 +1,5 @@
-use outside_kit::{Gate, Object, OpenGate};
+use outside_kit::{Gate, OpenGate};
+use sides::Object;
 
 #[test]
 fn an_open_gate_lets_everyone_pass() {

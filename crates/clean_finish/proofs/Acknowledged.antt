@@ -1,8 +1,8 @@
 -- What a segment in hand acknowledges is told to the send book, and heard by the lane.
 use Rattle.std.proofs.Common.{◌≡◌, refl, sym, subst, ap, ◌∙◌, ℕ, ◌+◌, ◌<◌, ◌≤◌, min, max, nat_lt, ◌||◌, Bool, true, false, if◌then◌else◌, ◌⊎◌, inl, inr, ⊎_elim, Option, None, List, ◌∷◌, ◌++◌, length, map, drop, replicate, arith}
 use Rattle.std.proofs.lemmas.Bool.{both_ways, cases_lt, le-ltb, ltb-false}
-use Rattle.outside_kit.specs.declared.side.Side.{Side}
-use Rattle.outside_kit.specs.Side.{peer}
+use Rattle.sides.specs.declared.side.Side.{Side}
+use Rattle.sides.specs.Side.{peer}
 use Rattle.send_book.specs.State.{Sending as SendBook}
 use Rattle.send_book.specs.declared.mark.ByteMark.TheVariants.{Acked}
 use Rattle.send_book.specs.Steps.{is_future, fin_after, after_ack}

@@ -1,7 +1,7 @@
 -- The step in which the SYN/ACK arrives at A.
 use Rattle.std.proofs.Common.{◌≡◌, refl, sym, subst, ap, ◌∙◌, ℕ, ◌+◌, ◌-◌, ◌^◌, ◌<◌, ◌≤◌, max, nat_lt, nat_le, Bool, true, false, inl, ⊎_elim, Option, Some, None, List, [], ◌∷◌, ◌++◌, map, arith}
 use Rattle.std.proofs.lemmas.Bool.{cases_lt, lt-ltb, le-leb}
-use Rattle.outside_kit.specs.declared.side.Side.TheVariants.{A, B}
+use Rattle.sides.specs.declared.side.Side.TheVariants.{A, B}
 use Rattle.link_model.specs.declared.flight.Flight.{Flight}
 use Rattle.link_model.specs.Laws.{going_to}
 use Rattle.link_model.specs.Steps.{due_of}

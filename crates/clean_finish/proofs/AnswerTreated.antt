@@ -1,7 +1,7 @@
 -- The steps in which A treats the SYN/ACK, but for its answer: B's window is told, its key is kept, and the path lives.
 use Rattle.std.proofs.Common.{◌≡◌, refl, sym, subst, ap, ◌∙◌, ℕ, ◌+◌, ◌≤◌, min, max, nat_lt, Bool, true, false, ◌||◌, inl, inr, Option, Some, List, ◌∷◌, arith}
 use Rattle.std.proofs.lemmas.Bool.{both_ways, le-ltb}
-use Rattle.outside_kit.specs.declared.side.Side.TheVariants.{A, B}
+use Rattle.sides.specs.declared.side.Side.TheVariants.{A, B}
 use Rattle.subflow_tcp.specs.declared.handshake.State.{State}
 use Rattle.actor_desk.specs.Desk.{SixBooks, reply_of, after_ask}
 use Rattle.stream_apps.specs.Apps.{AppState}

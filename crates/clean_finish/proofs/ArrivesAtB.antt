@@ -1,6 +1,6 @@
 -- A copy arrives at B: both lanes at its tick, as B sees them, and the segment that it carries.
 use Rattle.std.proofs.Common.{◌≡◌, refl, sym, subst, ap, ◌∙◌, ℕ, ◌+◌, ◌<◌, ◌≤◌, max, false, inl, Option, List, [], ◌∷◌, ◌++◌, map, arith}
-use Rattle.outside_kit.specs.declared.side.Side.TheVariants.{A, B}
+use Rattle.sides.specs.declared.side.Side.TheVariants.{A, B}
 use Rattle.link_model.specs.declared.flight.Flight.{Flight}
 use Rattle.link_model.specs.Laws.{going_to}
 use Rattle.link_model.specs.Steps.{due_of}

@@ -1,7 +1,7 @@
 -- The book is asked what is acknowledged, and for the window, as a turn begins.
 use Rattle.std.proofs.Common.{◌≡◌, refl, ap, ℕ, ◌+◌, ◌-◌, ◌≤◌, min, false, ◌⊎◌, inl, inr, List, ◌∷◌, arith}
-use Rattle.outside_kit.specs.declared.side.Side.{Side}
-use Rattle.outside_kit.specs.Side.{peer}
+use Rattle.sides.specs.declared.side.Side.{Side}
+use Rattle.sides.specs.Side.{peer}
 use Rattle.path_segments.specs.Laws.{window_told}
 use Rattle.reassembly_book.specs.declared.call.ReassemblyReply.TheVariants as reassembly_replies
 use Rattle.reassembly_book.specs.Steps.{next_wanted, window}

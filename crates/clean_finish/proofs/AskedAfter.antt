@@ -1,9 +1,9 @@
 -- The book is asked what is acknowledged, after what a copy brought.
 use Rattle.std.proofs.Common.{◌≡◌, refl, ap, ℕ, ◌+◌, ◌≤◌, Bool, false, inl, inr, ⊎_elim, List, ◌∷◌}
 use Rattle.std.proofs.lemmas.Bool.{both_ways}
-use Rattle.outside_kit.specs.declared.side.Side.{Side}
-use Rattle.outside_kit.specs.declared.side.Side.TheVariants.{A}
-use Rattle.outside_kit.specs.Side.{peer}
+use Rattle.sides.specs.declared.side.Side.{Side}
+use Rattle.sides.specs.declared.side.Side.TheVariants.{A}
+use Rattle.sides.specs.Side.{peer}
 use Rattle.path_segments.specs.Laws.{window_told}
 use Rattle.reassembly_book.specs.declared.call.ReassemblyReply.TheVariants as reassembly_replies
 use Rattle.reassembly_book.specs.Steps.{next_wanted, window}

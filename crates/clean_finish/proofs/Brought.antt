@@ -1,7 +1,7 @@
 -- What a segment in hand brings is taken by its lane: keys, bytes, a DATA_FIN or a FIN.
 use Rattle.std.proofs.Common.{◌≡◌, refl, sym, subst, ap, ◌∙◌, ℕ, ◌+◌, ◌<◌, ◌≤◌, Bool, true, false, ◌||◌, ◌⊎◌, inl, inr, Option, Some, List, ◌∷◌, ◌++◌, length, map, arith}
-use Rattle.outside_kit.specs.declared.side.Side.{Side}
-use Rattle.outside_kit.specs.Side.{peer}
+use Rattle.sides.specs.declared.side.Side.{Side}
+use Rattle.sides.specs.Side.{peer}
 use Rattle.reassembly_book.specs.State.{Arriving, filled}
 use Rattle.subflow_recv.specs.Receiving.{Receiving as SubflowReceiving}
 use Rattle.subflow_tcp.specs.declared.handshake.State.{State}

@@ -1,7 +1,7 @@
 -- A hears its first DSS: from then on it may use it.
 use Rattle.std.proofs.Common.{◌≡◌, refl, sym, ap, ◌∙◌, ℕ, ◌≤◌, min, Bool, true, false, ◌||◌, inl, inr, Option, Some, None, List, ◌∷◌, arith}
 use Rattle.std.proofs.lemmas.List.Elements.{All-weaker}
-use Rattle.outside_kit.specs.declared.side.Side.TheVariants.{A, B}
+use Rattle.sides.specs.declared.side.Side.TheVariants.{A, B}
 use Rattle.subflow_send.specs.Records.{Record}
 use Rattle.path_agenda.specs.declared.duty.Duty.{Duty}
 use Rattle.path_rules.specs.Ends.{PathEnd}

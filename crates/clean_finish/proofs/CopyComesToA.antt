@@ -1,6 +1,6 @@
 -- The step in which a copy that is no SYN arrives at A.
 use Rattle.std.proofs.Common.{◌≡◌, refl, sym, subst, ap, ℕ, ◌<◌, ◌≤◌, min, false, None, List, [], ◌∷◌, length}
-use Rattle.outside_kit.specs.declared.side.Side.TheVariants.{A, B}
+use Rattle.sides.specs.declared.side.Side.TheVariants.{A, B}
 use Rattle.dss_mapping.specs.declared.kept.KeptMapping.{KeptMapping}
 use Rattle.link_model.specs.declared.flight.Flight.{Flight}
 use Rattle.link_model.specs.Laws.{going_to}

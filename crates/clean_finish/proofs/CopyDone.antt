@@ -1,8 +1,8 @@
 -- A copy that needs no acknowledgement is done with.
 use Rattle.std.proofs.Common.{◌≡◌, refl, subst, ap, ℕ, ◌≤◌, Bool, false, inl, inr, ⊎_elim, Option, None, List, ◌∷◌}
 use Rattle.std.proofs.lemmas.Bool.{both_ways}
-use Rattle.outside_kit.specs.declared.side.Side.{Side}
-use Rattle.outside_kit.specs.Side.{peer}
+use Rattle.sides.specs.declared.side.Side.{Side}
+use Rattle.sides.specs.Side.{peer}
 use Rattle.path_agenda.specs.declared.duty.Duty.{Duty}
 use Rattle.path_agenda.specs.declared.duty.Duty.TheVariants as duties
 use Rattle.path_agenda.specs.declared.duty.SendDuty.TheVariants as send_duties

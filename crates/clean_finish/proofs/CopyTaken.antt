@@ -1,7 +1,7 @@
 -- A copy is taken on a path of which no line speaks: the segment is heard as it was meant, by the end that it goes to.
 use Rattle.std.proofs.Common.{◌≡◌, sym, subst, ap, ◌∙◌, ℕ, max, Bool, false, if◌then◌else◌, Option, Some, List, [], ◌∷◌, length}
-use Rattle.outside_kit.specs.declared.side.Side.{Side}
-use Rattle.outside_kit.specs.declared.side.Side.TheVariants.{A, B}
+use Rattle.sides.specs.declared.side.Side.{Side}
+use Rattle.sides.specs.declared.side.Side.TheVariants.{A, B}
 use Rattle.link_model.specs.declared.flight.Flight.{Flight}
 use Rattle.link_model.specs.State.{LinkState}
 use Rattle.link_model.specs.Steps.{due_of, arriving}

@@ -4,7 +4,7 @@ use Rattle.std.specs.List.{list_any}
 use Rattle.std.proofs.lemmas.Bool.{cases_lt, lt-ltb, le-ltb, ltb-false}
 use Rattle.std.proofs.lemmas.List.Elements.{All-nil, All-cons, All-head, All-tail}
 use Rattle.subflow_tcp.specs.Segments.{one_if}
-use Rattle.outside_kit.specs.declared.side.Side.{Side}
+use Rattle.sides.specs.declared.side.Side.{Side}
 use Rattle.send_book.specs.Steps.{is_future, fin_after, after_ack}
 use Rattle.subflow_send.specs.Records.{Record}
 use Rattle.path_agenda.specs.declared.duty.Duty.{Duty}

@@ -1,7 +1,7 @@
 -- Nothing changes where a duty more stands ahead.
 use Rattle.std.proofs.Common.{ℕ, ◌≤◌, Bool, ◌⊎◌, inl, inr, ⊎_elim, List, ◌∷◌}
-use Rattle.outside_kit.specs.declared.side.Side.{Side}
-use Rattle.outside_kit.specs.Side.{peer}
+use Rattle.sides.specs.declared.side.Side.{Side}
+use Rattle.sides.specs.Side.{peer}
 use Rattle.path_agenda.specs.declared.duty.Duty.{Duty}
 use Rattle.path_rules.specs.Ends.{PathEnd}
 use Rattle.path_rules.specs.State.{Profile}

@@ -1,7 +1,7 @@
 -- The steps in which the bytes of a copy are placed, or none is left to be placed.
 use Rattle.std.proofs.Common.{◌≡◌, refl, sym, subst, ap, ◌∙◌, ℕ, ◌+◌, ◌-◌, ◌≤◌, min, max, nat_lt, Bool, true, false, ◌&&◌, if◌then◌else◌, is_some, inl, inr, ⊎_elim, Option, Some, None, List, [], ◌∷◌, length, drop, map, arith}
 use Rattle.std.proofs.lemmas.Bool.{both_ways, le-ltb, ne_eqb}
-use Rattle.outside_kit.specs.declared.side.Side.TheVariants.{A, B}
+use Rattle.sides.specs.declared.side.Side.TheVariants.{A, B}
 use Rattle.dss_mapping.specs.declared.kept.KeptMapping.{KeptMapping}
 use Rattle.dss_mapping.specs.Mappings.{mapping_at}
 use Rattle.reassembly_book.specs.declared.call.ReassemblyCall.TheVariants as reassembly_calls

@@ -2,8 +2,8 @@
 use Rattle.std.proofs.Common.{◌≡◌, refl, sym, subst, ap, ◌∙◌, ℕ, suc, ◌+◌, ◌≤◌, min, max, nat_le, nat_lt, Bool, true, false, not, ◌&&◌, if◌then◌else◌, is_some, is_none, inl, inr, ⊎_elim, Option, Some, None, List, ◌∷◌, arith}
 use Rattle.std.proofs.lemmas.Bool.{both_ways}
 use Rattle.control_book.specs.Replies.{is_sure}
-use Rattle.outside_kit.specs.declared.side.Side.{Side}
-use Rattle.outside_kit.specs.declared.side.Side.TheVariants.{A, B}
+use Rattle.sides.specs.declared.side.Side.{Side}
+use Rattle.sides.specs.declared.side.Side.TheVariants.{A, B}
 use Rattle.reassembly_book.specs.declared.call.ReassemblyCall.TheVariants as reassembly_calls
 use Rattle.reassembly_book.specs.Steps.{fin_reply_by}
 use Rattle.subflow_tcp.specs.Judging.{is_at}

@@ -1,6 +1,6 @@
 -- The path lives for the control book.
 use Rattle.std.proofs.Common.{◌≡◌, ap, ◌∙◌, ℕ, Bool, false, List, ◌∷◌}
-use Rattle.outside_kit.specs.declared.side.Side.{Side}
+use Rattle.sides.specs.declared.side.Side.{Side}
 use Rattle.control_book.specs.declared.registry.PathState.{PathState as RegistryPath}
 use Rattle.control_book.specs.declared.registry.Phase.TheVariants.{Living}
 use Rattle.control_book.specs.Control.{Control}

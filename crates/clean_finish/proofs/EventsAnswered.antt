@@ -1,8 +1,8 @@
 -- The next event of a turn is answered: the copy that is first on its way arrives.
 use Rattle.std.proofs.Common.{◌≡◌, refl, sym, subst, ap, ◌∙◌, ℕ, ◌<◌, Bool, true, false, is_some, Option, Some, None, List, [], ◌∷◌}
 use Rattle.std.proofs.lemmas.Bool.{both_ways}
-use Rattle.outside_kit.specs.declared.side.Side.{Side}
-use Rattle.outside_kit.specs.declared.side.Side.TheVariants.{A, B}
+use Rattle.sides.specs.declared.side.Side.{Side}
+use Rattle.sides.specs.declared.side.Side.TheVariants.{A, B}
 use Rattle.link_model.specs.declared.flight.Flight.{Flight}
 use Rattle.link_model.specs.Steps.{due_of}
 use Rattle.actor_desk.specs.Desk.{SixBooks, reply_of, after_ask}

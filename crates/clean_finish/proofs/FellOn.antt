@@ -1,6 +1,6 @@
 -- A mapping or a Data ACK is told to the control book, which may be sure of Multipath TCP from then on.
 use Rattle.std.proofs.Common.{◌≡◌, refl, Bool, true, false, if◌then◌else◌}
-use Rattle.outside_kit.specs.declared.side.Side.{Side}
+use Rattle.sides.specs.declared.side.Side.{Side}
 use Rattle.control_book.specs.declared.call.ControlReply.TheVariants as control_replies
 use Rattle.control_book.specs.Control.{Control}
 use Rattle.fallback_state.specs.declared.fall.Fall.{Fall}

@@ -1,7 +1,7 @@
 -- The steps in which an end sends its FIN.
 use Rattle.std.proofs.Common.{◌≡◌, refl, sym, subst, ap, ℕ, ◌+◌, ◌≤◌, max, true, List, ◌∷◌, arith}
-use Rattle.outside_kit.specs.declared.side.Side.{Side}
-use Rattle.outside_kit.specs.declared.side.Side.TheVariants.{A, B}
+use Rattle.sides.specs.declared.side.Side.{Side}
+use Rattle.sides.specs.declared.side.Side.TheVariants.{A, B}
 use Rattle.link_model.specs.Laws.{plain_flight, going_to}
 use Rattle.link_model.specs.Steps.{after_send}
 use Rattle.path_segments.specs.Spelled.{PlainSegment}

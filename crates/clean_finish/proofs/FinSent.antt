@@ -1,9 +1,9 @@
 -- An end sends its FIN, once its DATA_FIN is acknowledged and the peer's came.
 use Rattle.std.proofs.Common.{◌≡◌, refl, sym, subst, ap, ◌∙◌, ℕ, ◌+◌, ◌-◌, ◌<◌, ◌≤◌, min, max, Bool, true, false, not, if◌then◌else◌, ◌&&◌, ⊎_elim, Option, None, List, [], ◌∷◌, ◌++◌, le_refl, arith}
 use Rattle.std.proofs.lemmas.Bool.{both_ways, and_parts, ltb-true, ltb-false}
-use Rattle.outside_kit.specs.declared.side.Side.{Side}
-use Rattle.outside_kit.specs.declared.side.Side.TheVariants.{A}
-use Rattle.outside_kit.specs.Side.{peer}
+use Rattle.sides.specs.declared.side.Side.{Side}
+use Rattle.sides.specs.declared.side.Side.TheVariants.{A}
+use Rattle.sides.specs.Side.{peer}
 use Rattle.link_model.specs.declared.flight.Flight.{Flight}
 use Rattle.subflow_tcp.specs.States.{may_finish}
 use Rattle.path_agenda.specs.declared.duty.Duty.{Duty}

@@ -1,8 +1,8 @@
 -- The peer's DATA_FIN is told to the reassembly book.
 use Rattle.std.proofs.Common.{◌≡◌, refl, sym, subst, ap, ◌∙◌, ℕ, suc, ◌+◌, ◌<◌, ◌≤◌, max, Bool, true, false, if◌then◌else◌, is_some, inl, inr, Option, Some, None, List, [], ◌∷◌, ◌++◌, length, map, arith}
 use Rattle.std.proofs.lemmas.Bool.{both_ways, le-ltb}
-use Rattle.outside_kit.specs.declared.side.Side.{Side}
-use Rattle.outside_kit.specs.declared.side.Side.TheVariants.{B}
+use Rattle.sides.specs.declared.side.Side.{Side}
+use Rattle.sides.specs.declared.side.Side.TheVariants.{B}
 use Rattle.reassembly_book.specs.State.{Arriving, filled, top}
 use Rattle.reassembly_book.specs.Steps.{fin_clash, after_fin}
 use Rattle.path_agenda.specs.declared.duty.Duty.{Duty}

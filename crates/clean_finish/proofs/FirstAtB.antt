@@ -1,7 +1,7 @@
 -- B treats the first thing that a copy says: a DSS, or A's keys.
 use Rattle.std.proofs.Common.{◌≡◌, refl, sym, subst, ap, ◌∙◌, ℕ, ◌-◌, not, Bool, true, false, ◌⊎◌, inl, inr, ⊎_elim, Option, Some, List, ◌∷◌}
 use Rattle.std.proofs.lemmas.Bool.{both_ways}
-use Rattle.outside_kit.specs.declared.side.Side.TheVariants.{B}
+use Rattle.sides.specs.declared.side.Side.TheVariants.{B}
 use Rattle.path_segments.specs.Laws.{window_told}
 use Rattle.actor_desk.specs.Desk.{SixBooks, reply_of, after_ask}
 use Rattle.stream_apps.specs.Apps.{AppState}

@@ -1,7 +1,7 @@
 -- A sends its first bytes before it heard a DSS: they show both keys again (RFC 8684, section 3.1).
 use Rattle.std.proofs.Common.{◌≡◌, refl, sym, subst, ap, ℕ, ◌+◌, ◌-◌, ◌<◌, ◌≤◌, min, max, true, false, inl, inr, Option, Some, None, List, [], ◌∷◌, ◌++◌, length, le_refl, arith}
 use Rattle.std.proofs.lemmas.Bool.{both_ways}
-use Rattle.outside_kit.specs.declared.side.Side.TheVariants.{A, B}
+use Rattle.sides.specs.declared.side.Side.TheVariants.{A, B}
 use Rattle.link_model.specs.declared.flight.Flight.{Flight}
 use Rattle.path_segments.specs.Laws.{window_told}
 use Rattle.subflow_send.specs.declared.record.RecordKind.TheVariants.{Data}

@@ -1,7 +1,7 @@
 -- A segment from its arrival on: it comes into the hand of an end, is taken by the lane of what it brings and by that of what
 -- it acknowledges, and is done with.
 use Rattle.std.proofs.Common.{◌≡◌, refl, sym, subst, ap, ◌∙◌, ℕ, ◌+◌, ◌≤◌, Bool, true, false, Option, Some, None, List, [], ◌∷◌, ◌++◌, length, map, arith}
-use Rattle.outside_kit.specs.declared.side.Side.{Side}
+use Rattle.sides.specs.declared.side.Side.{Side}
 use Rattle.link_model.specs.declared.flight.Flight.{Flight}
 use Rattle.path_rules.specs.State.{Profile}
 use Rattle.path_rules.specs.Values.{Carried}

@@ -1,6 +1,6 @@
 -- The step in which a copy's Data ACK is told to the send book.
 use Rattle.std.proofs.Common.{◌≡◌, refl, sym, subst, ◌∙◌, ℕ, ◌-◌, min, nat_lt, Bool, true, false, if◌then◌else◌, Option, Some, List, ◌∷◌, length}
-use Rattle.outside_kit.specs.declared.side.Side.TheVariants.{A, B}
+use Rattle.sides.specs.declared.side.Side.TheVariants.{A, B}
 use Rattle.path_segments.specs.Laws.{window_told}
 use Rattle.send_book.specs.declared.call.SendCall.TheVariants as send_calls
 use Rattle.send_book.specs.declared.call.SendReply.TheVariants.{Acked, AckFuture}

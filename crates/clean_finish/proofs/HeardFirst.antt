@@ -1,8 +1,8 @@
 -- The steps in which what a copy says is heard, up to its first thing.
 use Rattle.std.proofs.Common.{◌≡◌, refl, sym, subst, ap, ◌∙◌, ℕ, ◌-◌, ◌≤◌, min, Bool, true, false, not, ◌&&◌, ◌||◌, is_some, inr, ⊎_elim, Option, Some, List, ◌∷◌, arith}
 use Rattle.std.proofs.lemmas.Bool.{both_ways}
-use Rattle.outside_kit.specs.declared.side.Side.{Side}
-use Rattle.outside_kit.specs.declared.side.Side.TheVariants.{A, B}
+use Rattle.sides.specs.declared.side.Side.{Side}
+use Rattle.sides.specs.declared.side.Side.TheVariants.{A, B}
 use Rattle.fallback_state.specs.Modes.{is_starting}
 use Rattle.actor_desk.specs.Desk.{SixBooks, after_ask}
 use Rattle.stream_apps.specs.Apps.{AppState}

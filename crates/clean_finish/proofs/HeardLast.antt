@@ -1,7 +1,7 @@
 -- The steps in which the third thing of a copy is heard: the mapping of its bytes, or its DATA_FIN.
 use Rattle.std.proofs.Common.{◌≡◌, refl, sym, subst, ℕ, ◌≤◌, true, false, Option, Some, List, ◌∷◌, length, arith}
 use Rattle.std.proofs.lemmas.Bool.{both_ways}
-use Rattle.outside_kit.specs.declared.side.Side.TheVariants.{A, B}
+use Rattle.sides.specs.declared.side.Side.TheVariants.{A, B}
 use Rattle.dss_mapping.specs.Mappings.{Mappings}
 use Rattle.path_segments.specs.Laws.{window_told}
 use Rattle.actor_desk.specs.Desk.{SixBooks, after_ask, reply_of}

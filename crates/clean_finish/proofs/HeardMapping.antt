@@ -1,6 +1,6 @@
 -- The steps in which a copy's mapping or its DATA_FIN is told to the control book, or passed.
 use Rattle.std.proofs.Common.{◌≡◌, refl, sym, subst, ℕ, ◌≤◌, true, false, List, [], ◌∷◌, length}
-use Rattle.outside_kit.specs.declared.side.Side.TheVariants.{A, B}
+use Rattle.sides.specs.declared.side.Side.TheVariants.{A, B}
 use Rattle.dss_mapping.specs.Mappings.{Mappings}
 use Rattle.fallback_state.specs.declared.fall.Event.TheVariants as events
 use Rattle.fallback_state.specs.Table.{after_sure_sign}

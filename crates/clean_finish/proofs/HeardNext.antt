@@ -1,8 +1,8 @@
 -- What is treated next of a copy, once so much of it was heard.
 use Rattle.std.proofs.Common.{◌≡◌, refl, ap, ◌∙◌, ℕ, zero, suc, ◌+◌, ◌-◌, ◌≤◌, if◌then◌else◌, Bool, true, false, inr, Option, Some, None, List, [], arith}
 use Rattle.std.proofs.lemmas.Bool.{both_ways}
-use Rattle.outside_kit.specs.declared.side.Side.{Side}
-use Rattle.outside_kit.specs.Side.{peer}
+use Rattle.sides.specs.declared.side.Side.{Side}
+use Rattle.sides.specs.Side.{peer}
 use Rattle.dss_mapping.specs.Mappings.{Mappings}
 use Rattle.actor_desk.specs.Words.{pick}
 use Rattle.path_agenda.specs.Agenda.{emission, heard_and, payload_came}

@@ -1,8 +1,8 @@
 -- What is passed of a copy behind all that it says: it has a Data ACK or none is new, and its payload is kept.
 use Rattle.std.proofs.Common.{◌≡◌, refl, sym, subst, ap, ◌∙◌, ℕ, ◌+◌, ◌-◌, ◌≤◌, nat_lt, nat_le, unwrap_or, Bool, true, false, not, ◌&&◌, ◌||◌, if◌then◌else◌, is_some, ◌⊎◌, inl, inr, Option, Some, None, List, [], ◌∷◌, length, map, arith}
 use Rattle.std.proofs.lemmas.Bool.{both_ways, le-ltb}
-use Rattle.outside_kit.specs.declared.side.Side.{Side}
-use Rattle.outside_kit.specs.declared.side.Side.TheVariants.{A, B}
+use Rattle.sides.specs.declared.side.Side.{Side}
+use Rattle.sides.specs.declared.side.Side.TheVariants.{A, B}
 use Rattle.control_book.specs.Replies.{is_sure}
 use Rattle.fallback_state.specs.Modes.{is_starting}
 use Rattle.subflow_recv.specs.Receiving.{Receiving, after_keep_held, without_held}

@@ -2,7 +2,7 @@
 use Rattle.std.proofs.Common.{◌≡◌, refl, sym, subst, ap, ℕ, ◌+◌, ◌==◌, ◌<◌, ◌≤◌, min, max, nat_lt, eq-eqb, Bool, true, false, if◌then◌else◌, Option, Some, None, List, ◌∷◌, ◌++◌, le_refl, arith}
 use Rattle.std.proofs.lemmas.Bool.{both_ways, le-ltb, lt-ltb}
 use Rattle.subflow_tcp.specs.Segments.{one_if}
-use Rattle.outside_kit.specs.declared.side.Side.TheVariants.{A, B}
+use Rattle.sides.specs.declared.side.Side.TheVariants.{A, B}
 use Rattle.control_book.specs.Steps.{after_keys as keys_in_book}
 use Rattle.control_book.specs.declared.call.ControlCall.TheVariants as control_calls
 use Rattle.control_book.specs.declared.call.ControlReply.TheVariants as control_replies

@@ -1,6 +1,6 @@
 -- An end in no fallback: mappings, Data ACKs and DATA_FINs count both ways, and no acknowledgement tells a failed check.
 use Rattle.std.proofs.Common.{◌≡◌, refl, ap, ◌∙◌, ℕ, ◌||◌, Bool, true, false, if◌then◌else◌, is_some, Option, Some, None, List, [], ◌∷◌}
-use Rattle.outside_kit.specs.declared.side.Side.{Side}
+use Rattle.sides.specs.declared.side.Side.{Side}
 use Rattle.path_segments.specs.Options.{PlainOption}
 use Rattle.path_segments.specs.declared.segment.PathOption.TheVariants.{Dss}
 use Rattle.subflow_tcp.specs.Emitting.{ack_at}

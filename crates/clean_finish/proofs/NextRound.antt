@@ -1,8 +1,8 @@
 -- Where each turn is over, the relation holds as the next round begins.
 use Rattle.std.proofs.Common.{◌≡◌, refl, subst, ap, ℕ, ◌+◌, ◌≤◌, min, ◌⊎◌, inl, inr, List, [], map, arith}
 use Rattle.std.proofs.lemmas.Bool.{both_ways}
-use Rattle.outside_kit.specs.declared.side.Side.{Side}
-use Rattle.outside_kit.specs.declared.side.Side.TheVariants.{A, B}
+use Rattle.sides.specs.declared.side.Side.{Side}
+use Rattle.sides.specs.declared.side.Side.TheVariants.{A, B}
 use Rattle.link_model.specs.Laws.{going_to}
 use Rattle.link_model.specs.Steps.{next_number}
 use Rattle.actor_desk.specs.Books.{books_in}

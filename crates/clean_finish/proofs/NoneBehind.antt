@@ -1,7 +1,7 @@
 -- No byte comes behind a FIN.
 use Rattle.std.proofs.Common.{◌≡◌, subst, ap, ◌∙◌, ℕ, ◌+◌, ◌<◌, ◌≤◌, min, true, ◌⊎◌, inl, inr, Option, List, ◌∷◌, ◌++◌, length, map, arith, Bool}
 use Rattle.std.proofs.lemmas.Bool.{cases_lt}
-use Rattle.outside_kit.specs.declared.side.Side.{Side}
+use Rattle.sides.specs.declared.side.Side.{Side}
 use Rattle.path_agenda.specs.declared.duty.Duty.{Duty}
 use Rattle.path_rules.specs.State.{Profile}
 use Rattle.pace.specs.Lane.{Setting, Copy, Lane, all_left}

@@ -1,8 +1,8 @@
 -- B's SYN is acknowledged by the third segment, whose keys are told to the control book.
 use Rattle.std.proofs.Common.{◌≡◌, refl, sym, subst, ap, ◌∙◌, ℕ, ◌==◌, ◌<◌, ◌≤◌, min, eq-eqb, Bool, true, false, not, ◌&&◌, ◌||◌, if◌then◌else◌, is_some, inr, Option, Some, List, ◌∷◌, ◌++◌, le_refl, arith}
 use Rattle.std.proofs.lemmas.Bool.{both_ways}
-use Rattle.outside_kit.specs.declared.side.Side.{Side}
-use Rattle.outside_kit.specs.declared.side.Side.TheVariants.{A, B}
+use Rattle.sides.specs.declared.side.Side.{Side}
+use Rattle.sides.specs.declared.side.Side.TheVariants.{A, B}
 use Rattle.control_book.specs.declared.call.ControlCall.TheVariants as control_calls
 use Rattle.control_book.specs.declared.call.ControlReply.TheVariants as control_replies
 use Rattle.fallback_state.specs.Modes.{is_starting}

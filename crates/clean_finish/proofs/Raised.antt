@@ -1,7 +1,7 @@
 -- A stage goes back to all that follows an event: bytes and a DATA_FIN may be sent, and segments may arrive.
 use Rattle.std.proofs.Common.{refl, Bool, true, inr, List}
 use Rattle.std.proofs.lemmas.Bool.{both_ways}
-use Rattle.outside_kit.specs.declared.side.Side.{Side}
+use Rattle.sides.specs.declared.side.Side.{Side}
 use Rattle.path_agenda.specs.declared.duty.Duty.{Duty}
 use Rattle.path_agenda.specs.declared.duty.Duty.TheVariants as duties
 use Rattle.path_agenda.specs.declared.duty.SendDuty.TheVariants as send_duties

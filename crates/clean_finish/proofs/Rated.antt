@@ -1,8 +1,8 @@
 -- The congestion window grows by what the control book answers of all paths.
 use Rattle.std.proofs.Common.{◌≡◌, refl, sym, subst, ap, ◌∙◌, ℕ, ◌+◌, ◌≤◌, false, Option, Some, None, IfSome, inl, List, ◌∷◌, arith}
 use Rattle.linked_increase.specs.Places.{row_of}
-use Rattle.outside_kit.specs.declared.side.Side.{Side}
-use Rattle.outside_kit.specs.Side.{peer}
+use Rattle.sides.specs.declared.side.Side.{Side}
+use Rattle.sides.specs.Side.{peer}
 use Rattle.control_book.specs.declared.registry.PathState.{PathState as RegistryPath}
 use Rattle.control_book.specs.Control.{Control}
 use Rattle.control_book.specs.Registry.{with_row}

@@ -1,7 +1,7 @@
 -- Where each turn is over, both lanes have gone through a whole round.
 use Rattle.std.proofs.Common.{◌≡◌, subst, ap, ◌∙◌, Bool, false, not, ◌⊎◌, ⊎_elim, List, []}
-use Rattle.outside_kit.specs.declared.side.Side.{Side}
-use Rattle.outside_kit.specs.declared.side.Side.TheVariants.{A, B}
+use Rattle.sides.specs.declared.side.Side.{Side}
+use Rattle.sides.specs.declared.side.Side.TheVariants.{A, B}
 use Rattle.stream_apps.specs.declared.duty.AppDuty.{AppDuty}
 use Rattle.path_agenda.specs.declared.duty.Duty.{Duty}
 use Rattle.path_rules.specs.Values.{Carried}

@@ -1,7 +1,7 @@
 -- A Data ACK that covers something is told to the control book, which is sure of Multipath TCP from then on.
 use Rattle.std.proofs.Common.{refl, sym, subst, ℕ, Bool, List, ◌∷◌}
-use Rattle.outside_kit.specs.declared.side.Side.{Side}
-use Rattle.outside_kit.specs.declared.side.Side.TheVariants.{A, B}
+use Rattle.sides.specs.declared.side.Side.{Side}
+use Rattle.sides.specs.declared.side.Side.TheVariants.{A, B}
 use Rattle.fallback_state.specs.Table.{after_sure_sign}
 use Rattle.fallback_state.specs.declared.fall.Event.TheVariants as events
 use Rattle.actor_desk.specs.Desk.{SixBooks, reply_of, after_ask}

@@ -1,8 +1,8 @@
 -- The steps in which B treats A's SYN: its window is told, and the SYN/ACK goes.
 use Rattle.std.proofs.Common.{◌≡◌, refl, sym, subst, ap, ℕ, ◌+◌, ◌<◌, ◌≤◌, min, max, nat_lt, Bool, true, false, inl, inr, ⊎_elim, List, [], ◌∷◌, arith}
 use Rattle.std.proofs.lemmas.Bool.{le-ltb}
-use Rattle.outside_kit.specs.declared.side.Side.{Side}
-use Rattle.outside_kit.specs.declared.side.Side.TheVariants.{A, B}
+use Rattle.sides.specs.declared.side.Side.{Side}
+use Rattle.sides.specs.declared.side.Side.TheVariants.{A, B}
 use Rattle.link_model.specs.Laws.{plain_flight, going_to}
 use Rattle.link_model.specs.Steps.{after_send}
 use Rattle.path_segments.specs.Spelled.{PlainSegment}

@@ -1,8 +1,8 @@
 -- The step in which A sends its SYN.
 use Rattle.std.proofs.Common.{◌≡◌, refl, sym, subst, ap, ◌∙◌, ℕ, ◌+◌, ◌≤◌, max, true, false, is_some, inl, inr, ⊎_elim, Some, List, [], ◌∷◌, find, arith}
 use Rattle.std.proofs.lemmas.Bool.{both_ways, and_parts}
-use Rattle.outside_kit.specs.declared.side.Side.{Side}
-use Rattle.outside_kit.specs.declared.side.Side.TheVariants.{A, B}
+use Rattle.sides.specs.declared.side.Side.{Side}
+use Rattle.sides.specs.declared.side.Side.TheVariants.{A, B}
 use Rattle.link_model.specs.Laws.{plain_flight, going_to}
 use Rattle.link_model.specs.Steps.{after_send}
 use Rattle.path_segments.specs.Spelled.{PlainSegment}

@@ -1,6 +1,6 @@
 -- The SYN arrives at B, as B sees it: the end, and both lanes.
 use Rattle.std.proofs.Common.{◌≡◌, refl, subst, ap, ◌∙◌, ℕ, zero, suc, ◌+◌, ◌-◌, ◌≤◌, min, max, true, false, Option, Some, None, List, [], arith}
-use Rattle.outside_kit.specs.declared.side.Side.TheVariants.{A, B}
+use Rattle.sides.specs.declared.side.Side.TheVariants.{A, B}
 use Rattle.dss_mapping.specs.declared.kept.KeptMapping.{KeptMapping}
 use Rattle.path_segments.specs.Laws.{meant}
 use Rattle.subflow_tcp.specs.declared.handshake.State.TheVariants.{Listen}

@@ -1,9 +1,9 @@
 -- A SYN that was sent isn't sent again, and B's goes out by its answer; and the turn of a path ends.
 use Rattle.std.proofs.Common.{◌≡◌, refl, subst, ap, ◌∙◌, ℕ, ◌≤◌, Bool, true, false, ◌&&◌, is_some, ◌⊎◌, inl, inr, ⊎_elim, List, [], ◌∷◌, find, arith}
 use Rattle.std.proofs.lemmas.Bool.{both_ways, cases_lt}
-use Rattle.outside_kit.specs.declared.side.Side.{Side}
-use Rattle.outside_kit.specs.declared.side.Side.TheVariants.{A, B}
-use Rattle.outside_kit.specs.Side.{peer}
+use Rattle.sides.specs.declared.side.Side.{Side}
+use Rattle.sides.specs.declared.side.Side.TheVariants.{A, B}
+use Rattle.sides.specs.Side.{peer}
 use Rattle.subflow_send.specs.Records.{Record}
 use Rattle.subflow_send.specs.Rules.{is_unsent}
 use Rattle.subflow_tcp.specs.declared.handshake.State.{State}

@@ -2,7 +2,7 @@
 use Rattle.std.proofs.Common.{◌≡◌, sym, subst, ap, ◌∙◌, ℕ, ◌+◌, ◌-◌, ◌<◌, ◌≤◌, min, max, nat_lt, Bool, true, false, cond, Option, None, List, ◌∷◌, arith}
 use Rattle.std.proofs.lemmas.Bool.{le-ltb}
 use Rattle.std.proofs.lemmas.List.Elements.{All-weaker}
-use Rattle.outside_kit.specs.declared.side.Side.{Side}
+use Rattle.sides.specs.declared.side.Side.{Side}
 use Rattle.subflow_send.specs.Records.{Record}
 use Rattle.path_agenda.specs.declared.duty.Duty.{Duty}
 use Rattle.path_rules.specs.State.{Profile}

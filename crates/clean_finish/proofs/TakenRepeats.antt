@@ -1,8 +1,8 @@
 -- What a copy that is taken tells, as the subflow compares it with the one before.
 use Rattle.std.proofs.Common.{◌≡◌, refl, sym, subst, ap, ◌∙◌, ℕ, ◌+◌, ◌-◌, ◌^◌, ◌==◌, ◌≤◌, nat_lt, Bool, true, false, not, ◌&&◌, if◌then◌else◌, ⊎_elim, Option, Some, None, IfSome, List, [], ◌∷◌, ◌++◌, length, arith}
 use Rattle.std.proofs.lemmas.Bool.{both_ways, cases_lt, and_parts, eqb-true, eq-eqb}
-use Rattle.outside_kit.specs.declared.side.Side.{Side}
-use Rattle.outside_kit.specs.declared.side.Side.TheVariants.{A, B}
+use Rattle.sides.specs.declared.side.Side.{Side}
+use Rattle.sides.specs.declared.side.Side.TheVariants.{A, B}
 use Rattle.loss_recovery.specs.declared.windows.Told.{Told}
 use Rattle.loss_recovery.specs.Windows.{is_same_place, is_same_told}
 use Rattle.path_segments.specs.Laws.{meant, window_told}

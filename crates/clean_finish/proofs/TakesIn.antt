@@ -2,9 +2,9 @@
 use Rattle.std.proofs.Common.{◌≡◌, sym, subst, ap, ◌∙◌, ℕ, ◌+◌, ◌-◌, ◌≤◌, min, max, true, false, inr, Option, List, ◌∷◌, ◌++◌, length, arith}
 use Rattle.std.proofs.lemmas.Bool.{both_ways}
 use Rattle.subflow_tcp.specs.Segments.{one_if}
-use Rattle.outside_kit.specs.declared.side.Side.{Side}
-use Rattle.outside_kit.specs.declared.side.Side.TheVariants.{B}
-use Rattle.outside_kit.specs.Side.{peer}
+use Rattle.sides.specs.declared.side.Side.{Side}
+use Rattle.sides.specs.declared.side.Side.TheVariants.{B}
+use Rattle.sides.specs.Side.{peer}
 use Rattle.data_close.specs.declared.close_state.CloseState.{CloseState}
 use Rattle.dss_mapping.specs.Mappings.{Mappings}
 use Rattle.subflow_recv.specs.Receiving.{Receiving as SubflowReceiving}

@@ -1,7 +1,7 @@
 -- B takes the third segment: A's keys, which were told before, and what it acknowledges.
 use Rattle.std.proofs.Common.{◌≡◌, refl, sym, subst, ap, ◌∙◌, ℕ, ◌+◌, ◌<◌, ◌≤◌, min, max, nat_lt, true, false, if◌then◌else◌, inl, inr, Option, Some, None, List, ◌∷◌, ◌++◌, length, le_refl, arith}
 use Rattle.std.proofs.lemmas.Bool.{both_ways, le-ltb}
-use Rattle.outside_kit.specs.declared.side.Side.TheVariants.{A, B}
+use Rattle.sides.specs.declared.side.Side.TheVariants.{A, B}
 use Rattle.send_book.specs.declared.call.SendCall.TheVariants as send_calls
 use Rattle.send_book.specs.State.{Sending as SendBook}
 use Rattle.actor_desk.specs.declared.ask.Ask.TheVariants as asks

@@ -1,6 +1,6 @@
 -- No timer runs out in the round: that of an end is the one of its lane, once it is settled.
 use Rattle.std.proofs.Common.{◌≡◌, refl, subst, ap, ◌∙◌, ℕ, ◌≤◌, Bool, false, ◌||◌, inl, inr, Option, Some, None, IfSome, [], ◌∷◌, arith}
-use Rattle.outside_kit.specs.declared.side.Side.{Side}
+use Rattle.sides.specs.declared.side.Side.{Side}
 use Rattle.path_agenda.specs.declared.duty.Duty.TheVariants as duties
 use Rattle.path_agenda.specs.declared.duty.StepDuty.TheVariants as step_duties
 use Rattle.path_rules.specs.State.{Profile}

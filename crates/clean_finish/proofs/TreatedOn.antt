@@ -1,7 +1,7 @@
 -- A duty of a copy that its lanes don't see: the payload is kept, a mapping is learned, the control book is told.
 use Rattle.std.proofs.Common.{◌≡◌, refl, sym, subst, ◌∙◌, ℕ, ◌≤◌, Bool, false, inl, Option, List, ◌∷◌}
-use Rattle.outside_kit.specs.declared.side.Side.{Side}
-use Rattle.outside_kit.specs.Side.{peer}
+use Rattle.sides.specs.declared.side.Side.{Side}
+use Rattle.sides.specs.Side.{peer}
 use Rattle.control_book.specs.Control.{Control}
 use Rattle.dss_mapping.specs.Mappings.{Mappings}
 use Rattle.subflow_recv.specs.Receiving.{Receiving as SubflowReceiving}

@@ -1,7 +1,7 @@
 -- The first steps of a turn: how the side stands, and what is to be acknowledged.
 use Rattle.std.proofs.Common.{sym, subst, ℕ, List, ◌∷◌}
-use Rattle.outside_kit.specs.declared.side.Side.{Side}
-use Rattle.outside_kit.specs.declared.side.Side.TheVariants.{A, B}
+use Rattle.sides.specs.declared.side.Side.{Side}
+use Rattle.sides.specs.declared.side.Side.TheVariants.{A, B}
 use Rattle.control_book.specs.declared.call.ControlCall.TheVariants as control_calls
 use Rattle.actor_desk.specs.declared.ask.Ask.TheVariants as asks
 use Rattle.actor_desk.specs.Desk.{SixBooks, reply_of, after_ask}

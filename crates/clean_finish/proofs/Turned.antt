@@ -1,6 +1,6 @@
 -- The world as the other side sees it, and with books that are equal.
 use Rattle.std.proofs.Common.{◌≡◌, subst}
-use Rattle.outside_kit.specs.declared.side.Side.TheVariants.{A, B}
+use Rattle.sides.specs.declared.side.Side.TheVariants.{A, B}
 use Rattle.actor_desk.specs.Desk.{SixBooks}
 use Rattle.stream_apps.specs.Apps.{AppState}
 use Rattle.path_rules.specs.State.{PathState}

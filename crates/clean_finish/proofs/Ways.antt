@@ -1,6 +1,6 @@
 -- A segment more on the way from one side.
 use Rattle.std.proofs.Common.{◌≡◌, refl, sym, subst, ap, ◌∙◌, ℕ, ◌+◌, ◌≤◌, Option, List, [], ◌∷◌, ◌++◌, length, map, arith}
-use Rattle.outside_kit.specs.declared.side.Side.{Side}
+use Rattle.sides.specs.declared.side.Side.{Side}
 use Rattle.link_model.specs.declared.flight.Flight.{Flight}
 use Rattle.path_rules.specs.State.{Profile}
 use Rattle.path_rules.specs.Values.{Carried}

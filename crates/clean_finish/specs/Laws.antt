@@ -1,6 +1,6 @@
 -- What the bound rests on.
 use Rattle.std.specs.Prelude.{ℕ, ◌≡◌, ◌+◌, ◌-◌, ◌*◌, ◌/◌, ◌≤◌, min, false, [], ◌∷◌, Some}
-use Rattle.outside_kit.specs.declared.side.Side.TheVariants.{A}
+use Rattle.sides.specs.declared.side.Side.TheVariants.{A}
 use Rattle.link_script.specs.declared.script.PathLine.{PathLine}
 use Rattle.link_script.specs.declared.script.Script.{Script}
 use Rattle.link_script.specs.declared.script.ScriptLine.TheVariants.{Drop}

@@ -1,7 +1,7 @@
 -- What a lane knows of the machine: facts about single parts of it.
 use Rattle.std.specs.Prelude.{ℕ, ◌≡◌, ◌+◌, ◌<◌, ◌≤◌, Bool, cond, ◌||◌, if◌then◌else◌, Option, Some, None, List, length, map, All, false, [], ◌∷◌}
-use Rattle.outside_kit.specs.declared.side.Side.{Side}
-use Rattle.outside_kit.specs.Side.{peer}
+use Rattle.sides.specs.declared.side.Side.{Side}
+use Rattle.sides.specs.Side.{peer}
 use Rattle.link_script.specs.Places.{same_side}
 use Rattle.link_model.specs.declared.flight.Flight.{Flight}
 use Rattle.link_model.specs.State.{LinkState}

@@ -1,9 +1,9 @@
 -- How the two lanes of a connection over one clean path show in its path and books: what the lemmas of the duties keep.
 -- `out` is the sending end of the lane on which an end sends, and `back` the receiving end of the one on which it receives.
 use Rattle.std.specs.Prelude.{ℕ, zero, suc, ◌≡◌, ◌+◌, ◌-◌, ◌<◌, ◌≤◌, ◌⊎◌, min, Bool, true, false, not, ◌||◌, nat_lt, if◌then◌else◌, Option, Some, None, IfSome, List, [], ◌∷◌, ◌++◌, length, map, All}
-use Rattle.outside_kit.specs.declared.side.Side.{Side}
-use Rattle.outside_kit.specs.declared.side.Side.TheVariants.{A, B}
-use Rattle.outside_kit.specs.Side.{peer}
+use Rattle.sides.specs.declared.side.Side.{Side}
+use Rattle.sides.specs.declared.side.Side.TheVariants.{A, B}
+use Rattle.sides.specs.Side.{peer}
 use Rattle.link_model.specs.declared.flight.Flight.{Flight}
 use Rattle.control_book.specs.declared.registry.PathState.{PathState as RegistryPath}
 use Rattle.address_manager.specs.IdSet.{lowest}

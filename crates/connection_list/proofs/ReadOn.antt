@@ -3,7 +3,7 @@ use Rattle.std.proofs.Common.{◌≡◌, ℕ, suc, ◌+◌, Bool, true, false, i
 use Rattle.std.specs.List.{onto_first}
 use Rattle.std.proofs.lemmas.Bool.{eqb-true, false≢true}
 use Rattle.std.proofs.lemmas.List.{map-append, nil_from_length}
-use Rattle.outside_kit.specs.Lines.{text_lines}
+use Rattle.octet_text.specs.Lines.{text_lines}
 use Rattle.connection_list.specs.declared.list.Listed.{Listed}
 use Rattle.connection_list.specs.declared.list.ListFault.{ListFault}
 use Rattle.connection_list.specs.declared.list.ListFault.TheVariants as fault

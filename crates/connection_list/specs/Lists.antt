@@ -2,7 +2,7 @@
 use Rattle.std.specs.Prelude.{ℕ, suc, ◌≡◌, ◌&&◌, ◌==◌, Bool, nat_lt, nat_le, if◌then◌else◌, length, List, [], ◌∷◌, ◌++◌, Option, Some, None, Result, Ok, Err}
 use Rattle.std.specs.List.{list_all, slice_split}
 use Rattle.std.specs.Option.{ok_or}
-use Rattle.outside_kit.specs.Lines.{text_lines}
+use Rattle.octet_text.specs.Lines.{text_lines}
 use Rattle.connection_list.specs.declared.list.Listed.{Listed}
 use Rattle.connection_list.specs.declared.list.ListFault.{ListFault}
 use Rattle.connection_list.specs.declared.list.ListFault.TheVariants.{Line, Memory}

@@ -2,11 +2,11 @@
 
 ghost use Rattle.std.specs.Prelude.{◌≡◌, ◌<◌, ◌≤◌, ◌∷◌, ◌==◌, [], IfOk, IsTrue, OnOk, length, map, option_map};
 ghost use Rattle.std.specs.List.{list_all, slice_split};
-ghost use Rattle.outside_kit.specs.Lines.{text_lines};
+ghost use Rattle.octet_text.specs.Lines.{text_lines};
 ghost use Rattle.connection_list.specs.Lists.{IsReading, as_names, is_name, is_name_octet, line_reading, list_reading, names_by, names_in, read_on};
 ghost use Rattle.connection_list.specs.declared.list.ListFault.TheVariants.{Memory};
 
-use outside_kit::split_line;
+use octet_text::split_line;
 use std::alloc::{AllocError, AllocFailed, Global};
 use std::str;
 

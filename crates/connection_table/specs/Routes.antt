@@ -1,7 +1,7 @@
 -- The connection at which a step is made: that of the join that comes to B, where one comes.
 use Rattle.std.specs.Prelude.{ℕ, ◌≡◌, if◌then◌else◌, List, Option, Some, None, option_and_then}
-use Rattle.outside_kit.specs.declared.side.Side.{Side}
-use Rattle.outside_kit.specs.declared.side.Side.TheVariants.{A, B}
+use Rattle.sides.specs.declared.side.Side.{Side}
+use Rattle.sides.specs.declared.side.Side.TheVariants.{A, B}
 use Rattle.path_rules.specs.Looking.{Arrived}
 use Rattle.world_core.specs.Looking.{arriving_at}
 use Rattle.world_laws.specs.Actors.{ActorCrew}

@@ -2,7 +2,7 @@
 
 ghost use Rattle.std.specs.Prelude.{◌≡◌, ◌<◌, length, IfOk, string_bytes};
 ghost use Rattle.world_core.specs.Logged.{told_outcome};
-ghost use Rattle.outside_kit.specs.declared.side.Side.TheVariants.{A, B};
+ghost use Rattle.sides.specs.declared.side.Side.TheVariants.{A, B};
 ghost use Rattle.run_log.specs.Lines.{outcome_word};
 ghost use Rattle.world_laws.specs.Outcomes.{outcome_of, output_of};
 ghost use Rattle.connection_table.specs.ManyLines.{connection_line, line_at, shown};

@@ -1,6 +1,6 @@
 -- What a side keeps of its connection.
 use Rattle.std.specs.Prelude.{ℕ, ◌==◌, Bool, false, List, Option, Some, None, replicate, slice_set, slice_index_or}
-use Rattle.outside_kit.specs.declared.side.Side.{Side}
+use Rattle.sides.specs.declared.side.Side.{Side}
 use Rattle.fallback_state.specs.declared.fall.Fall.{Fall}
 use Rattle.fallback_state.specs.Fall.{opening as fall_opening}
 use Rattle.key_material.specs.declared.address.Address.{Address}

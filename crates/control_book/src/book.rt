@@ -14,7 +14,7 @@ use address_manager::{AddressManager, Heard, IdSet};
 use fallback_state::{Event, Fall, Mode, fall_step};
 use key_material::{Address, add_addr64, token};
 use linked_increase::Row;
-use outside_kit::Side;
+use sides::Side;
 use stamped_book::Book;
 use std::alloc::{AllocError, Global};
 use std::marker::Model;

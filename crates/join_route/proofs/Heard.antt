@@ -4,8 +4,8 @@ use Rattle.std.proofs.lemmas.Bool.{and_parts, eqb-true}
 use Rattle.std.proofs.lemmas.Option.{same_Some}
 use Rattle.std.specs.List.{slice_get}
 use Rattle.std.specs.Result.{result_ok}
-use Rattle.outside_kit.specs.declared.side.Side.{Side}
-use Rattle.pipe_model.specs.Octets.{octet}
+use Rattle.sides.specs.declared.side.Side.{Side}
+use Rattle.octet_text.specs.Octets.{octet}
 use Rattle.segment_wire.specs.Options.{option_octets}
 use Rattle.segment_wire.specs.Reading.{segment_meaning}
 use Rattle.segment_wire.specs.Segment.{Segment}

@@ -1,7 +1,7 @@
 -- What holds of the token by which octets are routed.
 use Rattle.std.specs.Prelude.{ℕ, ◌≡◌, Bool, true, Some, None, List, ◌∷◌}
 use Rattle.segment_wire.specs.Paths.{addresses_from}
-use Rattle.outside_kit.specs.declared.side.Side.{Side}
+use Rattle.sides.specs.declared.side.Side.{Side}
 use Rattle.mptcp_options.specs.declared.join.JoinForm.TheVariants.{Syn}
 use Rattle.mptcp_options.specs.Text.{Fits}
 use Rattle.mptcp_options.specs.Value as wire

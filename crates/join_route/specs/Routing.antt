@@ -1,7 +1,7 @@
 -- The token by which a segment asks to join a connection (RFC 8684, section 3.2).
 use Rattle.std.specs.Prelude.{ℕ, ◌&&◌, ◌==◌, Bool, not, if◌then◌else◌, List, find, Option, Some, None, option_and_then}
 use Rattle.std.specs.Result.{result_ok}
-use Rattle.pipe_model.specs.Octets.{octet}
+use Rattle.octet_text.specs.Octets.{octet}
 use Rattle.mptcp_options.specs.declared.join.JoinForm.TheVariants.{Syn}
 use Rattle.mptcp_options.specs.Meaning.{option_meaning, subtype}
 use Rattle.mptcp_options.specs.Value.{Meaning, Known, Join}

@@ -1,7 +1,7 @@
 -- The copy that arrives next is lent exactly where the path's next ask takes one from the link.
 use Rattle.std.proofs.Common.{◌≡◌, refl, sym, ◌∙◌, ap, subst, ℕ, ◌<◌, nat_lt, Bool, true, false, if◌then◌else◌, is_some, Option, Some, None, option_and_then, option_map, List, [], ◌∷◌}
 use Rattle.std.proofs.lemmas.Bool.{ltb-true}
-use Rattle.outside_kit.specs.declared.side.Side.{Side}
+use Rattle.sides.specs.declared.side.Side.{Side}
 use Rattle.link_model.specs.declared.flight.Due.{Due}
 use Rattle.link_model.specs.declared.flight.Flight.{Flight}
 use Rattle.link_model.specs.Steps.{arriving}

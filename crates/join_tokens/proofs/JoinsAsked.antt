@@ -1,8 +1,8 @@
 -- By which token octets that come to B ask to join.
 use Rattle.std.proofs.Common.{◌≡◌, refl, sym, ◌∙◌, ap, subst, ℕ, Option, Some, None, option_map, List, ◌∷◌}
 use Rattle.std.proofs.lemmas.Option.{same_Some}
-use Rattle.outside_kit.specs.declared.side.Side.TheVariants.{B}
-use Rattle.outside_kit.specs.Side.{peer}
+use Rattle.sides.specs.declared.side.Side.TheVariants.{B}
+use Rattle.sides.specs.Side.{peer}
 use Rattle.key_material.specs.KeyDigest.{token_of}
 use Rattle.segment_wire.specs.declared.head.Addresses.{Addresses}
 use Rattle.segment_wire.specs.Paths.{addresses_from}

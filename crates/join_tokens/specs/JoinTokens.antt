@@ -1,7 +1,7 @@
 -- Which token a copy shows that comes to B: that of B's key (RFC 8684, section 3.2).
 use Rattle.std.specs.Prelude.{ℕ, ◌≡◌, Some, List, slice_get}
 use Rattle.path_segments.specs.Heard.{HeardSegment}
-use Rattle.outside_kit.specs.declared.side.Side.TheVariants.{B}
+use Rattle.sides.specs.declared.side.Side.TheVariants.{B}
 use Rattle.key_material.specs.KeyDigest.{token_of}
 use Rattle.link_model.specs.declared.flight.Due.{Due}
 use Rattle.link_model.specs.Steps.{arriving}

@@ -2,7 +2,7 @@
 use Rattle.std.proofs.Common.{◌≡◌, refl, sym, ◌∙◌, ap, subst, ℕ, zero, suc, ◌<◌, inl, inr, false, Some, List, [], ◌∷◌, map, arith}
 use Rattle.std.proofs.lemmas.Option.{same_Some, slice_get_within}
 use Rattle.std.specs.List.{slice_get}
-use Rattle.outside_kit.specs.declared.side.Side.TheVariants.{A, B}
+use Rattle.sides.specs.declared.side.Side.TheVariants.{A, B}
 use Rattle.stamped_book.specs.declared.stamped.Entry.{Entry}
 use Rattle.stamped_book.specs.Journal.{Rise}
 use Rattle.actor_desk.specs.Books.{StampedBooks}

@@ -1,7 +1,7 @@
 -- What is woven of lists and journals.
 use Rattle.std.specs.Prelude.{ℕ, suc, ◌≡◌, ◌==◌, Some, List, [], ◌∷◌, map, filter}
 use Rattle.std.specs.List.{slice_get}
-use Rattle.outside_kit.specs.declared.side.Side.TheVariants.{A, B}
+use Rattle.sides.specs.declared.side.Side.TheVariants.{A, B}
 use Rattle.stream_lanes.specs.Words.{Every}
 use Rattle.actor_desk.specs.declared.actor.Crew.{Crew}
 use Rattle.actor_desk.specs.declared.ask.Ask.{Ask}

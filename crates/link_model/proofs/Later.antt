@@ -1,8 +1,8 @@
 -- Copies arrive later than they are sent.
 use Rattle.std.proofs.Common.{◌≡◌, refl, ℕ, ◌+◌, ◌<◌, ◌≤◌, Bool, true, false, cond, List, [], ◌∷◌, arith}
 use Rattle.std.specs.List.{AllByRecursion}
-use Rattle.outside_kit.specs.declared.side.Side.{Side}
-use Rattle.outside_kit.specs.declared.side.Side.TheVariants.{A, B}
+use Rattle.sides.specs.declared.side.Side.{Side}
+use Rattle.sides.specs.declared.side.Side.TheVariants.{A, B}
 use Rattle.link_model.specs.declared.fate.Fate.{Fate}
 use Rattle.link_model.specs.declared.fate.Fate.TheVariants.{OnTime, Lost, Late, Twice}
 use Rattle.link_model.specs.declared.flight.Flight.{Flight}

@@ -1,6 +1,6 @@
 -- The two changes on the octets of a path.
 use Rattle.std.specs.Prelude.{ℕ, List}
-use Rattle.outside_kit.specs.declared.side.Side.{Side}
+use Rattle.sides.specs.declared.side.Side.{Side}
 use Rattle.segment_wire.specs.Changes.{text_stripped, text_altered}
 use Rattle.segment_wire.specs.Paths.{addresses_from}
 use Rattle.link_model.specs.State.{LinkState}

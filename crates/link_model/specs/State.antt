@@ -1,7 +1,7 @@
 -- A link by what it means: what it took from each side, and the copies under way. What a segment carries is a type of its
 -- own.
 use Rattle.std.specs.Prelude.{ℕ, ◌≤◌, All, List}
-use Rattle.outside_kit.specs.declared.side.Side.{Side}
+use Rattle.sides.specs.declared.side.Side.{Side}
 use Rattle.link_script.specs.declared.script.ScriptLine.{ScriptLine}
 use Rattle.link_script.specs.declared.script.ScriptLine.TheVariants.{Late, Dup}
 use Rattle.link_model.specs.declared.flight.Flight.{Flight}

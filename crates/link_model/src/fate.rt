@@ -5,7 +5,7 @@ ghost use Rattle.std.specs.List.{list_any};
 ghost use Rattle.link_model.specs.Fate.{is_named, fate_told, fate_of, is_stripped_by, is_stripped, is_altered_by, is_altered, has_died_by, is_dead_at, lost_if, twice_unless, cut_short, ticks_of};
 
 use link_script::ScriptLine;
-use outside_kit::Side;
+use sides::Side;
 
 /// When a segment arrives, and how often. Ticks are milliseconds.
 #[derive(Clone, Copy)]

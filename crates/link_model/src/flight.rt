@@ -1,4 +1,4 @@
-use outside_kit::Side;
+use sides::Side;
 
 /// A copy of a segment under way.
 #[derive(Clone, Copy)]

@@ -1,7 +1,7 @@
 ghost use Rattle.std.specs.Prelude.{◌≡◌, ◌+◌, ◌<◌, ◌≤◌, ℕ, List, ◌∷◌, [], ◌++◌, Bool, true, false};
 ghost use Rattle.std.specs.List.{AllByRecursion};
-ghost use Rattle.outside_kit.specs.declared.side.Side.{Side};
-ghost use Rattle.outside_kit.specs.Side.{peer};
+ghost use Rattle.sides.specs.declared.side.Side.{Side};
+ghost use Rattle.sides.specs.Side.{peer};
 ghost use Rattle.link_model.specs.declared.flight.Flight.{Flight};
 ghost use Rattle.link_model.specs.declared.flight.Due.{Due};
 ghost use Rattle.link_model.specs.State.{LinkState};

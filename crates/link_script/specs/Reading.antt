@@ -2,7 +2,7 @@
 use Rattle.std.specs.Prelude.{◌≡◌, ℕ, suc, false, List, [], ◌∷◌, ◌++◌, Result, Ok, Err, nat_lt, fold, if◌then◌else◌, codes}
 use Rattle.std.specs.List.{list_any}
 use Rattle.std.specs.Str.{bytes_eq}
-use Rattle.outside_kit.specs.Lines.{text_lines}
+use Rattle.octet_text.specs.Lines.{text_lines}
 use Rattle.link_script.specs.declared.fault.ScriptFault.{ScriptFault}
 use Rattle.link_script.specs.declared.fault.ScriptFault.TheVariants as fault
 use Rattle.link_script.specs.declared.fault.ScriptKind.{ScriptKind}

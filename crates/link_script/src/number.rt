@@ -7,7 +7,7 @@ ghost use Rattle.link_script.specs.Numbers.{is_numeral, within};
 
 use crate::fault::ScriptKind;
 use crate::limits::{Limits, MOST_DIGITS};
-use outside_kit::are_digits;
+use octet_text::are_digits;
 use std::str;
 
 /// Whether a word has the form of a number: 1 to 20 decimal digits.

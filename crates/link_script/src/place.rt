@@ -7,7 +7,7 @@ ghost use Rattle.link_script.specs.Places.{is_path, is_end, is_misplaced, is_out
 use crate::line::Line;
 use crate::script::ScriptLine;
 use crate::segment::Segment;
-use outside_kit::Side;
+use sides::Side;
 
 /// What a line settles, so that no second line may settle it again.
 #[derive(Clone, Copy, PartialEq, Eq)]

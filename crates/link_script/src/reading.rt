@@ -1,7 +1,7 @@
 //! Reads a script.
 
 ghost use Rattle.std.specs.Prelude.{◌≡◌, ◌≤◌, [], map, OnOk, IfOk};
-ghost use Rattle.outside_kit.specs.Lines.{text_lines};
+ghost use Rattle.octet_text.specs.Lines.{text_lines};
 ghost use Rattle.link_script.specs.Ranges.{most_lines};
 ghost use Rattle.link_script.specs.Scripts.{HasRanges};
 ghost use Rattle.link_script.specs.Reading.{Gives, first_line, in_place, later_line, next_line, at_line, seen_after, read_on, blank, with_line, script_of, reading};
@@ -13,7 +13,7 @@ use crate::lists::{PathLines, ScriptLines};
 use crate::place::{has_ended, is_out_of_order, is_repeated};
 use crate::script::Script;
 use crate::word::{is_passed_over, split_words};
-use outside_kit::split_line;
+use octet_text::split_line;
 use std::alloc::{AllocError, Global};
 
 /// The first line of a script that is neither empty nor a comment.

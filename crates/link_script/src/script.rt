@@ -1,7 +1,7 @@
 //! What a script says.
 
 use crate::lists::{PathLines, ScriptLines};
-use outside_kit::Side;
+use sides::Side;
 
 /// How a connection is to run: its settings, its paths, and what happens on them.
 #[derive(Drop)]

@@ -9,7 +9,7 @@ use crate::line::Line;
 use crate::number::read_number;
 use crate::script::ScriptLine;
 use crate::word::read_direction;
-use outside_kit::Side;
+use sides::Side;
 
 /// One segment of a link: the `number`-th that the link of a path takes from a side.
 #[derive(Clone, Copy, PartialEq, Eq)]

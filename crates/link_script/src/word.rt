@@ -4,7 +4,7 @@ ghost use Rattle.std.specs.Prelude.{◌≡◌, ◌==◌, map, IfOk};
 ghost use Rattle.link_script.specs.Words.{fixed, keyword_word, keyword, direction, side, switch, words_of, is_passed_over};
 
 use crate::fault::ScriptKind;
-use outside_kit::Side;
+use sides::Side;
 use std::alloc::{AllocError, Global};
 
 /// The first word of a line, which says what the line is.

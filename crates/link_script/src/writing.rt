@@ -10,7 +10,7 @@ ghost use Rattle.link_script.specs.Writing.{path_text, event_text, line_text, en
 use crate::limits::{DEFAULT_BUFFER, DEFAULT_SEED};
 use crate::line::Line;
 use crate::script::{PathLine, Script, ScriptLine};
-use outside_kit::Side;
+use sides::Side;
 use std::alloc::{AllocError, Global};
 use std::fmt;
 

@@ -2,8 +2,8 @@
 use Rattle.std.specs.Prelude.{ℕ, zero, suc, ◌+◌, min, List, [], ◌∷◌, ◌++◌, map, length, take, codes}
 use Rattle.std.specs.Fmt.{decimal}
 use Rattle.segment_wire.specs.Paths.{addresses_from}
-use Rattle.outside_kit.specs.declared.side.Side.{Side}
-use Rattle.outside_kit.specs.declared.side.Side.TheVariants.{A, B}
+use Rattle.sides.specs.declared.side.Side.{Side}
+use Rattle.sides.specs.declared.side.Side.TheVariants.{A, B}
 use Rattle.pcap_text.specs.declared.blocks.Direction.{Direction}
 use Rattle.pcap_text.specs.declared.blocks.Direction.TheVariants.{Outbound, Inbound}
 use Rattle.pcap_text.specs.Blocks.{Block, Section, Interface, Packet}

@@ -2,8 +2,8 @@
 use Rattle.std.specs.Prelude.{ℕ, ◌+◌, ◌==◌, nat_lt, max, if◌then◌else◌, Option, Some, None, option_map, List, [], ◌∷◌, ◌++◌, filter}
 use Rattle.std.specs.List.{filter_map}
 use Rattle.std.specs.Option.{option_to_list}
-use Rattle.outside_kit.specs.declared.side.Side.{Side}
-use Rattle.outside_kit.specs.Side.{peer}
+use Rattle.sides.specs.declared.side.Side.{Side}
+use Rattle.sides.specs.Side.{peer}
 use Rattle.link_trace.specs.declared.carried.Carried.{Carried}
 use Rattle.link_trace.specs.declared.strokes.Dot.{Dot}
 use Rattle.link_trace.specs.declared.strokes.Stroke.{Stroke}

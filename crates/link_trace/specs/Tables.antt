@@ -2,8 +2,8 @@
 use Rattle.std.specs.Prelude.{ℕ, ◌-◌, ◌^◌, false, Option, Some, None, List, [], ◌∷◌, ◌++◌, codes}
 use Rattle.std.specs.Fmt.{decimal, format_spec, padded_integral}
 use Rattle.std.specs.List.{flat_map}
-use Rattle.outside_kit.specs.declared.side.Side.{Side}
-use Rattle.outside_kit.specs.declared.side.Side.TheVariants.{A, B}
+use Rattle.sides.specs.declared.side.Side.{Side}
+use Rattle.sides.specs.declared.side.Side.TheVariants.{A, B}
 use Rattle.link_trace.specs.declared.carried.Carried.{Carried}
 use Rattle.link_trace.specs.declared.rows.Rate.{Rate}
 use Rattle.link_trace.specs.declared.rows.Rates.{Rates}

@@ -10,8 +10,8 @@ use crate::fate::is_lost;
 use crate::sent::Sent;
 use key_material::idsn;
 use mptcp_options::{DataNumber, DssMap, MpOption, Read, read};
-use outside_kit::Side;
 use segment_wire::{SegmentRef, addresses_from, parse};
+use sides::Side;
 use std::alloc::{AllocError, Global};
 
 /// What a segment carries. Positions are counted from the initial number of its side, which is that of the SYN, and places from the

@@ -7,7 +7,7 @@ use crate::marks::{Panel, Scale, crosses, dots, part_of, strokes};
 use crate::rows::last_tick;
 use crate::strokes::{dots_of, strokes_of};
 use link_script::ScriptLine;
-use outside_kit::Side;
+use sides::Side;
 use std::alloc::{AllocError, Global};
 
 /// A colour for each path.

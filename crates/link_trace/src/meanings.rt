@@ -4,8 +4,8 @@ ghost use Rattle.std.specs.Prelude.{◌≡◌};
 ghost use Rattle.link_trace.specs.Meanings.{initial_of, meaning_in, syn_in, syn_of};
 
 use crate::sent::Sent;
-use outside_kit::Side;
 use segment_wire::{addresses_from, parse};
+use sides::Side;
 
 /// The sequence number of a SYN.
 fn syn_in(sent: &Sent) -> Option<u32>

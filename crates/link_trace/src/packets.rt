@@ -11,9 +11,9 @@ ghost use Rattle.link_trace.specs.Fates.{fate_words};
 use crate::fate::put_fate;
 use crate::sent::Sent;
 use link_model::{Fate, SegmentFate};
-use outside_kit::Side;
 use pcap_text::{Direction, Seen, header, interface, packet, section};
 use segment_wire::addresses_from;
+use sides::Side;
 use std::alloc::{AllocError, Global};
 
 /// Seen from A.

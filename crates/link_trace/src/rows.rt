@@ -1,13 +1,13 @@
 //! The table by path and direction: counts and sums over what the segments carry.
 
 ghost use Rattle.std.specs.Prelude.{◌≡◌, ◌-◌, ◌++◌, ◌∷◌, [], filter, length, IfOk, OnOk};
-ghost use Rattle.outside_kit.specs.declared.side.Side.TheVariants.{A, B};
+ghost use Rattle.sides.specs.declared.side.Side.TheVariants.{A, B};
 ghost use Rattle.link_trace.specs.Rows.{again_by, below, capped, edge_behind, end_of, first_octets_from, fresh_by, goodput, if_from, is_from, is_on, last_tick, lost_of, moved_by, octets_from, octets_of, reach, row_of, rows_of, shares_of, tick_at};
 
 use crate::carried::Carried;
 use crate::places::{carry, repeated};
-use outside_kit::Side;
 use range_marks::RangeMarks;
+use sides::Side;
 use std::alloc::{AllocError, Global};
 
 /// The congestion window of an end, in octets, and its smoothed round-trip time, in ticks.

@@ -1,8 +1,8 @@
 //! A segment as its end handed it to its link.
 
 use link_model::SegmentFate;
-use outside_kit::Side;
-use pipe_model::Text;
+use octet_text::Text;
+use sides::Side;
 
 /// A segment as its end handed it to its link.
 #[derive(Drop)]

@@ -6,7 +6,7 @@ ghost use Rattle.link_trace.specs.Strokes.{dot_of, dots_of, stroke_at, stroke_of
 
 use crate::carried::Carried;
 use crate::rows::{reach, side_of};
-use outside_kit::Side;
+use sides::Side;
 use std::alloc::{AllocError, Global};
 
 /// A payload that was sent: its places at its tick.

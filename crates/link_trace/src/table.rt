@@ -7,7 +7,7 @@ ghost use Rattle.link_trace.specs.Tables.{aligned, column, direction_words, head
 
 use crate::carried::Carried;
 use crate::rows::{Rate, Rates, Row, first_octets_from, goodput, last_tick, octets_from, rows_of};
-use outside_kit::Side;
+use sides::Side;
 use std::alloc::{AllocError, Global};
 
 const HEAD: &str =

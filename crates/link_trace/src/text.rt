@@ -9,9 +9,9 @@ use crate::fate::{is_plain, put_fate};
 use crate::meanings::initial_of;
 use crate::sent::Sent;
 use link_model::SegmentFate;
-use outside_kit::Side;
 use segment_wire::addresses_from;
 use segment_words::{Initials, words};
+use sides::Side;
 use std::alloc::{AllocError, Global};
 
 /// Which way a segment goes.

@@ -14,8 +14,8 @@ ghost use Rattle.listed_inputs.specs.declared.many.Many.TheVariants.{Memory};
 use crate::many::Many;
 use crate::script::script_of;
 use connection_list::{ListFault, Listed, read_list};
+use octet_text::Text;
 use outside_kit::{LoadFault, Outside};
-use pipe_model::Text;
 use run_outside::Input;
 use std::alloc::Global;
 

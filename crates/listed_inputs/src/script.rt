@@ -8,7 +8,7 @@ ghost use Rattle.listed_inputs.specs.Scripts.{LeavesPayload, first_alter, is_alt
 
 use crate::many::Many;
 use link_script::{Script, ScriptFault, ScriptKind, parse};
-use outside_kit::split_line;
+use octet_text::split_line;
 use std::alloc::{AllocError, Global};
 
 /// The words of a line: its parts between spaces.

@@ -3,7 +3,7 @@ use Rattle.std.proofs.Common.{◌≡◌, ℕ, zero, suc, ◌+◌, ◌-◌, ◌<�
 use Rattle.std.proofs.lemmas.List.{take-append-drop, length-take-le}
 use Rattle.std.proofs.lemmas.Nat.{be_bytes_4}
 use Rattle.std.specs.Int.{w32, to_be_bytes}
-use Rattle.pipe_model.specs.Octets.{number_at}
+use Rattle.octet_text.specs.Octets.{number_at}
 use Rattle.message_pipe.specs.Frames.{frame_of}
 
 -- four octets, and nothing behind them

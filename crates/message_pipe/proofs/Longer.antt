@@ -3,7 +3,7 @@ use Rattle.std.proofs.Common.{◌≡◌, ℕ, ◌+◌, ◌<◌, ◌≤◌, Bool,
 use Rattle.std.specs.Prelude.{◌==◌, ◌||◌, IfSome, option_map}
 use Rattle.std.specs.List.{onto_first}
 use Rattle.std.specs.Str.{bytes_eq}
-use Rattle.outside_kit.specs.Lines.{text_lines}
+use Rattle.octet_text.specs.Lines.{text_lines}
 use Rattle.message_pipe.specs.Frames.{frames}
 use Rattle.message_pipe.specs.Lines.{framed}
 use Rattle.message_pipe.specs.Lined.{lined_content}

@@ -6,7 +6,7 @@ use Rattle.outside_kit.specs.declared.outside.PutFault.{PutFault}
 use Rattle.outside_kit.specs.declared.outside.PutFault.TheVariants.{Failed}
 use Rattle.outside_kit.specs.declared.port.Port.TheVariants.{ReadByA, ReadByB}
 use Rattle.outside_kit.specs.Outside.{HasRisen, HoldsAfter, HoldsPrefix}
-use Rattle.pipe_model.specs.Prefix.{IsPrefix}
+use Rattle.octet_text.specs.Prefix.{IsPrefix}
 use Rattle.message_pipe.specs.Frames.{frames, first_message}
 use Rattle.message_pipe.specs.Lines.{message_lines}
 use Rattle.message_pipe.specs.Showing.{ShowsMore, ShowsPart, Counted, ShowsMessages, ShowsPrefix, PortStands}

@@ -1,6 +1,6 @@
 -- Lines as messages.
 use Rattle.std.specs.Prelude.{ℕ, List, [], ◌∷◌, ◌++◌}
-use Rattle.outside_kit.specs.Lines.{text_lines}
+use Rattle.octet_text.specs.Lines.{text_lines}
 use Rattle.message_pipe.specs.Frames.{frames}
 
 -- a message as a line

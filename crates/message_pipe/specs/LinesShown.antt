@@ -1,8 +1,8 @@
 -- What a port shows of the lines of a content whose frames are put for it.
 use Rattle.std.specs.Prelude.{◌≡◌, ℕ, ◌^◌, ◌<◌, List, length, Option, IfSome, IsSomeAnd}
 use Rattle.outside_kit.specs.Outside.{HoldsAfter}
-use Rattle.outside_kit.specs.Lines.{text_lines}
-use Rattle.pipe_model.specs.Prefix.{IsPrefix}
+use Rattle.octet_text.specs.Lines.{text_lines}
+use Rattle.octet_text.specs.Prefix.{IsPrefix}
 use Rattle.message_pipe.specs.Lines.{message_lines, framed}
 use Rattle.message_pipe.specs.Showing.{Counted, ShowsMessages, ShowsPrefix}
 use Rattle.message_pipe.specs.Uses.{AreFirst}

@@ -5,7 +5,7 @@ use Rattle.message_pipe.specs.declared.line_port.LinePort.{LinePort}
 use Rattle.outside_kit.specs.declared.outside.PutFault.{PutFault}
 use Rattle.outside_kit.specs.declared.outside.PutFault.TheVariants.{Failed}
 use Rattle.outside_kit.specs.Outside.{HasRisen, HoldsAfter, HoldsPrefix}
-use Rattle.pipe_model.specs.Prefix.{IsPrefix}
+use Rattle.octet_text.specs.Prefix.{IsPrefix}
 use Rattle.message_pipe.specs.Frames.{frames, HaveFrames, first_message}
 use Rattle.message_pipe.specs.Lines.{message_lines}
 

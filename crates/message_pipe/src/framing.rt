@@ -3,7 +3,7 @@
 ghost use Rattle.std.specs.Prelude.{◌≡◌, ◌+◌, ◌^◌, ◌<◌, ◌≤◌, ◌++◌, length, drop, option_map, IfSome, OnOk, OnErr};
 ghost use Rattle.message_pipe.specs.Frames.{frame_of, told_length, first_message, behind_first};
 
-use pipe_model::Text;
+use octet_text::Text;
 use std::alloc::{AllocError, Global};
 
 /// Puts the frame of a message at the end of a vector.

@@ -4,7 +4,8 @@ ghost use Rattle.std.specs.Prelude.{◌≡◌, ◌+◌, ◌^◌, ◌<◌, ◌≤
 ghost use Rattle.message_pipe.specs.Lines.{framed};
 
 use crate::framing::push_frame;
-use outside_kit::{LoadFault, split_line};
+use octet_text::split_line;
+use outside_kit::LoadFault;
 use std::alloc::{AllocError, Global};
 
 /// Whether the frames of the lines of a content have at most so many octets.

@@ -1,7 +1,7 @@
 ghost use Rattle.std.specs.Prelude.{◌≡◌, ◌^◌, ◌<◌, ◌++◌, [], length, IfOk, IfSome, OnOk, OnErr};
 
 use crate::framing::first_message;
-use pipe_model::Text;
+use octet_text::Text;
 use std::alloc::{AllocError, Global};
 use std::marker::Model;
 

@@ -1,7 +1,7 @@
 -- What octets of an ADD_ADDR and of a REMOVE_ADDR mean.
 use Rattle.std.proofs.Common.{◌≡◌, ℕ, ◌-◌, Bool, nat_le, List, length, take, drop, refl, arith}
 use Rattle.std.proofs.lemmas.Grind.{common_steps}
-use Rattle.pipe_model.specs.Octets.{octet}
+use Rattle.octet_text.specs.Octets.{octet}
 use Rattle.mptcp_options.specs.Octets.{is_among}
 use Rattle.mptcp_options.specs.Value.{AddAddr, RemoveAddr}
 use Rattle.mptcp_options.specs.Address.{is_echo, add_addr_lengths, address_at, port_at, hmac_at, ids_at}

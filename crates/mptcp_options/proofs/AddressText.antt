@@ -8,7 +8,7 @@ use Rattle.key_material.specs.Octets.{AreOctets}
 use Rattle.key_material.specs.Address.{octets_of}
 use Rattle.key_material.specs.declared.address.Address.{Address}
 use Rattle.key_material.specs.declared.address.Address.TheVariants.{V4, V6}
-use Rattle.pipe_model.specs.Octets.{octet}
+use Rattle.octet_text.specs.Octets.{octet}
 use Rattle.mptcp_options.specs.Octets.{is_among, optional}
 use Rattle.mptcp_options.specs.Address.{is_echo, is_ipv4, has_port, has_hmac, add_addr_lengths, address_at, port_at, hmac_at, ids_at, AddAddrHasForm, AddressFits, AddAddrFits, IdsHaveForm}
 use Rattle.mptcp_options.specs.Value.{AddAddr, RemoveAddr, Known}

@@ -3,7 +3,7 @@ use Rattle.std.proofs.Common.{◌≡◌, ◌≢◌, ℕ, bit_and, Bool, true, fa
 use Rattle.std.proofs.lemmas.Bool.{eq-eqb, ne_eqb}
 use Rattle.std.proofs.lemmas.Bool.Decides.{nat_tests}
 use Rattle.mptcp_options.specs.declared.capable.CapableKeys.{CapableKeys}
-use Rattle.pipe_model.specs.Octets.{octet, is_set}
+use Rattle.octet_text.specs.Octets.{octet, is_set}
 use Rattle.mptcp_options.specs.Octets.{is_among}
 use Rattle.mptcp_options.specs.Value.{Capable, Known, Unknown, Malformed}
 use Rattle.mptcp_options.specs.Capable.{keys_at, keys_if_long, reads_flag_a, reads_flag_c}

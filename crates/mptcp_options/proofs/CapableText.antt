@@ -8,7 +8,7 @@ use Rattle.key_material.specs.Octets.{AreOctets}
 use Rattle.key_material.proofs.Octets.{each_octet}
 use Rattle.mptcp_options.specs.declared.capable.CapableKeys.{CapableKeys}
 use Rattle.mptcp_options.specs.declared.capable.CapableKeys.TheVariants.{NoKey, Sender, Both, WithData}
-use Rattle.pipe_model.specs.Octets.{octet, number_at, is_set}
+use Rattle.octet_text.specs.Octets.{octet, number_at, is_set}
 use Rattle.mptcp_options.specs.Octets.{flag_if}
 use Rattle.mptcp_options.specs.Capable.{keys_text, keys_at, reads_flag_a, reads_flag_c, KeysHaveForm, KeysFit}
 use Rattle.mptcp_options.specs.Value.{Capable, Known}

@@ -2,7 +2,7 @@
 use Rattle.std.proofs.Common.{◌≡◌, ◌≢◌, ℕ, ◌+◌, ◌<◌, ◌≤◌, Bool, true, false, not, ◌&&◌, ◌||◌, ◌==◌, if◌then◌else◌, List, [], ◌∷◌, length, refl, sym, ◌∙◌, arith}
 use Rattle.std.proofs.lemmas.Bool.{eq-eqb, eqb-true, ne_eqb}
 use Rattle.std.proofs.lemmas.Bool.Decides.{nat_tests}
-use Rattle.pipe_model.specs.Octets.{octet}
+use Rattle.octet_text.specs.Octets.{octet}
 use Rattle.mptcp_options.specs.Octets.{is_among}
 use Rattle.mptcp_options.specs.Value.{Dss, Known, Malformed}
 use Rattle.mptcp_options.specs.Dss.{has_mapping, dss_end, dss_length, ack_at, mapping_at, fin_at}

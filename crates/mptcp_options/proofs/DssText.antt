@@ -9,7 +9,7 @@ use Rattle.key_material.proofs.Octets.{each_octet}
 use Rattle.mptcp_options.specs.declared.dss.DataNumber.{DataNumber}
 use Rattle.mptcp_options.specs.declared.dss.DataNumber.TheVariants.{Whole, Low}
 use Rattle.mptcp_options.specs.declared.dss.DssMap.{DssMap}
-use Rattle.pipe_model.specs.Octets.{octet, number_at, is_set}
+use Rattle.octet_text.specs.Octets.{octet, number_at, is_set}
 use Rattle.mptcp_options.specs.Octets.{flag_if, optional}
 use Rattle.mptcp_options.specs.Dss.{data_number_text, ack_text, ack_flags, mapping_text, mapping_flags, has_ack, has_mapping, data_number_length, data_number_at, mapping_place, dss_length, ack_at, mapping_at, fin_at, DssHasForm, DssFits, DataNumberFits, MappingFits}
 use Rattle.mptcp_options.specs.Value.{Dss, Known}

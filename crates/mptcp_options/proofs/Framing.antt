@@ -1,7 +1,7 @@
 -- The first two rules.
 use Rattle.std.proofs.Common.{◌≡◌, ℕ, Bool, true, false, not, ◌==◌, nat_lt, List, [], ◌∷◌, length, ◌<◌, ◌≤◌, refl, arith}
 use Rattle.std.proofs.lemmas.Bool.{eqb-true, ltb-false, not-false, or_parts}
-use Rattle.pipe_model.specs.Octets.{octet}
+use Rattle.octet_text.specs.Octets.{octet}
 use Rattle.mptcp_options.specs.Value.{Unknown, Malformed}
 use Rattle.mptcp_options.specs.Meaning.{IsFramed, is_of_another_kind, is_misframed, option_meaning}
 

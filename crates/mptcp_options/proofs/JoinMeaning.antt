@@ -3,7 +3,7 @@ use Rattle.std.proofs.Common.{◌≡◌, ◌≢◌, ℕ, Bool, List, [], ◌∷�
 use Rattle.std.proofs.lemmas.Bool.{ne_eqb}
 use Rattle.std.specs.Int.{w32, w64}
 use Rattle.mptcp_options.specs.declared.join.JoinForm.TheVariants.{Syn, Answer, Third}
-use Rattle.pipe_model.specs.Octets.{octet, number_at, is_set}
+use Rattle.octet_text.specs.Octets.{octet, number_at, is_set}
 use Rattle.mptcp_options.specs.Octets.{is_among}
 use Rattle.mptcp_options.specs.Value.{Join, Known, Malformed}
 use Rattle.mptcp_options.specs.Join.{form_at}

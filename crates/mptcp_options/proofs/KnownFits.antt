@@ -6,7 +6,7 @@ use Rattle.std.proofs.lemmas.Bool.{eq-eqb, ne_eqb, true≢false}
 use Rattle.key_material.specs.Octets.{AreOctets}
 use Rattle.key_material.proofs.Octets.{each_octet, AreOctets-take, AreOctets-drop}
 use Rattle.key_material.specs.declared.address.Address.TheVariants.{V4, V6}
-use Rattle.pipe_model.specs.Octets.{octet, number_at, is_set}
+use Rattle.octet_text.specs.Octets.{octet, number_at, is_set}
 use Rattle.mptcp_options.specs.Octets.{is_among, IsBelow}
 use Rattle.mptcp_options.specs.Capable.{keys_at, KeysHaveForm, KeysFit}
 use Rattle.mptcp_options.specs.Join.{form_at, FormFits}

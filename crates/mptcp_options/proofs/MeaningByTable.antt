@@ -1,7 +1,7 @@
 -- What the rules come to for octets of kind 30 with their number in the second octet, and of a subtype other than
 -- MP_CAPABLE: the table of lengths and the checksum decide.
 use Rattle.std.proofs.Common.{◌≡◌, ℕ, Bool, true, false, not, ◌&&◌, ◌==◌, nat_lt, if◌then◌else◌, List, [], ◌∷◌, refl, arith, ◌<◌}
-use Rattle.pipe_model.specs.Octets.{octet}
+use Rattle.octet_text.specs.Octets.{octet}
 use Rattle.mptcp_options.specs.Value.{OptionValue, Meaning, Known, Unknown, Malformed}
 use Rattle.std.proofs.lemmas.Bool.{lt-ltb}
 use Rattle.mptcp_options.specs.Meaning.{IsFramed, subtype, is_of_another_kind, is_misframed, is_foreign, has_no_flags, is_unusable, has_length_of_table, differs_in_checksum, value_at, option_meaning}

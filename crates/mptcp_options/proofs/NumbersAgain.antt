@@ -7,7 +7,7 @@ use Rattle.std.proofs.lemmas.Nat.{be_bytes_2, be_bytes_4, be_bytes_8}
 use Rattle.key_material.specs.Octets.{AreOctets}
 use Rattle.key_material.proofs.Octets.{each_octet, AreOctets-take, AreOctets-drop}
 use Rattle.key_material.proofs.Bounds.{from_be_bytes_2_below, from_be_bytes_4_below, from_be_bytes_8_below}
-use Rattle.pipe_model.specs.Octets.{number_at}
+use Rattle.octet_text.specs.Octets.{number_at}
 
 module _ (octets : List ℕ) (are : AreOctets octets) where
   pub written_again_16 : (place : ℕ) → place + 2 ≤ length octets

@@ -1,7 +1,7 @@
 -- What holds of every octet, by trying all 256, and of every choice of flags, by trying them all.
 use Rattle.std.proofs.Common.{◌≡◌, ℕ, ◌+◌, ◌*◌, ◌/◌, ◌<◌, true, ◌&&◌, ◌==◌, if◌then◌else◌, refl, bit_and, bit_or}
 use Rattle.std.proofs.lemmas.Bool.{eqb-true, agree_below, agree_below_at}
-use Rattle.pipe_model.specs.Octets.{is_set}
+use Rattle.octet_text.specs.Octets.{is_set}
 use Rattle.mptcp_options.specs.Octets.{flag_if}
 use Rattle.mptcp_options.specs.Dss.{has_ack, has_mapping}
 use Rattle.mptcp_options.specs.Ignored.{dss_mask}

@@ -1,6 +1,6 @@
 -- What octets of the options of one form mean.
 use Rattle.std.proofs.Common.{◌≡◌, ℕ, Bool, true, false, ◌||◌, ◌==◌, List, length, refl}
-use Rattle.pipe_model.specs.Octets.{octet}
+use Rattle.octet_text.specs.Octets.{octet}
 use Rattle.mptcp_options.specs.Value.{Prio, Fail, FastClose, Reset}
 use Rattle.mptcp_options.specs.Signals.{has_low_flag, number_at_4}
 use Rattle.mptcp_options.specs.Meaning.{IsFramed, subtype, has_length_of_table, value_at, option_meaning}

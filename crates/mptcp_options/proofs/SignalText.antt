@@ -3,7 +3,7 @@ use Rattle.std.proofs.Common.{◌≡◌, ℕ, ◌<◌, ◌*◌, ◌^◌, Bool, t
 use Rattle.std.proofs.lemmas.Nat.{from_be_bytes-to_be_bytes_8}
 use Rattle.std.proofs.lemmas.Bool.{eqb-true}
 use Rattle.key_material.specs.Octets.{AreOctets}
-use Rattle.pipe_model.specs.Octets.{octet}
+use Rattle.octet_text.specs.Octets.{octet}
 use Rattle.mptcp_options.specs.Value.{Prio, Fail, FastClose, Reset, Known}
 use Rattle.mptcp_options.specs.Signals.{has_low_flag, number_at_4}
 use Rattle.mptcp_options.specs.Text.{option_text}

@@ -4,7 +4,7 @@ use Rattle.std.proofs.Math.Seq.{drop-cons}
 use Rattle.std.proofs.lemmas.List.{length-drop, drop_all}
 use Rattle.key_material.specs.Octets.{AreOctets}
 use Rattle.key_material.proofs.Octets.{each_octet}
-use Rattle.pipe_model.specs.Octets.{octet, is_set}
+use Rattle.octet_text.specs.Octets.{octet, is_set}
 use Rattle.mptcp_options.specs.Octets.{flag_if}
 use Rattle.mptcp_options.specs.Meaning.{IsFramed, subtype}
 use Rattle.mptcp_options.specs.Ignored.{third_mask, fourth_mask, masked, cleared}

@@ -7,7 +7,7 @@ use Rattle.key_material.specs.declared.address.Address.{Address}
 use Rattle.key_material.specs.declared.address.Address.TheVariants.{V4, V6}
 use Rattle.key_material.specs.Address.{octets_of}
 use Rattle.key_material.specs.Octets.{AreOctets}
-use Rattle.pipe_model.specs.Octets.{octet, number_at, is_set}
+use Rattle.octet_text.specs.Octets.{octet, number_at, is_set}
 use Rattle.mptcp_options.specs.Octets.{flag_if, is_among, optional, IsBelow}
 
 -- the octets after kind and length

@@ -4,7 +4,7 @@ use Rattle.std.specs.Prelude.{◌≡◌, ℕ, ◌<◌, ◌^◌, Bool, ◌==◌, 
 use Rattle.std.specs.Int.{w16, w64, to_be_bytes}
 use Rattle.mptcp_options.specs.declared.capable.CapableKeys.{CapableKeys}
 use Rattle.mptcp_options.specs.declared.capable.CapableKeys.TheVariants.{NoKey, Sender, Both, WithData}
-use Rattle.pipe_model.specs.Octets.{octet, number_at, is_set}
+use Rattle.octet_text.specs.Octets.{octet, number_at, is_set}
 use Rattle.mptcp_options.specs.Octets.{flag_if, is_among, optional, IsBelow}
 
 -- ---- as it is written

@@ -1,6 +1,6 @@
 -- The bits that reading ignores: reserved ones, and flags that say nothing where another one is not set.
 use Rattle.std.specs.Prelude.{ℕ, ◌==◌, ◌||◌, if◌then◌else◌, List, [], ◌∷◌, length, drop, bit_and, bit_or}
-use Rattle.pipe_model.specs.Octets.{octet}
+use Rattle.octet_text.specs.Octets.{octet}
 use Rattle.mptcp_options.specs.Dss.{has_ack, has_mapping}
 use Rattle.mptcp_options.specs.Meaning.{subtype}
 

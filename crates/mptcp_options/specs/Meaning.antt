@@ -1,6 +1,6 @@
 -- What octets mean, by eight rules, of which the first that applies decides (RFC 8684, section 3).
 use Rattle.std.specs.Prelude.{◌≡◌, ℕ, ◌+◌, ◌/◌, bit_and, ◌≤◌, Bool, true, false, not, ◌&&◌, ◌||◌, ◌==◌, nat_lt, nat_le, if◌then◌else◌, List, [], ◌∷◌, length}
-use Rattle.pipe_model.specs.Octets.{octet, is_set}
+use Rattle.octet_text.specs.Octets.{octet, is_set}
 use Rattle.mptcp_options.specs.Octets.{is_among}
 use Rattle.mptcp_options.specs.Value.{OptionValue, Capable, Join, Dss, AddAddr, RemoveAddr, Prio, Fail, FastClose, Reset, Meaning, Known, Unknown, Malformed}
 use Rattle.mptcp_options.specs.Capable.{keys_at, reads_flag_a, reads_flag_c}

@@ -1,7 +1,7 @@
 -- The options of one form: MP_PRIO (RFC 8684, section 3.3.8), MP_FAIL (3.7), MP_FASTCLOSE (3.5) and MP_TCPRST (3.6).
 use Rattle.std.specs.Prelude.{ℕ, Bool, List, [], ◌∷◌, bit_or}
 use Rattle.std.specs.Int.{w64, to_be_bytes}
-use Rattle.pipe_model.specs.Octets.{octet, number_at, is_set}
+use Rattle.octet_text.specs.Octets.{octet, number_at, is_set}
 use Rattle.mptcp_options.specs.Octets.{flag_if}
 
 -- ---- as they are written: the octets after kind and length

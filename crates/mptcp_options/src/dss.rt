@@ -1,5 +1,5 @@
 ghost use Rattle.std.specs.Prelude.{◌≡◌, ◌+◌, ◌≤◌, length};
-ghost use Rattle.pipe_model.specs.Octets.{octet};
+ghost use Rattle.octet_text.specs.Octets.{octet};
 ghost use Rattle.mptcp_options.specs.Value.{meaning_of, LendsIds};
 ghost use Rattle.mptcp_options.specs.Dss.{has_ack, has_mapping, mapping_place, relative_place, dss_end, dss_length};
 ghost use Rattle.mptcp_options.specs.Dss.{data_number_length, data_number_at, ack_at, mapping_at, fin_at};

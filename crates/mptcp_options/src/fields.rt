@@ -2,7 +2,7 @@
 
 ghost use Rattle.std.specs.Prelude.{◌≡◌, ◌+◌, ◌≤◌, length};
 ghost use Rattle.std.specs.Int.{w16, w32, w64};
-ghost use Rattle.pipe_model.specs.Octets.{number_at};
+ghost use Rattle.octet_text.specs.Octets.{number_at};
 
 pub fn u16_at(octets: &[u8], place: usize) -> u16
     requires { place + 2 ≤ length octets.now }

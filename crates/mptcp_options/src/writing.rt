@@ -10,7 +10,7 @@ use crate::join::join_body;
 use crate::option::{KIND, MpOption};
 use crate::signals::{fail_body, fast_close_body, prio_body, reset_body};
 use arrayvec::ArrayVec;
-use pipe_model::Text;
+use octet_text::Text;
 use std::alloc::AllocError;
 
 /// The octets of one option: the options of a segment have at most 40 (RFC 9293, section 3.1).

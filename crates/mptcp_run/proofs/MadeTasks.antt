@@ -1,8 +1,8 @@
 -- The made input of each number that can be asked for is plain, and is run in rounds.
 use Rattle.std.proofs.Common.{◌≡◌, refl, ℕ, ◌*◌, ◌≤◌, List, Option, Some, None, IfSome, arith}
 use Rattle.std.specs.Prelude.{option_and_then}
-use Rattle.outside_kit.specs.declared.side.Side.{Side}
-use Rattle.outside_kit.specs.declared.side.Side.TheVariants.{A, B}
+use Rattle.sides.specs.declared.side.Side.{Side}
+use Rattle.sides.specs.declared.side.Side.TheVariants.{A, B}
 use Rattle.stream_apps.specs.Starts.{fast_close_of}
 use Rattle.run_outside.specs.MadeInput.{made_file, made_script}
 use Rattle.mptcp_run.specs.Made.{made_task, Bench, bench_by, bench_of, bench_in}

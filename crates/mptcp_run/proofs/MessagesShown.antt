@@ -10,8 +10,8 @@ use Rattle.outside_kit.specs.declared.port.Port.TheVariants.{ReadByA, ReadByB}
 use Rattle.outside_kit.specs.declared.outside.PutFault.{PutFault}
 use Rattle.outside_kit.specs.declared.outside.PutFault.TheVariants as fault
 use Rattle.outside_kit.specs.Outside.{HasRisen, HoldsAfter}
-use Rattle.outside_kit.specs.Lines.{text_lines}
-use Rattle.pipe_model.specs.Prefix.{IsPrefix}
+use Rattle.octet_text.specs.Lines.{text_lines}
+use Rattle.octet_text.specs.Prefix.{IsPrefix}
 use Rattle.message_pipe.specs.Frames.{frame_of, frames}
 use Rattle.message_pipe.specs.Lines.{message_lines, framed}
 use Rattle.message_pipe.specs.LinesShown.{ShowsFirstLines}

@@ -3,8 +3,8 @@ use Rattle.std.proofs.Common.{◌≡◌, refl, sym, ◌∙◌, ap, subst, ℕ, z
 use Rattle.std.specs.Prelude.{IsSomeAnd}
 use Rattle.std.proofs.lemmas.List.{append_assoc, append-nil}
 use Rattle.outside_kit.specs.Outside.{HoldsAfter}
-use Rattle.outside_kit.specs.declared.side.Side.TheVariants.{A, B}
-use Rattle.pipe_model.specs.Prefix.{IsPrefix}
+use Rattle.sides.specs.declared.side.Side.TheVariants.{A, B}
+use Rattle.octet_text.specs.Prefix.{IsPrefix}
 use Rattle.path_rules.specs.Octets.{octets}
 use Rattle.world_laws.specs.AbortCause.{PeerStopped}
 use Rattle.world_laws.specs.Openings.{start_of}

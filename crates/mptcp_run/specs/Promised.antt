@@ -2,12 +2,12 @@
 -- the other side writes; where it does, and mappings are checked, it is so as long as a reader's side
 -- hasn't fallen back; and their number is right in any case.
 use Rattle.std.specs.Prelude.{◌≡◌, ℕ, true, false, ◌⊎◌, List, [], ◌∷◌, ◌++◌, length, Option, Some, IfSome, IsSomeAnd}
-use Rattle.outside_kit.specs.declared.side.Side.TheVariants.{A, B}
+use Rattle.sides.specs.declared.side.Side.TheVariants.{A, B}
 use Rattle.run_words.specs.Lines.{Line}
 use Rattle.outside_kit.specs.declared.port.Port.{Port}
 use Rattle.outside_kit.specs.declared.port.Port.TheVariants.{ReadByA, ReadByB}
 use Rattle.outside_kit.specs.Outside.{HoldsAfter}
-use Rattle.pipe_model.specs.Prefix.{IsPrefix}
+use Rattle.octet_text.specs.Prefix.{IsPrefix}
 use Rattle.world_laws.specs.AbortCause.{PeerStopped}
 use Rattle.world_laws.specs.Altered.{fell_back}
 use Rattle.world_laws.specs.Laws.{WritesTheFiles}

@@ -2,7 +2,7 @@
 use Rattle.std.specs.Prelude.{◌≡◌, ℕ, false, List, [], map, length, Option}
 use Rattle.outside_kit.specs.declared.port.Port.{Port}
 use Rattle.outside_kit.specs.declared.port.Port.TheVariants as port
-use Rattle.outside_kit.specs.declared.side.Side.TheVariants.{A, B}
+use Rattle.sides.specs.declared.side.Side.TheVariants.{A, B}
 use Rattle.stream_lanes.specs.Words.{Every}
 use Rattle.world_laws.specs.Fine.{IsFine, lists_of}
 use Rattle.world_laws.specs.Openings.{start_of, opened_world}

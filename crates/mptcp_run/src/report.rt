@@ -9,7 +9,7 @@ ghost use Rattle.world_laws.specs.Outcomes.{outcome_of};
 ghost use Rattle.mptcp_run.specs.Putting.{steps_made};
 
 use crate::rounds::Run;
-use pipe_model::Text;
+use octet_text::Text;
 use std::alloc::{AllocError, Global};
 use world_core::{World, told_outcome};
 

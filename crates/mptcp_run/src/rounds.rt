@@ -13,9 +13,9 @@ ghost use Rattle.mptcp_run.specs.Task.{Connection};
 
 use crate::report::Report;
 use link_script::Script;
+use octet_text::Text;
 use outside_kit::Outside;
 use path_core::key_of;
-use pipe_model::Text;
 use run_log::opening;
 use run_outside::{Input, Piece, Status, logged_text, width_of};
 use std::alloc::{AllocError, Global};

@@ -1,4 +1,4 @@
-use crate::side::Object;
+use sides::Object;
 
 /// What the threads of a run pass on their way: a program's gate is open, a test's may hold some of them until
 /// others have come.

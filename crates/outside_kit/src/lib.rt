@@ -1,5 +1,5 @@
-//! What a connection touches of the world around it: the sides and objects that it names, the files that it
-//! reads and their lines, the ports that it writes, and the gate that its threads pass.
+//! What a connection touches of the world around it: the files that it reads, the ports that it writes, and the gate
+//! that its threads pass.
 //!
 //! An [`Outside`] is told to contracts by what it tells: the content of each name, what each port holds, how many
 //! faults there were, and the calls that were made on it. [`MemoryOutside`] tells all of it; an outside over real files
@@ -9,19 +9,15 @@
 mod calls;
 mod files;
 mod gate;
-mod lines;
 mod meet;
 mod memory;
 mod outside;
 mod port;
-mod side;
 
 pub use calls::{OutsideCall, RecordedCall};
 pub use files::{FailAt, NamedFile};
 pub use gate::{Gate, OpenGate};
-pub use lines::{are_digits, split_line};
 pub use meet::MeetGate;
 pub use memory::MemoryOutside;
 pub use outside::{LoadFault, Outside, PutFault};
 pub use port::Port;
-pub use side::{Object, Side};

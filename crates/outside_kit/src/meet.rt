@@ -1,7 +1,7 @@
 //! A gate for tests, at which chosen actors meet.
 
 use crate::gate::Gate;
-use crate::side::Object;
+use sides::Object;
 use std::alloc::{AllocError, Global};
 use std::sync::atomic::{AtomicBool, Ordering};
 use std::thread;

@@ -1,6 +1,6 @@
 -- What a copy says changes nothing at the end of a turn.
 use Rattle.std.proofs.Common.{◌≡◌, refl, ℕ, zero, suc, ◌+◌, List, arith}
-use Rattle.outside_kit.specs.declared.side.Side.{Side}
+use Rattle.sides.specs.declared.side.Side.{Side}
 use Rattle.path_agenda.specs.declared.duty.Duty.{Duty}
 use Rattle.path_agenda.specs.Agenda.{heard_and, payload_came}
 use Rattle.path_agenda.specs.Laws.{ends_once, EveryTemplateEnds, EveryChainEnds}

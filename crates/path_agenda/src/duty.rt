@@ -1,6 +1,6 @@
 //! What is still to be done in a turn, one thing after the other.
 
-use outside_kit::Side;
+use sides::Side;
 
 /// A duty of a path, by what it does. It has no octets: what it needs stands in the end that it belongs to.
 #[derive(Clone, Copy, Default)]

@@ -6,7 +6,7 @@ ghost use Rattle.path_agenda.specs.Agenda.{heard_and, rest_of_turn, emission, em
 use crate::agenda::Agenda;
 use crate::duty::{AskDuty, Duty, SendDuty, SilentDuty, StepDuty};
 use arrayvec::ArrayVec;
-use outside_kit::Side;
+use sides::Side;
 
 impl Agenda {
     /// What follows what the ends do: the events of the round, and then the end of the turn.

@@ -1,7 +1,7 @@
 -- What a reply of the asked kind, within bounds, gives the rules.
 use Rattle.std.proofs.Common.{◌≡◌, ℕ, ◌≤◌, subst, false, is_some, Option, Some, None, List, [], ◌∷◌, arith}
 use Rattle.std.specs.Prelude.{All}
-use Rattle.outside_kit.specs.declared.side.Side.{Side}
+use Rattle.sides.specs.declared.side.Side.{Side}
 use Rattle.send_book.specs.declared.call.SendReply.TheVariants as send_replies
 use Rattle.subflow_send.specs.Records.{Record}
 use Rattle.path_agenda.specs.declared.duty.Duty.{Duty}

@@ -1,7 +1,7 @@
 -- What is lent of a path, and what it becomes by that.
 use Rattle.std.specs.Prelude.{ℕ, List}
 use Rattle.std.specs.Borrow.{Lends, MutBor, Fml}
-use Rattle.outside_kit.specs.declared.side.Side.{Side}
+use Rattle.sides.specs.declared.side.Side.{Side}
 use Rattle.path_core.specs.contracts.machine.Machine as machine
 use Rattle.path_rules.specs.contracts.end.PathEnd as path_end
 use Rattle.path_rules.specs.Ends.{PathEnd}

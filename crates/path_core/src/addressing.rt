@@ -10,9 +10,9 @@ ghost use Rattle.path_rules.specs.Octets.{octets};
 use crate::machine::Machine;
 use actor_desk::{Ask, Reply};
 use control_book::ControlCall;
-use outside_kit::Side;
 use path_agenda::PeerNotice;
 use path_rules::SegmentKind;
+use sides::Side;
 use std::alloc::AllocError;
 use subflow_tcp::Occasion;
 

@@ -1,7 +1,7 @@
 //! A copy that arrives, and what it makes of the end at once. The rest is treated duty by duty.
 
 ghost use Rattle.std.specs.Prelude.{◌≡◌, Some, OnOk, OnErr};
-ghost use Rattle.outside_kit.specs.Side.{peer};
+ghost use Rattle.sides.specs.Side.{peer};
 ghost use Rattle.path_segments.specs.HeardSegments.{heard_value, IsHeardShort};
 ghost use Rattle.path_rules.specs.declared.event.Event.TheVariants as event;
 ghost use Rattle.path_rules.specs.Arriving.{expected_by, SaysFew};
@@ -11,10 +11,10 @@ ghost use Rattle.path_rules.specs.State.{end_at};
 
 use crate::machine::Machine;
 use link_model::Due;
-use outside_kit::Side;
 use path_agenda::Agenda;
 use path_rules::{fill_items, heard_of, options_heard};
 use path_segments::HeardSegment;
+use sides::Side;
 use std::alloc::AllocError;
 
 impl Machine {

@@ -14,10 +14,10 @@ use crate::machine::Machine;
 use crate::standing::ack_out_ask;
 use actor_desk::{Ask, Reply};
 use fallback_state::{Event, Mode};
-use outside_kit::Side;
 use path_agenda::{AskDuty, Duty};
 use path_rules::join_begin_ask;
 use send_book::SendCall;
+use sides::Side;
 use std::alloc::AllocError;
 
 impl Machine {

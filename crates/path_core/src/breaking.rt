@@ -14,10 +14,10 @@ use crate::machine::Machine;
 use crate::standing::ack_out_ask;
 use actor_desk::{Ask, Reply};
 use control_book::ControlCall;
-use outside_kit::Side;
 use path_agenda::{Agenda, AskDuty, Duty};
 use path_rules::SegmentKind;
 use send_book::SendCall;
+use sides::Side;
 use std::alloc::AllocError;
 
 impl Machine {

@@ -8,9 +8,9 @@ ghost use Rattle.path_rules.specs.State.{end_at, with_end};
 
 use crate::machine::Machine;
 use actor_desk::{Ask, LocalStep, Reply};
-use outside_kit::Side;
 use path_rules::{InOrder, is_placed};
 use reassembly_book::ReassemblyCall;
+use sides::Side;
 use std::alloc::AllocError;
 
 impl Machine {

@@ -15,9 +15,9 @@ ghost use Rattle.path_rules.specs.State.{end_at, with_end, goes_on, left};
 use crate::handover::Handed;
 use crate::machine::Machine;
 use actor_desk::{Ask, Reply};
-use outside_kit::Side;
 use path_rules::SegmentKind;
 use send_book::{SendCall, SendReply, Span};
+use sides::Side;
 use std::alloc::AllocError;
 use subflow_tcp::Occasion;
 

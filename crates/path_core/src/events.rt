@@ -4,7 +4,7 @@ ghost use Rattle.std.specs.Prelude.{◌≡◌, ◌&&◌, ◌∷◌, ◌++◌, �
 ghost use Rattle.actor_desk.specs.Kinds.{CanBeAsked};
 ghost use Rattle.actor_desk.specs.Words.{tail_of};
 ghost use Rattle.link_model.specs.Steps.{next_due};
-ghost use Rattle.outside_kit.specs.declared.side.Side.TheVariants.{A, B};
+ghost use Rattle.sides.specs.declared.side.Side.TheVariants.{A, B};
 ghost use Rattle.subflow_tcp.specs.States.{is_dead};
 ghost use Rattle.path_agenda.specs.declared.duty.Duty.TheVariants as duties;
 ghost use Rattle.path_agenda.specs.declared.duty.AskDuty.TheVariants as ask_duties;
@@ -17,10 +17,10 @@ ghost use Rattle.path_rules.specs.State.{end_at, path_of};
 
 use crate::machine::Machine;
 use actor_desk::{Ask, LocalStep, Reply};
-use outside_kit::Side;
 use path_agenda::{Agenda, AskDuty, Duty, StepDuty};
 use path_rules::Event;
 use path_store::{LineAction, LineLeft};
+use sides::Side;
 use std::alloc::AllocError;
 use subflow_tcp::State;
 

@@ -5,7 +5,7 @@ ghost use Rattle.path_rules.specs.FailedChecks.{answered_check_failed};
 
 use crate::machine::Machine;
 use actor_desk::Reply;
-use outside_kit::Side;
+use sides::Side;
 
 impl Machine {
     /// The control book answered to the failed check, and the side goes by its verdict.

@@ -10,8 +10,8 @@ use crate::machine::Machine;
 use actor_desk::{Ask, Reply};
 use control_book::{ControlCall, ControlReply};
 use fallback_state::{Event, Mode, Verdict};
-use outside_kit::Side;
 use path_agenda::{Agenda, AskDuty, Duty};
+use sides::Side;
 
 /// What is to be done where a path is broken: where bytes or an end were told, what is to be acknowledged is asked once more.
 fn breaks_by(asked: bool, side: Side, reason: u8) -> Agenda

@@ -9,11 +9,11 @@ ghost use Rattle.path_rules.specs.Octets.{octets};
 use crate::machine::Machine;
 use actor_desk::{Ask, Reply};
 use control_book::ControlReply;
-use outside_kit::Side;
 use path_agenda::{Agenda, AskDuty, Duty};
 use path_rules::SegmentKind;
 use reassembly_book::ReassemblyCall;
 use send_book::SendCall;
+use sides::Side;
 use std::alloc::AllocError;
 use subflow_tcp::Occasion;
 

@@ -13,8 +13,8 @@ ghost use Rattle.path_rules.specs.Steps.{passable, settles_down};
 
 use crate::machine::Machine;
 use actor_desk::{Ask, LocalStep};
-use outside_kit::Side;
 use path_rules::{Modes, Said, SegmentKind};
+use sides::Side;
 use std::alloc::AllocError;
 use subflow_tcp::Occasion;
 

@@ -6,8 +6,8 @@ ghost use Rattle.path_rules.specs.InfiniteReceiving.{answered_infinite};
 
 use crate::machine::Machine;
 use actor_desk::Reply;
-use outside_kit::Side;
 use seq_units::Pos;
+use sides::Side;
 
 impl Machine {
     /// The infinite mapping was told.

@@ -7,9 +7,9 @@ ghost use Rattle.path_rules.specs.InfiniteSending.{may_go_infinite, fail_ask, an
 use crate::machine::Machine;
 use actor_desk::{Ask, Reply};
 use fallback_state::Event;
-use outside_kit::Side;
 use path_agenda::{AskDuty, Duty};
 use send_book::SendCall;
+use sides::Side;
 
 impl Machine {
     /// An MP_FAIL asks the send book first, or it is told at once that the bytes are scattered.

@@ -9,9 +9,9 @@ use crate::machine::Machine;
 use actor_desk::{Ask, LocalStep, Reply};
 use control_book::{ControlCall, ControlReply};
 use join_handshake::JoinSyn;
-use outside_kit::Side;
 use path_agenda::{Agenda, AskDuty, Duty, KeyPair, SendDuty};
 use path_rules::join_asked;
+use sides::Side;
 use subflow_tcp::State;
 
 /// A path that may join goes on by these keys.

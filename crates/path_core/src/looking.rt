@@ -11,11 +11,11 @@ ghost use Rattle.path_rules.specs.Treating.{item_of};
 
 use crate::machine::Machine;
 use link_model::{Due, SegmentFate};
-use outside_kit::Side;
+use octet_text::Text;
 use path_agenda::{Duty, Heard, SendDuty, StepDuty};
 use path_rules::{Arriving, Departing, Event, MIDDLEBOX, MPTCP_SPECIFIC, SegmentKind, ToSend};
-use pipe_model::Text;
 use segment_wire::addresses_from;
+use sides::Side;
 use std::alloc::AllocError;
 
 /// The segment of this kind, which this side sends.

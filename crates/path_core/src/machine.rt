@@ -7,10 +7,10 @@ ghost use Rattle.path_agenda.specs.Words.{replaced};
 ghost use Rattle.path_rules.specs.Turns.{TakesTime};
 
 use link_model::Link;
-use outside_kit::Side;
 use path_agenda::{Agenda, Clock, Duty, Items};
 use path_rules::{PathEnd, Profile};
 use path_store::LineLeft;
+use sides::Side;
 use std::alloc::Global;
 use std::collections::VecDeque;
 use std::marker::Model;

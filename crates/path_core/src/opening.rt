@@ -10,9 +10,9 @@ use crate::machine::Machine;
 use actor_desk::{Ask, LocalStep, Reply};
 use control_book::ControlCall;
 use fallback_state::Event;
-use outside_kit::Side;
 use path_agenda::{KeyPair, key_heard, keys_heard};
 use send_book::SendCall;
+use sides::Side;
 
 /// These keys are told to the control book.
 pub(crate) fn keys_ask(side: Side, keys: Option<KeyPair>) -> Ask

@@ -9,10 +9,10 @@ ghost use Rattle.path_rules.specs.State.{end_at};
 use crate::machine::Machine;
 use actor_desk::{Ask, LocalStep, Reply};
 use control_book::ControlCall;
-use outside_kit::Side;
 use path_agenda::Agenda;
 use path_rules::MPTCP_SPECIFIC;
 use reassembly_book::{ReassemblyCall, ReassemblyReply};
+use sides::Side;
 use subflow_tcp::Pending;
 
 /// The end of the stream was set.

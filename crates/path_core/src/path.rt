@@ -17,8 +17,8 @@ ghost use Rattle.path_rules.specs.Turns.{Ends};
 use crate::machine::Machine;
 use actor_desk::{Ask, Reply};
 use link_script::Script;
-use outside_kit::Side;
 use path_rules::{Arriving, Departing};
+use sides::Side;
 use std::alloc::{AllocError, Global};
 use std::marker::Model;
 

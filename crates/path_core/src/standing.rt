@@ -10,9 +10,9 @@ ghost use Rattle.path_rules.specs.State.{left, end_at};
 use crate::machine::Machine;
 use actor_desk::{Ask, Reply};
 use control_book::ControlCall;
-use outside_kit::Side;
 use path_agenda::Agenda;
 use reassembly_book::ReassemblyCall;
+use sides::Side;
 use std::alloc::AllocError;
 
 /// It is asked what is to be acknowledged.

@@ -13,10 +13,10 @@ use crate::machine::Machine;
 use crate::passing::is_fin_set;
 use actor_desk::{Ask, LocalStep, Reply};
 use fallback_state::Event;
-use outside_kit::Side;
 use path_rules::MIDDLEBOX;
 use reassembly_book::ReassemblyCall;
 use send_book::SendCall;
+use sides::Side;
 use std::alloc::AllocError;
 
 impl Machine {

@@ -16,10 +16,10 @@ use crate::opening::keys_ask;
 use actor_desk::{Ask, LocalStep, Reply};
 use control_book::ControlCall;
 use fallback_state::Event;
-use outside_kit::Side;
 use path_agenda::{AskDuty, Duty, Heard, KeyPair};
 use path_rules::MPTCP_SPECIFIC;
 use send_book::{SendCall, SendReply};
+use sides::Side;
 use std::alloc::AllocError;
 
 /// A Data ACK was taken.

@@ -1,7 +1,7 @@
 -- What a link makes of the octets of a segment are the octets of what it makes of the segment.
 use Rattle.std.proofs.Common.{◌≡◌, refl, sym, ◌∙◌, ap, subst, ℕ, ◌≤◌, Bool, true, false, List, [], ◌∷◌, length, Ok}
-use Rattle.outside_kit.specs.declared.side.Side.{Side}
-use Rattle.outside_kit.specs.Side.{peer}
+use Rattle.sides.specs.declared.side.Side.{Side}
+use Rattle.sides.specs.Side.{peer}
 use Rattle.link_model.specs.Octets.{octets_stripped, octets_altered}
 use Rattle.link_model.specs.Steps.{changed}
 use Rattle.segment_wire.specs.declared.head.Addresses.{Addresses}

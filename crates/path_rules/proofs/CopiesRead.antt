@@ -1,6 +1,6 @@
 -- What the octets of a copy say, be its options still there or taken away.
 use Rattle.std.proofs.Common.{◌≡◌, refl, ◌∙◌, ℕ, Bool, true, false, if◌then◌else◌, List, [], Some}
-use Rattle.outside_kit.specs.declared.side.Side.{Side}
+use Rattle.sides.specs.declared.side.Side.{Side}
 use Rattle.segment_wire.specs.Changes.{text_stripped}
 use Rattle.segment_wire.specs.Paths.{addresses_from}
 use Rattle.link_model.specs.Octets as link_octets

@@ -1,6 +1,6 @@
 -- What is to be done after a verdict: the send book is told of a fall, a path is broken, or the duty is done.
 use Rattle.std.proofs.Common.{ℕ, Bool, true, false, List}
-use Rattle.outside_kit.specs.declared.side.Side.{Side}
+use Rattle.sides.specs.declared.side.Side.{Side}
 use Rattle.fallback_state.specs.declared.fall.Mode.TheVariants.{Starting, Sure, Identity, InfiniteSend, InfiniteReceive, InfiniteBoth, Aborted}
 use Rattle.fallback_state.specs.declared.fall.Verdict.{Verdict}
 use Rattle.fallback_state.specs.declared.fall.Verdict.TheVariants as verdicts

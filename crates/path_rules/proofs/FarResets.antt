@@ -8,8 +8,8 @@ use Rattle.seq_units.specs.Number.{number_of, position_near}
 use Rattle.segment_wire.specs.Changes as changes
 use Rattle.segment_wire.proofs.Again.{segment_meaning-written}
 use Rattle.segment_wire.specs.Paths.{addresses_from}
-use Rattle.outside_kit.specs.declared.side.Side.{Side}
-use Rattle.outside_kit.specs.Side.{peer}
+use Rattle.sides.specs.declared.side.Side.{Side}
+use Rattle.sides.specs.Side.{peer}
 use Rattle.path_segments.specs.declared.expected.Expected.{Expected}
 use Rattle.path_segments.specs.declared.position.HeardPosition.{HeardPosition}
 use Rattle.path_segments.specs.declared.position.HeardPosition.TheVariants.{At, Nowhere}

@@ -4,7 +4,7 @@ use Rattle.control_book.specs.Control.{Control}
 use Rattle.control_book.specs.Replies.{reply_to}
 use Rattle.control_book.specs.declared.call.ControlCall.TheVariants as control_calls
 use Rattle.control_book.specs.declared.call.ControlReply.TheVariants as control_replies
-use Rattle.outside_kit.specs.declared.side.Side.TheVariants.{A, B}
+use Rattle.sides.specs.declared.side.Side.TheVariants.{A, B}
 use Rattle.mptcp_options.specs.declared.capable.CapableKeys.{CapableKeys}
 use Rattle.mptcp_options.specs.declared.capable.CapableKeys.TheVariants.{NoKey, Sender, Both, WithData}
 use Rattle.mptcp_options.specs.Value as wire

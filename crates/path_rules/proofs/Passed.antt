@@ -1,7 +1,7 @@
 -- Duties that are passed: the first two numbers don't rise, and the third falls.
 use Rattle.std.proofs.Common.{◌≡◌, refl, ap, ◌<◌, ◌≤◌, ◌⊎◌, inl, inr, ◌||◌, Bool, true, false, if◌then◌else◌, List, [], ◌∷◌, arith}
-use Rattle.outside_kit.specs.declared.side.Side.{Side}
-use Rattle.outside_kit.specs.declared.side.Side.TheVariants.{A, B}
+use Rattle.sides.specs.declared.side.Side.{Side}
+use Rattle.sides.specs.declared.side.Side.TheVariants.{A, B}
 use Rattle.subflow_tcp.specs.Closing.{is_fin_next}
 use Rattle.subflow_tcp.specs.Expiring.{is_timed}
 use Rattle.path_agenda.specs.declared.duty.Duty.{Duty}

@@ -1,8 +1,8 @@
 -- What lowers the numbers of a turn, and what doesn't raise the first two.
 use Rattle.std.proofs.Common.{◌≡◌, refl, ◌∙◌, ℕ, ◌+◌, ◌<◌, ◌≤◌, Bool, true, false, cond, if◌then◌else◌, nat_le, List, [], ◌∷◌, arith}
 use Rattle.std.proofs.lemmas.Bool.{leb-true}
-use Rattle.outside_kit.specs.declared.side.Side.{Side}
-use Rattle.outside_kit.specs.declared.side.Side.TheVariants.{A, B}
+use Rattle.sides.specs.declared.side.Side.{Side}
+use Rattle.sides.specs.declared.side.Side.TheVariants.{A, B}
 use Rattle.link_model.specs.declared.flight.Flight.{Flight}
 use Rattle.link_model.specs.declared.fate.Fate.{Fate}
 use Rattle.link_model.specs.declared.fate.Fate.TheVariants.{OnTime, Lost, Late, Twice}

@@ -1,6 +1,6 @@
 -- Which changes of an end leave its timer at rest: none that is due is set, and the timeout takes time.
 use Rattle.std.proofs.Common.{◌≡◌, refl, ap, ◌∙◌, subst, ℕ, ◌+◌, ◌*◌, ◌≤◌, min, Bool, true, false, if◌then◌else◌, ◌||◌, is_none, Option, Some, None, List, [], ◌∷◌, arith}
-use Rattle.outside_kit.specs.declared.side.Side.{Side}
+use Rattle.sides.specs.declared.side.Side.{Side}
 use Rattle.rtt_timer.specs.Timer.{Timer}
 use Rattle.loss_recovery.specs.declared.timers.Timing.{Timing}
 use Rattle.loss_recovery.specs.Timers as timers

@@ -4,7 +4,7 @@ use Rattle.std.specs.Prelude.{IfOk, IfSome, IsOk, IsSome, replicate}
 use Rattle.std.specs.Int.{w16}
 use Rattle.std.proofs.lemmas.List.{drop_at, drop-drop, length-replicate}
 use Rattle.std.proofs.lemmas.Nat.{from_be_bytes-to_be_bytes_2}
-use Rattle.pipe_model.specs.Octets.{number_at}
+use Rattle.octet_text.specs.Octets.{number_at}
 use Rattle.link_model.specs.declared.flight.Flight.{Flight}
 use Rattle.link_model.specs.Steps.{next_number}
 use Rattle.segment_wire.specs.Reading.{header_len, segment_meaning}
@@ -14,8 +14,8 @@ use Rattle.segment_wire.specs.Paths.{addresses_from}
 use Rattle.path_segments.specs.declared.spelling.Spelling.{Spelling}
 use Rattle.path_segments.proofs.SegmentsAgain.{four, written}
 use Rattle.path_segments.specs.Spelled.{PlainSegment, padding, padded, unpadded_options, spelled}
-use Rattle.outside_kit.specs.declared.side.Side.{Side}
-use Rattle.outside_kit.specs.Side.{peer}
+use Rattle.sides.specs.declared.side.Side.{Side}
+use Rattle.sides.specs.Side.{peer}
 use Rattle.send_book.specs.declared.call.SendCall.TheVariants as send_calls
 use Rattle.subflow_send.specs.Records.{Record}
 use Rattle.loss_recovery.specs.declared.windows.Pending.{Pending}

@@ -3,15 +3,15 @@ use Rattle.std.proofs.lemmas.List.{length-map, take-map, drop-map, map-append}
 use Rattle.std.specs.List.{position_or_len}
 use Rattle.std.proofs.Common.{◌≡◌, refl, sym, ap, ◌∙◌, ℕ, ◌+◌, ◌^◌, ◌≤◌, ◌⊎◌, inl, inr, subst, nat_lt, not, ◌&&◌, Bool, true, false, cond, if◌then◌else◌, List, [], ◌∷◌, map, Option, Some, None, find, position, is_some}
 use Rattle.std.specs.Option.{IfSome, IsSome, option_map}
-use Rattle.outside_kit.specs.declared.side.Side.{Side}
-use Rattle.outside_kit.specs.declared.side.Side.TheVariants.{A, B}
+use Rattle.sides.specs.declared.side.Side.{Side}
+use Rattle.sides.specs.declared.side.Side.TheVariants.{A, B}
 use Rattle.link_model.specs.declared.flight.Due.{Due}
 use Rattle.link_model.specs.declared.flight.Flight.{Flight}
 use Rattle.link_model.specs.Fate.{fate_of, is_stripped, is_altered}
 use Rattle.link_model.specs.Laws.{with_copies_shown, shown_flight}
 use Rattle.link_model.specs.State.{LinkState}
 use Rattle.outside_kit.specs.Memory.{one_more as counted}
-use Rattle.outside_kit.specs.Side.{peer}
+use Rattle.sides.specs.Side.{peer}
 use Rattle.link_model.specs.Steps.{segments_sent, next_number, is_due, next_due, arriving, after_delivery, without, after_send, changed, arrivals, with_flights, one_more}
 use Rattle.link_model.proofs.Shown.{sent_shown}
 use Rattle.path_segments.specs.declared.position.HeardPosition.TheVariants.{At}

@@ -1,7 +1,7 @@
 -- Addresses and priority (RFC 8684, sections 3.3.8 and 3.4): what an end has to note to its peer goes out, what the peer notes is told
 -- to the side, and so is an address that is to be announced or taken back.
 use Rattle.std.specs.Prelude.{ℕ, Bool, true, false, not, ◌&&◌, if◌then◌else◌, unwrap_or, List, [], ◌∷◌, ◌++◌}
-use Rattle.outside_kit.specs.declared.side.Side.{Side}
+use Rattle.sides.specs.declared.side.Side.{Side}
 use Rattle.path_segments.specs.Spelled.{PlainSegment}
 use Rattle.control_book.specs.declared.call.ControlCall.{ControlCall}
 use Rattle.control_book.specs.declared.call.ControlCall.TheVariants as control_calls

@@ -1,6 +1,6 @@
 -- How an end dies: by a break, by its sixth expiry, by the peer's reset (RFC 8684, section 3.6).
 use Rattle.std.specs.Prelude.{ℕ, if◌then◌else◌, Option, Some, List}
-use Rattle.outside_kit.specs.declared.side.Side.{Side}
+use Rattle.sides.specs.declared.side.Side.{Side}
 use Rattle.path_segments.specs.Spelled.{PlainSegment}
 use Rattle.send_book.specs.declared.call.SendCall.TheVariants as send_calls
 use Rattle.control_book.specs.declared.call.ControlCall.TheVariants as control_calls

@@ -1,7 +1,7 @@
 -- What a copy on a link carries, as far as the rules need it: how a segment is put into it, what a hearer reads in it, the
 -- checksum field of a segment, and what the link's two changes make of it.
 use Rattle.std.specs.Prelude.{ℕ, Option}
-use Rattle.outside_kit.specs.declared.side.Side.{Side}
+use Rattle.sides.specs.declared.side.Side.{Side}
 use Rattle.path_segments.specs.declared.expected.Expected.{Expected}
 use Rattle.path_segments.specs.declared.spelling.Spelling.{Spelling}
 use Rattle.path_segments.specs.Heard.{HeardSegment}

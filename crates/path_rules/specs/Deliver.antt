@@ -4,8 +4,8 @@ use Rattle.dss_checksum.specs.Checksum.{dss_checksum}
 use Rattle.dss_mapping.specs.declared.kept.KeptMapping.{KeptMapping}
 use Rattle.dss_mapping.specs.Learning.{first_held, after_learn_held, after_skip_held}
 use Rattle.dss_mapping.specs.Mappings.{octets_of, mapping_at, after_forget}
-use Rattle.outside_kit.specs.declared.side.Side.{Side}
-use Rattle.outside_kit.specs.Side.{peer}
+use Rattle.sides.specs.declared.side.Side.{Side}
+use Rattle.sides.specs.Side.{peer}
 use Rattle.subflow_recv.specs.Receiving.{filled, after_advance, after_forget_from}
 use Rattle.subflow_tcp.specs.State.{EndState}
 use Rattle.subflow_tcp.specs.Judging.{is_at}

@@ -1,6 +1,6 @@
 -- What an end sends by itself: its SYN, records and grants as long as there is room, DATA_FIN, FIN; and its timer.
 use Rattle.std.specs.Prelude.{ℕ, ◌-◌, Bool, not, ◌&&◌, ◌||◌, nat_le, Option, Some, None, List, length, find}
-use Rattle.outside_kit.specs.declared.side.Side.{Side}
+use Rattle.sides.specs.declared.side.Side.{Side}
 use Rattle.path_segments.specs.Spelled.{PlainSegment}
 use Rattle.send_book.specs.declared.call.Span.{Span}
 use Rattle.seq_units.specs.declared.mapping.Mapping.{Mapping}

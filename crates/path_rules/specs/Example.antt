@@ -1,7 +1,7 @@
 -- The first round of a connection: A's file has the five octets of "hello", and B's has none. Path 0 has a maximum segment
 -- size of 1,400 octets and a delay of 10 ticks.
 use Rattle.std.specs.Prelude.{ℕ, zero, suc, false, Option, Some, None, List, [], codes}
-use Rattle.outside_kit.specs.declared.side.Side.TheVariants as side
+use Rattle.sides.specs.declared.side.Side.TheVariants as side
 use Rattle.send_book.specs.declared.call.SendCall.TheVariants as send_calls
 use Rattle.reassembly_book.specs.declared.call.ReassemblyCall.TheVariants as reassembly_calls
 use Rattle.actor_desk.specs.declared.ask.Ask.{Ask}

@@ -1,6 +1,6 @@
 -- A mapping whose checksum isn't that of its octets: the side is told of it, and tells the peer by MP_FAIL (RFC 8684, section 3.7).
 use Rattle.std.specs.Prelude.{Bool, ◌&&◌, is_some, Option, Some}
-use Rattle.outside_kit.specs.declared.side.Side.{Side}
+use Rattle.sides.specs.declared.side.Side.{Side}
 use Rattle.control_book.specs.declared.call.ControlReply.TheVariants as control_replies
 use Rattle.dss_mapping.specs.declared.kept.KeptMapping.{KeptMapping}
 use Rattle.fallback_state.specs.declared.fall.Event.TheVariants as events

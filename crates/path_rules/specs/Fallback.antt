@@ -1,7 +1,7 @@
 -- What is told to the control book of Multipath TCP, that it is there or that it isn't, and what follows from the verdict: the
 -- side falls back to plain TCP, or the path is broken (RFC 8684, sections 3.6 and 3.7).
 use Rattle.std.specs.Prelude.{ℕ, Bool, true, false, ◌||◌, if◌then◌else◌, List}
-use Rattle.outside_kit.specs.declared.side.Side.{Side}
+use Rattle.sides.specs.declared.side.Side.{Side}
 use Rattle.send_book.specs.declared.call.SendCall.TheVariants as send_calls
 use Rattle.control_book.specs.declared.call.ControlCall.TheVariants as control_calls
 use Rattle.control_book.specs.declared.call.ControlReply.TheVariants as control_replies

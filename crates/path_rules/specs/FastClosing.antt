@@ -1,7 +1,7 @@
 -- The fast close (RFC 8684, section 3.5): MP_FASTCLOSE goes out at the end that carries it, the peer's is heard, and an end is reset
 -- as its side told it.
 use Rattle.std.specs.Prelude.{ℕ, Bool, true, false, not, ◌&&◌, ◌||◌, if◌then◌else◌}
-use Rattle.outside_kit.specs.declared.side.Side.{Side}
+use Rattle.sides.specs.declared.side.Side.{Side}
 use Rattle.path_segments.specs.Spelled.{PlainSegment}
 use Rattle.send_book.specs.declared.call.SendCall.TheVariants as send_calls
 use Rattle.reassembly_book.specs.declared.call.ReassemblyCall.TheVariants as reassembly_calls

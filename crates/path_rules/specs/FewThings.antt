@@ -1,6 +1,6 @@
 -- What the options of a segment say at most: they have forty octets (RFC 9293, section 3.1).
 use Rattle.std.specs.Prelude.{◌≡◌, ℕ, ◌≤◌, Bool, true, false, Some, List, length, filter}
-use Rattle.outside_kit.specs.declared.side.Side.{Side}
+use Rattle.sides.specs.declared.side.Side.{Side}
 use Rattle.key_material.specs.Octets.{AreOctets}
 use Rattle.path_segments.specs.declared.expected.Expected.{Expected}
 use Rattle.path_segments.specs.declared.segment.PathOption.TheVariants.{Prio}

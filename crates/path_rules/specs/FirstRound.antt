@@ -1,6 +1,6 @@
 -- What is asked and answered of path 0 in the first round of the example.
 use Rattle.std.specs.Prelude.{true, false, Some, List, [], ◌∷◌, ◌++◌}
-use Rattle.outside_kit.specs.declared.side.Side.TheVariants as side
+use Rattle.sides.specs.declared.side.Side.TheVariants as side
 use Rattle.send_book.specs.declared.call.SendCall.TheVariants as send_calls
 use Rattle.send_book.specs.declared.call.SendReply.TheVariants as send_replies
 use Rattle.send_book.specs.declared.call.Why.TheVariants as whys

@@ -1,6 +1,6 @@
 -- Handing a segment to the link: the step that tells it, and what it makes of the end and of the link.
 use Rattle.std.specs.Prelude.{ℕ, ◌+◌, ◌-◌, ◌^◌, min, ◌&&◌, ◌||◌, nat_lt, Bool, if◌then◌else◌, Option, Some, None, List, length}
-use Rattle.outside_kit.specs.declared.side.Side.{Side}
+use Rattle.sides.specs.declared.side.Side.{Side}
 use Rattle.link_model.specs.State.{LinkState}
 use Rattle.link_model.specs.Steps.{after_send, next_number}
 use Rattle.path_segments.specs.Spelled.{PlainSegment}

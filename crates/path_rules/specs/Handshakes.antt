@@ -1,9 +1,9 @@
 -- The options of a path are those of the handshakes and of the ends that crates below state by themselves (RFC 8684, sections
 -- 3.1, 3.3.3 and 3.6).
 use Rattle.std.specs.Prelude.{ℕ, ◌≡◌, ◌≢◌, Bool, true, false, is_some, Some, option_map, List, [], ◌∷◌, map}
-use Rattle.outside_kit.specs.declared.side.Side.{Side}
-use Rattle.outside_kit.specs.declared.side.Side.TheVariants.{A, B}
-use Rattle.outside_kit.specs.Side.{peer}
+use Rattle.sides.specs.declared.side.Side.{Side}
+use Rattle.sides.specs.declared.side.Side.TheVariants.{A, B}
+use Rattle.sides.specs.Side.{peer}
 use Rattle.capable_handshake.specs.Said.{syn_option, syn_ack_option, ack_option, first_data_option}
 use Rattle.capable_handshake.specs.Heard.{flag_on_syn, key_and_flag_on_syn_ack, keys_on_ack, checksums_used}
 use Rattle.control_book.specs.Control.{Control}

@@ -1,7 +1,7 @@
 -- The peer's infinite mapping came: the side falls back to plain TCP, or receives by that mapping where its own MP_FAIL asked for it
 -- (RFC 8684, section 3.7).
 use Rattle.std.specs.Prelude.{ℕ, Bool, true, false, Option, Some, None}
-use Rattle.outside_kit.specs.declared.side.Side.{Side}
+use Rattle.sides.specs.declared.side.Side.{Side}
 use Rattle.control_book.specs.declared.call.ControlReply.TheVariants as control_replies
 use Rattle.fallback_state.specs.declared.fall.Event.TheVariants as events
 use Rattle.fallback_state.specs.declared.fall.Verdict.TheVariants as verdicts

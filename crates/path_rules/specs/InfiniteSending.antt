@@ -1,7 +1,7 @@
 -- The peer's MP_FAIL came. Where the bytes of this end that aren't acknowledged stand together at the end of its record, in the order
 -- of the stream, the side goes on without mappings of pieces, by one infinite mapping (RFC 8684, section 3.7).
 use Rattle.std.specs.Prelude.{ℕ, Bool, true, false, ◌&&◌, is_some, if◌then◌else◌, Option, Some, None}
-use Rattle.outside_kit.specs.declared.side.Side.{Side}
+use Rattle.sides.specs.declared.side.Side.{Side}
 use Rattle.send_book.specs.declared.call.SendCall.TheVariants as send_calls
 use Rattle.send_book.specs.declared.call.SendReply.TheVariants as send_replies
 use Rattle.control_book.specs.declared.call.ControlReply.TheVariants as control_replies

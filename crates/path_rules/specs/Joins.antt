@@ -3,8 +3,8 @@
 use Rattle.std.specs.Prelude.{ℕ, ◌==◌, Bool, false, nat_lt, unwrap_or, Option, Some, None, option_map, List, [], ◌∷◌}
 use Rattle.std.specs.Cmp.Lexicographic.{pointwise}
 use Rattle.std.specs.Result.{result_ok}
-use Rattle.outside_kit.specs.declared.side.Side.{Side}
-use Rattle.outside_kit.specs.declared.side.Side.TheVariants.{A, B}
+use Rattle.sides.specs.declared.side.Side.{Side}
+use Rattle.sides.specs.declared.side.Side.TheVariants.{A, B}
 use Rattle.key_material.specs.JoinHmac.{join_a160_of}
 use Rattle.key_material.specs.KeyDigest.{token_of}
 use Rattle.mptcp_options.specs.declared.join.JoinForm.{JoinForm}

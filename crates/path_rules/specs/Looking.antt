@@ -1,9 +1,9 @@
 -- What is seen of a path from outside: its ends' measures, what its next step hands to the link, and what it takes from it.
 use Rattle.std.specs.Prelude.{◌≡◌, ℕ, if◌then◌else◌, Bool, true, false, IfSome, IsOk, Option, Some, None, option_map, List, [], ◌∷◌, length, drop}
 use Rattle.std.specs.Int.{w16}
-use Rattle.outside_kit.specs.declared.side.Side.{Side}
-use Rattle.outside_kit.specs.Side.{peer}
-use Rattle.pipe_model.specs.Octets.{number_at}
+use Rattle.sides.specs.declared.side.Side.{Side}
+use Rattle.sides.specs.Side.{peer}
+use Rattle.octet_text.specs.Octets.{number_at}
 use Rattle.link_model.specs.declared.flight.Due.{Due}
 use Rattle.link_model.specs.declared.flight.Flight.{Flight}
 use Rattle.link_model.specs.Fate.{segment_fate}

@@ -1,6 +1,6 @@
 -- A copy carries octets: this is what the code does.
 use Rattle.std.specs.Prelude.{ℕ, Option, List}
-use Rattle.outside_kit.specs.declared.side.Side.{Side}
+use Rattle.sides.specs.declared.side.Side.{Side}
 use Rattle.link_model.specs.Octets.{octets_stripped, octets_altered}
 use Rattle.path_segments.specs.declared.expected.Expected.{Expected}
 use Rattle.path_segments.specs.declared.spelling.Spelling.{Spelling}

@@ -1,6 +1,6 @@
 -- How path 0 opens: SYN, SYN/ACK, and the keys of both sides (RFC 8684, section 3.1).
 use Rattle.std.specs.Prelude.{ℕ, Bool, true, not, ◌&&◌, ◌||◌, is_some, Option, Some, None}
-use Rattle.outside_kit.specs.declared.side.Side.{Side}
+use Rattle.sides.specs.declared.side.Side.{Side}
 use Rattle.path_segments.specs.Spelled.{PlainSegment}
 use Rattle.send_book.specs.declared.call.SendCall.TheVariants as send_calls
 use Rattle.control_book.specs.declared.call.ControlCall.TheVariants as control_calls

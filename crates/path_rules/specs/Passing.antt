@@ -1,7 +1,7 @@
 -- What the payload of a copy makes of an end: bytes and ends that are told, the window's growth, answers, and what an expiry
 -- sends again.
 use Rattle.std.specs.Prelude.{ℕ, ◌-◌, min, max, Bool, true, false, nat_lt, ◌||◌, ◌==◌, if◌then◌else◌, Option, Some, None, List, [], find, slice_get}
-use Rattle.outside_kit.specs.declared.side.Side.{Side}
+use Rattle.sides.specs.declared.side.Side.{Side}
 use Rattle.path_segments.specs.Spelled.{PlainSegment}
 use Rattle.reassembly_book.specs.declared.call.ReassemblyCall.TheVariants as reassembly_calls
 use Rattle.reassembly_book.specs.declared.call.ReassemblyReply.TheVariants as reassembly_replies

@@ -1,6 +1,6 @@
 -- A segment that an end is to send, and which are to be sent.
 use Rattle.std.specs.Prelude.{ℕ, Option, Some, None, List, [], ◌∷◌}
-use Rattle.outside_kit.specs.declared.side.Side.{Side}
+use Rattle.sides.specs.declared.side.Side.{Side}
 use Rattle.path_segments.specs.declared.spelling.Spelling.{Spelling}
 use Rattle.path_segments.specs.Options.{PlainOption}
 use Rattle.path_segments.specs.Spelled.{PlainSegment, CanSay}

@@ -1,6 +1,6 @@
 -- A path by what it means. What its link's copies carry is a type of its own.
 use Rattle.std.specs.Prelude.{ℕ, Bool, Option, List}
-use Rattle.outside_kit.specs.declared.side.Side.{Side}
+use Rattle.sides.specs.declared.side.Side.{Side}
 use Rattle.link_model.specs.State.{LinkState}
 use Rattle.path_segments.specs.declared.spelling.Spelling.{Spelling}
 use Rattle.path_agenda.specs.declared.duty.Duty.{Duty}

@@ -1,7 +1,7 @@
 -- A copy carries the segment as a value, with its payload as the link left it, which side sent it, and whether its options were taken
 -- away on the way. It is heard as it was meant: the machine that theorems speak of.
 use Rattle.std.specs.Prelude.{Bool, true, false, if◌then◌else◌, Option, Some, []}
-use Rattle.outside_kit.specs.declared.side.Side.{Side}
+use Rattle.sides.specs.declared.side.Side.{Side}
 use Rattle.segment_wire.specs.Changes.{with_turned_bit}
 use Rattle.path_segments.specs.declared.expected.Expected.{Expected}
 use Rattle.path_segments.specs.declared.spelling.Spelling.{Spelling}

@@ -7,9 +7,9 @@ ghost use Rattle.path_segments.specs.HeardSegments.{heard_value, IsHeardShort};
 ghost use Rattle.path_rules.specs.Arriving.{copy_of, position_numbered, position_meant, reset_for};
 
 use crate::profile::Profile;
-use outside_kit::Side;
 use path_segments::{HeardPosition, HeardSegment};
 use seq_units::Pos;
+use sides::Side;
 use subflow_tcp::Outgoing;
 
 /// How many positions it occupies.

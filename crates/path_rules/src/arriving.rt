@@ -21,10 +21,10 @@ use crate::options_in::{asks_capable, edge_held, has_option, is_plain_ack, opens
 use crate::reset_reason::MPTCP_SPECIFIC;
 use crate::treated::Treated;
 use dss_mapping::KeptMapping;
-use outside_kit::Side;
 use path_agenda::{Agenda, Heard, Items, place_in_first};
 use path_segments::{Expected, HeardPosition, HeardSegment, Spelling, parse_segment};
 use seq_units::Pos;
+use sides::Side;
 use std::alloc::AllocError;
 use subflow_tcp::{Arrival, Arriving, Meaning, Outgoing, Subflow};
 

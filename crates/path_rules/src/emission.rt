@@ -15,10 +15,10 @@ use crate::end::PathEnd;
 use crate::modes::Modes;
 use crate::profile::Profile;
 use actor_desk::Reply;
-use outside_kit::Side;
 use path_store::GrantedPiece;
 use send_book::{SendReply, Span};
 use seq_units::Mapping;
+use sides::Side;
 use std::alloc::AllocError;
 use subflow_tcp::{Occasion, RecordRef, State};
 

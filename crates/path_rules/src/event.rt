@@ -1,8 +1,8 @@
 //! What happens on a path by itself.
 
 use link_model::Due;
-use outside_kit::Side;
 use path_store::LineLeft;
+use sides::Side;
 
 /// What happens on a path by itself, at a tick.
 #[derive(Clone, Copy)]

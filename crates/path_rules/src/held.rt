@@ -12,9 +12,9 @@ use crate::options_in::{is_mapping, octets_in};
 use crate::profile::Profile;
 use dss_mapping::KeptMapping;
 use mptcp_options::CapableKeys;
-use outside_kit::Side;
 use path_segments::{HeardMapping, HeardOption, HeardSegment, PathMapping, PathOption};
 use seq_units::{Mapping, Pos};
+use sides::Side;
 use std::alloc::{AllocError, Global};
 
 impl Profile {

@@ -12,8 +12,8 @@ use actor_desk::{Ask, Reply};
 use control_book::{ControlCall, ControlReply};
 use fallback_state::Mode;
 use join_handshake::JoinSyn;
-use outside_kit::Side;
 use path_agenda::KeyPair;
+use sides::Side;
 use subflow_tcp::{Arriving, Meaning, State, Subflow};
 
 /// The mode that a refusal tells, or else this one.

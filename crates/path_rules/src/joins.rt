@@ -2,7 +2,7 @@
 //! say (RFC 8684, section 3.2).
 
 ghost use Rattle.std.specs.Prelude.{◌≡◌, is_some};
-ghost use Rattle.outside_kit.specs.declared.side.Side.TheVariants.{A, B};
+ghost use Rattle.sides.specs.declared.side.Side.TheVariants.{A, B};
 ghost use Rattle.path_rules.specs.Joins.{peer_key_of, said_join, join_options, third_options, join_asked, join_answer, third_in, is_third_right};
 ghost use Rattle.path_rules.specs.Said.{options_by};
 
@@ -14,9 +14,9 @@ use join_handshake::{
 };
 use key_material::{join_a160, token};
 use mptcp_options::{JoinForm, MpOption};
-use outside_kit::Side;
 use path_agenda::{Heard, JoinStep, join_heard};
 use path_segments::PathOption;
+use sides::Side;
 
 /// An MP_JOIN as an option of a path's segments.
 fn said_join(option: MpOption<'static>) -> Option<Saying>

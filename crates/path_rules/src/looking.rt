@@ -2,9 +2,9 @@
 
 use crate::segment_kind::SegmentKind;
 use link_model::SegmentFate;
-use outside_kit::Side;
-use pipe_model::Text;
+use octet_text::Text;
 use segment_wire::Addresses;
+use sides::Side;
 
 /// A segment that the next step of a path hands to its link.
 #[derive(Drop)]

@@ -12,11 +12,11 @@ ghost use Rattle.path_rules.specs.Arriving.{ack_items, is_mapping, mapping_items
 
 use key_material::Address;
 use mptcp_options::{CapableKeys, JoinForm};
-use outside_kit::Side;
 use path_agenda::{Heard, Items, PeerNotice, one_wants_ack};
 use path_segments::{HeardMapping, HeardOption, HeardSegment, PathMapping, PathOption};
 use path_store::PLACE_LIMIT;
 use seq_units::Pos;
+use sides::Side;
 use subflow_tcp::{AckKind, Arrival, Meaning, State};
 
 /// One thing more.

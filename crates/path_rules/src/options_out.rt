@@ -2,7 +2,7 @@
 
 ghost use Rattle.std.specs.Prelude.{◌≡◌, ◌≤◌, ◌∷◌, [], Some, None, false, length, option_map, IfSome};
 ghost use Rattle.dss_checksum.specs.Checksum.{dss_checksum};
-ghost use Rattle.outside_kit.specs.declared.side.Side.TheVariants.{A};
+ghost use Rattle.sides.specs.declared.side.Side.TheVariants.{A};
 ghost use Rattle.path_segments.specs.declared.segment.PathOption.TheVariants.{Capable};
 ghost use Rattle.subflow_send.specs.Records.{record_of};
 ghost use Rattle.path_rules.specs.declared.segment_kind.SegmentKind.TheVariants.{DeadAnswer, Refusal};
@@ -22,11 +22,11 @@ use dss_checksum::DssSum;
 use fallback_state::Mode;
 use key_material::{Address, add_addr64};
 use mptcp_options::CapableKeys;
-use outside_kit::Side;
 use path_agenda::OwnNotice;
 use path_segments::{PathMapping, PathOption, relative_number};
 use path_store::InfiniteMapping;
 use seq_units::{Mapping, Pos};
+use sides::Side;
 use subflow_tcp::{Outgoing, RecordKind, RecordRef};
 
 impl Profile {

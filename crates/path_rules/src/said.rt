@@ -4,8 +4,8 @@ ghost use Rattle.std.specs.Prelude.{◌≡◌, ◌∷◌, IfOk};
 ghost use Rattle.path_segments.specs.Options.{plain_option};
 ghost use Rattle.path_rules.specs.Said.{options_by, said_options};
 
-use outside_kit::Side;
 use path_segments::{PathOption, SaidSegment, Spelling, sum, write};
+use sides::Side;
 use std::alloc::{AllocError, Global};
 use subflow_tcp::Outgoing;
 

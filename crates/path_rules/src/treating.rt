@@ -9,9 +9,9 @@ use crate::end::PathEnd;
 use crate::sending::Sending;
 use actor_desk::Reply;
 use fallback_state::Mode;
-use outside_kit::Side;
 use path_agenda::Heard;
 use send_book::SendReply;
+use sides::Side;
 
 impl Sending {
     /// So many bytes of the stream are acknowledged, where the Data ACK was taken.

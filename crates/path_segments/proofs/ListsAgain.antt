@@ -3,7 +3,7 @@ use Rattle.std.proofs.Common.{◌≡◌, refl, sym, ◌∙◌, ap, ℕ, zero, su
 use Rattle.std.specs.Prelude.{All, IfSome, replicate, if◌then◌else◌}
 use Rattle.std.specs.Int.{w16, to_be_bytes}
 use Rattle.std.proofs.lemmas.List.Elements.{All-head, All-tail}
-use Rattle.outside_kit.specs.declared.side.Side.{Side}
+use Rattle.sides.specs.declared.side.Side.{Side}
 use Rattle.segment_wire.specs.Options.{plain_options, option_octets}
 use Rattle.segment_wire.proofs.Fronts.{later, plain_options-padding}
 use Rattle.segment_wire.proofs.Appended.{IsOption, option_octets-append}

@@ -13,8 +13,8 @@ use Rattle.path_segments.specs.HeardLent.{IsExpected}
 use Rattle.path_segments.specs.Laws.{meant_mapping, meant_option, IsPlaceFresh, IsMappingFresh, IsOptionFresh}
 use Rattle.path_segments.proofs.NumbersAgain.{place_again, whole_again, relative_again}
 use Rattle.std.specs.Prelude.{IfSome}
-use Rattle.outside_kit.specs.declared.side.Side.{Side}
-use Rattle.outside_kit.specs.Side.{peer}
+use Rattle.sides.specs.declared.side.Side.{Side}
+use Rattle.sides.specs.Side.{peer}
 
 module _ (spelling : Spelling) (from : Side) (expected : Expected) (is : IsExpected expected) where
   mapping_again : (m : PathMapping ℕ) → IsMappingFresh spelling.short expected m

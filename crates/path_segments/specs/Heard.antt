@@ -2,8 +2,8 @@
 -- 8684, section 3).
 use Rattle.std.specs.Prelude.{ℕ, ◌+◌, ◌-◌, ◌*◌, ◌^◌, Bool, ◌&&◌, ◌==◌, nat_lt, if◌then◌else◌, Option, Some, None, option_map, option_and_then, List, [], ◌∷◌, map}
 use Rattle.std.specs.Result.{result_ok}
-use Rattle.outside_kit.specs.declared.side.Side.{Side}
-use Rattle.outside_kit.specs.Side.{peer}
+use Rattle.sides.specs.declared.side.Side.{Side}
+use Rattle.sides.specs.Side.{peer}
 use Rattle.seq_units.specs.Number.{number_of, position_near, below}
 use Rattle.seq_units.specs.Widening.{widened}
 use Rattle.segment_wire.specs.Options.{option_octets, mss_of}

@@ -1,6 +1,6 @@
 -- What is written is heard as it was meant.
 use Rattle.std.specs.Prelude.{◌≡◌, ℕ, ◌+◌, ◌*◌, ◌/◌, ◌^◌, ◌<◌, min, Bool, true, false, is_some, ◌&&◌, ◌==◌, if◌then◌else◌, Option, Some, option_map, IfSome, List, [], map, All, pos, ◌-ℤ◌}
-use Rattle.outside_kit.specs.declared.side.Side.{Side}
+use Rattle.sides.specs.declared.side.Side.{Side}
 use Rattle.seq_units.specs.Number.{IsNear}
 use Rattle.segment_wire.specs.Changes.{with_turned_bit, text_stripped, text_altered}
 use Rattle.segment_wire.specs.Paths.{addresses_from}

@@ -1,8 +1,8 @@
 -- The option of the octets that an option of a path is said by (RFC 8684, section 3).
 use Rattle.std.specs.Prelude.{ℕ, ◌%◌, ◌^◌, Bool, true, false, if◌then◌else◌, Option, Some, None, option_map, List}
 use Rattle.std.specs.Borrow.{Bor}
-use Rattle.outside_kit.specs.declared.side.Side.{Side}
-use Rattle.outside_kit.specs.Side.{peer}
+use Rattle.sides.specs.declared.side.Side.{Side}
+use Rattle.sides.specs.Side.{peer}
 use Rattle.mptcp_options.specs.declared.dss.DssMap.{DssMap}
 use Rattle.mptcp_options.specs.Value as wire
 use Rattle.path_segments.specs.declared.segment.PathOption.{PathOption}

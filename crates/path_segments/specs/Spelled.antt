@@ -3,8 +3,8 @@ use Rattle.std.specs.Prelude.{ℕ, ◌-◌, ◌/◌, ◌%◌, ◌^◌, ◌≤◌
 use Rattle.std.specs.Borrow.{Bor}
 use Rattle.std.specs.Int.{w16, to_be_bytes}
 use Rattle.std.specs.List.{flat_map}
-use Rattle.outside_kit.specs.declared.side.Side.{Side}
-use Rattle.outside_kit.specs.Side.{peer}
+use Rattle.sides.specs.declared.side.Side.{Side}
+use Rattle.sides.specs.Side.{peer}
 use Rattle.segment_wire.specs.declared.head.Head.{Head}
 use Rattle.segment_wire.specs.Segment.{Segment, segment_text, checksum_field}
 use Rattle.segment_wire.specs.Paths.{addresses_from, port_of}

@@ -14,8 +14,8 @@ use crate::position::HeardPosition;
 use crate::segment::PathSegment;
 use crate::spelling::Spelling;
 use mptcp_options::{MpOption, Read, read};
-use outside_kit::Side;
 use segment_wire::PlainOptions;
+use sides::Side;
 
 /// The options of a segment that is heard, in their order: those that are known, by places and positions.
 #[derive(Clone, Copy)]

@@ -1,7 +1,7 @@
 //! What octets say, by positions and places.
 
 ghost use Rattle.std.specs.Prelude.{◌≡◌, ◌<◌, ◌≤◌, ◌+◌, ◌^◌, option_map, IfSome};
-ghost use Rattle.outside_kit.specs.Side.{peer};
+ghost use Rattle.sides.specs.Side.{peer};
 ghost use Rattle.mptcp_options.specs.Value.{value_of};
 ghost use Rattle.path_segments.specs.Heard.{position_heard, number_means, number_heard, place_behind, place_heard, heard_mapping, heard_option};
 ghost use Rattle.path_segments.specs.HeardLent.{IsExpected, IsLow};
@@ -12,8 +12,8 @@ use crate::position::HeardPosition;
 use crate::segment::{PathMapping, PathOption};
 use crate::spelling::Spelling;
 use mptcp_options::{DataNumber, DssMap, MpOption};
-use outside_kit::Side;
 use seq_units::{Pos, Seq32, Seq64, near32, near64, number64, widen};
+use sides::Side;
 
 /// A mapping that is heard: each number by what it means, if it means any.
 pub type HeardMapping = PathMapping<Option<u64>>;

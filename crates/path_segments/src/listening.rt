@@ -1,7 +1,7 @@
 //! Hearing a segment.
 
 ghost use Rattle.std.specs.Prelude.{◌≡◌, ◌≤◌, Some, None, if◌then◌else◌, length, option_map, IfSome};
-ghost use Rattle.outside_kit.specs.Side.{peer};
+ghost use Rattle.sides.specs.Side.{peer};
 ghost use Rattle.segment_wire.specs.Options.{option_octets};
 ghost use Rattle.segment_wire.specs.Reading.{segment_of};
 ghost use Rattle.path_segments.specs.Heard.{number_means, first_mss, window_heard, heard_segment, heard_in};
@@ -13,9 +13,9 @@ use crate::heard::{HeardOptions, HeardSegment};
 use crate::position::HeardPosition;
 use crate::segment::PathSegment;
 use crate::spelling::Spelling;
-use outside_kit::Side;
 use segment_wire::options::mss;
 use segment_wire::{SegmentRef, addresses_from, parse};
+use sides::Side;
 
 /// What these octets of a side say to the other one, which expects these positions and places next, or none where they
 /// are no segment. Answers for all octets, copies nothing and takes no memory. Ports are not looked at: the path has

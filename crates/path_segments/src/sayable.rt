@@ -8,7 +8,7 @@ ghost use Rattle.path_segments.specs.Spelled.{plain, options_text, unpadded_opti
 use crate::segment::{PathMapping, PathOption, SaidSegment};
 use crate::spelling::Spelling;
 use mptcp_options::{CapableKeys, octets_of};
-use outside_kit::Side;
+use sides::Side;
 
 /// Whether a side can say this segment: the number of the path is at most 15, the window at most 2^20 octets, and the
 /// payload at most 65,475 octets; each option has a form of its subtype, with a checksum exactly where checksums are

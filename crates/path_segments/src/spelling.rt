@@ -1,8 +1,8 @@
 ghost use Rattle.std.specs.Prelude.{◌≡◌};
 
 use mptcp_options::DataNumber;
-use outside_kit::Side;
 use seq_units::{Pos, Seq32, Seq64, number32, number64};
+use sides::Side;
 
 /// What one end of a path counts from.
 #[derive(Clone, Copy)]

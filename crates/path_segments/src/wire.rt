@@ -1,7 +1,7 @@
 //! An option of a path as the option of the octets.
 
 ghost use Rattle.std.specs.Prelude.{◌≡◌, option_map};
-ghost use Rattle.outside_kit.specs.Side.{peer};
+ghost use Rattle.sides.specs.Side.{peer};
 ghost use Rattle.mptcp_options.specs.Value.{value_of};
 ghost use Rattle.path_segments.specs.Options.{plain_option, said_option, said_mapping, mapping_ends_stream, relative_number};
 ghost use Rattle.path_segments.specs.Spelling.{data_number};
@@ -9,8 +9,8 @@ ghost use Rattle.path_segments.specs.Spelling.{data_number};
 use crate::segment::{PathMapping, PathOption};
 use crate::spelling::Spelling;
 use mptcp_options::{DataNumber, DssMap, MpOption};
-use outside_kit::Side;
 use seq_units::{Pos, Seq32, number32};
+use sides::Side;
 
 impl Spelling {
     /// The option of the octets that a side says this one by.

@@ -10,8 +10,8 @@ use crate::segment::{PathOption, SaidSegment};
 use crate::spelling::Spelling;
 use arrayvec::ArrayVec;
 use mptcp_options::octets_of;
-use outside_kit::Side;
 use segment_wire::{Head, addresses_from, checksum_field, port_of};
+use sides::Side;
 use std::alloc::{AllocError, Global};
 
 /// The octets of the options of a segment, of which there are at most 40 (RFC 9293, section 3.1).

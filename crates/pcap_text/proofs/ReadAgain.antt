@@ -5,7 +5,7 @@ use Rattle.std.specs.Prelude.{slice_range, All}
 use Rattle.std.proofs.lemmas.List.{take_at, drop_at, drop-drop}
 use Rattle.std.proofs.lemmas.List.Elements.{All-head, All-tail}
 use Rattle.std.proofs.lemmas.Nat.{from_be_bytes-to_be_bytes_2, from_be_bytes-to_be_bytes_4, from_be_bytes-to_be_bytes_8}
-use Rattle.pipe_model.specs.Octets.{number_at}
+use Rattle.octet_text.specs.Octets.{number_at}
 use Rattle.pcap_text.specs.declared.blocks.Direction.{Direction}
 use Rattle.pcap_text.specs.declared.blocks.Direction.TheVariants.{Outbound, Inbound}
 use Rattle.pcap_text.specs.declared.blocks.Seen.{Seen}

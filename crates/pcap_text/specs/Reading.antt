@@ -2,7 +2,7 @@
 -- draft-ietf-opsawg-pcapng, sections 3 and 4).
 use Rattle.std.specs.Prelude.{◌≡◌, ℕ, ◌+◌, ◌-◌, ◌*◌, ◌/◌, ◌%◌, List, [], ◌∷◌, drop, slice_range, All, ◌==◌, if◌then◌else◌, Option, Some, None}
 use Rattle.std.specs.Int.{w16, w32, w64}
-use Rattle.pipe_model.specs.Octets.{number_at}
+use Rattle.octet_text.specs.Octets.{number_at}
 use Rattle.pcap_text.specs.declared.blocks.Direction.{Direction}
 use Rattle.pcap_text.specs.declared.blocks.Direction.TheVariants.{Outbound, Inbound}
 use Rattle.pcap_text.specs.Blocks.{Block, Section, Interface, Packet, CanRecord, capture_text}

@@ -8,7 +8,7 @@ use Rattle.pipe_model.specs.declared.pipe.Pipe.{Pipe}
 use Rattle.pipe_model.specs.declared.pipe.PipeStep.{PipeStep}
 use Rattle.pipe_model.specs.declared.pipe.PipeStep.TheVariants.{Write, Close, Read, Ack, TellEnd}
 use Rattle.pipe_model.specs.Pipe.{refusal, after, opening}
-use Rattle.pipe_model.specs.Prefix.{IsPrefix}
+use Rattle.octet_text.specs.Prefix.{IsPrefix}
 use Rattle.pipe_model.specs.Runs.{next, after_steps, given_by, written_by, piece_of, read_by, received_at, latest_received}
 
 written-after : (step : PipeStep) (p : Pipe) → (after step p).written ≡ p.written ++ given_by step

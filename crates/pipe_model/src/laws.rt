@@ -1,7 +1,7 @@
 ghost use Rattle.std.specs.Prelude.{◌≡◌, ◌≤◌, List, [], length, true};
 ghost use Rattle.pipe_model.specs.declared.pipe.PipeStep.{PipeStep};
 ghost use Rattle.pipe_model.specs.Pipe.{opening};
-ghost use Rattle.pipe_model.specs.Prefix.{IsPrefix};
+ghost use Rattle.octet_text.specs.Prefix.{IsPrefix};
 ghost use Rattle.pipe_model.specs.Runs.{after_steps, written_by, read_by, latest_received};
 
 /// A law: after every list of steps, what was read is a prefix of what was written.

@@ -5,8 +5,6 @@
 
 mod laws;
 mod pipe;
-mod text;
 
 pub use laws::{acknowledged_was_received, end_is_told_at_the_whole, read_is_a_prefix};
 pub use pipe::{Pipe, PipeFault, PipeStep, pipe_step};
-pub use text::Text;

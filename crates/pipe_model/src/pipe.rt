@@ -2,7 +2,7 @@ ghost use Rattle.std.specs.Prelude.{◌≡◌, Some, OnOk, OnErr, IfErr};
 ghost use Rattle.pipe_model.specs.Faults.{fault_words};
 ghost use Rattle.pipe_model.specs.Pipe.{opening, refusal, after, IsCause};
 
-use crate::text::Text;
+use octet_text::Text;
 use std::alloc::{AllocError, Global};
 use std::error::Error;
 use std::fmt;

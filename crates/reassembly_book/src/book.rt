@@ -4,7 +4,7 @@ use crate::beyond::take_in;
 use crate::call::{ReassemblyCall, ReassemblyReply};
 use byte_pieces::BytePieces;
 use circular_buffer::HeapCircularBuffer;
-use pipe_model::Text;
+use octet_text::Text;
 use stamped_book::Book;
 use std::alloc::{AllocError, Global};
 use std::marker::Model;

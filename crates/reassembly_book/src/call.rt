@@ -1,6 +1,6 @@
 ghost use Rattle.std.specs.Prelude.{◌≡◌, IfOk};
 
-use pipe_model::Text;
+use octet_text::Text;
 use std::alloc::AllocError;
 
 /// What a reassembly book can be asked.

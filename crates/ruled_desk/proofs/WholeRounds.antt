@@ -6,7 +6,7 @@ use Rattle.std.specs.Prelude.{All, OnOk}
 use Rattle.stamped_book.specs.declared.stamped.Refusal.{Refusal}
 use Rattle.stamped_book.specs.declared.stamped.Refusal.TheVariants.{Memory, Stamps}
 use Rattle.std.specs.List.{list_any, slice_index_or}
-use Rattle.outside_kit.specs.declared.side.Side.TheVariants as side
+use Rattle.sides.specs.declared.side.Side.TheVariants as side
 use Rattle.stamped_book.specs.declared.stamped.Entry.{Entry}
 use Rattle.actor_desk.specs.declared.actor.Crew.{Crew}
 use Rattle.actor_desk.specs.declared.ask.Ask.{Ask}

@@ -1,6 +1,6 @@
 -- The six books of a desk, and what a pass and the root know of each.
 use Rattle.std.specs.Prelude.{◌≡◌, ◌+◌, ℕ, Bool, true, false, ◌||◌, List, [], ◌∷◌, ◌++◌, length, map, replicate, slice_set, slice_index_or}
-use Rattle.outside_kit.specs.declared.side.Side.TheVariants as side
+use Rattle.sides.specs.declared.side.Side.TheVariants as side
 use Rattle.atomic_table.specs.Seated.{TableId}
 use Rattle.send_book.specs.declared.call.SendCall.{SendCall}
 use Rattle.send_book.specs.declared.call.SendReply.{SendReply}

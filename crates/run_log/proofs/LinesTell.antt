@@ -12,9 +12,9 @@ use Rattle.std.proofs.lemmas.List.{append-nil}
 use Rattle.link_script.specs.Words.{words_of}
 use Rattle.link_script.proofs.Numerals.{digits}
 use Rattle.link_script.specs.Writing.{spaced}
-use Rattle.outside_kit.specs.declared.side.Object.{Object}
-use Rattle.outside_kit.specs.declared.side.Object.TheVariants as objects
-use Rattle.outside_kit.specs.declared.side.Side.TheVariants as sides
+use Rattle.sides.specs.declared.object.Object.{Object}
+use Rattle.sides.specs.declared.object.Object.TheVariants as objects
+use Rattle.sides.specs.declared.side.Side.TheVariants as sides
 use Rattle.control_book.specs.declared.call.ControlReply.{ControlReply}
 use Rattle.control_book.specs.declared.call.ControlReply.TheVariants as control_replies
 use Rattle.actor_desk.specs.declared.ask.Ask.{Ask}

@@ -16,10 +16,10 @@ use Rattle.key_material.proofs.Octets.{AreOctets-to_be_bytes}
 use Rattle.link_script.specs.Numbers.{is_numeral}
 use Rattle.link_script.proofs.Numerals.{digits}
 use Rattle.link_script.specs.Writing.{spaced}
-use Rattle.outside_kit.specs.declared.side.Object.{Object}
-use Rattle.outside_kit.specs.declared.side.Object.TheVariants as objects
-use Rattle.outside_kit.specs.declared.side.Side.TheVariants as sides
-use Rattle.outside_kit.specs.Lines.{text_lines}
+use Rattle.sides.specs.declared.object.Object.{Object}
+use Rattle.sides.specs.declared.object.Object.TheVariants as objects
+use Rattle.sides.specs.declared.side.Side.TheVariants as sides
+use Rattle.octet_text.specs.Lines.{text_lines}
 use Rattle.actor_desk.specs.declared.ask.Note.{Note}
 use Rattle.run_log.specs.declared.fault.LogFault.{LogFault}
 use Rattle.run_log.specs.declared.form.Expected.{Expected}

@@ -12,7 +12,7 @@ use Rattle.run_log.specs.Lines.{round_text, width_text}
 use Rattle.std.specs.Prelude.{codes}
 use Rattle.run_log.specs.declared.turn.Turn.TheVariants.{Round}
 use Rattle.std.specs.Str.{bytes_eq}
-use Rattle.outside_kit.specs.Lines.{text_lines}
+use Rattle.octet_text.specs.Lines.{text_lines}
 use Rattle.run_log.specs.declared.turn.Turn.{Turn}
 use Rattle.run_log.specs.Form.{Fails, HasRoundBelow, is_nothing, silent, tells, step_or, end_line, after_line, taken_line, read_on, reading}
 

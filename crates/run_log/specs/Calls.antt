@@ -1,7 +1,7 @@
 -- The words of a log for what an actor asks. Of octets the log tells how many there are, of an address each one.
 use Rattle.std.specs.Prelude.{ℕ, List, [], ◌∷◌, ◌++◌, length, map, codes}
 use Rattle.std.specs.Fmt.{decimal}
-use Rattle.outside_kit.specs.Side.{side_word}
+use Rattle.sides.specs.Side.{side_word}
 use Rattle.key_material.specs.Address.{octets_of}
 use Rattle.send_book.specs.declared.call.SendCall.{SendCall}
 use Rattle.send_book.specs.declared.call.SendCall.TheVariants as send_calls

@@ -5,9 +5,9 @@ use Rattle.std.specs.Char.{is_ascii_digit}
 use Rattle.std.specs.Str.{bytes_eq}
 use Rattle.std.specs.Str.Parse.{digits_value}
 use Rattle.link_script.specs.Numbers.{is_numeral}
-use Rattle.outside_kit.specs.declared.side.Object.{Object}
-use Rattle.outside_kit.specs.declared.side.Object.TheVariants as objects
-use Rattle.outside_kit.specs.declared.side.Side.TheVariants as sides
+use Rattle.sides.specs.declared.object.Object.{Object}
+use Rattle.sides.specs.declared.object.Object.TheVariants as objects
+use Rattle.sides.specs.declared.side.Side.TheVariants as sides
 use Rattle.run_log.specs.declared.outcome.Outcome.{Outcome}
 use Rattle.run_log.specs.declared.outcome.Outcome.TheVariants as outcomes
 use Rattle.run_log.specs.Lines.{outcome_word}

@@ -1,7 +1,7 @@
 -- The form of a log, line after line: what may stand next, and what it tells.
 use Rattle.std.specs.Prelude.{◌≡◌, ℕ, suc, ◌<◌, Bool, true, false, ◌&&◌, List, [], ◌∷◌, ◌++◌, Option, Some, None, Result, Ok, Err, if◌then◌else◌, codes}
 use Rattle.std.specs.Str.{bytes_eq}
-use Rattle.outside_kit.specs.Lines.{text_lines}
+use Rattle.octet_text.specs.Lines.{text_lines}
 use Rattle.link_script.specs.Steps.{◌>>=◌}
 use Rattle.run_log.specs.declared.fault.LogFault.{LogFault}
 use Rattle.run_log.specs.declared.fault.LogFault.TheVariants.{Line, Memory}

@@ -1,7 +1,7 @@
 -- What holds of every log.
 use Rattle.std.specs.Prelude.{◌≡◌, ℕ, suc, ◌<◌, ◌≤◌, List, [], ◌∷◌, ◌++◌, length, take, map, Ok, Err, IsOk, All}
 use Rattle.std.specs.List.{flat_map, AllByRecursion}
-use Rattle.outside_kit.specs.Lines.{text_lines}
+use Rattle.octet_text.specs.Lines.{text_lines}
 use Rattle.linked_increase.specs.Paths.{IsInRange}
 use Rattle.control_book.specs.declared.call.ControlReply.TheVariants.{Rows}
 use Rattle.actor_desk.specs.declared.ask.Note.{Note}

@@ -4,8 +4,8 @@ use Rattle.std.specs.Fmt.{decimal}
 use Rattle.std.specs.Int.{w64, to_be_bytes}
 use Rattle.link_script.specs.Writing.{spaced}
 use Rattle.hex.specs.Hex.{encode_lower}
-use Rattle.outside_kit.specs.declared.side.Object.{Object}
-use Rattle.outside_kit.specs.declared.side.Object.TheVariants as objects
+use Rattle.sides.specs.declared.object.Object.{Object}
+use Rattle.sides.specs.declared.object.Object.TheVariants as objects
 use Rattle.actor_desk.specs.declared.ask.Ask.{Ask}
 use Rattle.actor_desk.specs.declared.ask.Ask.TheVariants as asks
 use Rattle.actor_desk.specs.declared.ask.Note.{Note}

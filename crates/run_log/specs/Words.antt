@@ -11,9 +11,9 @@ use Rattle.control_book.specs.declared.call.Notice.{Notice}
 use Rattle.control_book.specs.declared.call.Notice.TheVariants as notices
 use Rattle.send_book.specs.declared.call.Why.{Why}
 use Rattle.send_book.specs.declared.call.Why.TheVariants as reasons
-use Rattle.outside_kit.specs.declared.side.Object.{Object}
-use Rattle.outside_kit.specs.declared.side.Object.TheVariants as objects
-use Rattle.outside_kit.specs.declared.side.Side.TheVariants as sides
+use Rattle.sides.specs.declared.object.Object.{Object}
+use Rattle.sides.specs.declared.object.Object.TheVariants as objects
+use Rattle.sides.specs.declared.side.Side.TheVariants as sides
 
 abbrev pub flag_word : Bool → List ℕ
 flag_word true = codes "1"

@@ -10,7 +10,8 @@ ghost use Rattle.run_log.specs.Fields.{field, are_keys, is_number, actor_of, is_
 use crate::name::object_name;
 use crate::outcome::Outcome;
 use link_script::is_numeral;
-use outside_kit::{Object, Side, are_digits};
+use octet_text::are_digits;
+use sides::{Object, Side};
 use std::str;
 
 /// How many octets of words a step line has at most.

@@ -7,8 +7,8 @@ ghost use Rattle.run_log.specs.Words.{flag_word, optional_word, object_word, rea
 
 use control_book::Notice;
 use fallback_state::{Event, Mode, Verdict};
-use outside_kit::{Object, Side};
 use send_book::Why;
+use sides::{Object, Side};
 use std::alloc::AllocError;
 
 /// `1` or `0`.

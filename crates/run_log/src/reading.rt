@@ -6,7 +6,7 @@ ghost use Rattle.run_log.specs.Form.{HasRoundBelow, taken_line, turn_list, after
 use crate::fault::LogFault;
 use crate::form::{Expected, Setting};
 use crate::turn::Turn;
-use outside_kit::split_line;
+use octet_text::split_line;
 use std::alloc::{AllocError, Global};
 
 /// Adds the turn that a line tells, if it tells one.

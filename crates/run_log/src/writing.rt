@@ -16,8 +16,8 @@ use crate::outcome::Outcome;
 use crate::reassembly::{put_reassembly_call, put_reassembly_reply};
 use crate::send::{put_send_call, put_send_reply};
 use actor_desk::{Ask, Note, Reply};
-use outside_kit::Object;
-use pipe_model::Text;
+use octet_text::Text;
+use sides::Object;
 use std::alloc::{AllocError, Global};
 
 /// On which object a step is made.

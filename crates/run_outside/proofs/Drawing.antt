@@ -15,7 +15,7 @@ use Rattle.link_script.specs.declared.script.ScriptLine.TheVariants.{Drop, Die}
 use Rattle.link_script.specs.Ranges.{seeds, buffers, segment_sizes, delays, segment_numbers, run_ticks}
 use Rattle.link_script.specs.Scripts.{IsInRange, IsPath, IsEvent, SettleApart, HasRanges}
 use Rattle.link_script.specs.Writing.{seed_lines, checksum_lines, short_lines, buffer_lines, path_lines, event_lines, lines_of}
-use Rattle.outside_kit.specs.declared.side.Side.TheVariants.{A, B}
+use Rattle.sides.specs.declared.side.Side.TheVariants.{A, B}
 use Rattle.run_outside.specs.MadeInput.{words_at, path_line, made_paths, made_lines, drawn_octets, made_script}
 
 -- ---- drawing

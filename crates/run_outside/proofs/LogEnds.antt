@@ -3,7 +3,7 @@ use Rattle.std.proofs.Common.{◌≡◌, refl, sym, subst, ℕ, suc, Bool, true,
 use Rattle.std.specs.Prelude.{codes}
 use Rattle.std.specs.Str.{bytes_eq}
 use Rattle.std.proofs.lemmas.List.{append-nil}
-use Rattle.outside_kit.specs.Lines.{text_lines}
+use Rattle.octet_text.specs.Lines.{text_lines}
 use Rattle.link_script.specs.Steps.{◌>>=◌}
 use Rattle.run_log.specs.declared.fault.LogFault.{LogFault}
 use Rattle.run_log.specs.declared.form.Expected.{Expected}

@@ -2,7 +2,7 @@
 use Rattle.std.specs.Prelude.{◌≡◌, ℕ, ◌≤◌, ◌⊎◌, List, ◌++◌, Option, Some, IfSome}
 use Rattle.outside_kit.specs.declared.port.Port.{Port}
 use Rattle.outside_kit.specs.Outside.{HasRisen}
-use Rattle.pipe_model.specs.Prefix.{IsPrefix}
+use Rattle.octet_text.specs.Prefix.{IsPrefix}
 use Rattle.run_outside.specs.declared.status.Status.{Status}
 use Rattle.run_outside.specs.declared.status.Status.TheVariants.{Put, Memory}
 

@@ -7,7 +7,7 @@ ghost use Rattle.run_log.specs.Lines.{ended, step_text};
 ghost use Rattle.run_outside.specs.LogText.{opening_at, logged_text};
 
 use actor_desk::Note;
-use pipe_model::Text;
+use octet_text::Text;
 use run_log::{line, round_line};
 use std::alloc::{AllocError, Global};
 

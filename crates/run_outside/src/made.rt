@@ -6,11 +6,11 @@ ghost use Rattle.run_outside.specs.MadeInput.{words_at, drawn_octets, path_line,
 
 use crate::input::Input;
 use link_script::{PathLine, PathLines, Script, ScriptLine, ScriptLines};
-use outside_kit::Side;
-use pipe_model::Text;
+use octet_text::Text;
 use rand_chacha::ChaCha20Rng;
 use rand_core::SeedableRng;
 use rand_core::utils::fill_bytes_via_u32;
+use sides::Side;
 use std::alloc::{AllocError, Global};
 
 /// The words of a stream, before the first one is drawn.

@@ -8,8 +8,8 @@ ghost use Rattle.run_outside.specs.Plan.{put_of, puts_of};
 
 use crate::device::put;
 use crate::status::Status;
+use octet_text::Text;
 use outside_kit::{Outside, Port};
-use pipe_model::Text;
 
 /// What the end of a round puts.
 #[derive(Drop)]

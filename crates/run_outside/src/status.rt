@@ -2,7 +2,8 @@ ghost use Rattle.std.specs.Prelude.{◌≡◌, IfOk, string_bytes};
 ghost use Rattle.run_outside.specs.Status.{code_of, fault_line, input_word, port_word};
 
 use link_script::ScriptKind;
-use outside_kit::{Port, Side};
+use outside_kit::Port;
+use sides::Side;
 use std::alloc::{AllocError, Global};
 
 /// An input of a run.

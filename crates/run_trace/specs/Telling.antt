@@ -2,8 +2,8 @@
 use Rattle.std.specs.Prelude.{◌≡◌, ℕ, suc, ◌==◌, ◌≤◌, Option, Some, None, List, [], ◌∷◌, map, filter, flat_map, length, drop}
 use Rattle.std.specs.Int.{w16}
 use Rattle.std.specs.Option.{option_to_list}
-use Rattle.outside_kit.specs.declared.side.Side.{Side}
-use Rattle.pipe_model.specs.Octets.{number_at}
+use Rattle.sides.specs.declared.side.Side.{Side}
+use Rattle.octet_text.specs.Octets.{number_at}
 use Rattle.segment_wire.specs.Reading.{header_len}
 use Rattle.actor_desk.specs.declared.ask.Ask.{Ask}
 use Rattle.actor_desk.specs.declared.ask.Ask.TheVariants as asks

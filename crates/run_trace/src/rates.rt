@@ -5,8 +5,8 @@ ghost use Rattle.std.specs.Option.{option_to_list};
 ghost use Rattle.run_trace.specs.Rates.{rate_at, rates_in, rates_of};
 
 use link_trace::{Rate, Rates};
-use outside_kit::Side;
 use path_core::Path;
+use sides::Side;
 use std::alloc::{AllocError, Global};
 use world_core::World;
 

@@ -5,7 +5,7 @@ ghost use Rattle.std.specs.Option.{SomeIff};
 ghost use Rattle.std.specs.Str.Parse.{digits_value};
 ghost use Rattle.run_words.specs.Numbers as number_is;
 
-use outside_kit::are_digits;
+use octet_text::are_digits;
 
 /// How many digits a number has at most.
 const MOST_DIGITS: usize = 7;

@@ -3,7 +3,7 @@ use Rattle.std.specs.Prelude.{ℕ, ◌*◌, ◌/◌, List, length, drop, slice_i
 use Rattle.std.specs.Int.{w16, w32}
 use Rattle.std.specs.Borrow.{Bor, u8 as octet}
 use Rattle.std.specs.Ptr.{Ptr, as_ptr, ptr_add}
-use Rattle.pipe_model.specs.Octets.{number_at, is_set}
+use Rattle.octet_text.specs.Octets.{number_at, is_set}
 use Rattle.segment_wire.specs.declared.head.Head.{Head}
 use Rattle.segment_wire.specs.declared.head.Addresses.{Addresses}
 use Rattle.segment_wire.specs.declared.reading.SegmentFault.{SegmentFault}

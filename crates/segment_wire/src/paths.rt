@@ -4,7 +4,7 @@ ghost use Rattle.std.specs.Prelude.{◌≡◌};
 ghost use Rattle.segment_wire.specs.Paths.{addresses_from, port_of};
 
 use crate::head::Addresses;
-use outside_kit::Side;
+use sides::Side;
 
 /// The port that B listens on.
 const PORT_OF_B: u16 = 5_001;

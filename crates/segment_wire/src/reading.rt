@@ -4,7 +4,7 @@ ghost use Rattle.std.specs.Prelude.{◌≡◌, ◌+◌, ◌≤◌, length, IfOk,
 ghost use Rattle.std.specs.Int.{w16, w32};
 ghost use Rattle.std.specs.Ptr.{as_ptr};
 ghost use Rattle.segment_wire.specs.Segment.{Segment, CanWrite, segment_text};
-ghost use Rattle.pipe_model.specs.Octets.{number_at};
+ghost use Rattle.octet_text.specs.Octets.{number_at};
 ghost use Rattle.segment_wire.specs.Reading.{head_in, segment_meaning, segment_of, as_segment, options_place, payload_place, StandsIn};
 ghost use Rattle.segment_wire.specs.Options.{option_octets, placed_options};
 ghost use Rattle.segment_wire.specs.OptionFront.{options_left, octets_alone};

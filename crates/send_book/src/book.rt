@@ -7,7 +7,7 @@ use crate::kept::moved;
 use crate::mark::ByteMark;
 use crate::runs::{Move, first_in, free_up_to, gathered_in, held_in};
 use crate::written::Written;
-use pipe_model::Text;
+use octet_text::Text;
 use range_marks::RangeMarks;
 use stamped_book::Book;
 use std::alloc::{AllocError, Global};

@@ -1,6 +1,6 @@
 ghost use Rattle.std.specs.Prelude.{◌≡◌, IfOk};
 
-use pipe_model::Text;
+use octet_text::Text;
 use std::alloc::AllocError;
 
 /// A range of places: `from`, and all after it below `to`.

@@ -10,7 +10,7 @@ ghost use Rattle.send_book.specs.Written.{joined, Follow};
 
 use crate::mark::ByteMark;
 use crate::tried::Tried;
-use pipe_model::Text;
+use octet_text::Text;
 use range_marks::RangeMarks;
 use std::alloc::{AllocError, Global};
 use std::marker::Model;

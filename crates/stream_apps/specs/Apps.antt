@@ -1,6 +1,6 @@
 -- An application by what it means.
 use Rattle.std.specs.Prelude.{ℕ, Bool, Option, List}
-use Rattle.outside_kit.specs.declared.side.Side.{Side}
+use Rattle.sides.specs.declared.side.Side.{Side}
 use Rattle.stream_apps.specs.declared.duty.AppDuty.{AppDuty}
 
 pub record AppState : Type 0 where

@@ -1,7 +1,7 @@
 -- The first turns of the applications of a connection: A's file has the five octets of "hello", and B's has none; and one in which A
 -- stops the connection.
 use Rattle.std.specs.Prelude.{ℕ, zero, suc, Option, Some, None, false, List, [], ◌∷◌, codes}
-use Rattle.outside_kit.specs.declared.side.Side.TheVariants as side
+use Rattle.sides.specs.declared.side.Side.TheVariants as side
 use Rattle.send_book.specs.declared.call.SendCall.TheVariants as send_calls
 use Rattle.send_book.specs.declared.call.SendReply.TheVariants as send_replies
 use Rattle.reassembly_book.specs.declared.call.ReassemblyCall.TheVariants as reassembly_calls

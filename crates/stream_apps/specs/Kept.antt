@@ -1,6 +1,6 @@
 -- What an application keeps: its whole file, how much of it is written, and the duty that stands first.
 use Rattle.std.specs.Prelude.{ℕ, ◌<◌, ◌≤◌, Bool, Option, Some, None, List, [], ◌∷◌, length, drop}
-use Rattle.outside_kit.specs.declared.side.Side.{Side}
+use Rattle.sides.specs.declared.side.Side.{Side}
 use Rattle.stream_apps.specs.declared.duty.AppDuty.{AppDuty}
 use Rattle.stream_apps.specs.declared.duty.AppDuty.TheVariants.{FastClose, AbortSend, AbortReceive, Write, Close, Read, End}
 use Rattle.stream_apps.specs.Apps.{AppState}

@@ -1,6 +1,6 @@
 -- An application at the start of its first round.
 use Rattle.std.specs.Prelude.{ℕ, ◌/◌, Bool, false, Option, None, Some, List, find, option_map, option_and_then}
-use Rattle.outside_kit.specs.declared.side.Side.{Side}
+use Rattle.sides.specs.declared.side.Side.{Side}
 use Rattle.link_script.specs.declared.script.ScriptLine.{ScriptLine}
 use Rattle.link_script.specs.declared.script.ScriptLine.TheVariants as line
 use Rattle.link_script.specs.Places.{same_side}

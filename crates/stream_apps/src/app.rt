@@ -8,10 +8,10 @@ use crate::starting::rounds_before_stop;
 use actor_desk::{Ask, LocalStep, Reply};
 use control_book::ControlCall;
 use link_script::Script;
-use outside_kit::Side;
-use pipe_model::Text;
+use octet_text::Text;
 use reassembly_book::{ReassemblyCall, ReassemblyReply};
 use send_book::{SendCall, SendReply};
+use sides::Side;
 use std::alloc::{AllocError, Global};
 use std::marker::Model;
 

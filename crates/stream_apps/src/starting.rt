@@ -4,7 +4,7 @@ ghost use Rattle.link_script.specs.Places.{same_side};
 ghost use Rattle.stream_apps.specs.Starts.{fast_close_of, is_fast_close, rounds_before};
 
 use link_script::ScriptLine;
-use outside_kit::Side;
+use sides::Side;
 
 /// Ticks of a round.
 const ROUND: u64 = 100;

@@ -4,7 +4,7 @@ use Rattle.pipe_model.specs.declared.pipe.Pipe.{Pipe}
 use Rattle.pipe_model.specs.declared.pipe.PipeStep.{PipeStep}
 use Rattle.pipe_model.specs.declared.pipe.PipeStep.TheVariants.{Ack as AckStep}
 use Rattle.pipe_model.specs.Pipe.{refusal, after as after_step}
-use Rattle.pipe_model.specs.Prefix.{IsPrefix}
+use Rattle.octet_text.specs.Prefix.{IsPrefix}
 use Rattle.send_book.specs.declared.call.SendCall.TheVariants.{AckIn}
 use Rattle.send_book.specs.declared.call.SendReply.{SendReply}
 use Rattle.send_book.specs.declared.call.SendReply.TheVariants.{AckFuture}

@@ -1,6 +1,6 @@
 ghost use Rattle.std.specs.Prelude.{◌≡◌, ◌≤◌, length, IfOk};
 
-use pipe_model::Text;
+use octet_text::Text;
 use std::alloc::{AllocError, Global};
 use std::marker::Model;
 

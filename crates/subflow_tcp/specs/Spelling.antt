@@ -1,9 +1,9 @@
 -- The numbers of an end's segments (RFC 9293, section 3.4), and its ports.
 use Rattle.std.specs.Prelude.{ℕ, ◌*◌, ◌^◌, true, false, nat_lt, if◌then◌else◌, is_some, Option, Some, None}
 use Rattle.std.specs.Prelude.{unwrap_or}
-use Rattle.outside_kit.specs.declared.side.Side.{Side}
-use Rattle.outside_kit.specs.declared.side.Side.TheVariants.{A, B}
-use Rattle.outside_kit.specs.Side.{peer}
+use Rattle.sides.specs.declared.side.Side.{Side}
+use Rattle.sides.specs.declared.side.Side.TheVariants.{A, B}
+use Rattle.sides.specs.Side.{peer}
 use Rattle.seq_units.specs.Number.{number_of, position_near}
 use Rattle.segment_wire.specs.declared.head.Head.{Head}
 use Rattle.segment_wire.specs.Paths.{port_of}

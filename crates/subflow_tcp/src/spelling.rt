@@ -5,9 +5,9 @@ ghost use Rattle.subflow_tcp.specs.Segments.{copy_of};
 ghost use Rattle.subflow_tcp.specs.Spelling.{side_of, own_port, peer_port, peer_initial, position_heard, acknowledged_heard, window_heard, heard, acknowledged_said, head_said, said, reset_head, reset_answer};
 
 use crate::segments::{Arriving, Emission, Outgoing};
-use outside_kit::Side;
 use segment_wire::{Head, SegmentRef, port_of};
 use seq_units::{Pos, Seq32, near32, number32};
+use sides::Side;
 
 /// What an end needs to read and to write the numbers of its segments.
 #[derive(Clone, Copy)]

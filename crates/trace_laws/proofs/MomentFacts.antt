@@ -4,9 +4,9 @@ use Rattle.std.specs.List.{slice_get}
 use Rattle.std.specs.Option.{IfSome, option_to_list}
 use Rattle.std.proofs.lemmas.Bool.{and_parts, both_ways, false≢true}
 use Rattle.std.proofs.lemmas.Option.{same_Some, slice_get_within}
-use Rattle.outside_kit.specs.declared.side.Side.{Side}
-use Rattle.outside_kit.specs.declared.side.Side.TheVariants.{A, B}
-use Rattle.pipe_model.specs.Prefix.{IsPrefix}
+use Rattle.sides.specs.declared.side.Side.{Side}
+use Rattle.sides.specs.declared.side.Side.TheVariants.{A, B}
+use Rattle.octet_text.specs.Prefix.{IsPrefix}
 use Rattle.key_material.specs.KeyDigest.{idsn_of}
 use Rattle.segment_wire.specs.declared.reading.SegmentFault.{SegmentFault}
 use Rattle.segment_wire.specs.Segment.{Segment}

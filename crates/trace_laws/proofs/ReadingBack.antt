@@ -2,8 +2,8 @@
 use Rattle.std.proofs.Common.{◌≡◌, refl, sym, ◌∙◌, ap, subst, ℕ, zero, suc, ◌+◌, ◌-◌, ◌%◌, ◌==◌, ◌^◌, ◌<◌, ◌≤◌, min, Bool, true, false, if◌then◌else◌, Result, Ok, Option, Some, None, unwrap_or, List, [], ◌∷◌, ◌++◌, length, replicate, append_assoc, append-nil, arith}
 use Rattle.std.specs.Option.{option_or}
 use Rattle.std.proofs.lemmas.Bool.{ne_eqb}
-use Rattle.outside_kit.specs.declared.side.Side.{Side}
-use Rattle.outside_kit.specs.Side.{peer}
+use Rattle.sides.specs.declared.side.Side.{Side}
+use Rattle.sides.specs.Side.{peer}
 use Rattle.key_material.specs.KeyDigest.{idsn_of}
 use Rattle.mptcp_options.specs.declared.capable.CapableKeys.{CapableKeys}
 use Rattle.mptcp_options.specs.declared.dss.DataNumber.TheVariants.{Low, Whole}

@@ -1,6 +1,6 @@
 -- How many octets a table counts as sent for the first time.
 use Rattle.std.specs.Prelude.{◌≡◌, List, length}
-use Rattle.outside_kit.specs.declared.side.Side.{Side}
+use Rattle.sides.specs.declared.side.Side.{Side}
 use Rattle.actor_desk.specs.Words.{pick}
 use Rattle.link_trace.specs.declared.carried.Base.{Base}
 use Rattle.link_trace.specs.declared.carried.Carried.{Carried}

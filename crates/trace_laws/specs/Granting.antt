@@ -1,6 +1,6 @@
 -- Which octets of a stream the steps of a run grant to paths.
 use Rattle.std.specs.Prelude.{◌≡◌, ℕ, ◌<◌, ◌≤◌, List, length}
-use Rattle.outside_kit.specs.declared.side.Side.{Side}
+use Rattle.sides.specs.declared.side.Side.{Side}
 use Rattle.actor_desk.specs.Words.{pick}
 use Rattle.path_rules.specs.Octets.{octets}
 use Rattle.world_laws.specs.declared.outcome.Outcome.TheVariants.{Delivered}

@@ -1,6 +1,6 @@
 -- Which octets of a file the segments of a trace carry.
 use Rattle.std.specs.Prelude.{◌≡◌, ℕ, ◌+◌, ◌<◌, ◌≤◌, List, [], ◌∷◌, ◌++◌, length, take, drop}
-use Rattle.outside_kit.specs.declared.side.Side.{Side}
+use Rattle.sides.specs.declared.side.Side.{Side}
 use Rattle.segment_wire.specs.Reading.{header_len}
 use Rattle.stream_lanes.specs.Words.{Has}
 use Rattle.actor_desk.specs.Words.{pick}

@@ -6,7 +6,7 @@
 use crate::steps::{Steps, put_steps};
 use case_fields::{CaseFault, octets_at, put_digits, put_word};
 use message_pipe::{Messages, frame};
-use pipe_model::Text;
+use octet_text::Text;
 use std::alloc::Global;
 
 pub fn message(alloc: Global, text: &mut String, fields: &[&str]) -> Result<(), CaseFault> {

@@ -5,7 +5,7 @@ ghost use Rattle.std.specs.Prelude.{◌≤◌, length};
 
 use case_fields::{CaseFault, digits, octets_at, put_word};
 use mptcp_options::{Read, read, write};
-use pipe_model::Text;
+use octet_text::Text;
 use std::alloc::{AllocError, Global};
 
 /// The most octets that the options of a segment have.

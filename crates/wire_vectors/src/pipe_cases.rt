@@ -3,7 +3,8 @@
 
 use crate::steps::{Steps, put_steps};
 use case_fields::{CaseFault, octets_at, pair_at, parsed_at, put_word};
-use pipe_model::{Pipe, PipeFault, PipeStep, Text, pipe_step};
+use octet_text::Text;
+use pipe_model::{Pipe, PipeFault, PipeStep, pipe_step};
 use std::alloc::Global;
 
 pub fn pipe(alloc: Global, text: &mut String, fields: &[&str]) -> Result<(), CaseFault> {

@@ -15,12 +15,12 @@ use case_fields::{
 };
 use key_material::Address;
 use mptcp_options::{CapableKeys, JoinForm};
-use outside_kit::Side;
 use path_segments::{
     EndNumbers, Expected, HeardSegment, PathMapping, PathOption, PathSegment, Spelling, can_say,
     parse_segment, write,
 };
 use seq_units::{POSITION_LIMIT, Seq32, Seq64};
+use sides::Side;
 use std::alloc::{AllocError, Global};
 
 /// An option of a case: none lends ids.

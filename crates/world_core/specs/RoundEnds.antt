@@ -1,6 +1,6 @@
 -- The ends of the rounds of a list of turns, with what was done and read up to them.
 use Rattle.std.specs.Prelude.{ℕ, List, [], ◌∷◌}
-use Rattle.outside_kit.specs.declared.side.Side.{Side}
+use Rattle.sides.specs.declared.side.Side.{Side}
 use Rattle.actor_desk.specs.declared.ask.Note.{Note}
 use Rattle.actor_desk.specs.Journals.{in_order}
 use Rattle.path_rules.specs.Octets.{octets}

@@ -8,7 +8,7 @@ ghost use Rattle.world_laws.specs.Outcomes.{notes_at, read_by};
 use crate::weaving::notes_from;
 use crate::world::World;
 use actor_desk::{Note, Reply};
-use pipe_model::Text;
+use octet_text::Text;
 use reassembly_book::ReassemblyReply;
 use std::alloc::{AllocError, Global};
 

@@ -9,7 +9,7 @@ ghost use Rattle.world_laws.specs.Serial.{goes_on};
 use crate::hearing::{Hearing, notes_at};
 use crate::member::{Crew, is_no_live_path};
 use actor_desk::{Books, Note};
-use outside_kit::Side;
+use sides::Side;
 use std::marker::Model;
 use world_laws::Outcome;
 

@@ -1,7 +1,7 @@
 -- No mapping that an end of a path heard gives a position another place than the one that the end learned (RFC 8684, section
 -- 3.3.1).
 use Rattle.std.specs.Prelude.{ℕ, ◌≡◌, false, Some, slice_get}
-use Rattle.outside_kit.specs.declared.side.Side.{Side}
+use Rattle.sides.specs.declared.side.Side.{Side}
 use Rattle.dss_mapping.specs.Learning.{clashes}
 use Rattle.dss_mapping.specs.Mappings.{Mappings}
 use Rattle.stream_lanes.specs.Words.{Every}

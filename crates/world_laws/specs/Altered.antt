@@ -1,7 +1,7 @@
 -- What holds of a connection whatever payload its links alter, and whether its mappings are checked or not.
 use Rattle.std.specs.Prelude.{ℕ, ◌≡◌, ◌≤◌, ◌-◌, nat_lt, if◌then◌else◌, Bool, true, false, Option, Some, List, length, slice_get}
-use Rattle.outside_kit.specs.declared.side.Side.{Side}
-use Rattle.outside_kit.specs.declared.side.Side.TheVariants.{A, B}
+use Rattle.sides.specs.declared.side.Side.{Side}
+use Rattle.sides.specs.declared.side.Side.TheVariants.{A, B}
 use Rattle.send_book.specs.State.{acked_len}
 use Rattle.reassembly_book.specs.State.{received}
 use Rattle.stream_lanes.specs.Laws.{flattened}
@@ -18,7 +18,7 @@ use Rattle.fallback_state.specs.declared.fall.Mode.TheVariants.{Starting, Sure, 
 use Rattle.fallback_state.specs.Modes.{reads_mappings}
 use Rattle.actor_desk.specs.Books.{books_in}
 use Rattle.actor_desk.specs.Desk.{control_of}
-use Rattle.pipe_model.specs.Prefix.{IsPrefix}
+use Rattle.octet_text.specs.Prefix.{IsPrefix}
 
 -- in these modes octets come to a side without mappings of theirs: in plain TCP, and by an infinite mapping of the peer's
 abbrev pub is_fallback : Mode → Bool

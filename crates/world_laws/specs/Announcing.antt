@@ -3,7 +3,7 @@
 -- names the id was to announce it.
 use Rattle.std.specs.Prelude.{ℕ, ◌≡◌, ◌==◌, not, ◌&&◌, Bool, true, false, if◌then◌else◌, Option, Some, None, IfSome, List, [], ◌∷◌, ◌++◌, slice_get}
 use Rattle.std.specs.List.{list_any}
-use Rattle.outside_kit.specs.declared.side.Side.{Side}
+use Rattle.sides.specs.declared.side.Side.{Side}
 use Rattle.stamped_book.specs.declared.stamped.Entry.{Entry}
 use Rattle.path_segments.specs.declared.segment.PathOption.TheVariants.{AddAddr}
 use Rattle.path_segments.specs.Options.{PlainOption}

@@ -2,8 +2,8 @@
 -- no MP_FAIL is under way, and no side knows of a failure or goes by an infinite mapping (section 3.7).
 use Rattle.std.specs.Prelude.{ℕ, ◌≡◌, ◌+◌, ◌%◌, ◌^◌, ◌≤◌, Bool, true, false, Option, Some, None, List, length, take, drop, slice_get, unwrap_or}
 use Rattle.std.specs.List.{list_any}
-use Rattle.outside_kit.specs.declared.side.Side.{Side}
-use Rattle.outside_kit.specs.Side.{peer}
+use Rattle.sides.specs.declared.side.Side.{Side}
+use Rattle.sides.specs.Side.{peer}
 use Rattle.dss_checksum.specs.Checksum.{dss_checksum}
 use Rattle.fallback_state.specs.declared.fall.Event.TheVariants.{CheckFailed}
 use Rattle.fallback_state.specs.Modes.{is_infinite}

@@ -2,7 +2,7 @@
 -- section 3.2).
 use Rattle.std.specs.Prelude.{ℕ, ◌≡◌, Bool, true, false, Some, List, slice_get}
 use Rattle.std.specs.List.{list_any}
-use Rattle.outside_kit.specs.declared.side.Side.TheVariants.{A}
+use Rattle.sides.specs.declared.side.Side.TheVariants.{A}
 use Rattle.actor_desk.specs.declared.ask.Note.{Note}
 use Rattle.path_rules.specs.Joins.{is_joined}
 use Rattle.world_laws.specs.declared.member.Member.TheVariants.{App, Path}

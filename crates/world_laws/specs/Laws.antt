@@ -1,6 +1,6 @@
 -- What is promised of a connection over every list of turns.
 use Rattle.std.specs.Prelude.{ℕ, ◌≡◌, ◌≤◌, true, Some, None, List, [], slice_get}
-use Rattle.pipe_model.specs.Prefix.{IsPrefix}
+use Rattle.octet_text.specs.Prefix.{IsPrefix}
 use Rattle.send_book.specs.State.{Sending}
 use Rattle.stream_lanes.specs.Words.{Every}
 use Rattle.actor_desk.specs.Books.{books_in}

@@ -1,6 +1,6 @@
 -- The modes that a side is or was in, by the journal of its control book, which only grows (after RFC 8684, section 3.7).
 use Rattle.std.specs.Prelude.{◌||◌, Bool, List, [], ◌∷◌}
-use Rattle.outside_kit.specs.declared.side.Side.{Side}
+use Rattle.sides.specs.declared.side.Side.{Side}
 use Rattle.stamped_book.specs.declared.stamped.Entry.{Entry}
 use Rattle.fallback_state.specs.declared.fall.Mode.{Mode}
 use Rattle.control_book.specs.declared.call.ControlCall.{ControlCall}

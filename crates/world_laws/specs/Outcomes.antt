@@ -1,8 +1,8 @@
 -- What a connection shows: how it stands, what its readers got, and each direction as a pipe.
 use Rattle.std.specs.Prelude.{ℕ, Bool, true, false, ◌&&◌, if◌then◌else◌, Option, Some, None, List, [], ◌∷◌, flat_map, slice_get}
 use Rattle.std.specs.List.{list_any}
-use Rattle.outside_kit.specs.declared.side.Side.{Side}
-use Rattle.outside_kit.specs.declared.side.Side.TheVariants.{A, B}
+use Rattle.sides.specs.declared.side.Side.{Side}
+use Rattle.sides.specs.declared.side.Side.TheVariants.{A, B}
 use Rattle.pipe_model.specs.declared.pipe.Pipe.{Pipe}
 use Rattle.send_book.specs.State.{acked_len}
 use Rattle.reassembly_book.specs.declared.call.ReassemblyReply.TheVariants as reassembly_replies

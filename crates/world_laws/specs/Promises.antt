@@ -1,9 +1,9 @@
 -- What a connection promises at every moment, whatever the order of the steps: of each direction, from a writer's side to the
 -- reader's.
 use Rattle.std.specs.Prelude.{ℕ, ◌≡◌, ◌-◌, ◌^◌, ◌<◌, ◌≤◌, Bool, true, false, List, length}
-use Rattle.outside_kit.specs.declared.side.Side.{Side}
-use Rattle.outside_kit.specs.declared.side.Side.TheVariants.{A, B}
-use Rattle.pipe_model.specs.Prefix.{IsPrefix}
+use Rattle.sides.specs.declared.side.Side.{Side}
+use Rattle.sides.specs.declared.side.Side.TheVariants.{A, B}
+use Rattle.octet_text.specs.Prefix.{IsPrefix}
 use Rattle.send_book.specs.declared.call.SendReply.TheVariants as send_replies
 use Rattle.send_book.specs.State.{Sending, acked_len}
 use Rattle.reassembly_book.specs.declared.call.ReassemblyReply.TheVariants as reassembly_replies

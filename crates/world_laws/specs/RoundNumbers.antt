@@ -1,8 +1,8 @@
 -- What is done by the end of a round, in numbers of what stood as it began.
 use Rattle.std.specs.Prelude.{ℕ, ◌≡◌, ◌+◌, ◌≤◌, ◌⊎◌, min, ◌&&◌, nat_lt, if◌then◌else◌, Bool, true, false, Some, List, [], ◌∷◌, length, map, drop, slice_get}
 use Rattle.std.specs.List.{list_any, position_or_len}
-use Rattle.outside_kit.specs.declared.side.Side.{Side}
-use Rattle.outside_kit.specs.declared.side.Side.TheVariants.{A, B}
+use Rattle.sides.specs.declared.side.Side.{Side}
+use Rattle.sides.specs.declared.side.Side.TheVariants.{A, B}
 use Rattle.send_book.specs.declared.call.SendCall.TheVariants as send_calls
 use Rattle.send_book.specs.declared.call.SendReply.TheVariants as send_replies
 use Rattle.send_book.specs.declared.mark.ByteMark.{ByteMark}

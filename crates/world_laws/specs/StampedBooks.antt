@@ -1,6 +1,6 @@
 -- What the six books with their journals answer, and their journals as notes of the actors that asked.
 use Rattle.std.specs.Prelude.{List, [], ◌∷◌, map}
-use Rattle.outside_kit.specs.declared.side.Side.TheVariants as side
+use Rattle.sides.specs.declared.side.Side.TheVariants as side
 use Rattle.actor_desk.specs.declared.ask.Ask.{Ask}
 use Rattle.actor_desk.specs.declared.ask.Note.{Note}
 use Rattle.actor_desk.specs.declared.ask.Reply.{Reply}

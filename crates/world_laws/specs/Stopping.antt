@@ -1,6 +1,6 @@
 -- What a reader is told once the connection was aborted at its side, by itself or by its peer (RFC 8684, section 3.5).
 use Rattle.std.specs.Prelude.{◌≡◌, Bool, Some, List, ◌++◌, All}
-use Rattle.outside_kit.specs.declared.side.Side.{Side}
+use Rattle.sides.specs.declared.side.Side.{Side}
 use Rattle.reassembly_book.specs.declared.call.ReassemblyReply.TheVariants.{Bytes, End, NoneYet, Aborted}
 use Rattle.actor_desk.specs.declared.ask.Note.{Note}
 use Rattle.actor_desk.specs.declared.ask.Reply.{Reply}

@@ -1,6 +1,6 @@
 //! How a connection stands after a round.
 
-use outside_kit::Side;
+use sides::Side;
 
 /// How a connection stands.
 #[derive(Clone, Copy)]

@@ -11,7 +11,7 @@ use crate::calls::control_call;
 use actor_desk::{Ask, Reply};
 use case_fields::{CaseFault, parsed_at, word_at};
 use control_book::{ControlBook, ControlCall};
-use outside_kit::Side;
+use sides::Side;
 use stamped_book::Book;
 use std::alloc::Global;
 

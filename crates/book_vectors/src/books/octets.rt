@@ -1,7 +1,7 @@
 //! Octets of a case: a word as it stands, or `made N`, of which the octet at place k of the stream is k modulo 251.
 
 use case_fields::{CaseFault, parsed_at, put_value, put_word, word_at};
-use pipe_model::Text;
+use octet_text::Text;
 use std::alloc::{AllocError, Global};
 
 /// The longest octets that are printed as they are.

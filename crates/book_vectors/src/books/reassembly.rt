@@ -10,9 +10,9 @@ use crate::books::words::put_reply;
 use crate::calls::reassembly_call;
 use actor_desk::{Ask, Reply};
 use case_fields::{CaseFault, parsed_at, put_value, put_word};
-use outside_kit::Side;
-use pipe_model::Text;
+use octet_text::Text;
 use reassembly_book::{ReassemblyBook, ReassemblyCall, ReassemblyReply};
+use sides::Side;
 use stamped_book::Book;
 use std::alloc::{AllocError, Global};
 

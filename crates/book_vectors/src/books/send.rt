@@ -10,8 +10,8 @@ use crate::books::words::put_reply;
 use crate::calls::send_call;
 use actor_desk::{Ask, Reply};
 use case_fields::{CaseFault, parsed_at, put_value, put_word};
-use outside_kit::Side;
 use send_book::{SendBook, SendCall, SendReply};
+use sides::Side;
 use stamped_book::Book;
 use std::alloc::{AllocError, Global};
 

@@ -2,7 +2,7 @@
 
 use actor_desk::{Ask, Note, Reply};
 use case_fields::{CaseFault, put_word};
-use pipe_model::Text;
+use octet_text::Text;
 use run_log::line;
 use std::alloc::{AllocError, Global};
 

@@ -6,9 +6,9 @@ use crate::calls::{control_call, reassembly_call, send_call};
 use crate::logs::reply::{control_reply, octets_at, reassembly_reply, send_reply};
 use actor_desk::{Ask, LocalStep, Note, Reply};
 use case_fields::{CaseFault, pair_at, parsed_at, triple_at, word_at};
-use outside_kit::Side;
 use reassembly_book::ReassemblyCall;
 use send_book::SendCall;
+use sides::Side;
 use std::alloc::{AllocError, Global};
 
 fn side_at(fields: &[&str], place: usize) -> Result<Side, CaseFault> {

@@ -6,7 +6,7 @@ use case_fields::{CaseFault, optional_at, pair_at, parsed_at, triple_at, truth_a
 use control_book::{ControlReply, Notice};
 use fallback_state::{Mode, Verdict};
 use linked_increase::{Row, Rows};
-use pipe_model::Text;
+use octet_text::Text;
 use reassembly_book::ReassemblyReply;
 use send_book::{SendReply, Span, Why};
 use std::alloc::{AllocError, Global};

@@ -4,9 +4,9 @@ ghost use Rattle.std.specs.Prelude.{◌<◌, ◌≤◌, ◌≡◌, ◌^◌, leng
 use crate::pairs::made::{Received, made_piece};
 use case_fields::CaseFault;
 use link_model::Link;
-use outside_kit::Side;
 use segment_wire::{Head, SegmentRef, addresses_from, parse, write};
 use seq_units::Mapping;
+use sides::Side;
 use std::alloc::{AllocError, Global};
 use subflow_tcp::{Emission, Fired, Hint, Pending, State, Subflow};
 

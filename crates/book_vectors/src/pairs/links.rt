@@ -8,7 +8,7 @@ use case_fields::{
     CaseFault, octets_at, parsed_at, put_digits, put_numbers, put_value, put_word, word_at,
 };
 use link_model::{Due, Link};
-use outside_kit::Side;
+use sides::Side;
 use std::alloc::Global;
 
 pub fn put_link(alloc: Global, text: &mut String, case: &str) -> Result<(), CaseFault> {

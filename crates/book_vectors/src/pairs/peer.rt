@@ -5,7 +5,7 @@ use crate::pairs::calls::{self, PATH};
 use crate::pairs::made::Received;
 use case_fields::{CaseFault, put_value, put_word};
 use link_model::Link;
-use outside_kit::Side;
+use sides::Side;
 use std::alloc::Global;
 use subflow_tcp::{State, Subflow};
 

@@ -5,7 +5,7 @@ use crate::pairs::case::Case;
 use crate::pairs::peer::Peer;
 use case_fields::CaseFault;
 use link_model::Link;
-use outside_kit::Side;
+use sides::Side;
 use std::alloc::Global;
 
 /// More events than any case has.

@@ -8,7 +8,7 @@ ghost use Rattle.link_script.specs.Scripts.{HasRanges};
 
 use case_fields::{CaseFault, content, lines_in, octets_at, parsed_at, word_at};
 use link_script::{Script, ScriptFault, parse};
-use outside_kit::Side;
+use sides::Side;
 use std::alloc::{AllocError, Global};
 
 /// What is shown of a run.

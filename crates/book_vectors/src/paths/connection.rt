@@ -7,10 +7,10 @@ use crate::paths::journal::Journal;
 use actor_desk::Books;
 use case_fields::CaseFault;
 use link_script::Script;
-use outside_kit::Side;
+use octet_text::Text;
 use path_core::{Path, key_of};
-use pipe_model::Text;
 use run_log::Outcome;
+use sides::Side;
 use std::alloc::{AllocError, Global};
 use stream_apps::App;
 

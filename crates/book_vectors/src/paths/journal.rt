@@ -1,10 +1,10 @@
 //! What is kept of the steps that were made, and how it is shown.
 
 use actor_desk::{Ask, LocalStep, Note, Notes, Reply};
-use outside_kit::Side;
 use reassembly_book::{ReassemblyCall, ReassemblyReply};
 use run_log::{Outcome, line, opening, outcome_line, round_line};
 use sha2::{Digest, Sha256};
+use sides::Side;
 use std::alloc::{AllocError, Global};
 
 /// The steps of a run, and its log.

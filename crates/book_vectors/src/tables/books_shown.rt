@@ -1,7 +1,7 @@
 //! What six books and their journals are shown as.
 
 use actor_desk::Books;
-use pipe_model::Text;
+use octet_text::Text;
 use send_book::{SendBook, SendCall, SendReply};
 use stamped_book::{Book, Stamped};
 use std::alloc::{AllocError, Global};

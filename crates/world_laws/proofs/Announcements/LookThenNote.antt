@@ -3,8 +3,8 @@ use Rattle.std.proofs.Common.{◌≡◌, refl, ℕ, zero, suc, ◌+◌, ◌⊎�
 use Rattle.std.proofs.lemmas.Bool.{false≢true}
 use Rattle.path_segments.specs.Heard.{HeardSegment}
 use Rattle.link_script.specs.Places.{same_side}
-use Rattle.outside_kit.specs.declared.side.Side.{Side}
-use Rattle.outside_kit.specs.declared.side.Side.TheVariants.{A, B}
+use Rattle.sides.specs.declared.side.Side.{Side}
+use Rattle.sides.specs.declared.side.Side.TheVariants.{A, B}
 use Rattle.fallback_state.specs.declared.fall.Verdict.TheVariants as verdicts
 use Rattle.fallback_state.specs.declared.fall.Mode.TheVariants as modes
 use Rattle.fallback_state.specs.declared.fall.Event.TheVariants as events

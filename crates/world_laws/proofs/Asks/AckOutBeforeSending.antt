@@ -3,8 +3,8 @@
 use Rattle.std.proofs.Common.{◌≡◌, refl, ℕ, ◌+◌, Bool, true, false, if◌then◌else◌, Option, Some, None, List, [], ◌∷◌, subst, ⊎_elim, ◌||◌, ◌&&◌, ◌++◌, length, zero, suc, sym}
 use Rattle.std.proofs.lemmas.Bool.{both_ways, and_parts, or_cases, true≢false, false≢true}
 use Rattle.path_segments.specs.Heard.{HeardSegment}
-use Rattle.outside_kit.specs.declared.side.Side.TheVariants.{A, B}
-use Rattle.outside_kit.specs.declared.side.Side.{Side}
+use Rattle.sides.specs.declared.side.Side.TheVariants.{A, B}
+use Rattle.sides.specs.declared.side.Side.{Side}
 use Rattle.dss_mapping.specs.declared.kept.KeptMapping.{KeptMapping}
 use Rattle.link_model.specs.Steps.{arriving, after_delivery}
 use Rattle.link_script.specs.Places.{same_side}

@@ -1,7 +1,7 @@
 -- What a path asks: of the reassembly books neither to read nor to abort; of the send books grants at one duty, acknowledgements where
 -- it heard something, and else returns alone.
 use Rattle.std.proofs.Common.{◌≡◌, refl, Bool, true, false, if◌then◌else◌, ℕ, Option, Some, None}
-use Rattle.outside_kit.specs.declared.side.Side.{Side}
+use Rattle.sides.specs.declared.side.Side.{Side}
 use Rattle.loss_recovery.specs.declared.windows.Pending.{Pending}
 use Rattle.send_book.specs.declared.call.SendCall.TheVariants as send_calls
 use Rattle.reassembly_book.specs.declared.call.ReassemblyCall.{ReassemblyCall}

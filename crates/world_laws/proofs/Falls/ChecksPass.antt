@@ -5,8 +5,8 @@ use Rattle.std.proofs.lemmas.Bool.{and_parts, both_ways, or_from, or_parts}
 use Rattle.std.proofs.lemmas.Option.{same_Some}
 use Rattle.std.specs.List.{list_any, slice_get}
 use Rattle.std.specs.Option.{IfSome}
-use Rattle.outside_kit.specs.declared.side.Side.{Side}
-use Rattle.outside_kit.specs.declared.side.Side.TheVariants.{A, B}
+use Rattle.sides.specs.declared.side.Side.{Side}
+use Rattle.sides.specs.declared.side.Side.TheVariants.{A, B}
 use Rattle.loss_recovery.specs.declared.windows.Pending.{Pending}
 use Rattle.reassembly_book.specs.declared.call.ReassemblyCall.TheVariants as reassembly_calls
 use Rattle.fallback_state.specs.declared.fall.Event.{Event as FallEvent}

@@ -1,7 +1,7 @@
 -- What an end becomes where the check of a mapping failed, or where the peer's MP_FAIL or its infinite mapping came: what any verdict
 -- makes of it, but for what it knows of failed checks and of infinite mappings.
 use Rattle.std.proofs.Common.{◌≡◌, refl, ℕ, ◌⊎◌, inl, inr, Bool, true, false, if◌then◌else◌, Option, Some, None, is_some}
-use Rattle.outside_kit.specs.declared.side.Side.{Side}
+use Rattle.sides.specs.declared.side.Side.{Side}
 use Rattle.dss_mapping.specs.declared.kept.KeptMapping.{KeptMapping}
 use Rattle.fallback_state.specs.declared.fall.Event.TheVariants as events
 use Rattle.fallback_state.specs.declared.fall.Verdict.TheVariants as verdicts

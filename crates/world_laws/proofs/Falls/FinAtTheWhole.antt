@@ -4,9 +4,9 @@ use Rattle.std.proofs.lemmas.Bool.{cases_lt, eqb-true, eq-eqb, false≢true, or_
 use Rattle.std.proofs.lemmas.Option.{same_Some, slice_get_within}
 use Rattle.std.specs.List.{slice_get}
 use Rattle.std.specs.Option.{IfSome}
-use Rattle.outside_kit.specs.declared.side.Side.{Side}
-use Rattle.outside_kit.specs.declared.side.Side.TheVariants.{A, B}
-use Rattle.outside_kit.specs.Side.{peer}
+use Rattle.sides.specs.declared.side.Side.{Side}
+use Rattle.sides.specs.declared.side.Side.TheVariants.{A, B}
+use Rattle.sides.specs.Side.{peer}
 use Rattle.path_store.specs.declared.granted_piece.GrantedPiece.{GrantedPiece}
 use Rattle.send_book.specs.State.{Sending}
 use Rattle.stream_lanes.specs.Holding.{Holds, IsEndless, LaneHolds}

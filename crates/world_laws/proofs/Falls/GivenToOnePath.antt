@@ -6,9 +6,9 @@ use Rattle.std.proofs.lemmas.List.Sums.{count_by-le-length}
 use Rattle.std.proofs.lemmas.Option.{same_Some, slice_get_within}
 use Rattle.std.specs.List.{slice_get, list_all}
 use Rattle.std.specs.Option.{IfSome}
-use Rattle.outside_kit.specs.declared.side.Side.{Side}
-use Rattle.outside_kit.specs.declared.side.Side.TheVariants.{A, B}
-use Rattle.outside_kit.specs.Side.{peer}
+use Rattle.sides.specs.declared.side.Side.{Side}
+use Rattle.sides.specs.declared.side.Side.TheVariants.{A, B}
+use Rattle.sides.specs.Side.{peer}
 use Rattle.send_book.specs.declared.call.SendCall.TheVariants.{GoInfinite as GoInfiniteBook}
 use Rattle.send_book.specs.declared.call.SendReply.TheVariants as send_replies
 use Rattle.send_book.specs.declared.mark.ByteMark.{ByteMark}

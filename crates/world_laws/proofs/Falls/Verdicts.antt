@@ -1,6 +1,6 @@
 -- What follows from a verdict of the control book: the side falls back, the path is broken, or nothing is left of the duty.
 use Rattle.std.proofs.Common.{◌≡◌, refl, ℕ, Bool, true, false, List}
-use Rattle.outside_kit.specs.declared.side.Side.{Side}
+use Rattle.sides.specs.declared.side.Side.{Side}
 use Rattle.fallback_state.specs.declared.fall.Mode.TheVariants.{Starting, Sure, Identity, InfiniteSend, InfiniteReceive, InfiniteBoth, Aborted}
 use Rattle.fallback_state.specs.declared.fall.Verdict.{Verdict}
 use Rattle.fallback_state.specs.declared.fall.Verdict.TheVariants as verdicts

@@ -4,9 +4,9 @@ use Rattle.std.proofs.Common.{◌≡◌, refl, sym, ◌∙◌, ap, ℕ, zero, su
 use Rattle.std.proofs.lemmas.Bool.{and_parts, and_from, both_ways, or_right, false≢true}
 use Rattle.std.specs.List.{list_all, list_any}
 use Rattle.std.specs.Option.{IfSome}
-use Rattle.outside_kit.specs.declared.side.Side.{Side}
-use Rattle.outside_kit.specs.declared.side.Side.TheVariants.{A, B}
-use Rattle.outside_kit.specs.Side.{peer}
+use Rattle.sides.specs.declared.side.Side.{Side}
+use Rattle.sides.specs.declared.side.Side.TheVariants.{A, B}
+use Rattle.sides.specs.Side.{peer}
 use Rattle.path_segments.specs.Laws.{meant}
 use Rattle.path_segments.specs.Options.{PlainOption}
 use Rattle.subflow_tcp.specs.Emitting.{is_syn, record_segment, reset_segment, syn_ack_segment}

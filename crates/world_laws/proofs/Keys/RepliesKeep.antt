@@ -1,8 +1,8 @@
 -- Each reply to path 0, and each round, keeps that A's side has B's key, or is past being sure, where B answered.
 use Rattle.std.proofs.Common.{◌≡◌, refl, sym, ◌∙◌, ap, subst, inl, inr, ℕ, ◌&&◌, nat_lt, not, is_some, Bool, true, false, if◌then◌else◌, Option, Some, None, List, [], ◌∷◌}
 use Rattle.std.proofs.lemmas.Bool.{and_parts, not-true, or_left, false≢true, both_ways}
-use Rattle.outside_kit.specs.declared.side.Side.{Side}
-use Rattle.outside_kit.specs.declared.side.Side.TheVariants.{A, B}
+use Rattle.sides.specs.declared.side.Side.{Side}
+use Rattle.sides.specs.declared.side.Side.TheVariants.{A, B}
 use Rattle.subflow_tcp.specs.Emitting.{after_sending}
 use Rattle.path_segments.specs.Spelled.{PlainSegment}
 use Rattle.join_handshake.specs.declared.hearing.JoinSyn.{JoinSyn}

@@ -3,8 +3,8 @@ use Rattle.std.proofs.Common.{◌≡◌, refl, sym, ◌∙◌, ℕ, suc, ◌-◌
 use Rattle.std.proofs.lemmas.Bool.{both_ways, false≢true}
 use Rattle.std.proofs.lemmas.List.{append-nil}
 use Rattle.std.specs.Option.{IfSome}
-use Rattle.outside_kit.specs.declared.side.Side.{Side}
-use Rattle.outside_kit.specs.declared.side.Side.TheVariants.{A, B}
+use Rattle.sides.specs.declared.side.Side.{Side}
+use Rattle.sides.specs.declared.side.Side.TheVariants.{A, B}
 use Rattle.loss_recovery.specs.declared.windows.Pending.{Pending}
 use Rattle.path_segments.specs.Spelled.{PlainSegment}
 use Rattle.reassembly_book.specs.Steps.{next_wanted, window}

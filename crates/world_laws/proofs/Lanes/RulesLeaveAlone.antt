@@ -2,7 +2,7 @@
 use Rattle.std.proofs.Common.{◌≡◌, refl, sym, ◌∙◌, ap, subst, ℕ, ◌-◌, ◌⊎◌, inl, inr, Bool, true, false, if◌then◌else◌, Option, Some, None, [], arith, List}
 use Rattle.std.proofs.lemmas.Bool.{both_ways, false≢true}
 use Rattle.std.specs.Option.{IfSome}
-use Rattle.outside_kit.specs.declared.side.Side.{Side}
+use Rattle.sides.specs.declared.side.Side.{Side}
 use Rattle.dss_mapping.specs.declared.kept.KeptMapping.{KeptMapping}
 use Rattle.loss_recovery.specs.declared.windows.Congestion.{Congestion}
 use Rattle.loss_recovery.specs.declared.windows.Pending.{Pending}

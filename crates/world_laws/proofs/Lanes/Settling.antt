@@ -1,8 +1,8 @@
 -- The duties that come to nothing are passed, and the lanes go on by moves alone.
 use Rattle.std.proofs.Common.{◌≡◌, refl, Bool, true, false, if◌then◌else◌, Option, Some, None, List, [], ◌∷◌, ℕ}
 use Rattle.std.specs.Option.{IfSome}
-use Rattle.outside_kit.specs.declared.side.Side.{Side}
-use Rattle.outside_kit.specs.declared.side.Side.TheVariants.{A, B}
+use Rattle.sides.specs.declared.side.Side.{Side}
+use Rattle.sides.specs.declared.side.Side.TheVariants.{A, B}
 use Rattle.stream_lanes.specs.Holding.{Holds}
 use Rattle.stream_lanes.specs.Lane.{Lane}
 use Rattle.actor_desk.specs.Desk.{SixBooks}

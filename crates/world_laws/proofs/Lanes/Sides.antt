@@ -1,8 +1,8 @@
 -- A step of the path that one side's end makes: moves of the lanes, the call of a book, moves again, and what the path shows then.
 use Rattle.std.proofs.Common.{◌≡◌, refl, sym, ◌∙◌, ap, ℕ, Bool, true, Option, Some, None, List, [], ◌∷◌, length, set}
-use Rattle.outside_kit.specs.declared.side.Side.{Side}
-use Rattle.outside_kit.specs.declared.side.Side.TheVariants.{A, B}
-use Rattle.outside_kit.specs.Side.{peer}
+use Rattle.sides.specs.declared.side.Side.{Side}
+use Rattle.sides.specs.declared.side.Side.TheVariants.{A, B}
+use Rattle.sides.specs.Side.{peer}
 use Rattle.path_segments.specs.Spelled.{PlainSegment}
 use Rattle.send_book.specs.declared.call.SendCall.TheVariants.{Grant, AckIn, Return as ReturnBytes}
 use Rattle.send_book.specs.declared.call.SendReply.{SendReply}

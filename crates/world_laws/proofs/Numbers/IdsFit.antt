@@ -4,7 +4,7 @@ use Rattle.std.specs.Prelude.{not, ◌&&◌, ◌||◌, ◌==◌, fold, replicate
 use Rattle.std.specs.Option.{IfSome}
 use Rattle.std.proofs.lemmas.List.{length-set, length-replicate}
 use Rattle.std.proofs.lemmas.List.Quantifiers.{position-Some}
-use Rattle.outside_kit.specs.declared.side.Side.{Side}
+use Rattle.sides.specs.declared.side.Side.{Side}
 use Rattle.address_manager.specs.IdSet.{no_ids, lowest}
 use Rattle.address_manager.specs.Addresses.{Addresses}
 use Rattle.address_manager.specs.Steps.{after_heard as addresses_heard, after_removed as addresses_removed}

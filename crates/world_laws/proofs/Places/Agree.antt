@@ -1,6 +1,6 @@
 -- No mapping that an end of a path hears gives a position another place than the one that it learned.
 use Rattle.std.proofs.Common.{sym, subst, arith}
-use Rattle.outside_kit.specs.declared.side.Side.{Side}
+use Rattle.sides.specs.declared.side.Side.{Side}
 use Rattle.stream_lanes.proofs.Lists.{in_map}
 use Rattle.path_rules.specs.State.{end_at}
 use Rattle.path_rules.specs.Values.{Carried, values}

@@ -1,9 +1,9 @@
 -- A reader is told of an abort by its peer only where the peer's application asked for a fast close, and its own side accepted it.
 use Rattle.std.proofs.Common.{◌≡◌, refl, sym, ◌∙◌, ap, subst, true}
 use Rattle.std.specs.List.{list_any}
-use Rattle.outside_kit.specs.declared.side.Side.{Side}
-use Rattle.outside_kit.specs.declared.side.Side.TheVariants.{A, B}
-use Rattle.outside_kit.specs.Side.{peer}
+use Rattle.sides.specs.declared.side.Side.{Side}
+use Rattle.sides.specs.declared.side.Side.TheVariants.{A, B}
+use Rattle.sides.specs.Side.{peer}
 use Rattle.path_rules.specs.Values.{Carried, values}
 use Rattle.world_laws.specs.AbortCause.{note_asks_fast_close, PeerStopped, AbortsHaveCause}
 use Rattle.world_laws.specs.Fresh.{shown_world}

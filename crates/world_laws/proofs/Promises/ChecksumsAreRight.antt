@@ -3,9 +3,9 @@ use Rattle.std.proofs.Common.{◌≡◌, refl, sym, ◌∙◌, ap, subst, ℕ, z
 use Rattle.std.proofs.lemmas.Option.{same_Some, slice_get_within}
 use Rattle.std.specs.List.{slice_get}
 use Rattle.std.specs.Option.{IfSome}
-use Rattle.outside_kit.specs.declared.side.Side.{Side}
-use Rattle.outside_kit.specs.declared.side.Side.TheVariants.{A, B}
-use Rattle.outside_kit.specs.Side.{peer}
+use Rattle.sides.specs.declared.side.Side.{Side}
+use Rattle.sides.specs.declared.side.Side.TheVariants.{A, B}
+use Rattle.sides.specs.Side.{peer}
 use Rattle.dss_checksum.specs.Checksum.{dss_checksum}
 use Rattle.mptcp_options.specs.declared.capable.CapableKeys.{CapableKeys}
 use Rattle.mptcp_options.specs.declared.capable.CapableKeys.TheVariants.{NoKey, Sender, Both, WithData}

@@ -1,7 +1,7 @@
 -- The promises, over segments as values and over octets.
 use Rattle.std.proofs.Common.{◌≡◌, sym, ◌∙◌, ap, subst, ℕ, true, false, List, [], ◌∷◌, ◌++◌, refl}
-use Rattle.outside_kit.specs.declared.side.Side.{Side}
-use Rattle.outside_kit.specs.declared.side.Side.TheVariants.{A, B}
+use Rattle.sides.specs.declared.side.Side.{Side}
+use Rattle.sides.specs.declared.side.Side.TheVariants.{A, B}
 use Rattle.path_rules.specs.Octets.{octets}
 use Rattle.path_rules.specs.Values.{Carried, values}
 use Rattle.world_laws.specs.Altered.{BothKeepCount, HoldsCheckedOfOctets, PlacedUntilTheFall, PrefixUntilTheFall, StaysRight, fell_back}

@@ -1,9 +1,9 @@
 -- What a world over segments as values promises, it promises shown over octets: books and notes are the same.
 use Rattle.std.proofs.Common.{◌≡◌, refl, sym, ◌∙◌, ap, subst, ℕ, zero, suc, ◌+◌, ◌-◌, nat_lt, if◌then◌else◌, List, [], ◌∷◌, ◌++◌, length, map}
 use Rattle.std.specs.List.{slice_get}
-use Rattle.pipe_model.specs.Prefix.{IsPrefix}
-use Rattle.outside_kit.specs.declared.side.Side.{Side}
-use Rattle.outside_kit.specs.declared.side.Side.TheVariants.{A, B}
+use Rattle.octet_text.specs.Prefix.{IsPrefix}
+use Rattle.sides.specs.declared.side.Side.{Side}
+use Rattle.sides.specs.declared.side.Side.TheVariants.{A, B}
 use Rattle.reassembly_book.specs.State.{received}
 use Rattle.stream_lanes.specs.Laws.{StepsOrStays, flattened}
 use Rattle.actor_desk.specs.Words.{pick}

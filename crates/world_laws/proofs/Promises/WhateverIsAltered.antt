@@ -2,8 +2,8 @@
 use Rattle.std.proofs.Common.{◌≡◌, refl, sym, ◌∙◌, ap, subst, not, true, List, ◌++◌, length}
 use Rattle.std.proofs.lemmas.Bool.{not-true, true≢false}
 use Rattle.std.specs.List.{slice_get}
-use Rattle.outside_kit.specs.declared.side.Side.TheVariants.{A, B}
-use Rattle.pipe_model.specs.Prefix.{IsPrefix}
+use Rattle.sides.specs.declared.side.Side.TheVariants.{A, B}
+use Rattle.octet_text.specs.Prefix.{IsPrefix}
 use Rattle.send_book.specs.State.{Sending}
 use Rattle.stream_lanes.specs.Duo.{Duo, Event, after_events}
 use Rattle.stream_lanes.proofs.Promises.{prefix_before_the_fall, placed_before_the_fall}

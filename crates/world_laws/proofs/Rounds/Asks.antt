@@ -1,6 +1,6 @@
 -- What an actor asks: a grant for some bytes at least.
 use Rattle.std.proofs.Common.{◌≤◌, Bool, true, false, if◌then◌else◌, ℕ, Option, Some, None}
-use Rattle.outside_kit.specs.declared.side.Side.{Side}
+use Rattle.sides.specs.declared.side.Side.{Side}
 use Rattle.subflow_send.specs.Records.{Record}
 use Rattle.loss_recovery.specs.declared.windows.Pending.{Pending}
 use Rattle.reassembly_book.specs.declared.call.ReassemblyCall.TheVariants as reassembly_calls

@@ -1,7 +1,7 @@
 -- From the opening on each turn ends, so that serial turns exist at every moment.
 use Rattle.std.proofs.Common.{refl, ℕ, List, Option, arith}
-use Rattle.outside_kit.specs.declared.side.Side.{Side}
-use Rattle.outside_kit.specs.declared.side.Side.TheVariants.{A, B}
+use Rattle.sides.specs.declared.side.Side.{Side}
+use Rattle.sides.specs.declared.side.Side.TheVariants.{A, B}
 use Rattle.stream_apps.specs.AppSteps.{start_of_app}
 use Rattle.stream_apps.specs.Starts.{fast_close_of, untouched, first_app_turn}
 use Rattle.stream_apps.specs.Turns.{IsAppSettled}

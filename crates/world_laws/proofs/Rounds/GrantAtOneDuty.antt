@@ -1,7 +1,7 @@
 -- What a path asks is a grant at one duty alone.
 use Rattle.std.proofs.Common.{◌≡◌, refl, Bool, true, false, if◌then◌else◌, ℕ, Option, Some, None}
-use Rattle.outside_kit.specs.declared.side.Side.{Side}
-use Rattle.outside_kit.specs.declared.side.Side.TheVariants.{A, B}
+use Rattle.sides.specs.declared.side.Side.{Side}
+use Rattle.sides.specs.declared.side.Side.TheVariants.{A, B}
 use Rattle.loss_recovery.specs.declared.windows.Pending.{Pending}
 use Rattle.send_book.specs.declared.call.SendCall.{SendCall}
 use Rattle.send_book.specs.declared.call.SendCall.TheVariants as send_calls

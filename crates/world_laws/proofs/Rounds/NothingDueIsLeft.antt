@@ -2,8 +2,8 @@
 use Rattle.std.proofs.Common.{◌≡◌, refl, sym, subst, ℕ, zero, suc, ◌+◌, ◌⊎◌, inl, inr, Bool, true, false, if◌then◌else◌, is_some, Option, Some, None, List, [], ◌∷◌, ◌++◌, length}
 use Rattle.std.proofs.lemmas.Bool.{true≢false}
 use Rattle.path_segments.specs.Heard.{HeardSegment}
-use Rattle.outside_kit.specs.declared.side.Side.{Side}
-use Rattle.outside_kit.specs.declared.side.Side.TheVariants.{A, B}
+use Rattle.sides.specs.declared.side.Side.{Side}
+use Rattle.sides.specs.declared.side.Side.TheVariants.{A, B}
 use Rattle.fallback_state.specs.declared.fall.Verdict.TheVariants as verdicts
 use Rattle.fallback_state.specs.declared.fall.Mode.TheVariants as modes
 use Rattle.fallback_state.specs.declared.fall.Event.TheVariants as events

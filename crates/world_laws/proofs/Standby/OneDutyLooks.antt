@@ -1,7 +1,7 @@
 -- A path looks how it stands at one duty alone.
 use Rattle.std.proofs.Common.{◌≡◌, refl, Bool, true, false, if◌then◌else◌, ℕ, Option, Some, None}
-use Rattle.outside_kit.specs.declared.side.Side.{Side}
-use Rattle.outside_kit.specs.declared.side.Side.TheVariants.{A, B}
+use Rattle.sides.specs.declared.side.Side.{Side}
+use Rattle.sides.specs.declared.side.Side.TheVariants.{A, B}
 use Rattle.loss_recovery.specs.declared.windows.Pending.{Pending}
 use Rattle.subflow_send.specs.Records.{Record}
 use Rattle.control_book.specs.declared.call.ControlCall.{ControlCall}

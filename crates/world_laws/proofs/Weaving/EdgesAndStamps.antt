@@ -1,8 +1,8 @@
 -- The edges of send books, and the stamps of their journals, as asks are entered.
 use Rattle.std.proofs.Common.{◌≡◌, refl, ◌∙◌, ap, ℕ, ◌<◌, ◌≤◌, ◌&&◌, ◌||◌, nat_lt, Bool, true, false, if◌then◌else◌, Result, Ok, Err, [], ◌∷◌, arith}
 use Rattle.std.proofs.lemmas.Bool.{false≢true, ltb-false}
-use Rattle.outside_kit.specs.declared.side.Side.{Side}
-use Rattle.outside_kit.specs.declared.side.Side.TheVariants.{A, B}
+use Rattle.sides.specs.declared.side.Side.{Side}
+use Rattle.sides.specs.declared.side.Side.TheVariants.{A, B}
 use Rattle.stamped_book.specs.declared.stamped.Pass.{Pass}
 use Rattle.stamped_book.specs.Entering.{entry_of, after_entering, next_stamp}
 use Rattle.stamped_book.specs.Journal.{last_stamp}

@@ -1,7 +1,7 @@
 -- What the books make of the first step of an order, where the order's calls at each book are what its journal gained.
 use Rattle.std.proofs.Common.{◌≡◌, refl, sym, ◌∙◌, ap, subst, ℕ, ◌+◌, ◌==◌, max, true, List, [], ◌∷◌, ◌++◌, map, filter}
 use Rattle.std.proofs.lemmas.List.{append_assoc, append-nil}
-use Rattle.outside_kit.specs.declared.side.Side.TheVariants.{A, B}
+use Rattle.sides.specs.declared.side.Side.TheVariants.{A, B}
 use Rattle.stamped_book.specs.declared.stamped.Entry.{Entry}
 use Rattle.stamped_book.specs.declared.stamped.Pass.{Pass}
 use Rattle.stamped_book.specs.Entering.{next_stamp, entry_of, after_entering}

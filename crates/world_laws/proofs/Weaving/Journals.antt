@@ -1,6 +1,6 @@
 -- An ask that is entered at the stamped books is that call at the books that their journals make.
 use Rattle.std.proofs.Common.{◌≡◌, refl, ap, [], ◌∷◌}
-use Rattle.outside_kit.specs.declared.side.Side.TheVariants.{A, B}
+use Rattle.sides.specs.declared.side.Side.TheVariants.{A, B}
 use Rattle.stamped_book.specs.declared.stamped.Pass.{Pass}
 use Rattle.stamped_book.specs.Journal.{Journaled, book_of}
 use Rattle.stamped_book.specs.Entering.{entry_of, after_entering}

@@ -1,7 +1,7 @@
 use Rattle.std.proofs.Common.{◌≡◌, ◌+◌, [], ◌∷◌, ◌++◌, ap, subst, sym, length, map, List, Vec, Global, arith}
 use Rattle.std.proofs.lemmas.List.{length-append}
 use Rattle.std.proofs.lemmas.Result.{err_from_is_err_and}
-use Rattle.outside_kit.specs.Lines.{text_lines}
+use Rattle.octet_text.specs.Lines.{text_lines}
 use Rattle.connection_list.specs.declared.list.Listed.{Listed}
 use Rattle.connection_list.specs.Lists.{as_names, read_on}
 use Rattle.connection_list.proofs.ReadOn.{goes_on, stops, ends}

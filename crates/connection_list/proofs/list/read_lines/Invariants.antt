@@ -1,5 +1,5 @@
 use Rattle.std.proofs.Common.{◌≡◌, ◌≤◌, ◌+◌, [], length, map}
-use Rattle.outside_kit.specs.Lines.{text_lines}
+use Rattle.octet_text.specs.Lines.{text_lines}
 use Rattle.connection_list.specs.Lists.{as_names, read_on}
 use Rattle.connection_list.proofs.list.read_lines.Given as goal
 

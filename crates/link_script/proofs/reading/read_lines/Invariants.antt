@@ -1,5 +1,5 @@
 use Rattle.std.proofs.Common.{◌≡◌, ◌≤◌, ◌+◌, [], length}
-use Rattle.outside_kit.specs.Lines.{text_lines}
+use Rattle.octet_text.specs.Lines.{text_lines}
 use Rattle.link_script.specs.Ranges.{most_lines}
 use Rattle.link_script.specs.Reading.{read_on}
 use Rattle.link_script.proofs.reading.read_lines.Given as goal

@@ -1,5 +1,5 @@
 use Rattle.std.proofs.Common.{◌≡◌, ◌≤◌, ◌+◌, length}
-use Rattle.outside_kit.specs.Lines.{text_lines}
+use Rattle.octet_text.specs.Lines.{text_lines}
 use Rattle.run_log.specs.Form.{HasRoundBelow, read_on, reading}
 use Rattle.run_log.proofs.reading.read_lines.Given as goal
 

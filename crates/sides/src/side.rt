@@ -8,7 +8,7 @@ pub enum Side {
 }
 
 impl Side {
-    ghost use Rattle.outside_kit.specs.Side.{peer, side_word};
+    ghost use Rattle.sides.specs.Side.{peer, side_word};
 
     /// The side at the other end.
     pub fn peer(self) -> Side
@@ -29,17 +29,4 @@ impl Side {
             Side::B => "b",
         }
     }
-}
-
-/// What a step of an actor is made on: a book of one side, or the actor itself.
-#[derive(Clone, Copy, PartialEq, Eq)]
-pub enum Object {
-    /// The bytes that a side sends.
-    Send(Side),
-    /// The bytes that a side receives.
-    Reassembly(Side),
-    /// The keys, modes and paths of a side.
-    Control(Side),
-    /// The actor itself, under no lock.
-    Me,
 }

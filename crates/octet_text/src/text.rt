@@ -1,6 +1,6 @@
 ghost use Rattle.std.specs.Prelude.{◌≡◌, ◌-◌, ◌≤◌, ◌++◌, ◌==◌, ◌↔◌, [], length, take, drop, IsTrue, IfOk, OnOk, OnErr};
 ghost use Rattle.std.specs.Cmp.Lexicographic.{pointwise};
-ghost use Rattle.pipe_model.specs.Texts.{octets_of};
+ghost use Rattle.octet_text.specs.Texts.{octets_of};
 
 use bytes::Bytes;
 use std::alloc::{AllocError, Global};
@@ -39,7 +39,7 @@ impl Model for Text {
 
     ghost Value = { List ℕ };
 
-    ghost use Rattle.pipe_model.specs.Texts.{octets_of};
+    ghost use Rattle.octet_text.specs.Texts.{octets_of};
 
     ghost view = { λ text. octets_of text.octets };
 }

@@ -1,7 +1,7 @@
 -- The two sides of a connection.
 use Rattle.std.specs.Prelude.{ℕ, List, codes}
-use Rattle.outside_kit.specs.declared.side.Side.{Side}
-use Rattle.outside_kit.specs.declared.side.Side.TheVariants.{A, B}
+use Rattle.sides.specs.declared.side.Side.{Side}
+use Rattle.sides.specs.declared.side.Side.TheVariants.{A, B}
 
 -- the side at the other end
 abbrev pub peer : Side → Side

@@ -3,7 +3,7 @@
 ghost use Rattle.std.specs.Prelude.{◌≡◌, ◌<◌, ◌≤◌, ◌∷◌, ◌==◌, length, position};
 ghost use Rattle.std.specs.Char.{is_ascii_digit};
 ghost use Rattle.std.specs.List.{list_all};
-ghost use Rattle.outside_kit.specs.Lines.{text_lines};
+ghost use Rattle.octet_text.specs.Lines.{text_lines};
 
 /// The place of the first LF.
 fn line_end(text: &[u8]) -> Option<usize>

@@ -1,7 +1,7 @@
 -- Where the octets of a text are.
 use Rattle.std.specs.Prelude.{ℕ, List}
-use Rattle.pipe_model.specs.declared.text.Octets.{Octets}
-use Rattle.pipe_model.specs.declared.text.Octets.TheVariants.{Owned, Shared}
+use Rattle.octet_text.specs.declared.text.Octets.{Octets}
+use Rattle.octet_text.specs.declared.text.Octets.TheVariants.{Owned, Shared}
 
 -- the octets themselves
 abbrev pub octets_of : Octets → List ℕ

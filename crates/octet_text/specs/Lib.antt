@@ -1,0 +1,4 @@
+pub mod Lines
+pub mod Octets
+pub mod Prefix
+pub mod Texts
