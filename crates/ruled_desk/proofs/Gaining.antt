@@ -17,7 +17,7 @@ use Rattle.actor_turn.specs.Turns.{NotesOneMore, noted_all}
 use Rattle.ruled_desk.specs.declared.rider.Rider.{Rider}
 use Rattle.ruled_desk.specs.Gaining.{by_book, list_at, GoesOn, IsGained, GainAlike}
 use Rattle.ruled_desk.specs.Riding.{Rode, all_joined, given_pass, known_with, notes_held}
-use Rattle.ruled_lock.specs.Seats.{GainsJust}
+use Rattle.ruled_desk.specs.Seats.{GainsJust}
 use Rattle.ruled_desk.specs.SixSeats.{SixLocked, SixKnown, Passed, AllGainJust, all_known, nothing_known, notes_by}
 
 -- ---- who stands in a list

@@ -4,7 +4,7 @@ use Rattle.std.specs.Prelude.{slice_set}
 use Rattle.atomic_table.specs.Seated.{TableId}
 use Rattle.ruled_desk.specs.declared.seats.Seats.{Seats}
 use Rattle.ruled_desk.specs.Parts.{AreLeft, EachHas, both_seats, one_part_less}
-use Rattle.ruled_lock.specs.Weighing.{bit}
+use Rattle.ruled_desk.specs.Weighing.{bit}
 use Rattle.ruled_desk.specs.SixSeats.{SixLocked, SixKnown, AreOf, how_many, is_out, nobody_out, numbers_of, names_of}
 
 pub many-most : (out : List Bool) → how_many out ≤ length out

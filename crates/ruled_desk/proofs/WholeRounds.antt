@@ -18,9 +18,9 @@ use Rattle.actor_desk.specs.Journals.{send_note, reassembly_note, control_note}
 use Rattle.actor_turn.specs.Extending.{Extends, BooksExtend}
 use Rattle.actor_turn.specs.Turns.{Turned, is_refused}
 use Rattle.ruled_desk.specs.declared.rider.Rider.{Rider}
-use Rattle.ruled_lock.specs.Growing.{HasLastStamp}
+use Rattle.ruled_desk.specs.Growing.{HasLastStamp}
 use Rattle.ruled_desk.specs.Riding.{AreNumbered, HasPass, NotesFull, OneIsUsedUp, Rode, all_joined, given_pass, is_rider_refused, known_with, pass_taken}
-use Rattle.ruled_lock.specs.Seats.{GainsJust}
+use Rattle.ruled_desk.specs.Seats.{GainsJust}
 use Rattle.stamped_book.specs.Journal.{Journaled}
 use Rattle.ruled_desk.specs.SixSeats.{SixLocked, SixKnown, Passed, AllGainJust, all_known, nothing_known, notes_full}
 use Rattle.ruled_desk.specs.WholeRounds.{AllTurned, AreActors, EndsAsTurns, IsWholeRound, OneIsFull, OneKnowsLast, crew_of, without_pass}

@@ -3,3 +3,8 @@ pub mod Parts
 pub mod Riding
 pub mod Gaining
 pub mod WholeRounds
+pub mod Growing
+pub mod Weighing
+pub mod Rule
+pub mod Called
+pub mod Seats

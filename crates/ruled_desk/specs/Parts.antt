@@ -1,7 +1,7 @@
 -- The parts of the six tables that seats have.
 use Rattle.std.specs.Prelude.{ℕ, ◌+◌, ◌-◌, ◌≤◌, ◌++◌, ◌||◌, Bool, false, List, []}
 use Rattle.ruled_desk.specs.declared.seats.Seats.{Seats}
-use Rattle.ruled_lock.specs.Seats as seat
+use Rattle.ruled_desk.specs.Seats as seat
 use Rattle.ruled_desk.specs.SixSeats.{SixLocked, SixKnown, how_many}
 
 -- what these seats know

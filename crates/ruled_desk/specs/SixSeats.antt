@@ -18,8 +18,8 @@ use Rattle.actor_desk.specs.Desk.{SixBooks}
 use Rattle.actor_desk.specs.Journals.{send_note, reassembly_note, control_note}
 use Rattle.actor_desk.specs.Noted.{BookNotes}
 use Rattle.actor_desk.specs.Words.{pick}
-use Rattle.ruled_lock.specs.Seats.{Locked, Known, GainsJust, known}
-use Rattle.ruled_lock.specs.Weighing.{bit}
+use Rattle.ruled_desk.specs.Seats.{Locked, Known, GainsJust, known}
+use Rattle.ruled_desk.specs.Weighing.{bit}
 
 -- each book's table, and the book as it was put there
 pub record SixLocked : Type 0 where

@@ -3,15 +3,16 @@ ghost use Rattle.std.specs.Prelude.{◌≡◌, ℕ, true, false, IfOk, IfErr, sl
 ghost use Rattle.stamped_book.specs.Journal.{book_of};
 ghost use Rattle.actor_desk.specs.Books.{all_six, books_in};
 ghost use Rattle.actor_desk.specs.Bounds.{AreSmall};
-ghost use Rattle.ruled_lock.specs.Seats.{AreFresh};
+ghost use Rattle.ruled_desk.specs.Seats.{AreFresh};
 ghost use Rattle.ruled_desk.specs.Parts.{EachHas, both_seats, known_in, new_seats, one_part_less};
 ghost use Rattle.ruled_desk.specs.SixSeats.{AllGainJust, AreOf, all_known, given_to, is_out, nobody_out, nothing_known};
 
+use crate::answering::Answering;
+use crate::lock::{RestingSeat, RuledLock};
 use crate::seats::Seats;
 use actor_desk::Books;
 use control_book::ControlBook;
 use reassembly_book::ReassemblyBook;
-use ruled_lock::{Answering, RestingSeat, RuledLock};
 use send_book::SendBook;
 use stamped_book::Stamped;
 use std::alloc::{AllocError, Global};

@@ -1,15 +1,26 @@
 //! The six books of a connection, each in a table of its own behind a ticket lock: what the actors' passes note of their calls
 //! is what the journals gained. A round by threads gives each actor a pass and a thread.
+//!
+//! One book in a table of its own behind a ticket lock: the entries that the seats at the table note of their calls are, as often
+//! and no others, those that the book's journal gained.
+//!
+//! The table's rule says which seat has the book and which entries its journal has (`rule`); a step on one of its words keeps it.
+//! A call draws a ticket, waits until it is served, takes the book, enters, puts the book back, and serves the next ticket.
 #![tactic(auto)]
 
+mod answering;
 mod desk;
+mod held;
 mod laws;
+mod lock;
 mod mounting;
 mod passing;
 mod refusing;
 mod rider;
 mod rounds;
+mod rule;
 mod seats;
+mod waiting;
 
 pub use desk::{OpenFault, RootPass, RuledDesk, RuledPass};
 pub use laws::gaining_alike_stays_paired;

@@ -1,8 +1,8 @@
 //! A seat at each of the six tables of a desk.
 
+use crate::lock::RestingSeat;
 use control_book::ControlBook;
 use reassembly_book::ReassemblyBook;
-use ruled_lock::RestingSeat;
 use send_book::SendBook;
 
 /// A seat at each of the six tables, none of which waits or has a book.

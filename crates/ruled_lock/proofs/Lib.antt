@@ -1,9 +1,0 @@
-mod Weights
-mod RuleWords
-mod RuleSteps
-mod RuleAdding
-mod RuleJoining
-mod Entering
-mod Putting
-mod Members
-mod Calling

@@ -1,6 +1,0 @@
-use Rattle.actor_desk.proofs.InKind.{control_kind}
-use Rattle.actor_desk.proofs.Small.{control_small}
-use Rattle.ruled_lock.proofs.answering.ControlBookAnswering.answers.Goals as goal
-
-pub returns : goal.returns
-returns c = λ call can sound. (control_kind c.args.self.now call, control_small c.args.self.now call sound can)

@@ -1,5 +1,0 @@
-pub mod Growing
-pub mod Weighing
-pub mod Rule
-pub mod Called
-pub mod Seats
