@@ -155,12 +155,4 @@ open_acked finished true states.Closing sent is = by (sent refl)
     by : finished ≡ true → IsOpen finished states.TimeWait
     by e = record { finish = ap not (sym e); closed = refl; half = refl; opening = refl; connected = refl }
 open_acked finished true states.Waiting sent is = is
-open_acked finished true states.Listen sent is = is
-open_acked finished true states.SynSent sent is = is
-open_acked finished true states.SynReceived sent is = is
-open_acked finished true states.Established sent is = is
-open_acked finished true states.FinWait2 sent is = is
-open_acked finished true states.CloseWait sent is = is
-open_acked finished true states.LastAck sent is = is
-open_acked finished true states.TimeWait sent is = is
-open_acked finished true states.Dead sent is = is
+open_acked finished true _ sent is = is

@@ -85,17 +85,7 @@ and_false false = refl
 -- an end that waits takes no segment
 waiting_is_closed : (state : State) → is_waiting state ≡ true → is_closed_to_segments state ≡ true
 waiting_is_closed states.Waiting e = refl
-waiting_is_closed states.Listen e = never e
-waiting_is_closed states.SynSent e = never e
-waiting_is_closed states.SynReceived e = never e
-waiting_is_closed states.Established e = never e
-waiting_is_closed states.FinWait1 e = never e
-waiting_is_closed states.FinWait2 e = never e
-waiting_is_closed states.CloseWait e = never e
-waiting_is_closed states.Closing e = never e
-waiting_is_closed states.LastAck e = never e
-waiting_is_closed states.TimeWait e = never e
-waiting_is_closed states.Dead e = never e
+waiting_is_closed _ e = never e
 
 none_waits : (q : Side) (came una : ℕ) (finished : Bool) (state : State) → IsPhase q came una finished state → is_waiting state ≡ true → ⊥
 none_waits q came una finished state (Opening side none low is) on = both_ways _ (ap is_waiting is) on
@@ -183,19 +173,16 @@ module _ (start : Start) (plan : PathPlan) (k j : Setting) (s v : Lane) (t0 u0 :
         ask_answered (ask_duties.PlainHandshake B) ds on h = absurd (both_ways _ (asks_capable start plan k j s v t0 u0 going going_back a b books p ds k_is j_is h) on)
         ask_answered (ask_duties.PeerKey A) ds on h = answers_peer_key start plan k j s v t0 u0 going going_back a b books p ds k_is j_is h
         ask_answered (ask_duties.PeerKey B) ds on h = absurd (not_a h.treats.0.side)
-        ask_answered (ask_duties.JoinHeard q) ds on h = absurd (both_ways _ refl h.treats.3)
         ask_answered (ask_duties.Opened A) ds on h = absurd (not_b (h.treats.1.keyed (third_shows h.treats.0 (sym h.treats.1.opened ∙ opened_is p.a on))))
         ask_answered (ask_duties.Opened B) ds on h = answers_opened_b start plan k j s v t0 u0 going going_back a b books p k_is j_is ds on h
         ask_answered (ask_duties.Live A) ds on h = answers_live_a start plan k j s v t0 u0 going going_back a b books p k_is j_is ds h
         ask_answered (ask_duties.Live B) ds on h = answers_live_b start plan k j s v t0 u0 going going_back a b books p k_is j_is ds h
         ask_answered (ask_duties.AckHeard A) ds on h = answers_ack_heard_a start plan k j s v t0 u0 going going_back a b books p k_is j_is ds h
         ask_answered (ask_duties.AckHeard B) ds on h = answers_ack_heard_b start plan k j s v t0 u0 going going_back a b books p k_is j_is ds h
-        ask_answered (ask_duties.FailHeard q) ds on h = absurd (both_ways _ refl h.treats.3)
         ask_answered (ask_duties.SubflowAck A) ds on h = absurd (both_ways _ (stays_subflow_ack_a start plan k j s v t0 u0 going going_back a b books p k_is j_is ds h) on)
         ask_answered (ask_duties.SubflowAck B) ds on h = absurd (both_ways _ (stays_subflow_ack_b start plan k j s v t0 u0 going going_back a b books p k_is j_is ds h) on)
         ask_answered (ask_duties.PlainData A) ds on h = absurd (both_ways _ (stays_plain_data_a start plan k j s v t0 u0 going going_back a b books p k_is j_is ds h) on)
         ask_answered (ask_duties.PlainData B) ds on h = absurd (both_ways _ (stays_plain_data_b start plan k j s v t0 u0 going going_back a b books p k_is j_is ds h) on)
-        ask_answered (ask_duties.GoIdentity q) ds on h = absurd (both_ways _ refl h.treats.3)
         ask_answered (ask_duties.Edge A) ds on h = answers_edge_a start plan k j s v t0 u0 going going_back a b books p k_is j_is ds on h
         ask_answered (ask_duties.Edge B) ds on h = answers_edge_b start plan k j s v t0 u0 going going_back a b books p k_is j_is ds on h
         ask_answered (ask_duties.CheckFailed A) ds on h = absurd (both_ways _ (stays_right_a start plan k j s v t0 u0 going going_back a b books p k_is j_is ds h) on)
@@ -212,16 +199,9 @@ module _ (start : Start) (plan : PathPlan) (k j : Setting) (s v : Lane) (t0 u0 :
         ask_answered (ask_duties.AckOut B) ds on h = answers_ack_out_b start plan k j s v t0 u0 going going_back a b books p k_is j_is ds h
         ask_answered (ask_duties.Rate A) ds on h = answers_rate_a start plan k j s v t0 u0 going going_back a b books p k_is j_is ds on h
         ask_answered (ask_duties.Rate B) ds on h = answers_rate_b start plan k j s v t0 u0 going going_back a b books p k_is j_is ds on h
-        ask_answered (ask_duties.Return q) ds on h = absurd (both_ways _ refl h.treats.3)
-        ask_answered (ask_duties.AbortSend q) ds on h = absurd (both_ways _ refl h.treats.3)
-        ask_answered (ask_duties.AbortReceive q) ds on h = absurd (both_ways _ refl h.treats.3)
-        ask_answered (ask_duties.Announce q id) ds on h = absurd (both_ways _ refl h.treats.3)
-        ask_answered (ask_duties.Withdraw q id) ds on h = absurd (both_ways _ refl h.treats.3)
         ask_answered (ask_duties.LeaveNoted A) ds on h = absurd (both_ways _ (no_leave p.a h.faces.own.notices) on)
         ask_answered (ask_duties.LeaveNoted B) ds on h = absurd (both_ways _ (no_leave p.b h.faces.other.notices) on)
-        ask_answered (ask_duties.BreakAck q reason) ds on h = absurd (both_ways _ refl h.treats.3)
-        ask_answered (ask_duties.Leave q) ds on h = absurd (both_ways _ refl h.treats.3)
-        ask_answered (ask_duties.Dead q) ds on h = absurd (both_ways _ refl h.treats.3)
+        ask_answered _ ds on h = absurd (both_ways _ refl h.treats.3)
 
         -- ---- duties that ask, send or take an event
 

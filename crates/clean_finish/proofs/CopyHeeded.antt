@@ -30,17 +30,7 @@ use Rattle.clean_finish.proofs.Machine.{stays_long}
 -- a copy that is taken ends the handshake
 pub open_now : (state : State) (finished : Bool) → IsOpen finished state → after_handshake state ≡ state
 open_now states.SynReceived finished is = absurd (both_ways _ is.half refl)
-open_now states.Waiting finished is = refl
-open_now states.Listen finished is = refl
-open_now states.SynSent finished is = refl
-open_now states.Established finished is = refl
-open_now states.FinWait1 finished is = refl
-open_now states.FinWait2 finished is = refl
-open_now states.CloseWait finished is = refl
-open_now states.Closing finished is = refl
-open_now states.LastAck finished is = refl
-open_now states.TimeWait finished is = refl
-open_now states.Dead finished is = refl
+open_now _ finished is = refl
 
 pub open_after : (s : Side) (came una : ℕ) (finished : Bool) (state : State) → IsPhase s came una finished state → 1 ≤ came
     → (state ≡ states.SynReceived → finished ≡ false) → IsOpen finished (after_handshake state)

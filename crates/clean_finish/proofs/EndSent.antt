@@ -53,16 +53,7 @@ end_is c keys s place x e brings mptcp clear known next edge window told =
 pub finishes_open : (state : State) → may_finish state ≡ true → is_connected state ≡ true
 finishes_open states.Established e = refl
 finishes_open states.CloseWait e = refl
-finishes_open states.Waiting e = absurd (both_ways _ refl e)
-finishes_open states.Listen e = absurd (both_ways _ refl e)
-finishes_open states.SynSent e = absurd (both_ways _ refl e)
-finishes_open states.SynReceived e = absurd (both_ways _ refl e)
-finishes_open states.FinWait1 e = absurd (both_ways _ refl e)
-finishes_open states.FinWait2 e = absurd (both_ways _ refl e)
-finishes_open states.Closing e = absurd (both_ways _ refl e)
-finishes_open states.LastAck e = absurd (both_ways _ refl e)
-finishes_open states.TimeWait e = absurd (both_ways _ refl e)
-finishes_open states.Dead e = absurd (both_ways _ refl e)
+finishes_open _ e = absurd (both_ways _ refl e)
 
 -- why it is due
 record Due (f c k s a : Bool) : Type 0 where

@@ -33,15 +33,7 @@ pub open_passed : (finished : Bool) (state : State) → IsOpen finished state �
 open_passed finished states.Established is = record { finish = is.finish; closed = refl; half = refl; opening = refl; connected = refl }
 open_passed finished states.FinWait1 is = record { finish = is.finish; closed = refl; half = refl; opening = refl; connected = refl }
 open_passed finished states.FinWait2 is = record { finish = is.finish; closed = refl; half = refl; opening = refl; connected = refl }
-open_passed finished states.Waiting is = is
-open_passed finished states.Listen is = is
-open_passed finished states.SynSent is = is
-open_passed finished states.SynReceived is = is
-open_passed finished states.CloseWait is = is
-open_passed finished states.Closing is = is
-open_passed finished states.LastAck is = is
-open_passed finished states.TimeWait is = is
-open_passed finished states.Dead is = is
+open_passed finished _ is = is
 
 module _ {s : Side} {keys : Keys} {k j : Setting} {c : Profile} {begun begun_back : Lane} {m n : Half} {clock until : ℕ} {ds : List Duty}
     (h : Facing s keys k j c begun begun_back m n clock until (duties.Silent (silent_duties.PassFin s) ∷ ds)) (x : Sent) (hand : h.hand ≡ in_hand x true false)

@@ -98,13 +98,4 @@ fin_pushed k out later waiting now tcp after h none one is granted control = rec
 pub open_finished : (state : State) → phases.may_finish state ≡ true → IsOpen true (phases.after_finish state)
 open_finished states.Established e = record { finish = refl; closed = refl; half = refl; opening = refl; connected = refl }
 open_finished states.CloseWait e = record { finish = refl; closed = refl; half = refl; opening = refl; connected = refl }
-open_finished states.Waiting e = absurd (both_ways _ refl e)
-open_finished states.Listen e = absurd (both_ways _ refl e)
-open_finished states.SynSent e = absurd (both_ways _ refl e)
-open_finished states.SynReceived e = absurd (both_ways _ refl e)
-open_finished states.FinWait1 e = absurd (both_ways _ refl e)
-open_finished states.FinWait2 e = absurd (both_ways _ refl e)
-open_finished states.Closing e = absurd (both_ways _ refl e)
-open_finished states.LastAck e = absurd (both_ways _ refl e)
-open_finished states.TimeWait e = absurd (both_ways _ refl e)
-open_finished states.Dead e = absurd (both_ways _ refl e)
+open_finished _ e = absurd (both_ways _ refl e)

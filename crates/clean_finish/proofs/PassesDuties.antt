@@ -114,12 +114,10 @@ module _ (start : Start) (plan : PathPlan) (k j : Setting) (s v : Lane) (t0 u0 :
         ask_passes (ask_duties.Live B) ds off h = passes_live_b start plan k j s v t0 u0 going going_back a b books p k_is j_is ds off h
         ask_passes (ask_duties.AckHeard A) ds off h = passes_ack_heard_a start plan k j s v t0 u0 going going_back a b books p k_is j_is ds h
         ask_passes (ask_duties.AckHeard B) ds off h = passes_ack_heard_b start plan k j s v t0 u0 going going_back a b books p k_is j_is ds h
-        ask_passes (ask_duties.FailHeard q) ds off h = always off
         ask_passes (ask_duties.SubflowAck A) ds off h = passes_subflow_ack_a start plan k j s v t0 u0 going going_back a b books p k_is j_is ds h
         ask_passes (ask_duties.SubflowAck B) ds off h = passes_subflow_ack_b start plan k j s v t0 u0 going going_back a b books p k_is j_is ds h
         ask_passes (ask_duties.PlainData A) ds off h = passes_plain_data_a start plan k j s v t0 u0 going going_back a b books p k_is j_is ds h
         ask_passes (ask_duties.PlainData B) ds off h = passes_plain_data_b start plan k j s v t0 u0 going going_back a b books p k_is j_is ds h
-        ask_passes (ask_duties.GoIdentity q) ds off h = always off
         ask_passes (ask_duties.Edge A) ds off h = passes_edge_a start plan k j s v t0 u0 going going_back a b books p k_is j_is ds off h
         ask_passes (ask_duties.Edge B) ds off h = passes_edge_b start plan k j s v t0 u0 going going_back a b books p k_is j_is ds off h
         ask_passes (ask_duties.CheckFailed A) ds off h = passes_checked_a start plan k j s v t0 u0 going going_back a b books p k_is j_is ds h
@@ -137,14 +135,8 @@ module _ (start : Start) (plan : PathPlan) (k j : Setting) (s v : Lane) (t0 u0 :
         ask_passes (ask_duties.Rate A) ds off h = passes_rate_a start plan k j s v t0 u0 going going_back a b books p k_is j_is ds h
         ask_passes (ask_duties.Rate B) ds off h = passes_rate_b start plan k j s v t0 u0 going going_back a b books p k_is j_is ds h
         ask_passes (ask_duties.Return q) ds off h = absurd (both_ways _ refl h.treats.3)
-        ask_passes (ask_duties.AbortSend q) ds off h = always off
-        ask_passes (ask_duties.AbortReceive q) ds off h = always off
-        ask_passes (ask_duties.Announce q id) ds off h = always off
-        ask_passes (ask_duties.Withdraw q id) ds off h = always off
         ask_passes (ask_duties.LeaveNoted q) ds off h = passes_leave_noted start plan k j s v t0 u0 going going_back a b books p ds k_is j_is q h
-        ask_passes (ask_duties.BreakAck q reason) ds off h = always off
-        ask_passes (ask_duties.Leave q) ds off h = always off
-        ask_passes (ask_duties.Dead q) ds off h = always off
+        ask_passes _ ds off h = always off
 
         -- ---- duties that ask, send or take an event
 

@@ -40,17 +40,7 @@ use Rattle.clean_finish.proofs.Quiet.{no_window}
 
 opening_is : (state : State) → is_opening state ≡ true → (state ≡ states.SynSent) × (is_connected state ≡ false)
 opening_is states.SynSent e = (refl, refl)
-opening_is states.Waiting e = absurd (both_ways _ refl e)
-opening_is states.Listen e = absurd (both_ways _ refl e)
-opening_is states.SynReceived e = absurd (both_ways _ refl e)
-opening_is states.Established e = absurd (both_ways _ refl e)
-opening_is states.FinWait1 e = absurd (both_ways _ refl e)
-opening_is states.FinWait2 e = absurd (both_ways _ refl e)
-opening_is states.CloseWait e = absurd (both_ways _ refl e)
-opening_is states.Closing e = absurd (both_ways _ refl e)
-opening_is states.LastAck e = absurd (both_ways _ refl e)
-opening_is states.TimeWait e = absurd (both_ways _ refl e)
-opening_is states.Dead e = absurd (both_ways _ refl e)
+opening_is _ e = absurd (both_ways _ refl e)
 
 -- what an end knows whose SYN is due
 module _ {keys : Keys} {k j : Setting} {begun begun_back : Lane} {m n : Half} {c : _} {clock until : ℕ} {ds : List Duty}

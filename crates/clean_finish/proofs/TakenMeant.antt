@@ -24,14 +24,7 @@ connected_open states.Waiting finished c s is = absurd (both_ways _ is.closed re
 connected_open states.Listen finished c s is = absurd (both_ways _ is.closed refl)
 connected_open states.SynSent finished c s is = absurd (both_ways _ is.opening refl)
 connected_open states.Dead finished c s is = absurd (both_ways _ is.closed refl)
-connected_open states.SynReceived finished c s is = refl
-connected_open states.Established finished c s is = refl
-connected_open states.FinWait1 finished c s is = refl
-connected_open states.FinWait2 finished c s is = refl
-connected_open states.CloseWait finished c s is = refl
-connected_open states.Closing finished c s is = refl
-connected_open states.LastAck finished c s is = refl
-connected_open states.TimeWait finished c s is = refl
+connected_open _ finished c s is = refl
 
 judges : (q : Side) (came una : ℕ) (finished : Bool) (state : State) (c : SubflowCopy) (s : EndState) → IsPhase q came una finished state → 1 ≤ came
     → meaning_at state c s ≡ meaning_connected c s

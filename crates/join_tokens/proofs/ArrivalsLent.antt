@@ -100,18 +100,9 @@ quiet_plain_ack s true p = quiet_break s 6 (end_at s p).treated.asked p
 quiet_plain_ack s false p = refl
 
 quiet_item : (s : Side) (item : Option Heard) (p : OctetPath) → Quiet (item_ask octets s item p)
-quiet_item s None p = refl
-quiet_item s (Some says.Dss) p = refl
-quiet_item s (Some (says.DataAck next window)) p = refl
 quiet_item s (Some (says.Mapping fin)) p = quiet_mapping s (is_clash (end_at s p)) p
-quiet_item s (Some (says.DataFin place)) p = refl
-quiet_item s (Some (says.InfiniteMapping place position)) p = refl
-quiet_item s (Some (says.PeerKey key)) p = refl
-quiet_item s (Some (says.Keys own peer)) p = refl
-quiet_item s (Some (says.Join form)) p = refl
-quiet_item s (Some (says.Notice notice)) p = refl
 quiet_item s (Some says.Fail) p = quiet_fail s (may_go_infinite (end_at s p)) p
-quiet_item s (Some (says.FastClose key)) p = refl
+quiet_item s _ p = refl
 
 -- ---- the first duty
 
@@ -143,59 +134,21 @@ events_agree p (Some (happenings.Arrives due)) is =
     some_map (arrived_as (path_of p) due.to) (arriving due p.link) ∙ (can_happen p (happenings.Arrives due) found.0 found.1).1
 
 duty_agrees : (d : Duty) (ds : List Duty) (p : OctetPath) → Agrees p (d ∷ ds)
-duty_agrees (duties.Ask ask_duties.JoinAgain) ds p = refl
-duty_agrees (duties.Ask (ask_duties.Window s)) ds p = refl
-duty_agrees (duties.Ask (ask_duties.SynHeard s)) ds p = refl
-duty_agrees (duties.Ask (ask_duties.SynAnswered s)) ds p = refl
-duty_agrees (duties.Ask (ask_duties.PlainHandshake s)) ds p = refl
 duty_agrees (duties.Ask (ask_duties.PeerKey s)) ds p = sym (quiet_peer_key s (key_heard (end_at s p).treated.items) p)
 duty_agrees (duties.Ask (ask_duties.JoinHeard s)) ds p = sym (quiet_join s (asked_at s p) p)
 duty_agrees (duties.Ask (ask_duties.Opened s)) ds p = sym (quiet_opened s (keys_heard (end_at s p).treated.items) p)
-duty_agrees (duties.Ask (ask_duties.Live s)) ds p = refl
-duty_agrees (duties.Ask (ask_duties.AckHeard s)) ds p = refl
-duty_agrees (duties.Ask (ask_duties.FailHeard s)) ds p = refl
 duty_agrees (duties.Ask (ask_duties.SubflowAck s)) ds p = sym (quiet_ack s (plain_next (end_at s p)) (end_at s p).treated.window)
-duty_agrees (duties.Ask (ask_duties.PlainData s)) ds p = refl
-duty_agrees (duties.Ask (ask_duties.GoIdentity s)) ds p = refl
 duty_agrees (duties.Ask (ask_duties.Edge s)) ds p = sym (quiet_piece s (piece_of s p))
-duty_agrees (duties.Ask (ask_duties.CheckFailed s)) ds p = refl
 duty_agrees (duties.Ask (ask_duties.HeardFin s index)) ds p = sym (quiet_fin s (data_fin_of index (end_at s p)))
 duty_agrees (duties.Ask (ask_duties.SubflowFin s)) ds p = sym (quiet_fin s (plain_fin (end_at s p)))
-duty_agrees (duties.Ask (ask_duties.AckOut s)) ds p = refl
 duty_agrees (duties.Ask (ask_duties.Rate s)) ds p = sym (quiet_rate s (end_at s p).tcp.congestion.pending p)
-duty_agrees (duties.Ask (ask_duties.Return s)) ds p = refl
-duty_agrees (duties.Ask (ask_duties.AbortSend s)) ds p = refl
-duty_agrees (duties.Ask (ask_duties.AbortReceive s)) ds p = refl
-duty_agrees (duties.Ask (ask_duties.Announce s id)) ds p = refl
-duty_agrees (duties.Ask (ask_duties.Withdraw s id)) ds p = refl
-duty_agrees (duties.Ask (ask_duties.LeaveNoted s)) ds p = refl
-duty_agrees (duties.Ask (ask_duties.BreakAck s reason)) ds p = refl
-duty_agrees (duties.Ask (ask_duties.Leave s)) ds p = refl
-duty_agrees (duties.Ask (ask_duties.Dead s)) ds p = refl
-duty_agrees (duties.Step (step_duties.Look s)) ds p = refl
 duty_agrees (duties.Step (step_duties.Data s)) ds p = sym (quiet_data s (first_unsent (end_at s p)) p)
 duty_agrees (duties.Step step_duties.Events) ds p = events_agree p (next_event p) refl
 duty_agrees (duties.Step (step_duties.Heard s index)) ds p = sym (quiet_item s (item_of index (end_at s p)) p)
 duty_agrees (duties.Step (step_duties.PlainAck s)) ds p = sym (quiet_plain_ack s (breaks_by_ack p.profile (end_at s p)) p)
 duty_agrees (duties.Step (step_duties.Unmapped s)) ds p = sym (quiet_break s 6 (end_at s p).treated.asked p)
 duty_agrees (duties.Send (send_duties.Update s)) ds p = refl
-duty_agrees (duties.Send (send_duties.Syn s)) ds p = refl
-duty_agrees (duties.Send (send_duties.FastClose s)) ds p = refl
-duty_agrees (duties.Send (send_duties.Notice s)) ds p = refl
-duty_agrees (duties.Send (send_duties.DataFin s)) ds p = refl
-duty_agrees (duties.Send (send_duties.Fin s)) ds p = refl
-duty_agrees (duties.Send (send_duties.SynAck s)) ds p = refl
-duty_agrees (duties.Send (send_duties.Refuse s)) ds p = refl
-duty_agrees (duties.Send (send_duties.Acknowledge s)) ds p = refl
-duty_agrees (duties.Send (send_duties.Again s)) ds p = refl
-duty_agrees (duties.Send (send_duties.Answer s)) ds p = refl
-duty_agrees (duties.Send (send_duties.ResetAnswer s)) ds p = refl
-duty_agrees (duties.Send (send_duties.Resend s)) ds p = refl
-duty_agrees (duties.Send (send_duties.BreakReset s reason)) ds p = refl
-duty_agrees (duties.Send (send_duties.Reset s)) ds p = refl
-duty_agrees (duties.Send (send_duties.ResetNoted s)) ds p = refl
-duty_agrees (duties.Silent d) ds p = refl
-duty_agrees duties.End ds p = refl
+duty_agrees _ ds p = refl
 
 agenda_agrees : (ds : List Duty) (p : OctetPath) → Agrees p ds
 agenda_agrees [] p = refl

@@ -65,15 +65,8 @@ module _ (k : Secrets) (w : Side → Type 0) (did : Deed → Side → Type 0) wh
 
   -- what A says is heard so
   option_shows : (joined : Bool) (o : PlainOption) → OptionIs k true w did joined A o → ShowsToken token_of_b (meant_option o)
-  option_shows joined (Capable flag_a flag_c keys) is = tt
   option_shows joined (Join form) is = form_shows form (subst (λ b. OptionIs k true w did b A (Join form)) is.0 is)
-  option_shows joined (Dss next mapping) is = tt
-  option_shows joined (AddAddr echo id address port hmac) is = tt
-  option_shows joined (Remove ids) is = tt
-  option_shows joined (Prio backup) is = tt
-  option_shows joined (Fail place) is = tt
-  option_shows joined (FastClose key) is = tt
-  option_shows joined (Reset transient reason) is = tt
+  option_shows joined _ is = tt
 
   segment_shows : (joined : Bool) (sg : PlainSegment) → Every (OptionIs k true w did joined A) sg.options → HeardShowsToken token_of_b (meant sg)
   segment_shows joined sg said = record { each = by }

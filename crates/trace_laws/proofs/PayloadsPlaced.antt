@@ -350,22 +350,12 @@ module _ (start : Start) (p : PathState (List ℕ)) (n : ℕ) (ends : (s : Side)
   data_does s (Some r) = (_, (refl, of_unsent s))
 
   pub by_duty : (d : Duty) → IfSome (option_map (departing_as p) (duty_sends d p)) Sends
-  by_duty (duties.Send (sends_of.Update s)) = (_, (refl, inl refl))
-  by_duty (duties.Send (sends_of.Acknowledge s)) = (_, (refl, inl refl))
   by_duty (duties.Send (sends_of.Syn s)) = (_, (refl, of_unsent s))
   by_duty (duties.Send (sends_of.FastClose s)) = (_, (refl, of_carried s (end_at s p).notices.carrier))
   by_duty (duties.Send (sends_of.Notice s)) = (_, (refl, of_noted s (first_of (end_at s p).notices.queue)))
-  by_duty (duties.Send (sends_of.DataFin s)) = (_, (refl, inl refl))
-  by_duty (duties.Send (sends_of.Fin s)) = (_, (refl, inl refl))
-  by_duty (duties.Send (sends_of.SynAck s)) = (_, (refl, inl refl))
-  by_duty (duties.Send (sends_of.Refuse s)) = (_, (refl, inl refl))
   by_duty (duties.Send (sends_of.Again s)) = (_, (refl, of_first s))
   by_duty (duties.Send (sends_of.Answer s)) = (_, (refl, of_answer s))
-  by_duty (duties.Send (sends_of.ResetAnswer s)) = (_, (refl, inl refl))
   by_duty (duties.Send (sends_of.Resend s)) = (_, (refl, of_resend s))
-  by_duty (duties.Send (sends_of.BreakReset s reason)) = (_, (refl, inl refl))
-  by_duty (duties.Send (sends_of.Reset s)) = (_, (refl, inl refl))
-  by_duty (duties.Send (sends_of.ResetNoted s)) = (_, (refl, inl refl))
   by_duty (duties.Step (steps_of.Data s)) = data_does s (first_unsent (end_at s p))
   by_duty (duties.Step (steps_of.Heard s index)) = heard_does s (item_of index (end_at s p))
   by_duty (duties.Step (steps_of.PlainAck s)) = only_if (breaks_by_ack p.profile (end_at s p)) _ (broken_sends s 6)
@@ -375,6 +365,7 @@ module _ (start : Start) (p : PathState (List ℕ)) (n : ℕ) (ends : (s : Side)
   by_duty (duties.Ask d) = tt
   by_duty (duties.Silent d) = tt
   by_duty duties.End = tt
+  by_duty _ = (_, (refl, inl refl))
 
   -- what is sent is on a path, and its payload ends within the file
   module _ (x : Sent) (path : x.path ≡ path_of p) (sg : PlainSegment) (is : x.octets ≡ made p.profile.spelling x.from sg) where

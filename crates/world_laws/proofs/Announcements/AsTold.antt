@@ -111,15 +111,7 @@ look_end id _ e h = inl h
 -- a duty is a look or isn't
 look_or : (d : Duty) → MayNotLook d ⊎ ((t : Side) × (d ≡ duties.Step (step_duties.Look t)))
 look_or (duties.Step (step_duties.Look t)) = inr (t, refl)
-look_or (duties.Step (step_duties.Data t)) = inl tt
-look_or (duties.Step step_duties.Events) = inl tt
-look_or (duties.Step (step_duties.Heard t index)) = inl tt
-look_or (duties.Step (step_duties.PlainAck t)) = inl tt
-look_or (duties.Step (step_duties.Unmapped t)) = inl tt
-look_or (duties.Ask ask) = inl tt
-look_or (duties.Send send) = inl tt
-look_or (duties.Silent silent) = inl tt
-look_or duties.End = inl tt
+look_or _ = inl tt
 
 module _ {C : Type 0} (k : Codec C) (s : Side) where
   -- ---- what comes to nothing

@@ -89,15 +89,7 @@ start_ready B = (λ is. absurd (false≢true is), (λ is. refl, tt))
 
 pub ready_rest : (s : Side) (d : Duty) (ds : List Duty) → IsReady s (d ∷ ds) → IsReady s ds
 ready_rest s (duties.Step (step_duties.Look t)) ds h = h.1
-ready_rest s (duties.Step (step_duties.Data t)) ds h = h
-ready_rest s (duties.Step step_duties.Events) ds h = h
-ready_rest s (duties.Step (step_duties.Heard t index)) ds h = h
-ready_rest s (duties.Step (step_duties.PlainAck t)) ds h = h
-ready_rest s (duties.Step (step_duties.Unmapped t)) ds h = h
-ready_rest s (duties.Ask ask) ds h = h
-ready_rest s (duties.Send send) ds h = h
-ready_rest s (duties.Silent silent) ds h = h
-ready_rest s duties.End ds h = h
+ready_rest s _ ds h = h
 
 -- ---- each duty
 
@@ -150,18 +142,10 @@ module _ (q : Side) where
   heard_ready s from (suc count) ds h = heard_ready s (from + 1) count ds h
 
   template_ready : (joined : Bool) (s : Side) (count : ℕ) (m : Meaning) → IsReady q (template_by joined s count m)
-  template_ready joined s count means.Ignored = tt
-  template_ready joined s count means.Unwanted = tt
-  template_ready joined s count means.Opens = tt
   template_ready true s count (means.Accepts acknowledged) = tt
   template_ready false s count (means.Accepts acknowledged) = tt
-  template_ready joined s count means.RepeatedSyn = tt
-  template_ready joined s count means.Outside = tt
-  template_ready joined s count means.Kills = tt
-  template_ready joined s count means.Challenged = tt
-  template_ready joined s count means.Unacknowledging = tt
-  template_ready joined s count means.Ahead = tt
   template_ready joined s count (means.Taken position acknowledged) = heard_ready s 0 count (payload_came s) tt
+  template_ready joined s count _ = tt
 
   judged_ready : (joined : Bool) (s : Side) (count : ℕ) (verdict : Judged) → IsReady q (template_judged joined s count verdict)
   judged_ready joined s count (judged.As meaning) = template_ready joined s count meaning
@@ -301,57 +285,25 @@ module _ {C : Type 0} (q : Side) where
   answered_ready k duties.End ds r p h = tt
   answered_ready k (duties.Ask ask_duties.JoinAgain) ds r p h = begun_ready r (duties.Ask (ask_duties.Leave A) ∷ ds) ds (with_agenda ((duties.Ask ask_duties.JoinAgain) ∷ ds) p) h h
   answered_ready k (duties.Step (step_duties.Look s)) ds r p h = h.1
-  answered_ready k (duties.Ask (ask_duties.Window s)) ds r p h = h
-  answered_ready k (duties.Send (send_duties.Update s)) ds r p h = h
-  answered_ready k (duties.Send (send_duties.FastClose s)) ds r p h = h
-  answered_ready k (duties.Send (send_duties.Notice s)) ds r p h = h
-  answered_ready k (duties.Send (send_duties.Syn s)) ds r p h = h
   answered_ready k (duties.Step (step_duties.Data s)) ds r p h = data_ready k s r (with_agenda (duties.Step (step_duties.Data s) ∷ ds) p) h h h (first_unsent (end_at s p))
-  answered_ready k (duties.Send (send_duties.DataFin s)) ds r p h = h
-  answered_ready k (duties.Send (send_duties.Fin s)) ds r p h = h
   answered_ready k (duties.Silent (silent_duties.Timer s)) ds r p h = h
-  answered_ready k (duties.Ask (ask_duties.SynHeard s)) ds r p h = h
-  answered_ready k (duties.Ask (ask_duties.SynAnswered s)) ds r p h = h
   answered_ready k (duties.Ask (ask_duties.PlainHandshake s)) ds r p h = fell_ready s r (with_agenda (duties.Ask (ask_duties.PlainHandshake s) ∷ ds) p) h h
   answered_ready k (duties.Ask (ask_duties.PeerKey s)) ds r p h = key_ready k s r (with_agenda (duties.Ask (ask_duties.PeerKey s) ∷ ds) p) h h h (key_heard (end_at s p).treated.items)
-  answered_ready k (duties.Send (send_duties.SynAck s)) ds r p h = h
   answered_ready k (duties.Ask (ask_duties.JoinHeard s)) ds r p h = join_ready s (keys_begun r) (asked_at s p) r ds p h
-  answered_ready k (duties.Send (send_duties.Refuse s)) ds r p h = h
   answered_ready k (duties.Ask (ask_duties.Opened s)) ds r p h = keys_ready k s r (with_agenda (duties.Ask (ask_duties.Opened s) ∷ ds) p) h h h (keys_heard (end_at s p).treated.items)
-  answered_ready k (duties.Ask (ask_duties.Live s)) ds r p h = h
   answered_ready k (duties.Step (step_duties.Heard s index)) ds r p h = item_ready k s r (with_agenda (duties.Step (step_duties.Heard s index) ∷ ds) p) h h h index h h (item_of index (end_at s p))
   answered_ready k (duties.Ask (ask_duties.AckHeard s)) ds r p h = fell_ready s r (with_agenda (duties.Ask (ask_duties.AckHeard s) ∷ ds) p) h h
   answered_ready k (duties.Ask (ask_duties.FailHeard s)) ds r p h = fell_ready s r (with_agenda (duties.Ask (ask_duties.FailHeard s) ∷ ds) p) h h
   answered_ready k (duties.Step (step_duties.PlainAck s)) ds r p h = plain_ack_ready k s r (with_agenda (duties.Step (step_duties.PlainAck s) ∷ ds) p) h h h
-  answered_ready k (duties.Ask (ask_duties.SubflowAck s)) ds r p h = h
   answered_ready k (duties.Ask (ask_duties.PlainData s)) ds r p h = fell_ready s r (with_agenda (duties.Ask (ask_duties.PlainData s) ∷ ds) p) h h
-  answered_ready k (duties.Ask (ask_duties.GoIdentity s)) ds r p h = h
   answered_ready k (duties.Step (step_duties.Unmapped s)) ds r p h = break_ready k s 6 r (with_agenda (duties.Step (step_duties.Unmapped s) ∷ ds) p)
   answered_ready k (duties.Ask (ask_duties.SubflowFin s)) ds r p h = plain_fin_ready k s r (with_agenda (duties.Ask (ask_duties.SubflowFin s) ∷ ds) p) h h h (is_fin_set r)
-  answered_ready k (duties.Silent (silent_duties.Keep s)) ds r p h = h
   answered_ready k (duties.Ask (ask_duties.Edge s)) ds r p h = piece_ready k s r (with_agenda (duties.Ask (ask_duties.Edge s) ∷ ds) p) h h h (piece_of s p) (is_placed r)
   answered_ready k (duties.Ask (ask_duties.CheckFailed s)) ds r p h = fell_ready s r (with_agenda (duties.Ask (ask_duties.CheckFailed s) ∷ ds) p) h h
   answered_ready k (duties.Ask (ask_duties.HeardFin s index)) ds r p h = fin_ready k s r (with_agenda (duties.Ask (ask_duties.HeardFin s index) ∷ ds) p) h h h (is_fin_set r)
-  answered_ready k (duties.Silent (silent_duties.PassFin s)) ds r p h = h
-  answered_ready k (duties.Ask (ask_duties.AckOut s)) ds r p h = h
-  answered_ready k (duties.Ask (ask_duties.Rate s)) ds r p h = h
-  answered_ready k (duties.Send (send_duties.Acknowledge s)) ds r p h = h
-  answered_ready k (duties.Send (send_duties.Again s)) ds r p h = h
-  answered_ready k (duties.Send (send_duties.Answer s)) ds r p h = h
-  answered_ready k (duties.Send (send_duties.ResetAnswer s)) ds r p h = h
-  answered_ready k (duties.Ask (ask_duties.Return s)) ds r p h = h
-  answered_ready k (duties.Ask (ask_duties.AbortSend s)) ds r p h = h
-  answered_ready k (duties.Ask (ask_duties.AbortReceive s)) ds r p h = h
-  answered_ready k (duties.Ask (ask_duties.Announce s id)) ds r p h = h
-  answered_ready k (duties.Ask (ask_duties.Withdraw s id)) ds r p h = h
-  answered_ready k (duties.Send (send_duties.Resend s)) ds r p h = h
   answered_ready k (duties.Ask (ask_duties.BreakAck s reason)) ds r p h = tt
   answered_ready k (duties.Send (send_duties.BreakReset s reason)) ds r p h = tt
-  answered_ready k (duties.Send (send_duties.Reset s)) ds r p h = h
-  answered_ready k (duties.Send (send_duties.ResetNoted s)) ds r p h = h
-  answered_ready k (duties.Ask (ask_duties.Leave s)) ds r p h = h
-  answered_ready k (duties.Ask (ask_duties.LeaveNoted s)) ds r p h = h
-  answered_ready k (duties.Ask (ask_duties.Dead s)) ds r p h = h
+  answered_ready k _ ds r p h = h
 
 module _ {C : Type 0} where
   -- ---- the announcement stays ahead until it was made

@@ -132,18 +132,10 @@ payload_sheltered A = refl
 payload_sheltered B = refl
 
 template_sheltered : (joined : Bool) (s : Side) (count : ℕ) (m : Meaning) → is_sheltered (template_by joined s count m) ≡ true
-template_sheltered joined s count means.Ignored = refl
-template_sheltered joined s count means.Unwanted = refl
-template_sheltered joined s count means.Opens = refl
 template_sheltered true s count (means.Accepts acknowledged) = refl
 template_sheltered false s count (means.Accepts acknowledged) = refl
-template_sheltered joined s count means.RepeatedSyn = refl
-template_sheltered joined s count means.Outside = refl
-template_sheltered joined s count means.Kills = refl
-template_sheltered joined s count means.Challenged = refl
-template_sheltered joined s count means.Unacknowledging = refl
-template_sheltered joined s count means.Ahead = refl
 template_sheltered joined s count (means.Taken position acknowledged) = heard_sheltered s 0 count (payload_came s) (payload_sheltered s)
+template_sheltered joined s count _ = refl
 
 judged_sheltered : (joined : Bool) (s : Side) (count : ℕ) (verdict : Judged) → is_sheltered (template_judged joined s count verdict) ≡ true
 judged_sheltered joined s count (judged.As meaning) = template_sheltered joined s count meaning
@@ -446,15 +438,9 @@ module _ {C : Type 0} where
         (fail_heard_so (λ f. EndCalms (end_at s p) f) r (end_at s p) (λ own owes h. h)) refl refl (fell_shape s (duties.Ask (ask_duties.FailHeard s)) p)
     answered_goes (duties.Ask (ask_duties.PlainHandshake s)) other p = event_told s (duties.Ask (ask_duties.PlainHandshake s)) events.PlainHandshake p
     answered_goes (duties.Ask (ask_duties.PlainData s)) other p = event_told s (duties.Ask (ask_duties.PlainData s)) events.PlainData p
-    answered_goes (duties.Ask (ask_duties.Edge s)) other p = absurd other
-    answered_goes (duties.Ask (ask_duties.CheckFailed s)) other p = absurd other
-    answered_goes (duties.Ask (ask_duties.GoIdentity s)) other p = absurd other
     answered_goes (duties.Step (step_duties.Unmapped s)) other p = absurd other
-    answered_goes (duties.Ask (ask_duties.HeardFin s index)) other p = absurd other
     answered_goes (duties.Silent (silent_duties.PassFin s)) other p = absurd other
-    answered_goes (duties.Ask (ask_duties.SubflowFin s)) other p = absurd other
-    answered_goes (duties.Ask (ask_duties.AckOut s)) other p = absurd other
-    answered_goes (duties.Ask (ask_duties.BreakAck s reason)) other p = absurd other
+    answered_goes _ other p = absurd other
 
   -- ---- the duties by which a book is told, or asked
 

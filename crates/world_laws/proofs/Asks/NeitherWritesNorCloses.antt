@@ -90,18 +90,9 @@ module _ {C : Type 0} (k : Codec C) (p : PathState C) where
       by false = tt
 
   item_leaves : (s : Side) (o : Option Heard) → AskLeavesFile (item_ask k s o p)
-  item_leaves s None = tt
-  item_leaves s (Some says.Dss) = tt
-  item_leaves s (Some (says.DataAck next window)) = tt
   item_leaves s (Some (says.Mapping fin)) = mapping_leaves s
-  item_leaves s (Some (says.DataFin place)) = tt
-  item_leaves s (Some (says.InfiniteMapping place position)) = tt
-  item_leaves s (Some (says.PeerKey key)) = tt
-  item_leaves s (Some (says.Keys own peer)) = tt
-  item_leaves s (Some (says.Join form)) = tt
-  item_leaves s (Some (says.Notice notice)) = tt
   item_leaves s (Some says.Fail) = fail_asks_so AskLeavesFile s p tt tt
-  item_leaves s (Some (says.FastClose key)) = tt
+  item_leaves s _ = tt
 
   ack_leaves : (s : Side) → AskLeavesFile (plain_ack_ask k s p)
   ack_leaves s = by (breaks_by_ack p.profile (end_at s p))
@@ -123,61 +114,22 @@ module _ {C : Type 0} (k : Codec C) (p : PathState C) where
   rate_leaves s (Some pending) = tt
 
   pub asks_leave : (d : Duty) → AskLeavesFile (ask_for k d p)
-  asks_leave (duties.Ask ask_duties.JoinAgain) = tt
-  asks_leave (duties.Step (step_duties.Look s)) = tt
-  asks_leave (duties.Ask (ask_duties.Window s)) = tt
   asks_leave (duties.Send (send_duties.Update s)) = tt
-  asks_leave (duties.Send (send_duties.FastClose s)) = tt
-  asks_leave (duties.Send (send_duties.Notice s)) = tt
-  asks_leave (duties.Send (send_duties.Syn s)) = tt
   asks_leave (duties.Step (step_duties.Data s)) = data_leaves s (first_unsent (end_at s p))
-  asks_leave (duties.Send (send_duties.DataFin s)) = tt
-  asks_leave (duties.Send (send_duties.Fin s)) = tt
   asks_leave (duties.Silent (silent_duties.Timer s)) = tt
   asks_leave (duties.Step step_duties.Events) = step_leaves (next_event p)
-  asks_leave (duties.Ask (ask_duties.SynHeard s)) = tt
-  asks_leave (duties.Ask (ask_duties.SynAnswered s)) = tt
   asks_leave (duties.Ask (ask_duties.PeerKey s)) = key_leaves s (key_heard (end_at s p).treated.items)
-  asks_leave (duties.Send (send_duties.SynAck s)) = tt
   asks_leave (duties.Ask (ask_duties.JoinHeard s)) = join_leaves s (asked_at s p)
-  asks_leave (duties.Send (send_duties.Refuse s)) = tt
   asks_leave (duties.Ask (ask_duties.Opened s)) = keys_leave s (keys_heard (end_at s p).treated.items)
-  asks_leave (duties.Ask (ask_duties.Live s)) = tt
   asks_leave (duties.Step (step_duties.Heard s index)) = item_leaves s (item_of index (end_at s p))
-  asks_leave (duties.Ask (ask_duties.AckHeard s)) = tt
-  asks_leave (duties.Ask (ask_duties.FailHeard s)) = tt
-  asks_leave (duties.Ask (ask_duties.PlainHandshake s)) = tt
   asks_leave (duties.Step (step_duties.PlainAck s)) = ack_leaves s
   asks_leave (duties.Ask (ask_duties.SubflowAck s)) = subflow_acks_so AskLeavesFile s (end_at s p) tt (λ next. tt)
-  asks_leave (duties.Ask (ask_duties.PlainData s)) = tt
-  asks_leave (duties.Ask (ask_duties.GoIdentity s)) = tt
   asks_leave (duties.Step (step_duties.Unmapped s)) = break_leaves s 6
   asks_leave (duties.Ask (ask_duties.SubflowFin s)) = fin_leaves s (plain_fin (end_at s p))
-  asks_leave (duties.Silent (silent_duties.Keep s)) = tt
   asks_leave (duties.Ask (ask_duties.Edge s)) = piece_leaves s (piece_of s p)
-  asks_leave (duties.Ask (ask_duties.CheckFailed s)) = tt
   asks_leave (duties.Ask (ask_duties.HeardFin s index)) = fin_leaves s (data_fin_of index (end_at s p))
-  asks_leave (duties.Silent (silent_duties.PassFin s)) = tt
-  asks_leave (duties.Ask (ask_duties.AckOut s)) = tt
   asks_leave (duties.Ask (ask_duties.Rate s)) = rate_leaves s (end_at s p).tcp.congestion.pending
-  asks_leave (duties.Send (send_duties.Acknowledge s)) = tt
-  asks_leave (duties.Send (send_duties.Again s)) = tt
-  asks_leave (duties.Send (send_duties.Answer s)) = tt
-  asks_leave (duties.Send (send_duties.ResetAnswer s)) = tt
-  asks_leave (duties.Ask (ask_duties.Return s)) = tt
-  asks_leave (duties.Ask (ask_duties.AbortSend s)) = tt
-  asks_leave (duties.Ask (ask_duties.AbortReceive s)) = tt
-  asks_leave (duties.Ask (ask_duties.Announce s id)) = tt
-  asks_leave (duties.Ask (ask_duties.Withdraw s id)) = tt
-  asks_leave (duties.Send (send_duties.Resend s)) = tt
-  asks_leave (duties.Ask (ask_duties.BreakAck s reason)) = tt
-  asks_leave (duties.Send (send_duties.BreakReset s reason)) = tt
-  asks_leave (duties.Send (send_duties.Reset s)) = tt
-  asks_leave (duties.Send (send_duties.ResetNoted s)) = tt
-  asks_leave (duties.Ask (ask_duties.Leave s)) = tt
-  asks_leave (duties.Ask (ask_duties.LeaveNoted s)) = tt
-  asks_leave (duties.Ask (ask_duties.Dead s)) = tt
-  asks_leave duties.End = tt
+  asks_leave _ = tt
 
 -- such a call leaves what was written, and whether it is closed
 module _ (file rest : List ℕ) (b : Sending) (h : Writes file rest b) where

@@ -97,18 +97,9 @@ module _ {C : Type 0} (k : Codec C) (p : PathState C) where
       by false = tt
 
   item_is : (s : Side) (o : Option Heard) → IsPathAsk (item_ask k s o p)
-  item_is s None = tt
-  item_is s (Some says.Dss) = tt
-  item_is s (Some (says.DataAck next window)) = tt
   item_is s (Some (says.Mapping fin)) = mapping_is s
-  item_is s (Some (says.DataFin place)) = tt
-  item_is s (Some (says.InfiniteMapping place position)) = tt
-  item_is s (Some (says.PeerKey key)) = tt
-  item_is s (Some (says.Keys own peer)) = tt
-  item_is s (Some (says.Join form)) = tt
-  item_is s (Some (says.Notice notice)) = tt
   item_is s (Some says.Fail) = fail_asks_so IsPathAsk s p tt tt
-  item_is s (Some (says.FastClose key)) = tt
+  item_is s _ = tt
 
   piece_is : (s : Side) (o : Option Piece) → IsPathAsk (piece_ask s o)
   piece_is s None = tt
@@ -123,61 +114,22 @@ module _ {C : Type 0} (k : Codec C) (p : PathState C) where
   rate_is s (Some pending) = tt
 
   pub path_asks : (d : Duty) → IsPathAsk (ask_for k d p)
-  path_asks (duties.Ask ask_duties.JoinAgain) = tt
-  path_asks (duties.Step (step_duties.Look s)) = tt
-  path_asks (duties.Ask (ask_duties.Window s)) = tt
   path_asks (duties.Send (send_duties.Update s)) = tt
-  path_asks (duties.Send (send_duties.FastClose s)) = tt
-  path_asks (duties.Send (send_duties.Notice s)) = tt
-  path_asks (duties.Send (send_duties.Syn s)) = tt
   path_asks (duties.Step (step_duties.Data s)) = data_is s (first_unsent (end_at s p))
-  path_asks (duties.Send (send_duties.DataFin s)) = tt
-  path_asks (duties.Send (send_duties.Fin s)) = tt
   path_asks (duties.Silent (silent_duties.Timer s)) = tt
   path_asks (duties.Step step_duties.Events) = step_is (next_event p)
-  path_asks (duties.Ask (ask_duties.SynHeard s)) = tt
-  path_asks (duties.Ask (ask_duties.SynAnswered s)) = tt
-  path_asks (duties.Ask (ask_duties.PlainHandshake s)) = tt
   path_asks (duties.Ask (ask_duties.PeerKey s)) = key_is s (key_heard (end_at s p).treated.items)
-  path_asks (duties.Send (send_duties.SynAck s)) = tt
   path_asks (duties.Ask (ask_duties.JoinHeard s)) = join_is s (asked_at s p)
-  path_asks (duties.Send (send_duties.Refuse s)) = tt
   path_asks (duties.Ask (ask_duties.Opened s)) = keys_are s (keys_heard (end_at s p).treated.items)
-  path_asks (duties.Ask (ask_duties.Live s)) = tt
   path_asks (duties.Step (step_duties.Heard s index)) = item_is s (item_of index (end_at s p))
-  path_asks (duties.Ask (ask_duties.AckHeard s)) = tt
-  path_asks (duties.Ask (ask_duties.FailHeard s)) = tt
   path_asks (duties.Step (step_duties.PlainAck s)) = plain_ack_is s
   path_asks (duties.Ask (ask_duties.SubflowAck s)) = subflow_acks_so IsPathAsk s (end_at s p) tt (λ next. tt)
-  path_asks (duties.Ask (ask_duties.PlainData s)) = tt
-  path_asks (duties.Ask (ask_duties.GoIdentity s)) = tt
   path_asks (duties.Step (step_duties.Unmapped s)) = break_is s 6
   path_asks (duties.Ask (ask_duties.SubflowFin s)) = fin_is s (plain_fin (end_at s p))
-  path_asks (duties.Silent (silent_duties.Keep s)) = tt
   path_asks (duties.Ask (ask_duties.Edge s)) = piece_is s (piece_of s p)
-  path_asks (duties.Ask (ask_duties.CheckFailed s)) = tt
   path_asks (duties.Ask (ask_duties.HeardFin s index)) = fin_is s (data_fin_of index (end_at s p))
-  path_asks (duties.Silent (silent_duties.PassFin s)) = tt
-  path_asks (duties.Ask (ask_duties.AckOut s)) = tt
   path_asks (duties.Ask (ask_duties.Rate s)) = rate_is s (end_at s p).tcp.congestion.pending
-  path_asks (duties.Send (send_duties.Acknowledge s)) = tt
-  path_asks (duties.Send (send_duties.Again s)) = tt
-  path_asks (duties.Send (send_duties.Answer s)) = tt
-  path_asks (duties.Send (send_duties.ResetAnswer s)) = tt
-  path_asks (duties.Ask (ask_duties.Return s)) = tt
-  path_asks (duties.Ask (ask_duties.AbortSend s)) = tt
-  path_asks (duties.Ask (ask_duties.AbortReceive s)) = tt
-  path_asks (duties.Ask (ask_duties.Announce s id)) = tt
-  path_asks (duties.Ask (ask_duties.Withdraw s id)) = tt
-  path_asks (duties.Send (send_duties.Resend s)) = tt
-  path_asks (duties.Ask (ask_duties.BreakAck s reason)) = tt
-  path_asks (duties.Send (send_duties.BreakReset s reason)) = tt
-  path_asks (duties.Send (send_duties.Reset s)) = tt
-  path_asks (duties.Send (send_duties.ResetNoted s)) = tt
-  path_asks (duties.Ask (ask_duties.Leave s)) = tt
-  path_asks (duties.Ask (ask_duties.LeaveNoted s)) = tt
-  path_asks (duties.Ask (ask_duties.Dead s)) = tt
-  path_asks duties.End = tt
+  path_asks _ = tt
 
 -- ---- of the send books
 
@@ -262,61 +214,28 @@ module _ {C : Type 0} (k : Codec C) (p : PathState C) where
   rate_quiet s (Some pending) = tt
 
   pub quiet_asks : (d : Duty) → IsQuietDuty d → IsQuietAsk (path_of p) (ask_for k d p)
-  quiet_asks (duties.Ask ask_duties.JoinAgain) q = tt
-  quiet_asks (duties.Step (step_duties.Look s)) q = tt
-  quiet_asks (duties.Ask (ask_duties.Window s)) q = tt
   quiet_asks (duties.Send (send_duties.Update s)) q = tt
-  quiet_asks (duties.Send (send_duties.FastClose s)) q = tt
-  quiet_asks (duties.Send (send_duties.Notice s)) q = tt
-  quiet_asks (duties.Send (send_duties.Syn s)) q = tt
   quiet_asks (duties.Step (step_duties.Data s)) q = absurd q
-  quiet_asks (duties.Send (send_duties.DataFin s)) q = tt
-  quiet_asks (duties.Send (send_duties.Fin s)) q = tt
   quiet_asks (duties.Silent (silent_duties.Timer s)) q = tt
   quiet_asks (duties.Step step_duties.Events) q = step_quiet (next_event p)
   quiet_asks (duties.Ask (ask_duties.SynHeard s)) q = absurd q
   quiet_asks (duties.Ask (ask_duties.SynAnswered s)) q = absurd q
-  quiet_asks (duties.Ask (ask_duties.PlainHandshake s)) q = tt
   quiet_asks (duties.Ask (ask_duties.PeerKey s)) q = key_quiet s (key_heard (end_at s p).treated.items)
-  quiet_asks (duties.Send (send_duties.SynAck s)) q = tt
   quiet_asks (duties.Ask (ask_duties.JoinHeard s)) q = join_quiet s (asked_at s p)
-  quiet_asks (duties.Send (send_duties.Refuse s)) q = tt
   quiet_asks (duties.Ask (ask_duties.Opened s)) q = keys_quiet s (keys_heard (end_at s p).treated.items)
-  quiet_asks (duties.Ask (ask_duties.Live s)) q = tt
   quiet_asks (duties.Step (step_duties.Heard s index)) q = absurd q
-  quiet_asks (duties.Ask (ask_duties.AckHeard s)) q = tt
-  quiet_asks (duties.Ask (ask_duties.FailHeard s)) q = tt
   quiet_asks (duties.Step (step_duties.PlainAck s)) q = plain_ack_quiet s
   quiet_asks (duties.Ask (ask_duties.SubflowAck s)) q = absurd q
-  quiet_asks (duties.Ask (ask_duties.PlainData s)) q = tt
   quiet_asks (duties.Ask (ask_duties.GoIdentity s)) q = absurd q
   quiet_asks (duties.Step (step_duties.Unmapped s)) q = break_quiet s 6
   quiet_asks (duties.Ask (ask_duties.SubflowFin s)) q = fin_quiet s (plain_fin (end_at s p))
-  quiet_asks (duties.Silent (silent_duties.Keep s)) q = tt
   quiet_asks (duties.Ask (ask_duties.Edge s)) q = piece_quiet s (piece_of s p)
-  quiet_asks (duties.Ask (ask_duties.CheckFailed s)) q = tt
   quiet_asks (duties.Ask (ask_duties.HeardFin s index)) q = fin_quiet s (data_fin_of index (end_at s p))
-  quiet_asks (duties.Silent (silent_duties.PassFin s)) q = tt
-  quiet_asks (duties.Ask (ask_duties.AckOut s)) q = tt
   quiet_asks (duties.Ask (ask_duties.Rate s)) q = rate_quiet s (end_at s p).tcp.congestion.pending
-  quiet_asks (duties.Send (send_duties.Acknowledge s)) q = tt
-  quiet_asks (duties.Send (send_duties.Again s)) q = tt
-  quiet_asks (duties.Send (send_duties.Answer s)) q = tt
-  quiet_asks (duties.Send (send_duties.ResetAnswer s)) q = tt
   quiet_asks (duties.Ask (ask_duties.Return s)) q = refl
-  quiet_asks (duties.Ask (ask_duties.AbortSend s)) q = tt
-  quiet_asks (duties.Ask (ask_duties.AbortReceive s)) q = tt
-  quiet_asks (duties.Ask (ask_duties.Announce s id)) q = tt
-  quiet_asks (duties.Ask (ask_duties.Withdraw s id)) q = tt
-  quiet_asks (duties.Send (send_duties.Resend s)) q = tt
-  quiet_asks (duties.Ask (ask_duties.BreakAck s reason)) q = tt
-  quiet_asks (duties.Send (send_duties.BreakReset s reason)) q = tt
-  quiet_asks (duties.Send (send_duties.Reset s)) q = tt
-  quiet_asks (duties.Send (send_duties.ResetNoted s)) q = tt
   quiet_asks (duties.Ask (ask_duties.Leave s)) q = refl
   quiet_asks (duties.Ask (ask_duties.LeaveNoted s)) q = refl
-  quiet_asks (duties.Ask (ask_duties.Dead s)) q = tt
-  quiet_asks duties.End q = tt
+  quiet_asks _ q = tt
 
   mapping_heard : (s : Side) → IsHeardAsk (path_of p) s (mapping_ask k s p)
   mapping_heard s = by (is_clash (end_at s p)) (end_at s p).treated.asked
@@ -327,18 +246,10 @@ module _ {C : Type 0} (k : Codec C) (p : PathState C) where
       by false asked = tt
 
   pub heard_asks : (s : Side) (o : Option Heard) → IsHeardAsk (path_of p) s (item_ask k s o p)
-  heard_asks s None = tt
-  heard_asks s (Some says.Dss) = tt
   heard_asks s (Some (says.DataAck next window)) = refl
   heard_asks s (Some (says.Mapping fin)) = mapping_heard s
-  heard_asks s (Some (says.DataFin place)) = tt
-  heard_asks s (Some (says.InfiniteMapping place position)) = tt
-  heard_asks s (Some (says.PeerKey key)) = tt
-  heard_asks s (Some (says.Keys own peer)) = tt
-  heard_asks s (Some (says.Join form)) = tt
-  heard_asks s (Some (says.Notice notice)) = tt
   heard_asks s (Some says.Fail) = fail_asks_so (IsHeardAsk (path_of p) s) s p (refl, refl) tt
-  heard_asks s (Some (says.FastClose key)) = tt
+  heard_asks s _ = tt
 
   -- so does what an acknowledgement of the subflow asks
   pub subflow_asks : (s : Side) → IsHeardAsk (path_of p) s (subflow_ack_ask s (end_at s p))

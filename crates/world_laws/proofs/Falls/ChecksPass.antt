@@ -187,18 +187,10 @@ module _ (p : PathState Carried) (h : PathPasses p) where
   notice_harmless (notes.Prio backup) = tt
 
   item_harmless : (s : Side) (o : Option Heard) → IsHarmless (item_ask values s o p)
-  item_harmless s None = tt
-  item_harmless s (Some says.Dss) = tt
-  item_harmless s (Some (says.DataAck next window)) = tt
   item_harmless s (Some (says.Mapping fin)) = mapping_harmless s
-  item_harmless s (Some (says.DataFin place)) = tt
-  item_harmless s (Some (says.InfiniteMapping place position)) = tt
-  item_harmless s (Some (says.PeerKey key)) = tt
-  item_harmless s (Some (says.Keys own peer)) = tt
-  item_harmless s (Some (says.Join form)) = tt
   item_harmless s (Some (says.Notice notice)) = notice_harmless notice
   item_harmless s (Some says.Fail) = fail_asks_so IsHarmless s p tt refl
-  item_harmless s (Some (says.FastClose key)) = tt
+  item_harmless s _ = tt
 
   piece_harmless : (s : Side) (o : Option Piece) → IsHarmless (piece_ask s o)
   piece_harmless s None = tt
@@ -238,46 +230,9 @@ module _ (p : PathState Carried) (h : PathPasses p) where
   duty_harmless (duties.Ask (ask_duties.CheckFailed s)) is = check_harmless s is
   duty_harmless (duties.Ask (ask_duties.HeardFin s index)) is = fin_harmless s (data_fin_of index (end_at s p))
   duty_harmless (duties.Ask (ask_duties.Rate s)) is = rate_harmless s (end_at s p).tcp.congestion.pending
-  duty_harmless (duties.Ask ask_duties.JoinAgain) is = tt
-  duty_harmless (duties.Step (step_duties.Look s)) is = tt
-  duty_harmless (duties.Ask (ask_duties.Window s)) is = tt
   duty_harmless (duties.Send (send_duties.Update s)) is = tt
-  duty_harmless (duties.Send (send_duties.FastClose s)) is = tt
-  duty_harmless (duties.Send (send_duties.Notice s)) is = tt
-  duty_harmless (duties.Send (send_duties.Syn s)) is = tt
-  duty_harmless (duties.Send (send_duties.DataFin s)) is = tt
-  duty_harmless (duties.Send (send_duties.Fin s)) is = tt
   duty_harmless (duties.Silent (silent_duties.Timer s)) is = tt
-  duty_harmless (duties.Ask (ask_duties.SynHeard s)) is = tt
-  duty_harmless (duties.Ask (ask_duties.SynAnswered s)) is = tt
-  duty_harmless (duties.Send (send_duties.SynAck s)) is = tt
-  duty_harmless (duties.Send (send_duties.Refuse s)) is = tt
-  duty_harmless (duties.Ask (ask_duties.Live s)) is = tt
-  duty_harmless (duties.Ask (ask_duties.AckHeard s)) is = tt
-  duty_harmless (duties.Ask (ask_duties.PlainHandshake s)) is = tt
-  duty_harmless (duties.Ask (ask_duties.PlainData s)) is = tt
-  duty_harmless (duties.Ask (ask_duties.GoIdentity s)) is = tt
-  duty_harmless (duties.Silent (silent_duties.Keep s)) is = tt
-  duty_harmless (duties.Silent (silent_duties.PassFin s)) is = tt
-  duty_harmless (duties.Ask (ask_duties.AckOut s)) is = tt
-  duty_harmless (duties.Send (send_duties.Acknowledge s)) is = tt
-  duty_harmless (duties.Send (send_duties.Again s)) is = tt
-  duty_harmless (duties.Send (send_duties.Answer s)) is = tt
-  duty_harmless (duties.Send (send_duties.ResetAnswer s)) is = tt
-  duty_harmless (duties.Ask (ask_duties.Return s)) is = tt
-  duty_harmless (duties.Ask (ask_duties.AbortSend s)) is = tt
-  duty_harmless (duties.Ask (ask_duties.AbortReceive s)) is = tt
-  duty_harmless (duties.Ask (ask_duties.Announce s id)) is = tt
-  duty_harmless (duties.Ask (ask_duties.Withdraw s id)) is = tt
-  duty_harmless (duties.Send (send_duties.Resend s)) is = tt
-  duty_harmless (duties.Ask (ask_duties.BreakAck s reason)) is = tt
-  duty_harmless (duties.Send (send_duties.BreakReset s reason)) is = tt
-  duty_harmless (duties.Send (send_duties.Reset s)) is = tt
-  duty_harmless (duties.Send (send_duties.ResetNoted s)) is = tt
-  duty_harmless (duties.Ask (ask_duties.Leave s)) is = tt
-  duty_harmless (duties.Ask (ask_duties.LeaveNoted s)) is = tt
-  duty_harmless (duties.Ask (ask_duties.Dead s)) is = tt
-  duty_harmless duties.End is = tt
+  duty_harmless _ is = tt
 
   first_harmless : (ds : List Duty) (x : Ask) → FirstStands ds p → asks_first values ds p ≡ Some x → IsHarmless x
   first_harmless [] x first is = cc
@@ -307,14 +262,7 @@ no_own pair pairs fins alters plain (Some mapping) h = absurd (both_ways alters 
 
 option_passes : (c : Profile) (s : Side) (window : ℕ) (acks : List AckCopy) (q : Lane) → q.alters ≡ false → (o : PlainOption) → OptionShows c s window acks q o → is_fail o ≡ false
 option_passes c s window acks q plain (Fail place) shows = absurd (both_ways q.alters plain shows)
-option_passes c s window acks q plain (Capable flag_a flag_c keys) shows = refl
-option_passes c s window acks q plain (Join form) shows = refl
-option_passes c s window acks q plain (Dss next mapping) shows = refl
-option_passes c s window acks q plain (AddAddr echo id address port hmac) shows = refl
-option_passes c s window acks q plain (Remove ids) shows = refl
-option_passes c s window acks q plain (Prio backup) shows = refl
-option_passes c s window acks q plain (FastClose key) shows = refl
-option_passes c s window acks q plain (Reset transient reason) shows = refl
+option_passes c s window acks q plain _ shows = refl
 
 module _ (v u : View) (number : ℕ) (p : PathState Carried) (ab ba : Lane) (to_b : LaneHolds v number ab) (to_a : LaneHolds u number ba) (h : PathShows p.profile p ab ba)
     (plain_ab : ab.alters ≡ false) (plain_ba : ba.alters ≡ false) where

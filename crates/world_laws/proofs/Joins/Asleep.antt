@@ -62,15 +62,7 @@ module _ (P : EndPhase → Bool) (waiting : P phase.Waiting ≡ false) (listen :
   shut_is phase.Waiting is = waiting
   shut_is phase.Listen is = listen
   shut_is phase.Dead is = dead
-  shut_is phase.SynSent is = absurd (false≢true is)
-  shut_is phase.SynReceived is = absurd (false≢true is)
-  shut_is phase.Established is = absurd (false≢true is)
-  shut_is phase.FinWait1 is = absurd (false≢true is)
-  shut_is phase.FinWait2 is = absurd (false≢true is)
-  shut_is phase.CloseWait is = absurd (false≢true is)
-  shut_is phase.Closing is = absurd (false≢true is)
-  shut_is phase.LastAck is = absurd (false≢true is)
-  shut_is phase.TimeWait is = absurd (false≢true is)
+  shut_is _ is = absurd (false≢true is)
 
 pub never_finishes : (e : PathEnd) → IsShut e → may_finish e.tcp.state ≡ false
 never_finishes e h = shut_is may_finish refl refl refl e.tcp.state h.closed

@@ -106,18 +106,10 @@ new_less ds es silent calm = record { said = λ t is. absurd (both_ways _ (silen
 -- ---- templates
 
 meant_calm : (t : Side) (joined : Bool) (s : Side) (count : ℕ) (m : Meaning) → speaks (Voice.Falls t) (template_by joined s count m) ≡ false
-meant_calm t joined s count means.Ignored = refl
-meant_calm t joined s count means.Unwanted = refl
-meant_calm t joined s count means.Opens = refl
 meant_calm t true s count (means.Accepts acknowledged) = refl
 meant_calm t false s count (means.Accepts acknowledged) = refl
-meant_calm t joined s count means.RepeatedSyn = refl
-meant_calm t joined s count means.Outside = refl
-meant_calm t joined s count means.Kills = refl
-meant_calm t joined s count means.Challenged = refl
-meant_calm t joined s count means.Unacknowledging = refl
-meant_calm t joined s count means.Ahead = refl
 meant_calm t joined s count (means.Taken pos acknowledged) = came_calm t s count
+meant_calm t joined s count _ = refl
 
 template_calm : (t : Side) (joined : Bool) (s : Side) (count : ℕ) (v : Judged) → speaks (Voice.Falls t) (template_judged joined s count v) ≡ false
 template_calm t joined s count judged.Asks = refl
@@ -127,20 +119,13 @@ template_calm t joined s count (judged.As m) = meant_calm t joined s count m
 
 -- a side says what an end says that is up, where it heard a copy
 template_said : (t s : Side) (count : ℕ) (v : Judged) (tcp : EndState) → WakesNone (taken_as v) tcp → speaks (Voice.Says t) (template_judged true s count v) ≡ true → (t ≡ s) × (is_up tcp ≡ true)
-template_said t s count judged.Asks tcp none spoken = absurd (false≢true spoken)
-template_said t s count judged.Lacks tcp none spoken = absurd (false≢true spoken)
-template_said t s count judged.Forged tcp none spoken = absurd (false≢true spoken)
-template_said t s count (judged.As means.Ignored) tcp none spoken = absurd (false≢true spoken)
-template_said t s count (judged.As means.Unwanted) tcp none spoken = absurd (false≢true spoken)
 template_said t s count (judged.As means.Opens) tcp none spoken = absurd (false≢true (sym none.no_syn))
-template_said t s count (judged.As (means.Accepts acknowledged)) tcp none spoken = absurd (false≢true spoken)
 template_said t s count (judged.As means.RepeatedSyn) tcp none spoken = (same_or_calm t s spoken, none.lively refl)
 template_said t s count (judged.As means.Outside) tcp none spoken = (same_or_calm t s spoken, none.lively refl)
-template_said t s count (judged.As means.Kills) tcp none spoken = absurd (false≢true spoken)
 template_said t s count (judged.As means.Challenged) tcp none spoken = (same_or_calm t s spoken, none.lively refl)
-template_said t s count (judged.As means.Unacknowledging) tcp none spoken = absurd (false≢true spoken)
 template_said t s count (judged.As means.Ahead) tcp none spoken = (same_or_calm t s spoken, none.lively refl)
 template_said t s count (judged.As (means.Taken pos acknowledged)) tcp none spoken = (came_said t s count spoken, none.lively refl)
+template_said t s count _ tcp none spoken = absurd (false≢true spoken)
 
 -- what is told leaves whether the end fell back
 asked_identity : (m : Meaning) (options : List HeardOption) (modes : Modes) → (asked_in m options modes).identity ≡ modes.identity
@@ -155,15 +140,7 @@ join_identity (means.Accepts acknowledged) state items modes = by (join_answer i
     by None = refl
     by (Some answer) = refl
 join_identity (means.Taken pos acknowledged) state items modes = refl
-join_identity means.Ignored state items modes = refl
-join_identity means.Unwanted state items modes = refl
-join_identity means.Opens state items modes = refl
-join_identity means.RepeatedSyn state items modes = refl
-join_identity means.Outside state items modes = refl
-join_identity means.Kills state items modes = refl
-join_identity means.Challenged state items modes = refl
-join_identity means.Unacknowledging state items modes = refl
-join_identity means.Ahead state items modes = refl
+join_identity _ state items modes = refl
 
 look_identity : (r : Reply) (m : Modes) → (modes_told r m).identity ≡ m.identity
 look_identity r m = ap (λ (x : Known). x.identity) (look_leaves r m)

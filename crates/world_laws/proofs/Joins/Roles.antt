@@ -485,13 +485,7 @@ occasion_goes s o sg p h = same_goes s (having_sent o p.clock sg (end_at s p)) p
 
     same : (o : Occasion) → (after_sending o p.clock tcp).state ≡ tcp.state
     same to_send.Reset = refl
-    same to_send.Answer = refl
-    same to_send.SynAck = refl
-    same to_send.Ack = refl
-    same to_send.Probe = refl
-    same to_send.First = refl
-    same to_send.Unsent = refl
-    same to_send.Fin = refl
+    same _ = refl
 
 answered_roles : (d : Duty) (r : Reply) (p : PathState Carried) → HasRoles p → HasRoles (answered values d r p)
 answered_roles (duties.Ask ask_duties.JoinAgain) r p h = begun_roles r (replaced (duties.Ask (ask_duties.Leave A)) p.agenda) (left p) p h

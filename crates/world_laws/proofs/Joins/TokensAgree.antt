@@ -162,18 +162,9 @@ module _ (p : PathState Carried) where
       by false = refl
 
   no_item : (o : Option Heard) → is_fell (item_ask values B o p) ≡ false
-  no_item None = refl
-  no_item (Some says.Dss) = refl
-  no_item (Some (says.DataAck next window)) = refl
   no_item (Some (says.Mapping fin)) = no_mapping
-  no_item (Some (says.DataFin place)) = refl
-  no_item (Some (says.InfiniteMapping place position)) = refl
-  no_item (Some (says.PeerKey key)) = refl
-  no_item (Some (says.Keys mine other)) = refl
-  no_item (Some (says.Join form)) = refl
-  no_item (Some (says.Notice notice)) = refl
   no_item (Some says.Fail) = fail_asks_so (λ x. is_fell x ≡ false) B p refl refl
-  no_item (Some (says.FastClose key)) = refl
+  no_item _ = refl
 
   no_piece : (s : Side) (o : Option Piece) → is_fell (piece_ask s o) ≡ false
   no_piece s None = refl
@@ -191,26 +182,15 @@ module _ (p : PathState Carried) where
 
   -- what isn't a sign's duty tells none
   fell_signs : (d : Duty) → is_sign_duty d ≡ false → is_fell (ask_for values d p) ≡ false
-  fell_signs (duties.Ask ask_duties.JoinAgain) none = refl
   fell_signs (duties.Step (step_duties.Look A)) none = refl
   fell_signs (duties.Step (step_duties.Look B)) none = refl
-  fell_signs (duties.Ask (ask_duties.Window s)) none = refl
   fell_signs (duties.Send (send_duties.Update s)) none = refl
-  fell_signs (duties.Send (send_duties.FastClose s)) none = refl
-  fell_signs (duties.Send (send_duties.Notice s)) none = refl
-  fell_signs (duties.Send (send_duties.Syn s)) none = refl
   fell_signs (duties.Step (step_duties.Data s)) none = no_data s (first_unsent (end_at s p))
-  fell_signs (duties.Send (send_duties.DataFin s)) none = refl
-  fell_signs (duties.Send (send_duties.Fin s)) none = refl
   fell_signs (duties.Silent (silent_duties.Timer s)) none = refl
   fell_signs (duties.Step step_duties.Events) none = no_step (next_event p)
-  fell_signs (duties.Ask (ask_duties.SynHeard s)) none = refl
-  fell_signs (duties.Ask (ask_duties.SynAnswered s)) none = refl
   fell_signs (duties.Ask (ask_duties.PlainHandshake s)) none = no_fell s events.PlainHandshake refl
   fell_signs (duties.Ask (ask_duties.PeerKey s)) none = no_key s (key_heard (end_at s p).treated.items)
-  fell_signs (duties.Send (send_duties.SynAck s)) none = refl
   fell_signs (duties.Ask (ask_duties.JoinHeard s)) none = no_join s (asked_at s p)
-  fell_signs (duties.Send (send_duties.Refuse s)) none = refl
   fell_signs (duties.Ask (ask_duties.Opened s)) none = no_keys s (keys_heard (end_at s p).treated.items)
   fell_signs (duties.Ask (ask_duties.Live A)) none = refl
   fell_signs (duties.Ask (ask_duties.Live B)) none = refl
@@ -222,37 +202,19 @@ module _ (p : PathState Carried) where
   fell_signs (duties.Step (step_duties.PlainAck s)) none = no_plain_ack s
   fell_signs (duties.Ask (ask_duties.SubflowAck s)) none = subflow_acks_so (λ x. is_fell x ≡ false) s (end_at s p) refl (λ next. refl)
   fell_signs (duties.Ask (ask_duties.PlainData s)) none = no_fell s events.PlainData refl
-  fell_signs (duties.Ask (ask_duties.GoIdentity s)) none = refl
   fell_signs (duties.Step (step_duties.Unmapped s)) none = no_break s 6
   fell_signs (duties.Ask (ask_duties.SubflowFin s)) none = no_fin s (plain_fin (end_at s p))
-  fell_signs (duties.Silent (silent_duties.Keep s)) none = refl
   fell_signs (duties.Ask (ask_duties.Edge s)) none = no_piece s (piece_of s p)
   fell_signs (duties.Ask (ask_duties.CheckFailed s)) none = no_fell s events.CheckFailed refl
   fell_signs (duties.Ask (ask_duties.HeardFin s index)) none = no_fin s (data_fin_of index (end_at s p))
-  fell_signs (duties.Silent (silent_duties.PassFin s)) none = refl
-  fell_signs (duties.Ask (ask_duties.AckOut s)) none = refl
   fell_signs (duties.Ask (ask_duties.Rate s)) none = no_rate s (end_at s p).tcp.congestion.pending
-  fell_signs (duties.Send (send_duties.Acknowledge s)) none = refl
-  fell_signs (duties.Send (send_duties.Again s)) none = refl
-  fell_signs (duties.Send (send_duties.Answer s)) none = refl
-  fell_signs (duties.Send (send_duties.ResetAnswer s)) none = refl
-  fell_signs (duties.Ask (ask_duties.Return s)) none = refl
-  fell_signs (duties.Ask (ask_duties.AbortSend s)) none = refl
-  fell_signs (duties.Ask (ask_duties.AbortReceive s)) none = refl
   fell_signs (duties.Ask (ask_duties.Announce A id)) none = refl
   fell_signs (duties.Ask (ask_duties.Announce B id)) none = refl
   fell_signs (duties.Ask (ask_duties.Withdraw A id)) none = refl
   fell_signs (duties.Ask (ask_duties.Withdraw B id)) none = refl
-  fell_signs (duties.Send (send_duties.Resend s)) none = refl
-  fell_signs (duties.Ask (ask_duties.BreakAck s reason)) none = refl
-  fell_signs (duties.Send (send_duties.BreakReset s reason)) none = refl
-  fell_signs (duties.Send (send_duties.Reset s)) none = refl
-  fell_signs (duties.Send (send_duties.ResetNoted s)) none = refl
-  fell_signs (duties.Ask (ask_duties.Leave s)) none = refl
-  fell_signs (duties.Ask (ask_duties.LeaveNoted s)) none = refl
   fell_signs (duties.Ask (ask_duties.Dead A)) none = refl
   fell_signs (duties.Ask (ask_duties.Dead B)) none = refl
-  fell_signs duties.End none = refl
+  fell_signs _ none = refl
 
   -- so the path has a sign's duty where it tells one
   asked_sign : (T : Type 0) (x : Ask) → asks_of values p ≡ Some x → is_fell x ≡ true → (signs p.agenda ≡ true → T) → T
@@ -536,15 +498,7 @@ module _ (key_a key_b : ℕ) where
 
   fell_gains : (c : Control) (path : ℕ) (event : FallEvent) → Fine c → FellGains (Knew (controlling.after c (control_calls.Fell path event))) event
   fell_gains c path events.PlainHandshake fine = plain_gains c fine
-  fell_gains c path events.MappingHeard fine = tt
-  fell_gains c path events.AckHeard fine = tt
-  fell_gains c path events.PlainData fine = tt
-  fell_gains c path events.PlainAck fine = tt
-  fell_gains c path events.InfiniteHeard fine = tt
-  fell_gains c path events.KeysHeard fine = tt
-  fell_gains c path events.CheckFailed fine = tt
-  fell_gains c path (events.FailHeard contiguous) fine = tt
-  fell_gains c path events.Stop fine = tt
+  fell_gains c path _ fine = tt
 
   -- the mode that a verdict tells is the book's
   told_gains : (d : Control) (o : Option Mode) → IfSome o (λ mode. d.fall.mode ≡ mode) → Fine d → IfSome o (λ mode. is_starting mode ≡ false → Knew d)
@@ -600,17 +554,9 @@ module _ (key_a key_b : ℕ) where
       by (control_calls.JoinBegin path) is keeps =
           let d : Control = controlling.after c (control_calls.JoinBegin path) in (begin_told (Knew d) c (λ starts. knew_keeps c d keeps (knew_past c fine starts)), tt)
       by (control_calls.JoinHeard path token) is keeps = cc
-      by (control_calls.Live path backup) is keeps = (tt, tt)
-      by (control_calls.Dead path) is keeps = (tt, tt)
-      by (control_calls.Rate path window rtt) is keeps = (tt, tt)
-      by (control_calls.Backup path on) is keeps = (tt, tt)
-      by (control_calls.Announce id) is keeps = (tt, tt)
-      by (control_calls.Withdraw id) is keeps = (tt, tt)
       by (control_calls.Heard id address port hmac) is keeps = (address_told (Knew (controlling.after c (control_calls.Heard id address port hmac))) id address port hmac c, tt)
-      by (control_calls.Echoed id) is keeps = (tt, tt)
-      by (control_calls.Removed id) is keeps = (tt, tt)
-      by control_calls.FastClose is keeps = (tt, tt)
       by (control_calls.FastHeard key) is keeps = (stop_told (Knew (controlling.after c (control_calls.FastHeard key))) key c, tt)
+      by _ is keeps = (tt, tt)
   gains six (asks.Control B call) is keeps fine = tt
   gains six (asks.Send s call) is keeps fine = tt
   gains six (asks.Reassembly s call) is keeps fine = tt

@@ -174,14 +174,7 @@ other_fits state c m opens accepts taken = record {
     firm means.Opens opens accepts taken is = absurd (false≢true (sym opens))
     firm (means.Accepts acknowledged) opens accepts taken is = absurd (false≢true (sym accepts))
     firm (means.Taken pos acknowledged) opens accepts taken is = taken refl
-    firm means.Ignored opens accepts taken is = absurd (false≢true is)
-    firm means.Unwanted opens accepts taken is = absurd (false≢true is)
-    firm means.RepeatedSyn opens accepts taken is = absurd (false≢true is)
-    firm means.Outside opens accepts taken is = absurd (false≢true is)
-    firm means.Kills opens accepts taken is = absurd (false≢true is)
-    firm means.Challenged opens accepts taken is = absurd (false≢true is)
-    firm means.Unacknowledging opens accepts taken is = absurd (false≢true is)
-    firm means.Ahead opens accepts taken is = absurd (false≢true is)
+    firm _ opens accepts taken is = absurd (false≢true is)
 
 state_fits : (state : EndPhase) (c : Copy) (s : EndState) → FitsState state c (meaning_at state c s)
 state_fits phase.Dead c s = by c.rst

@@ -116,16 +116,7 @@ taken_met pos acknowledged hint now c s = by (is_duplicate (ack_kind acknowledge
 payload_met : (m : Meaning) (octets : List ℕ) (s : EndState) → (with_payload m octets s).state ≡ s.state
 payload_met (means.Taken pos acknowledged) [] s = refl
 payload_met (means.Taken pos acknowledged) (octet ∷ octets) s = refl
-payload_met means.Ignored octets s = refl
-payload_met means.Unwanted octets s = refl
-payload_met means.Opens octets s = refl
-payload_met (means.Accepts acknowledged) octets s = refl
-payload_met means.RepeatedSyn octets s = refl
-payload_met means.Outside octets s = refl
-payload_met means.Kills octets s = refl
-payload_met means.Challenged octets s = refl
-payload_met means.Unacknowledging octets s = refl
-payload_met means.Ahead octets s = refl
+payload_met _ octets s = refl
 
 owing_state : (b : Bool) (s : EndState) → (owing_if b s).state ≡ s.state
 owing_state true s = refl
@@ -302,13 +293,7 @@ fits phase.Listen c s = (λ is. refl, by (is_syn_alone c))
 fits phase.SynSent c s = opening_meaning c s (Fits phase.SynSent c) (λ is. absurd (false≢true is), λ is. absurd (false≢true is)) (λ is. absurd (false≢true is), λ is. absurd (false≢true is))
     (λ acknowledged syn plain. (λ is. absurd (false≢true is), λ is. syn))
 fits phase.SynReceived c s = (λ is. refl, never_accepts c s)
-fits phase.Established c s = (λ is. refl, never_accepts c s)
-fits phase.FinWait1 c s = (λ is. refl, never_accepts c s)
-fits phase.FinWait2 c s = (λ is. refl, never_accepts c s)
-fits phase.CloseWait c s = (λ is. refl, never_accepts c s)
-fits phase.Closing c s = (λ is. refl, never_accepts c s)
-fits phase.LastAck c s = (λ is. refl, never_accepts c s)
-fits phase.TimeWait c s = (λ is. refl, never_accepts c s)
+fits _ c s = (λ is. refl, never_accepts c s)
 
 -- ---- duties
 
@@ -369,21 +354,10 @@ came_calm : (s : Side) (count : ℕ) → is_calm (copy_came s count) ≡ true
 came_calm s count = heard_calm s 0 count (payload_came s)
 
 pub b_template : (joined : Bool) (count : ℕ) (v : Judged) → (is_calm (template_judged joined B count v) ≡ true) × (signs (template_judged joined B count v) ≡ false)
-b_template joined count judged.Asks = (refl, refl)
-b_template joined count judged.Lacks = (refl, refl)
-b_template joined count judged.Forged = (refl, refl)
-b_template joined count (judged.As means.Ignored) = (refl, refl)
-b_template joined count (judged.As means.Unwanted) = (refl, refl)
-b_template joined count (judged.As means.Opens) = (refl, refl)
 b_template true count (judged.As (means.Accepts acknowledged)) = (refl, refl)
 b_template false count (judged.As (means.Accepts acknowledged)) = (refl, refl)
-b_template joined count (judged.As means.RepeatedSyn) = (refl, refl)
-b_template joined count (judged.As means.Outside) = (refl, refl)
-b_template joined count (judged.As means.Kills) = (refl, refl)
-b_template joined count (judged.As means.Challenged) = (refl, refl)
-b_template joined count (judged.As means.Unacknowledging) = (refl, refl)
-b_template joined count (judged.As means.Ahead) = (refl, refl)
 b_template joined count (judged.As (means.Taken pos acknowledged)) = (came_calm B count, heard_signs 0 count (payload_came B))
+b_template joined count _ = (refl, refl)
 
 -- ---- what is said, and heard
 
@@ -476,35 +450,13 @@ apart_stays side (means.Taken pos acknowledged) hint now c octets s none is =
 
 -- what A does about a copy that isn't accepted on the path that opens: it needs the key for a sign
 pub a_template : (joined : Bool) (count : ℕ) (v : Judged) → (joined ≡ false → is_accepts (taken_as v) ≡ false) → is_calm (template_judged joined A count v) ≡ true
-a_template joined count judged.Asks none = refl
-a_template joined count judged.Lacks none = refl
-a_template joined count judged.Forged none = refl
-a_template joined count (judged.As means.Ignored) none = refl
-a_template joined count (judged.As means.Unwanted) none = refl
-a_template joined count (judged.As means.Opens) none = refl
 a_template true count (judged.As (means.Accepts acknowledged)) none = refl
 a_template false count (judged.As (means.Accepts acknowledged)) none = absurd (false≢true (sym (none refl)))
-a_template joined count (judged.As means.RepeatedSyn) none = refl
-a_template joined count (judged.As means.Outside) none = refl
-a_template joined count (judged.As means.Kills) none = refl
-a_template joined count (judged.As means.Challenged) none = refl
-a_template joined count (judged.As means.Unacknowledging) none = refl
-a_template joined count (judged.As means.Ahead) none = refl
 a_template joined count (judged.As (means.Taken pos acknowledged)) none = came_calm A count
+a_template joined count _ none = refl
 
 pub a_signs : (joined : Bool) (count : ℕ) (v : Judged) → signs (template_judged joined A count v) ≡ true → (is_opens_or_taken (taken_as v) ≡ true) × (is_lively (taken_as v) ≡ true)
-a_signs joined count judged.Asks is = absurd (false≢true is)
-a_signs joined count judged.Lacks is = absurd (false≢true is)
-a_signs joined count judged.Forged is = absurd (false≢true is)
-a_signs joined count (judged.As means.Ignored) is = absurd (false≢true is)
-a_signs joined count (judged.As means.Unwanted) is = absurd (false≢true is)
-a_signs joined count (judged.As means.Opens) is = absurd (false≢true is)
 a_signs true count (judged.As (means.Accepts acknowledged)) is = absurd (false≢true is)
 a_signs false count (judged.As (means.Accepts acknowledged)) is = absurd (false≢true is)
-a_signs joined count (judged.As means.RepeatedSyn) is = absurd (false≢true is)
-a_signs joined count (judged.As means.Outside) is = absurd (false≢true is)
-a_signs joined count (judged.As means.Kills) is = absurd (false≢true is)
-a_signs joined count (judged.As means.Challenged) is = absurd (false≢true is)
-a_signs joined count (judged.As means.Unacknowledging) is = absurd (false≢true is)
-a_signs joined count (judged.As means.Ahead) is = absurd (false≢true is)
 a_signs joined count (judged.As (means.Taken pos acknowledged)) is = (refl, refl)
+a_signs joined count _ is = absurd (false≢true is)

@@ -325,23 +325,12 @@ address_untold test echo known bad id address port hmac c = by (heard_reply is_s
 
 module _ (k : Secrets) (right : Bool) (w : Side → Type 0) (did : Deed → Side → Type 0) (s : Side) (c : Control) (h : BookIs (drawn_key k right s) (drawn_key k right (peer s)) (KeysFor k right w did s) c) where
   pub key_untold : (call : ControlCall) → AskIs k right w did (asks.Control s call) → tells_other_key (replies.Control (control.reply_to c call)) ≡ false
-  key_untold (control_calls.Look path) is = refl
-  key_untold (control_calls.PeerKey key) is = refl
   key_untold (control_calls.Keys own other) is = keys_untold tells_other_key (λ key. refl) own c (is.0 ∙ sym h.own_is)
-  key_untold (control_calls.Fell path event) is = refl
   key_untold (control_calls.JoinBegin path) is = begin_untold tells_other_key (λ own other. refl) refl (λ mode. refl) c
   key_untold (control_calls.JoinHeard path token) is = heard_untold tells_other_key (token == token_of c.keys.own) c (λ own other. refl) refl (λ mode. refl) (λ unknown. refl)
-  key_untold (control_calls.Live path backup) is = refl
-  key_untold (control_calls.Dead path) is = refl
-  key_untold (control_calls.Rate path window rtt) is = refl
-  key_untold (control_calls.Backup path on) is = refl
-  key_untold (control_calls.Announce id) is = refl
-  key_untold (control_calls.Withdraw id) is = refl
   key_untold (control_calls.Heard id address port hmac) is = address_untold tells_other_key refl refl refl id address port hmac c
-  key_untold (control_calls.Echoed id) is = refl
-  key_untold (control_calls.Removed id) is = refl
-  key_untold control_calls.FastClose is = refl
   key_untold (control_calls.FastHeard key) is = fast_untold tells_other_key refl (λ own. refl) key c
+  key_untold _ is = refl
 
   pub join_untold : right ≡ true → (call : ControlCall) → AskIs k right w did (asks.Control s call) → tells_wrong_join (replies.Control (control.reply_to c call)) ≡ false
   join_untold sure (control_calls.Look path) is = refl
@@ -352,17 +341,9 @@ module _ (k : Secrets) (right : Bool) (w : Side → Type 0) (did : Deed → Side
   join_untold sure (control_calls.JoinHeard path token) is =
       heard_untold tells_wrong_join (token == token_of c.keys.own) c (λ own other. refl) refl (λ mode. refl)
       (λ unknown. let own : token ≡ token_of c.keys.own = is.1.1 sure ∙ ap token_of (sym h.own_is) in absurd (both_ways _ unknown (eq-eqb token (token_of c.keys.own) own)))
-  join_untold sure (control_calls.Live path backup) is = refl
-  join_untold sure (control_calls.Dead path) is = refl
-  join_untold sure (control_calls.Rate path window rtt) is = refl
-  join_untold sure (control_calls.Backup path on) is = refl
-  join_untold sure (control_calls.Announce id) is = refl
-  join_untold sure (control_calls.Withdraw id) is = refl
   join_untold sure (control_calls.Heard id address port hmac) is = address_untold tells_wrong_join refl refl refl id address port hmac c
-  join_untold sure (control_calls.Echoed id) is = refl
-  join_untold sure (control_calls.Removed id) is = refl
-  join_untold sure control_calls.FastClose is = refl
   join_untold sure (control_calls.FastHeard key) is = fast_untold tells_wrong_join refl (λ own. refl) key c
+  join_untold sure _ is = refl
 
   -- an address has the HMAC that the book demands, where it has the peer's key
   heard_right : (id : ℕ) (address : Address) (port hmac : ℕ) → c.keys.peer ≡ Some (drawn_key k right (peer s))

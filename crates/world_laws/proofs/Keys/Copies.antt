@@ -95,15 +95,7 @@ module _ (k : Secrets) (right : Bool) (w : Side → Type 0) (did : Deed → Side
       → (is_half_open state ≡ true → w B) → ModesAre k right w did true s modes → JoinTold s modes (cleared_in m state (answered_in m items modes))
   told_join s items (means.Accepts acknowledged) state modes said knows half h = answer_told s (join_answer items modes) modes (answer_is_right k right w did true s modes items said) (knows refl) h
   told_join s items (means.Taken pos acknowledged) state modes said knows half h = taken_told s (is_half_open state) modes half (knows refl) h
-  told_join s items means.Ignored state modes said knows half h = same_told s modes modes refl h
-  told_join s items means.Unwanted state modes said knows half h = same_told s modes modes refl h
-  told_join s items means.Opens state modes said knows half h = same_told s modes modes refl h
-  told_join s items means.RepeatedSyn state modes said knows half h = same_told s modes modes refl h
-  told_join s items means.Outside state modes said knows half h = same_told s modes modes refl h
-  told_join s items means.Kills state modes said knows half h = same_told s modes modes refl h
-  told_join s items means.Challenged state modes said knows half h = same_told s modes modes refl h
-  told_join s items means.Unacknowledging state modes said knows half h = same_told s modes modes refl h
-  told_join s items means.Ahead state modes said knows half h = same_told s modes modes refl h
+  told_join s items _ state modes said knows half h = same_told s modes modes refl h
 
   -- whether A asked for Multipath TCP leaves what is known
   asked_leaves : (m : Meaning) (options : List HeardOption) (modes : Modes) → known_in (asked_in m options modes) ≡ known_in modes
@@ -211,38 +203,23 @@ module _ (k : Secrets) (right : Bool) (w : Side → Type 0) (did : Deed → Side
 
   -- what it makes due is said by an end that is up
   template_is : (s t : Side) (count : ℕ) (v : Judged) (tcp : EndState) → WakesNone (taken_as v) tcp → speaks (Voice.Says t) (template_judged true s count v) ≡ true → (t ≡ s) × (is_up tcp ≡ true)
-  template_is s t count judged.Asks tcp none spoken = absurd (false≢true spoken)
-  template_is s t count judged.Lacks tcp none spoken = absurd (false≢true spoken)
-  template_is s t count judged.Forged tcp none spoken = absurd (false≢true spoken)
-  template_is s t count (judged.As means.Ignored) tcp none spoken = absurd (false≢true spoken)
-  template_is s t count (judged.As means.Unwanted) tcp none spoken = absurd (false≢true spoken)
   template_is s t count (judged.As means.Opens) tcp none spoken = absurd (false≢true (sym none.no_syn))
-  template_is s t count (judged.As (means.Accepts acknowledged)) tcp none spoken = absurd (false≢true spoken)
   template_is s t count (judged.As means.RepeatedSyn) tcp none spoken = (same_or_calm t s spoken, none.lively refl)
   template_is s t count (judged.As means.Outside) tcp none spoken = (same_or_calm t s spoken, none.lively refl)
-  template_is s t count (judged.As means.Kills) tcp none spoken = absurd (false≢true spoken)
   template_is s t count (judged.As means.Challenged) tcp none spoken = (same_or_calm t s spoken, none.lively refl)
-  template_is s t count (judged.As means.Unacknowledging) tcp none spoken = absurd (false≢true spoken)
   template_is s t count (judged.As means.Ahead) tcp none spoken = (same_or_calm t s spoken, none.lively refl)
   template_is s t count (judged.As (means.Taken pos acknowledged)) tcp none spoken = (came_said t s count spoken, none.lively refl)
+  template_is s t count _ tcp none spoken = absurd (false≢true spoken)
 
   -- and no side falls or aborts by it
   abbrev IsCalm : Side → List Duty → Type 0
   IsCalm t ds = (speaks (Voice.Falls t) ds ≡ false) × (speaks (Voice.Aborts t) ds ≡ false)
 
   meant_calm : (joined : Bool) (s t : Side) (count : ℕ) (m : Meaning) → IsCalm t (template_by joined s count m)
-  meant_calm joined s t count means.Ignored = (refl, refl)
-  meant_calm joined s t count means.Unwanted = (refl, refl)
-  meant_calm joined s t count means.Opens = (refl, refl)
   meant_calm true s t count (means.Accepts acknowledged) = (refl, refl)
   meant_calm false s t count (means.Accepts acknowledged) = (refl, refl)
-  meant_calm joined s t count means.RepeatedSyn = (refl, refl)
-  meant_calm joined s t count means.Outside = (refl, refl)
-  meant_calm joined s t count means.Kills = (refl, refl)
-  meant_calm joined s t count means.Challenged = (refl, refl)
-  meant_calm joined s t count means.Unacknowledging = (refl, refl)
-  meant_calm joined s t count means.Ahead = (refl, refl)
   meant_calm joined s t count (means.Taken pos acknowledged) = (came_calm t s count, came_goes_on t s count)
+  meant_calm joined s t count _ = (refl, refl)
 
   template_calm : (joined : Bool) (s t : Side) (count : ℕ) (v : Judged) → IsCalm t (template_judged joined s count v)
   template_calm joined s t count judged.Asks = (refl, refl)

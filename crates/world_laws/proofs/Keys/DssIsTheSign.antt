@@ -212,19 +212,11 @@ heard_by_b n from zero = tt
 heard_by_b n from (suc count) = heard_by_b n (from + 1) count
 
 template_follows : (joined : Bool) (s : Side) (count : ℕ) (m : Meaning) → Follows 0 (template_by joined s count m)
-template_follows joined s count means.Ignored = tt
-template_follows joined s count means.Unwanted = tt
-template_follows joined s count means.Opens = tt
 template_follows true s count (means.Accepts acknowledged) = tt
 template_follows false s count (means.Accepts acknowledged) = tt
-template_follows joined s count means.RepeatedSyn = tt
-template_follows joined s count means.Outside = tt
-template_follows joined s count means.Kills = tt
-template_follows joined s count means.Challenged = tt
-template_follows joined s count means.Unacknowledging = tt
-template_follows joined s count means.Ahead = tt
 template_follows joined A count (means.Taken position acknowledged) = heard_follow 0 count
 template_follows joined B count (means.Taken position acknowledged) = heard_by_b 0 0 count
+template_follows joined s count _ = tt
 
 judged_follows : (joined : Bool) (s : Side) (count : ℕ) (verdict : Judged) → Follows 0 (template_judged joined s count verdict)
 judged_follows joined s count (judged.As meaning) = template_follows joined s count meaning

@@ -118,17 +118,7 @@ in_removed (y ∷ xs) (suc i) (suc k) x is = let rest = in_removed xs i k x is i
 -- an end that opens is open
 pub opening_open : (state : EndPhase) → is_opening state ≡ true → is_closed_to_segments state ≡ false
 opening_open phase.SynSent is = refl
-opening_open phase.Waiting is = absurd (false≢true is)
-opening_open phase.Listen is = absurd (false≢true is)
-opening_open phase.SynReceived is = absurd (false≢true is)
-opening_open phase.Established is = absurd (false≢true is)
-opening_open phase.FinWait1 is = absurd (false≢true is)
-opening_open phase.FinWait2 is = absurd (false≢true is)
-opening_open phase.CloseWait is = absurd (false≢true is)
-opening_open phase.Closing is = absurd (false≢true is)
-opening_open phase.LastAck is = absurd (false≢true is)
-opening_open phase.TimeWait is = absurd (false≢true is)
-opening_open phase.Dead is = absurd (false≢true is)
+opening_open _ is = absurd (false≢true is)
 
 -- an end that may finish is open
 pub finish_open : (state : EndPhase) → may_finish state ≡ true → is_closed_to_segments state ≡ false

@@ -264,13 +264,7 @@ module _ (T : Type 0) where
 
       same : (o : Occasion) → (after_sending o p.clock tcp).state ≡ tcp.state
       same to_send.Reset = refl
-      same to_send.Answer = refl
-      same to_send.SynAck = refl
-      same to_send.Ack = refl
-      same to_send.Probe = refl
-      same to_send.First = refl
-      same to_send.Unsent = refl
-      same to_send.Fin = refl
+      same _ = refl
 
   look_goes : (s : Side) (r : Reply) (p : PathState Carried) → Gains T (asks.Control s (control_calls.Look (path_of p))) r → Goes T s p (after_look r (end_at s p))
   look_goes A r p gains = told_goes T A (after_look r p.a) p refl (λ is. look_mode T r p.a.modes gains.0 is)

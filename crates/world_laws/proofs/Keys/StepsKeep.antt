@@ -341,23 +341,14 @@ module _ (k : Secrets) (right : Bool) (w : Side → Type 0) (did : Deed → Side
   -- Keys that are told to a control book are those of its side and of the peer, and a token that is told is that of its key. An
   -- address has the HMAC of both keys, and the book has the peer's. A fast close is asked for where the side's application did.
   abbrev pub CallIs : Side → ControlCall → Type 0
-  CallIs s (control_calls.Look path) = Unit {0}
   CallIs s (control_calls.PeerKey key) = key ≡ drawn_key k right (peer s)
   CallIs s (control_calls.Keys own other) = (own ≡ drawn_key k right s) × (other ≡ drawn_key k right (peer s)) × KeysFor k right w did s
   CallIs s (control_calls.Fell path event) = IsSign event
   CallIs s (control_calls.JoinBegin path) = s ≡ A
   CallIs s (control_calls.JoinHeard path token) = (s ≡ B) × (w (peer s) × (right ≡ true → token ≡ token_of (drawn_key k right s)))
-  CallIs s (control_calls.Live path backup) = Unit {0}
-  CallIs s (control_calls.Dead path) = Unit {0}
-  CallIs s (control_calls.Rate path window rtt) = Unit {0}
   CallIs s control_calls.FastClose = did Deed.Closed s
-  CallIs s (control_calls.FastHeard key) = Unit {0}
-  CallIs s (control_calls.Backup path on) = Unit {0}
-  CallIs s (control_calls.Announce id) = Unit {0}
-  CallIs s (control_calls.Withdraw id) = Unit {0}
   CallIs s (control_calls.Heard id address port hmac) = HmacIs k right w did (peer s) s id address port hmac
-  CallIs s (control_calls.Echoed id) = Unit {0}
-  CallIs s (control_calls.Removed id) = Unit {0}
+  CallIs s _ = Unit {0}
 
   -- it tells a reassembly book of the peer's fast close where the side was stopped by it
   abbrev pub ReceiveIs : Side → ReassemblyCall → Type 0

@@ -299,18 +299,10 @@ module _ (p : PathState Carried) where
   note_mild s (peer_notes.Prio backup) = tt
 
   item_b : (o : Option Heard) → IsMild (item_ask values B o p)
-  item_b None = tt
-  item_b (Some says.Dss) = tt
-  item_b (Some (says.DataAck next window)) = tt
   item_b (Some (says.Mapping fin)) = mapping_b
-  item_b (Some (says.DataFin place)) = tt
-  item_b (Some (says.InfiniteMapping place position)) = tt
-  item_b (Some (says.PeerKey key)) = tt
-  item_b (Some (says.Keys own other)) = tt
-  item_b (Some (says.Join form)) = tt
   item_b (Some (says.Notice notice)) = note_mild B notice
   item_b (Some says.Fail) = fail_asks_so IsMild B p tt tt
-  item_b (Some (says.FastClose key)) = tt
+  item_b _ = tt
 
   -- a sign that A hears comes behind a DSS
   led_by : (index : ℕ) (ds : List Duty) (item : Heard) → Leads (duties.Step (step_duties.Heard A index) ∷ ds) p → p.a.modes.clear ≡ false → p.a.modes.identity ≡ false → item_at index p.a.treated.items ≡ Some item → IsLed false item
@@ -320,18 +312,11 @@ module _ (p : PathState Carried) where
       h.clear
 
   item_a : (index : ℕ) (ds : List Duty) → p.a.modes.identity ≡ false → (o : Option Heard) → item_at index p.a.treated.items ≡ o → Leads (duties.Step (step_duties.Heard A index) ∷ ds) p → p.a.modes.clear ≡ false → IsMild (item_ask values A o p)
-  item_a index ds above None is h unclear = tt
-  item_a index ds above (Some says.Dss) is h unclear = tt
-  item_a index ds above (Some (says.DataAck next window)) is h unclear = tt
   item_a index ds above (Some (says.Mapping fin)) is h unclear = absurd (false≢true (led_by index ds (says.Mapping fin) h unclear above is))
   item_a index ds above (Some (says.DataFin place)) is h unclear = absurd (false≢true (led_by index ds (says.DataFin place) h unclear above is))
-  item_a index ds above (Some (says.InfiniteMapping place position)) is h unclear = tt
-  item_a index ds above (Some (says.PeerKey key)) is h unclear = tt
-  item_a index ds above (Some (says.Keys own other)) is h unclear = tt
-  item_a index ds above (Some (says.Join form)) is h unclear = tt
   item_a index ds above (Some (says.Notice notice)) is h unclear = note_mild A notice
   item_a index ds above (Some says.Fail) is h unclear = fail_asks_so IsMild A p tt tt
-  item_a index ds above (Some (says.FastClose key)) is h unclear = tt
+  item_a index ds above _ is h unclear = tt
 
   item_mild : (index : ℕ) (ds : List Duty) → Leads (duties.Step (step_duties.Heard A index) ∷ ds) p → p.a.modes.clear ≡ false → IsMild (item_ask values A (item_of index p.a) p)
   item_mild index ds h unclear = by p.a.modes.identity refl
@@ -341,63 +326,25 @@ module _ (p : PathState Carried) where
       by false above = item_a index ds above (item_at index p.a.treated.items) refl h unclear
 
   first_mild : (d : Duty) (ds : List Duty) → Leads (d ∷ ds) p → p.a.modes.clear ≡ false → IsMild (ask_for values d p)
-  first_mild (duties.Ask ask_duties.JoinAgain) ds h unclear = tt
-  first_mild (duties.Step (step_duties.Look s)) ds h unclear = tt
-  first_mild (duties.Ask (ask_duties.Window s)) ds h unclear = tt
   first_mild (duties.Send (send_duties.Update s)) ds h unclear = tt
-  first_mild (duties.Send (send_duties.FastClose s)) ds h unclear = tt
-  first_mild (duties.Send (send_duties.Notice s)) ds h unclear = tt
-  first_mild (duties.Send (send_duties.Syn s)) ds h unclear = tt
   first_mild (duties.Step (step_duties.Data s)) ds h unclear = data_mild s (first_unsent (end_at s p))
-  first_mild (duties.Send (send_duties.DataFin s)) ds h unclear = tt
-  first_mild (duties.Send (send_duties.Fin s)) ds h unclear = tt
   first_mild (duties.Silent (silent_duties.Timer s)) ds h unclear = tt
   first_mild (duties.Step step_duties.Events) ds h unclear = step_mild (next_event p)
-  first_mild (duties.Ask (ask_duties.SynHeard s)) ds h unclear = tt
-  first_mild (duties.Ask (ask_duties.SynAnswered s)) ds h unclear = tt
   first_mild (duties.Ask (ask_duties.PeerKey s)) ds h unclear = key_mild s (key_heard (end_at s p).treated.items)
-  first_mild (duties.Send (send_duties.SynAck s)) ds h unclear = tt
   first_mild (duties.Ask (ask_duties.JoinHeard s)) ds h unclear = join_mild s (asked_at s p)
-  first_mild (duties.Send (send_duties.Refuse s)) ds h unclear = tt
   first_mild (duties.Ask (ask_duties.Opened s)) ds h unclear = opened_mild s (keys_heard (end_at s p).treated.items)
-  first_mild (duties.Ask (ask_duties.Live s)) ds h unclear = tt
   first_mild (duties.Step (step_duties.Heard A index)) ds h unclear = item_mild index ds h unclear
   first_mild (duties.Step (step_duties.Heard B index)) ds h unclear = item_b (item_of index p.b)
   first_mild (duties.Ask (ask_duties.AckHeard A)) ds h unclear = ⊎_elim (λ is. absurd (both_ways p.a.modes.clear unclear is)) (λ (u : IsUnclear (duties.Ask (ask_duties.AckHeard A) ∷ ds) p). absurd u.follows) h.clear
   first_mild (duties.Ask (ask_duties.AckHeard B)) ds h unclear = tt
-  first_mild (duties.Ask (ask_duties.FailHeard s)) ds h unclear = tt
   first_mild (duties.Step (step_duties.PlainAck s)) ds h unclear = plain_ack_mild s
-  first_mild (duties.Ask (ask_duties.PlainHandshake s)) ds h unclear = tt
   first_mild (duties.Ask (ask_duties.SubflowAck s)) ds h unclear = subflow_acks_so IsMild s (end_at s p) tt (λ next. tt)
-  first_mild (duties.Ask (ask_duties.PlainData s)) ds h unclear = tt
-  first_mild (duties.Ask (ask_duties.GoIdentity s)) ds h unclear = tt
   first_mild (duties.Step (step_duties.Unmapped s)) ds h unclear = break_mild s 6
   first_mild (duties.Ask (ask_duties.SubflowFin s)) ds h unclear = fin_mild s (plain_fin (end_at s p))
-  first_mild (duties.Silent (silent_duties.Keep s)) ds h unclear = tt
   first_mild (duties.Ask (ask_duties.Edge s)) ds h unclear = piece_mild s (piece_of s p)
-  first_mild (duties.Ask (ask_duties.CheckFailed s)) ds h unclear = tt
   first_mild (duties.Ask (ask_duties.HeardFin s index)) ds h unclear = fin_mild s (data_fin_of index (end_at s p))
-  first_mild (duties.Silent (silent_duties.PassFin s)) ds h unclear = tt
-  first_mild (duties.Ask (ask_duties.AckOut s)) ds h unclear = tt
   first_mild (duties.Ask (ask_duties.Rate s)) ds h unclear = rate_mild s (end_at s p).tcp.congestion.pending
-  first_mild (duties.Send (send_duties.Acknowledge s)) ds h unclear = tt
-  first_mild (duties.Send (send_duties.Again s)) ds h unclear = tt
-  first_mild (duties.Send (send_duties.Answer s)) ds h unclear = tt
-  first_mild (duties.Send (send_duties.ResetAnswer s)) ds h unclear = tt
-  first_mild (duties.Ask (ask_duties.Return s)) ds h unclear = tt
-  first_mild (duties.Ask (ask_duties.AbortSend s)) ds h unclear = tt
-  first_mild (duties.Ask (ask_duties.AbortReceive s)) ds h unclear = tt
-  first_mild (duties.Ask (ask_duties.Announce s id)) ds h unclear = tt
-  first_mild (duties.Ask (ask_duties.Withdraw s id)) ds h unclear = tt
-  first_mild (duties.Send (send_duties.Resend s)) ds h unclear = tt
-  first_mild (duties.Ask (ask_duties.BreakAck s reason)) ds h unclear = tt
-  first_mild (duties.Send (send_duties.BreakReset s reason)) ds h unclear = tt
-  first_mild (duties.Send (send_duties.Reset s)) ds h unclear = tt
-  first_mild (duties.Send (send_duties.ResetNoted s)) ds h unclear = tt
-  first_mild (duties.Ask (ask_duties.Leave s)) ds h unclear = tt
-  first_mild (duties.Ask (ask_duties.LeaveNoted s)) ds h unclear = tt
-  first_mild (duties.Ask (ask_duties.Dead s)) ds h unclear = tt
-  first_mild duties.End ds h unclear = tt
+  first_mild _ ds h unclear = tt
 
   -- and one that sleeps
   idle_mild : (d : Duty) → is_idle d ≡ true → IsMild (ask_for values d p)

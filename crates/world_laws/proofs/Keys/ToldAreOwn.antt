@@ -131,18 +131,11 @@ module _ (k : Secrets) (right : Bool) (w : Side → Type 0) (did : Deed → Side
   note_is s (peer_notes.Prio backup) own = tt
 
   item_is : (s : Side) (o : Option Heard) → IfSome o (ItemIs k right w did (is_joined p.profile) s) → AskIs k right w did (item_ask values s o p)
-  item_is s None own = tt
-  item_is s (Some says.Dss) own = tt
-  item_is s (Some (says.DataAck next window)) own = tt
   item_is s (Some (says.Mapping fin)) own = mapping_is s
-  item_is s (Some (says.DataFin place)) own = tt
-  item_is s (Some (says.InfiniteMapping place position)) own = tt
-  item_is s (Some (says.PeerKey key)) own = tt
   item_is s (Some (says.Keys mine other)) own = own.1
-  item_is s (Some (says.Join form)) own = tt
   item_is s (Some (says.Notice notice)) own = note_is s notice own
   item_is s (Some says.Fail) own = fail_asks_so (AskIs k right w did) s p tt tt
-  item_is s (Some (says.FastClose key)) own = tt
+  item_is s _ own = tt
 
   piece_is : (s : Side) (o : Option Piece) → AskIs k right w did (piece_ask s o)
   piece_is s None = tt
@@ -193,39 +186,17 @@ module _ (k : Secrets) (right : Bool) (w : Side → Type 0) (did : Deed → Side
   asks_are (duties.Ask (ask_duties.Live s)) said = tt
   asks_are (duties.Step (step_duties.Heard s index)) said =
       item_is s (item_of index (end_at s p)) (item_found k right w did (is_joined p.profile) s index (end_at s p) (end_is k right w did s p h).items)
-  asks_are (duties.Ask (ask_duties.AckHeard s)) said = tt
-  asks_are (duties.Ask (ask_duties.FailHeard s)) said = tt
   asks_are (duties.Step (step_duties.PlainAck s)) said = plain_ack_is s
   asks_are (duties.Ask (ask_duties.SubflowAck s)) said = subflow_acks_so (AskIs k right w did) s (end_at s p) tt (λ next. tt)
-  asks_are (duties.Ask (ask_duties.PlainData s)) said = tt
-  asks_are (duties.Ask (ask_duties.GoIdentity s)) said = tt
   asks_are (duties.Step (step_duties.Unmapped s)) said = break_is s 6
   asks_are (duties.Ask (ask_duties.SubflowFin s)) said = fin_is s (plain_fin (end_at s p))
   asks_are (duties.Silent (silent_duties.Keep s)) said = tt
   asks_are (duties.Ask (ask_duties.Edge s)) said = piece_is s (piece_of s p)
-  asks_are (duties.Ask (ask_duties.CheckFailed s)) said = tt
   asks_are (duties.Ask (ask_duties.HeardFin s index)) said = fin_is s (data_fin_of index (end_at s p))
-  asks_are (duties.Silent (silent_duties.PassFin s)) said = tt
-  asks_are (duties.Ask (ask_duties.AckOut s)) said = tt
   asks_are (duties.Ask (ask_duties.Rate s)) said = rate_is s (end_at s p).tcp.congestion.pending
   asks_are (duties.Send (send_duties.Acknowledge s)) said = tt
-  asks_are (duties.Send (send_duties.Again s)) said = tt
-  asks_are (duties.Send (send_duties.Answer s)) said = tt
-  asks_are (duties.Send (send_duties.ResetAnswer s)) said = tt
-  asks_are (duties.Ask (ask_duties.Return s)) said = tt
-  asks_are (duties.Ask (ask_duties.AbortSend s)) said = tt
   asks_are (duties.Ask (ask_duties.AbortReceive s)) said = λ by_peer. said (Voice.Aborts s) (itself s)
-  asks_are (duties.Ask (ask_duties.Announce s id)) said = tt
-  asks_are (duties.Ask (ask_duties.Withdraw s id)) said = tt
-  asks_are (duties.Send (send_duties.Resend s)) said = tt
-  asks_are (duties.Ask (ask_duties.BreakAck s reason)) said = tt
-  asks_are (duties.Send (send_duties.BreakReset s reason)) said = tt
-  asks_are (duties.Send (send_duties.Reset s)) said = tt
-  asks_are (duties.Send (send_duties.ResetNoted s)) said = tt
-  asks_are (duties.Ask (ask_duties.Leave s)) said = tt
-  asks_are (duties.Ask (ask_duties.LeaveNoted s)) said = tt
-  asks_are (duties.Ask (ask_duties.Dead s)) said = tt
-  asks_are duties.End said = tt
+  asks_are _ said = tt
 
 -- ---- all books
 
@@ -396,17 +367,8 @@ module _ (key_a key_b : ℕ) (right : Bool) where
       by (control_calls.Fell path event) told = λ fell. let row = row_falls path (sole_path six.control_a.paths path) event six.control_a.fall fell in ((row.0, told fell), λ is. both_ways _ row.1 is)
       by (control_calls.JoinBegin path) told = begins_so also six path knows h
       by (control_calls.JoinHeard path token) told = heard_so A token six.control_a (Joined (after_ask (asks.Control A (control_calls.JoinHeard path token)) six)) (Past (after_ask (asks.Control A (control_calls.JoinHeard path token)) six) also) _ (λ is. is) h.a
-      by (control_calls.Live path backup) told = tt
-      by (control_calls.Dead path) told = tt
-      by (control_calls.Rate path window rtt) told = tt
-      by (control_calls.Backup path on) told = tt
-      by (control_calls.Announce id) told = tt
-      by (control_calls.Withdraw id) told = tt
-      by (control_calls.Heard id address port hmac) told = tt
-      by (control_calls.Echoed id) told = tt
-      by (control_calls.Removed id) told = tt
-      by control_calls.FastClose told = tt
       by (control_calls.FastHeard key) told = told
+      by _ told = tt
   reply_so also six (asks.Control B call) told knows h = by call told
     where
       by : (call : ControlCall) → Tells also (asks.Control B call) (replies.Control (control.reply_to six.control_b call))
@@ -415,19 +377,9 @@ module _ (key_a key_b : ℕ) (right : Bool) where
       by (control_calls.PeerKey key) told = refl
       by (control_calls.Keys own other) told = noted_keyed own other six.control_b
       by (control_calls.Fell path event) told = λ fell. let row = row_falls path (sole_path six.control_b.paths path) event six.control_b.fall fell in ((row.0, told fell), λ is. both_ways _ row.1 is)
-      by (control_calls.JoinBegin path) told = tt
       by (control_calls.JoinHeard path token) told = heard_so B token six.control_b (Joined (after_ask (asks.Control B (control_calls.JoinHeard path token)) six)) (Past (after_ask (asks.Control B (control_calls.JoinHeard path token)) six) also) _ (λ is. is) h.b
-      by (control_calls.Live path backup) told = tt
-      by (control_calls.Dead path) told = tt
-      by (control_calls.Rate path window rtt) told = tt
-      by (control_calls.Backup path on) told = tt
-      by (control_calls.Announce id) told = tt
-      by (control_calls.Withdraw id) told = tt
-      by (control_calls.Heard id address port hmac) told = tt
-      by (control_calls.Echoed id) told = tt
-      by (control_calls.Removed id) told = tt
-      by control_calls.FastClose told = tt
       by (control_calls.FastHeard key) told = told
+      by _ told = tt
   reply_so also six (asks.Send s call) told knows h = tt
   reply_so also six (asks.Reassembly s call) told knows h = tt
   reply_so also six (asks.Local step) told knows h = tt
@@ -509,27 +461,16 @@ module _ (key_a key_b : ℕ) (right : Bool) where
     ask_alone (asks.Control s call) h = by s call h
       where
         by : (s : Side) (call : ControlCall) → CallIs (with_nonces nonce_a nonce_b) right w did s call → CallIs (with_nonces 0 0) right w did s call
-        by s (control_calls.Look path) h = h
         by A (control_calls.PeerKey key) h = h
         by B (control_calls.PeerKey key) h = h
         by A (control_calls.Keys own other) h = h
         by B (control_calls.Keys own other) h = h
-        by s (control_calls.Fell path event) h = h
-        by s (control_calls.JoinBegin path) h = h
         by A (control_calls.JoinHeard path token) h = h
         by B (control_calls.JoinHeard path token) h = h
-        by s (control_calls.Live path backup) h = h
-        by s (control_calls.Dead path) h = h
-        by s (control_calls.Rate path window rtt) h = h
-        by s (control_calls.Backup path on) h = h
-        by s (control_calls.Announce id) h = h
-        by s (control_calls.Withdraw id) h = h
         by A (control_calls.Heard id address port hmac) h = h
         by B (control_calls.Heard id address port hmac) h = h
-        by s (control_calls.Echoed id) h = h
-        by s (control_calls.Removed id) h = h
-        by s control_calls.FastClose h = h
         by s (control_calls.FastHeard key) h = tt
+        by s _ h = h
     ask_alone (asks.Send s call) h = tt
     ask_alone (asks.Reassembly s call) h = h
     ask_alone (asks.Local step) h = tt

@@ -106,13 +106,7 @@ timer_up now e = record { up = by (is_closed_to_segments e.tcp.state) _; waits =
 
 pub sending_up : (o : Occasion) (now : ℕ) (s : EndState) → NoWaking s (after_sending o now s)
 sending_up to_send.Reset now s = record { up = λ up. up; waits = λ is. is; past = λ is. is }
-sending_up to_send.Answer now s = record { up = λ up. up; waits = λ is. is; past = λ is. is }
-sending_up to_send.SynAck now s = record { up = λ up. up; waits = λ is. is; past = λ is. is }
-sending_up to_send.Ack now s = record { up = λ up. up; waits = λ is. is; past = λ is. is }
-sending_up to_send.Probe now s = record { up = λ up. up; waits = λ is. is; past = λ is. is }
-sending_up to_send.First now s = record { up = λ up. up; waits = λ is. is; past = λ is. is }
-sending_up to_send.Unsent now s = record { up = λ up. up; waits = λ is. is; past = λ is. is }
-sending_up to_send.Fin now s = record { up = λ up. up; waits = λ is. is; past = λ is. is }
+sending_up _ now s = record { up = λ up. up; waits = λ is. is; past = λ is. is }
 
 -- ---- states
 
@@ -251,16 +245,7 @@ taken_alike pos acknowledged hint now c s =
 payload_alike : (m : Meaning) (octets : List ℕ) (s : EndState) → Alike s (with_payload m octets s)
 payload_alike (means.Taken pos acknowledged) [] s = record { state = refl; waits = refl; past = refl; timer = refl }
 payload_alike (means.Taken pos acknowledged) (octet ∷ octets) s = record { state = refl; waits = refl; past = refl; timer = refl }
-payload_alike means.Ignored octets s = record { state = refl; waits = refl; past = refl; timer = refl }
-payload_alike means.Unwanted octets s = record { state = refl; waits = refl; past = refl; timer = refl }
-payload_alike means.Opens octets s = record { state = refl; waits = refl; past = refl; timer = refl }
-payload_alike (means.Accepts acknowledged) octets s = record { state = refl; waits = refl; past = refl; timer = refl }
-payload_alike means.RepeatedSyn octets s = record { state = refl; waits = refl; past = refl; timer = refl }
-payload_alike means.Outside octets s = record { state = refl; waits = refl; past = refl; timer = refl }
-payload_alike means.Kills octets s = record { state = refl; waits = refl; past = refl; timer = refl }
-payload_alike means.Challenged octets s = record { state = refl; waits = refl; past = refl; timer = refl }
-payload_alike means.Unacknowledging octets s = record { state = refl; waits = refl; past = refl; timer = refl }
-payload_alike means.Ahead octets s = record { state = refl; waits = refl; past = refl; timer = refl }
+payload_alike _ octets s = record { state = refl; waits = refl; past = refl; timer = refl }
 
 -- it is answered, taken or accepted: it means so at an open end alone
 abbrev pub is_lively : Meaning → Bool
@@ -370,14 +355,7 @@ lively_open phase.Listen c s is = by (is_syn_alone c) is
     by true is = absurd (false≢true is)
     by false is = absurd (false≢true is)
 lively_open phase.SynSent c s is = refl
-lively_open phase.SynReceived c s is = refl
-lively_open phase.Established c s is = refl
-lively_open phase.FinWait1 c s is = refl
-lively_open phase.FinWait2 c s is = refl
-lively_open phase.CloseWait c s is = refl
-lively_open phase.Closing c s is = refl
-lively_open phase.LastAck c s is = refl
-lively_open phase.TimeWait c s is = refl
+lively_open _ c s is = refl
 
 -- on a path that joins no copy wakes an end: B asks its control book first
 module _ (rst : Bool) (items : List Heard) (e : PathEnd) where

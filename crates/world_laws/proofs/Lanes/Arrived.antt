@@ -94,15 +94,7 @@ module _ (c : Profile) (s : Side) (k : Knowledge) (live : List KeptMapping) (out
           (λ has. hold pos sg.payload tcp (subst (λ n. HasData back.datas n sg.payload) (same_Some sg.position pos fits.position_is) has) h)
           said.payload
   payload_held sg means.Ignored tcp fits said h = not_held tcp h
-  payload_held sg means.Unwanted tcp fits said h = not_held tcp h
-  payload_held sg means.Opens tcp fits said h = not_held tcp h
-  payload_held sg (means.Accepts acknowledged) tcp fits said h = not_held tcp h
-  payload_held sg means.RepeatedSyn tcp fits said h = not_held tcp h
-  payload_held sg means.Outside tcp fits said h = not_held tcp h
-  payload_held sg means.Kills tcp fits said h = not_held tcp h
-  payload_held sg means.Challenged tcp fits said h = not_held tcp h
-  payload_held sg means.Unacknowledging tcp fits said h = not_held tcp h
-  payload_held sg means.Ahead tcp fits said h = not_held tcp h
+  payload_held sg _ tcp fits said h = not_held tcp h
 
 -- ---- each meaning
 
@@ -113,15 +105,7 @@ same_phase (means.Taken pos acknowledged) octets tcp = by (is_nil octets)
     by true = refl
     by false = refl
 same_phase means.Ignored octets tcp = refl
-same_phase means.Unwanted octets tcp = refl
-same_phase means.Opens octets tcp = refl
-same_phase (means.Accepts acknowledged) octets tcp = refl
-same_phase means.RepeatedSyn octets tcp = refl
-same_phase means.Outside octets tcp = refl
-same_phase means.Kills octets tcp = refl
-same_phase means.Challenged octets tcp = refl
-same_phase means.Unacknowledging octets tcp = refl
-same_phase means.Ahead octets tcp = refl
+same_phase _ octets tcp = refl
 
 same_told : (m : Meaning) (octets : List ℕ) (tcp : EndState) → (with_payload m octets tcp).congestion ≡ tcp.congestion
 same_told (means.Taken pos acknowledged) octets tcp = by (is_nil octets)
@@ -130,15 +114,7 @@ same_told (means.Taken pos acknowledged) octets tcp = by (is_nil octets)
     by true = refl
     by false = refl
 same_told means.Ignored octets tcp = refl
-same_told means.Unwanted octets tcp = refl
-same_told means.Opens octets tcp = refl
-same_told (means.Accepts acknowledged) octets tcp = refl
-same_told means.RepeatedSyn octets tcp = refl
-same_told means.Outside octets tcp = refl
-same_told means.Kills octets tcp = refl
-same_told means.Challenged octets tcp = refl
-same_told means.Unacknowledging octets tcp = refl
-same_told means.Ahead octets tcp = refl
+same_told _ octets tcp = refl
 
 module _ (c : Profile) (s : Side) (k : Knowledge) (live : List KeptMapping) (out back : Lane) where
   abbrev Both : EndState → Type 0
@@ -223,14 +199,7 @@ arrival_edge (means.Accepts acknowledged) hint now copy tcp keep =
     let t : EndState = record (taking.after_hearing (taking.after_payload 1 hint copy tcp)) { state = phase.Established } in
     ap (λ (r : Receiving). r.edge) (ack_edge acknowledged now t) ∙ payload_edge 1 hint copy tcp keep
 arrival_edge means.Opens hint now copy tcp keep = payload_edge 1 hint copy tcp keep
-arrival_edge means.Ignored hint now copy tcp keep = refl
-arrival_edge means.Unwanted hint now copy tcp keep = refl
-arrival_edge means.RepeatedSyn hint now copy tcp keep = refl
-arrival_edge means.Outside hint now copy tcp keep = refl
-arrival_edge means.Kills hint now copy tcp keep = refl
-arrival_edge means.Challenged hint now copy tcp keep = refl
-arrival_edge means.Unacknowledging hint now copy tcp keep = refl
-arrival_edge means.Ahead hint now copy tcp keep = refl
+arrival_edge _ hint now copy tcp keep = refl
 
 held_edge : (m : Meaning) (octets : List ℕ) (tcp : EndState) → (with_payload m octets tcp).recv.edge ≡ tcp.recv.edge
 held_edge (means.Taken pos acknowledged) octets tcp = by (is_nil octets)
@@ -239,15 +208,7 @@ held_edge (means.Taken pos acknowledged) octets tcp = by (is_nil octets)
     by true = refl
     by false = refl
 held_edge means.Ignored octets tcp = refl
-held_edge means.Unwanted octets tcp = refl
-held_edge means.Opens octets tcp = refl
-held_edge (means.Accepts acknowledged) octets tcp = refl
-held_edge means.RepeatedSyn octets tcp = refl
-held_edge means.Outside octets tcp = refl
-held_edge means.Kills octets tcp = refl
-held_edge means.Challenged octets tcp = refl
-held_edge means.Unacknowledging octets tcp = refl
-held_edge means.Ahead octets tcp = refl
+held_edge _ octets tcp = refl
 
 owing_edge : (b : Bool) (tcp : EndState) → (owing_if b tcp).recv.edge ≡ tcp.recv.edge
 owing_edge true tcp = refl
@@ -291,15 +252,7 @@ acknowledged_shows_in c from acks p sg (means.Taken position acknowledged) u fit
     by None is has = cc
     by (Some n) is has = has
 acknowledged_shows_in c from acks p sg means.Ignored u fits said = sub_of_none _ said.window
-acknowledged_shows_in c from acks p sg means.Unwanted u fits said = sub_of_none _ said.window
-acknowledged_shows_in c from acks p sg means.Opens u fits said = sub_of_none _ said.window
-acknowledged_shows_in c from acks p sg (means.Accepts acknowledged) u fits said = sub_of_none _ said.window
-acknowledged_shows_in c from acks p sg means.RepeatedSyn u fits said = sub_of_none _ said.window
-acknowledged_shows_in c from acks p sg means.Outside u fits said = sub_of_none _ said.window
-acknowledged_shows_in c from acks p sg means.Kills u fits said = sub_of_none _ said.window
-acknowledged_shows_in c from acks p sg means.Challenged u fits said = sub_of_none _ said.window
-acknowledged_shows_in c from acks p sg means.Unacknowledging u fits said = sub_of_none _ said.window
-acknowledged_shows_in c from acks p sg means.Ahead u fits said = sub_of_none _ said.window
+acknowledged_shows_in c from acks p sg _ u fits said = sub_of_none _ said.window
 
 -- ---- the end
 

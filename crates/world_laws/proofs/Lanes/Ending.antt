@@ -411,15 +411,7 @@ module _ (c : Profile) (s : Side) (out back : Lane) where
     };
   }
   heard_end next (send_replies.Taken count) e h = idle_end e h
-  heard_end next send_replies.Shut e h = idle_end e h
-  heard_end next send_replies.Closed e h = idle_end e h
-  heard_end next (send_replies.Granted span piece) e h = idle_end e h
-  heard_end next (send_replies.NoGrant why told) e h = idle_end e h
-  heard_end next (send_replies.AckFuture written) e h = idle_end e h
-  heard_end next (send_replies.Returned count) e h = idle_end e h
-  heard_end next send_replies.Noted e h = idle_end e h
-  heard_end next (send_replies.Infinite from) e h = idle_end e h
-  heard_end next send_replies.Scattered e h = idle_end e h
+  heard_end next _ e h = idle_end e h
 
   -- one of nothing changes nothing that the end knows
   pub unheard_end : (r : SendReply) (e : PathEnd) → EndShows c s e out back → Did c s e out (takes_ack 0 r out) back back
@@ -465,15 +457,7 @@ module _ (c : Profile) (s : Side) (out back : Lane) where
     };
   }
   unheard_end (send_replies.Taken count) e h = idle_end e h
-  unheard_end send_replies.Shut e h = idle_end e h
-  unheard_end send_replies.Closed e h = idle_end e h
-  unheard_end (send_replies.Granted span piece) e h = idle_end e h
-  unheard_end (send_replies.NoGrant why told) e h = idle_end e h
-  unheard_end (send_replies.AckFuture written) e h = idle_end e h
-  unheard_end (send_replies.Returned count) e h = idle_end e h
-  unheard_end send_replies.Noted e h = idle_end e h
-  unheard_end (send_replies.Infinite from) e h = idle_end e h
-  unheard_end send_replies.Scattered e h = idle_end e h
+  unheard_end _ e h = idle_end e h
 
   -- ---- the FIN
 
@@ -508,16 +492,7 @@ module _ (c : Profile) (s : Side) (out back : Lane) where
       finished_if : (state : EndPhase) → states.may_finish state ≡ true → is_unfinished (states.after_finish state) ≡ false
       finished_if phase.Established is = refl
       finished_if phase.CloseWait is = refl
-      finished_if phase.Waiting is = absurd (false≢true is)
-      finished_if phase.Listen is = absurd (false≢true is)
-      finished_if phase.SynSent is = absurd (false≢true is)
-      finished_if phase.SynReceived is = absurd (false≢true is)
-      finished_if phase.FinWait1 is = absurd (false≢true is)
-      finished_if phase.FinWait2 is = absurd (false≢true is)
-      finished_if phase.Closing is = absurd (false≢true is)
-      finished_if phase.LastAck is = absurd (false≢true is)
-      finished_if phase.TimeWait is = absurd (false≢true is)
-      finished_if phase.Dead is = absurd (false≢true is)
+      finished_if _ is = absurd (false≢true is)
 
 -- ---- what leaves the lanes alone
 

@@ -226,14 +226,7 @@ module _ (c : Copy) (s : EndState) where
   fits_at phase.Waiting = record { fits = tt }
   fits_at phase.Listen = fits_if c (judging.is_syn_alone c) means.Opens means.Ignored (λ is. record { fits = ((and_parts c.syn _ is).0, refl) }) (λ is. record { fits = tt })
   fits_at phase.SynSent = fits_if c (is_at_limit s) means.Ignored (judging.meaning_answering c.acknowledged c s) (λ is. record { fits = tt }) (λ is. answering_fits c s true refl c.acknowledged)
-  fits_at phase.SynReceived = connected_fits c s _
-  fits_at phase.Established = connected_fits c s _
-  fits_at phase.FinWait1 = connected_fits c s _
-  fits_at phase.FinWait2 = connected_fits c s _
-  fits_at phase.CloseWait = connected_fits c s _
-  fits_at phase.Closing = connected_fits c s _
-  fits_at phase.LastAck = connected_fits c s _
-  fits_at phase.TimeWait = connected_fits c s _
+  fits_at _ = connected_fits c s _
 
   pub meaning_fits : Fits c (is_unfinished s.state) (judging.meaning_of c s)
   meaning_fits = (fits_at s.state).fits

@@ -360,14 +360,7 @@ module _ (six : SixBooks) (others : Others) (p : PathState Carried) (ab ba : Lan
       grant_did (send_replies.NoGrant why told) is =
           side_kept p.profile p ab ba h s (refused_lane why told out) back (refused (replies.Send (send_replies.NoGrant why told)) e) (left p) (refused_end p.profile s out back why told e shows)
       grant_did (send_replies.Acked bytes fin) is = side_kept p.profile p ab ba h s _ back e (left p) (idle_end p.profile s out back e shows)
-      grant_did (send_replies.Taken count) is = side_kept p.profile p ab ba h s _ back e (left p) (idle_end p.profile s out back e shows)
-      grant_did send_replies.Shut is = side_kept p.profile p ab ba h s _ back e (left p) (idle_end p.profile s out back e shows)
-      grant_did send_replies.Closed is = side_kept p.profile p ab ba h s _ back e (left p) (idle_end p.profile s out back e shows)
-      grant_did (send_replies.AckFuture written) is = side_kept p.profile p ab ba h s _ back e (left p) (idle_end p.profile s out back e shows)
-      grant_did (send_replies.Returned count) is = side_kept p.profile p ab ba h s _ back e (left p) (idle_end p.profile s out back e shows)
-      grant_did send_replies.Noted is = side_kept p.profile p ab ba h s _ back e (left p) (idle_end p.profile s out back e shows)
-      grant_did (send_replies.Infinite from) is = side_kept p.profile p ab ba h s _ back e (left p) (idle_end p.profile s out back e shows)
-      grant_did send_replies.Scattered is = side_kept p.profile p ab ba h s _ back e (left p) (idle_end p.profile s out back e shows)
+      grant_did _ is = side_kept p.profile p ab ba h s _ back e (left p) (idle_end p.profile s out back e shows)
 
       abbrev GrantedAt : ℕ → Type 0
       GrantedAt path =
@@ -399,14 +392,7 @@ module _ (six : SixBooks) (others : Others) (p : PathState Carried) (ab ba : Lan
             let n = next_ready p.profile s out back _ others.number (back_holds six others s ab ba holds) (ready.checks s) e piece is shows in
             side_kept p.profile p ab ba h s out _ (having_asked (after_piece piece e)) p.agenda (placed_end p.profile s out back new e piece n.at shows)
         by (reassembly_replies.Beyond edge) = other
-        by (reassembly_replies.FinClash fin at) = other
-        by reassembly_replies.FinSet = other
-        by (reassembly_replies.Bytes bytes) = other
-        by reassembly_replies.End = other
-        by reassembly_replies.NoneYet = other
-        by (reassembly_replies.Ack next window) = other
-        by (reassembly_replies.Aborted by_peer) = other
-        by reassembly_replies.Noted = other
+        by _ = other
 
     -- ---- a check that fails
 
@@ -438,14 +424,7 @@ module _ (six : SixBooks) (others : Others) (p : PathState Carried) (ab ba : Lan
             side_kept p.profile p ab ba h s out _ (having_asked (with_peer_data_fin e)) (left p)
             (asked_end p.profile s out back true (having_asked (with_peer_data_fin e)) refl (asked_shows p.profile s out back (with_peer_data_fin e) (peer_end_shows p.profile s out back e shows)))
         by (reassembly_replies.Placed new) = other
-        by (reassembly_replies.Beyond edge) = other
-        by (reassembly_replies.FinClash fin at) = other
-        by (reassembly_replies.Bytes bytes) = other
-        by reassembly_replies.End = other
-        by reassembly_replies.NoneYet = other
-        by (reassembly_replies.Ack next window) = other
-        by (reassembly_replies.Aborted by_peer) = other
-        by reassembly_replies.Noted = other
+        by _ = other
 
     pub fin_heard_step : (index : ℕ) → Makes (fin_ask s (data_fin_of index e)) (answered_fin_heard s (is_fin_set (reply_of six (fin_ask s (data_fin_of index e)))) p)
     fin_heard_step index = fin_by (data_fin_of index e) (every_item index e.treated.fins shows.treated.fins)
@@ -467,14 +446,7 @@ module _ (six : SixBooks) (others : Others) (p : PathState Carried) (ab ba : Lan
             side_kept p.profile p ab ba h s out _ (having_asked f) (left p)
             (asked_end p.profile s out back true (having_asked f) refl (asked_shows p.profile s out back f (peer_end_shows p.profile s out back (with_fin_told e) (fin_told_shows p.profile s out back e shows))))
         by (reassembly_replies.Placed new) = other
-        by (reassembly_replies.Beyond edge) = other
-        by (reassembly_replies.FinClash fin at) = other
-        by (reassembly_replies.Bytes bytes) = other
-        by reassembly_replies.End = other
-        by reassembly_replies.NoneYet = other
-        by (reassembly_replies.Ack next window) = other
-        by (reassembly_replies.Aborted by_peer) = other
-        by reassembly_replies.Noted = other
+        by _ = other
 
     -- ---- the growth of the window
 

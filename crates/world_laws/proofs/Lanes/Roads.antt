@@ -36,29 +36,7 @@ pub moves_alike : (f : Flags) (path : ℕ) (m : Move) (p : Lane) → is_calm m �
 moves_alike f path Open p calm = absurd (false≢true calm)
 moves_alike f path LookAtSender p calm = absurd (false≢true calm)
 moves_alike f path LookAtReceiver p calm = absurd (false≢true calm)
-moves_alike f path (WantGrant max standby) p calm = refl
-moves_alike f path (HearAck copy) p calm = refl
-moves_alike f path (HearSubAck copy upto) p calm = refl
-moves_alike f path (SendPiece piece mapped) p calm = refl
-moves_alike f path (SendAltered piece mapped) p calm = refl
-moves_alike f path SendDataFin p calm = refl
-moves_alike f path SendFin p calm = refl
-moves_alike f path (SendPair shift) p calm = refl
-moves_alike f path (SendPlainPair pos) p calm = refl
-moves_alike f path SendFinPair p calm = refl
-moves_alike f path (Hear copy count) p calm = refl
-moves_alike f path (Learn copy) p calm = refl
-moves_alike f path (HearDataFin copy) p calm = refl
-moves_alike f path (HearFin copy) p calm = refl
-moves_alike f path (Forget from) p calm = refl
-moves_alike f path (WantPlace mapping count) p calm = refl
-moves_alike f path (WantPlacePlain count) p calm = refl
-moves_alike f path WantFin p calm = refl
-moves_alike f path (TakePair copy) p calm = refl
-moves_alike f path (WantPlacePair count) p calm = refl
-moves_alike f path WantFinPair p calm = refl
-moves_alike f path WantAckOut p calm = refl
-moves_alike f path (SendAck next window sub) p calm = refl
+moves_alike f path _ p calm = refl
 
 -- the lane after these moves, the first one first
 abbrev pub moves : List Move → Lane → Lane

@@ -55,17 +55,7 @@ grown_told growth (Some p) c = refl
 
 waiting_unfinished : (state : EndPhase) → states.is_waiting state ≡ true → is_unfinished state ≡ true
 waiting_unfinished phase.Waiting is = refl
-waiting_unfinished phase.Listen is = absurd (false≢true is)
-waiting_unfinished phase.SynSent is = absurd (false≢true is)
-waiting_unfinished phase.SynReceived is = absurd (false≢true is)
-waiting_unfinished phase.Established is = absurd (false≢true is)
-waiting_unfinished phase.FinWait1 is = absurd (false≢true is)
-waiting_unfinished phase.FinWait2 is = absurd (false≢true is)
-waiting_unfinished phase.CloseWait is = absurd (false≢true is)
-waiting_unfinished phase.Closing is = absurd (false≢true is)
-waiting_unfinished phase.LastAck is = absurd (false≢true is)
-waiting_unfinished phase.TimeWait is = absurd (false≢true is)
-waiting_unfinished phase.Dead is = absurd (false≢true is)
+waiting_unfinished _ is = absurd (false≢true is)
 
 listening_unfinished : (state : EndPhase) → is_listening state ≡ true → is_unfinished state ≡ true
 listening_unfinished phase.Listen is = refl

@@ -153,15 +153,7 @@ module _ (c : Profile) (s : Side) where
       by true = h
       by false = record { sender = h.sender; edge = h.edge }
   held_flows means.Ignored octets tcp h = h
-  held_flows means.Unwanted octets tcp h = h
-  held_flows means.Opens octets tcp h = h
-  held_flows (means.Accepts acknowledged) octets tcp h = h
-  held_flows means.RepeatedSyn octets tcp h = h
-  held_flows means.Outside octets tcp h = h
-  held_flows means.Kills octets tcp h = h
-  held_flows means.Challenged octets tcp h = h
-  held_flows means.Unacknowledging octets tcp h = h
-  held_flows means.Ahead octets tcp h = h
+  held_flows _ octets tcp h = h
 
   payload_flows : (pos : ℕ) (hint : Hint) (copy : Copy) (tcp : EndState) → hint.keep ≡ false → Flows tcp → Flows (taking.after_payload pos hint copy tcp)
   payload_flows pos hint copy tcp keep h = record { sender = h.sender; edge = by hint.keep keep }
@@ -219,42 +211,15 @@ answered_modes (Some answer) m nonce h = record { own_key = h.own_key; peer_key 
 
 answered_by : (meaning : Meaning) (items : List Heard) (m : Modes) → Tell items → ModesTell m → ModesTell (answered_in meaning items m)
 answered_by (means.Accepts acknowledged) items m said h = answered_modes (join_answer items m) m (answer_nonce items m said) h
-answered_by (means.Taken position acknowledged) items m said h = h
-answered_by means.Ignored items m said h = h
-answered_by means.Unwanted items m said h = h
-answered_by means.Opens items m said h = h
-answered_by means.RepeatedSyn items m said h = h
-answered_by means.Outside items m said h = h
-answered_by means.Kills items m said h = h
-answered_by means.Challenged items m said h = h
-answered_by means.Unacknowledging items m said h = h
-answered_by means.Ahead items m said h = h
+answered_by _ items m said h = h
 
 cleared_by : (meaning : Meaning) (state : EndPhase) (m : Modes) → ModesTell m → ModesTell (cleared_in meaning state m)
 cleared_by (means.Taken position acknowledged) state m h = record { own_key = h.own_key; peer_key = h.peer_key; own_nonce = h.own_nonce; peer_nonce = h.peer_nonce; failed_mapping = h.failed_mapping }
-cleared_by (means.Accepts acknowledged) state m h = h
-cleared_by means.Ignored state m h = h
-cleared_by means.Unwanted state m h = h
-cleared_by means.Opens state m h = h
-cleared_by means.RepeatedSyn state m h = h
-cleared_by means.Outside state m h = h
-cleared_by means.Kills state m h = h
-cleared_by means.Challenged state m h = h
-cleared_by means.Unacknowledging state m h = h
-cleared_by means.Ahead state m h = h
+cleared_by _ state m h = h
 
 asked_modes : (meaning : Meaning) (options : List HeardOption) (m : Modes) → ModesTell m → ModesTell (asked_in meaning options m)
 asked_modes means.Opens options m h = record { own_key = h.own_key; peer_key = h.peer_key; own_nonce = h.own_nonce; peer_nonce = h.peer_nonce; failed_mapping = h.failed_mapping }
-asked_modes (means.Accepts acknowledged) options m h = h
-asked_modes (means.Taken position acknowledged) options m h = h
-asked_modes means.Ignored options m h = h
-asked_modes means.Unwanted options m h = h
-asked_modes means.RepeatedSyn options m h = h
-asked_modes means.Outside options m h = h
-asked_modes means.Kills options m h = h
-asked_modes means.Challenged options m h = h
-asked_modes means.Unacknowledging options m h = h
-asked_modes means.Ahead options m h = h
+asked_modes _ options m h = h
 
 joined_modes : (joined : Bool) (meaning : Meaning) (items : List Heard) (state : EndPhase) (m : Modes) → Tell items → ModesTell m
     → ModesTell (if joined then cleared_in meaning state (answered_in meaning items m) else m)

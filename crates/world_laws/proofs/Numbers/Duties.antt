@@ -610,14 +610,7 @@ module _ (six : SixBooks) (others : Others) (p : PathState Carried) (ab ba : Lan
               on (refused (replies.Send (send_replies.NoGrant why told)) e) (left p)
               (rules.refused_tells p.profile s e tells why told (subst (λ o. IfSome o IsShort) known (end_short (send_of s six) (omega (arith, written))))) left_fair
       grant_by (send_replies.Acked bytes fin) is = on e (left p) tells left_fair
-      grant_by (send_replies.Taken count) is = on e (left p) tells left_fair
-      grant_by send_replies.Shut is = on e (left p) tells left_fair
-      grant_by send_replies.Closed is = on e (left p) tells left_fair
-      grant_by (send_replies.AckFuture written) is = on e (left p) tells left_fair
-      grant_by (send_replies.Returned count) is = on e (left p) tells left_fair
-      grant_by send_replies.Noted is = on e (left p) tells left_fair
-      grant_by (send_replies.Infinite from) is = on e (left p) tells left_fair
-      grant_by send_replies.Scattered is = on e (left p) tells left_fair
+      grant_by _ is = on e (left p) tells left_fair
 
     -- ---- bytes
 

@@ -49,18 +49,10 @@ heard_fair s from zero ds h = h
 heard_fair s from (suc count) ds h = heard_fair s (from + 1) count ds h
 
 template_fair : (joined : Bool) (s : Side) (count : ℕ) (m : Meaning) → AreFair (template_by joined s count m)
-template_fair joined s count means.Ignored = refl
-template_fair joined s count means.Unwanted = refl
-template_fair joined s count means.Opens = refl
 template_fair true s count (means.Accepts acknowledged) = refl
 template_fair false s count (means.Accepts acknowledged) = refl
-template_fair joined s count means.RepeatedSyn = refl
-template_fair joined s count means.Outside = refl
-template_fair joined s count means.Kills = refl
-template_fair joined s count means.Challenged = refl
-template_fair joined s count means.Unacknowledging = refl
-template_fair joined s count means.Ahead = refl
 template_fair joined s count (means.Taken position acknowledged) = heard_fair s 0 count (payload_came s) refl
+template_fair joined s count _ = refl
 
 judged_fair : (joined : Bool) (s : Side) (count : ℕ) (verdict : Judged) → AreFair (template_judged joined s count verdict)
 judged_fair joined s count (judged.As meaning) = template_fair joined s count meaning

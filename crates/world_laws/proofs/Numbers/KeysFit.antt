@@ -151,20 +151,13 @@ call_short : (c : Control) (call : ControlCall) → CallTells call → KeysAreSh
 call_short c (calls.Look path) told h = notice_short (control.notice_on c path) path c h
 call_short c (calls.PeerKey key) told h = record { own = h.own; peer = told }
 call_short c (calls.Keys own other) told h = either_short (own == c.keys.own) _ _ (record { own = h.own; peer = told }) h
-call_short c (calls.Fell path event) told h = h
 call_short c (calls.JoinBegin path) told h = either_short _ _ _ h h
 call_short c (calls.JoinHeard path token) told h = either_short _ _ _ h h
-call_short c (calls.Live path backup) told h = h
-call_short c (calls.Dead path) told h = h
-call_short c (calls.Backup path on) told h = h
-call_short c (calls.Rate path window rtt) told h = h
-call_short c (calls.Announce id) told h = h
 call_short c (calls.Withdraw id) told h = either_short _ _ _ h h
-call_short c (calls.Heard id address port hmac) told h = h
 call_short c (calls.Echoed id) told h = either_short _ _ _ h h
 call_short c (calls.Removed id) told h = either_short _ _ _ h h
-call_short c calls.FastClose told h = h
 call_short c (calls.FastHeard key) told h = either_short _ _ _ h h
+call_short c _ told h = h
 
 control_short : (c : Control) (call : ControlCall) → CallTells call → ControlIsShort c → ControlIsShort (controlling.after c call)
 control_short c call told h = record { keys = call_short c call told h.keys; ids = call_fits c call h.ids }
@@ -233,21 +226,11 @@ module _ (c : Profile) (p : PathState Carried) (h : PathTells c p) where
       by false = tt
 
   item_tells : (s : Side) (o : Option Heard) → IfSome o ItemTells → AskTells (item_ask values s o p)
-  item_tells s None said = tt
-  item_tells s (Some says.Dss) said = tt
-  item_tells s (Some (says.DataAck next window)) said = tt
   item_tells s (Some (says.Mapping fin)) said = mapping_tells s
-  item_tells s (Some (says.DataFin place)) said = tt
-  item_tells s (Some (says.InfiniteMapping place position)) said = tt
-  item_tells s (Some (says.PeerKey key)) said = tt
   item_tells s (Some (says.Keys own other)) said = said.1
-  item_tells s (Some (says.Join form)) said = tt
   item_tells s (Some (says.Notice (peer_notes.AddAddr id address port hmac))) said = tt
-  item_tells s (Some (says.Notice (peer_notes.AddEcho id))) said = tt
-  item_tells s (Some (says.Notice (peer_notes.Removed id))) said = tt
-  item_tells s (Some (says.Notice (peer_notes.Prio backup))) said = tt
   item_tells s (Some says.Fail) said = fail_asks_so AskTells s p tt tt
-  item_tells s (Some (says.FastClose key)) said = tt
+  item_tells s _ said = tt
 
   piece_tells : (s : Side) (o : Option Piece) → AskTells (piece_ask s o)
   piece_tells s None = tt
@@ -265,58 +248,19 @@ module _ (c : Profile) (p : PathState Carried) (h : PathTells c p) where
   items_at s = (tells_at c p h s).treated.items
 
   pub asks_tell : (d : Duty) → AskTells (ask_for values d p)
-  asks_tell (duties.Ask ask_duties.JoinAgain) = tt
-  asks_tell (duties.Step (step_duties.Look s)) = tt
-  asks_tell (duties.Ask (ask_duties.Window s)) = tt
   asks_tell (duties.Send (send_duties.Update s)) = tt
-  asks_tell (duties.Send (send_duties.FastClose s)) = tt
-  asks_tell (duties.Send (send_duties.Notice s)) = tt
-  asks_tell (duties.Send (send_duties.Syn s)) = tt
   asks_tell (duties.Step (step_duties.Data s)) = data_tells s (first_unsent (end_at s p))
-  asks_tell (duties.Send (send_duties.DataFin s)) = tt
-  asks_tell (duties.Send (send_duties.Fin s)) = tt
   asks_tell (duties.Silent (silent_duties.Timer s)) = tt
   asks_tell (duties.Step step_duties.Events) = step_tells (next_event p)
-  asks_tell (duties.Ask (ask_duties.SynHeard s)) = tt
-  asks_tell (duties.Ask (ask_duties.SynAnswered s)) = tt
-  asks_tell (duties.Ask (ask_duties.PlainHandshake s)) = tt
   asks_tell (duties.Ask (ask_duties.PeerKey s)) = key_tells s (key_heard (end_at s p).treated.items) (heard_key (end_at s p).treated.items (items_at s))
-  asks_tell (duties.Send (send_duties.SynAck s)) = tt
   asks_tell (duties.Ask (ask_duties.JoinHeard s)) = join_tells s (asked_at s p)
-  asks_tell (duties.Send (send_duties.Refuse s)) = tt
   asks_tell (duties.Ask (ask_duties.Opened s)) = opened_tells s (keys_heard (end_at s p).treated.items) (heard_keys (end_at s p).treated.items (items_at s))
-  asks_tell (duties.Ask (ask_duties.Live s)) = tt
   asks_tell (duties.Step (step_duties.Heard s index)) = item_tells s (item_of index (end_at s p)) (known_item (end_at s p).modes.identity _ (every_item index (end_at s p).treated.items (items_at s)))
-  asks_tell (duties.Ask (ask_duties.AckHeard s)) = tt
-  asks_tell (duties.Ask (ask_duties.FailHeard s)) = tt
   asks_tell (duties.Step (step_duties.PlainAck s)) = plain_ack_tells s
   asks_tell (duties.Ask (ask_duties.SubflowAck s)) = subflow_acks_so AskTells s (end_at s p) tt (λ next. tt)
-  asks_tell (duties.Ask (ask_duties.PlainData s)) = tt
-  asks_tell (duties.Ask (ask_duties.GoIdentity s)) = tt
   asks_tell (duties.Step (step_duties.Unmapped s)) = break_tells s 6
   asks_tell (duties.Ask (ask_duties.SubflowFin s)) = fin_tells s (plain_fin (end_at s p))
-  asks_tell (duties.Silent (silent_duties.Keep s)) = tt
   asks_tell (duties.Ask (ask_duties.Edge s)) = piece_tells s (piece_of s p)
-  asks_tell (duties.Ask (ask_duties.CheckFailed s)) = tt
   asks_tell (duties.Ask (ask_duties.HeardFin s index)) = fin_tells s (data_fin_of index (end_at s p))
-  asks_tell (duties.Silent (silent_duties.PassFin s)) = tt
-  asks_tell (duties.Ask (ask_duties.AckOut s)) = tt
   asks_tell (duties.Ask (ask_duties.Rate s)) = rate_tells s (end_at s p).tcp.congestion.pending
-  asks_tell (duties.Send (send_duties.Acknowledge s)) = tt
-  asks_tell (duties.Send (send_duties.Again s)) = tt
-  asks_tell (duties.Send (send_duties.Answer s)) = tt
-  asks_tell (duties.Send (send_duties.ResetAnswer s)) = tt
-  asks_tell (duties.Ask (ask_duties.Return s)) = tt
-  asks_tell (duties.Ask (ask_duties.AbortSend s)) = tt
-  asks_tell (duties.Ask (ask_duties.AbortReceive s)) = tt
-  asks_tell (duties.Ask (ask_duties.Announce s id)) = tt
-  asks_tell (duties.Ask (ask_duties.Withdraw s id)) = tt
-  asks_tell (duties.Send (send_duties.Resend s)) = tt
-  asks_tell (duties.Ask (ask_duties.BreakAck s reason)) = tt
-  asks_tell (duties.Send (send_duties.BreakReset s reason)) = tt
-  asks_tell (duties.Send (send_duties.Reset s)) = tt
-  asks_tell (duties.Send (send_duties.ResetNoted s)) = tt
-  asks_tell (duties.Ask (ask_duties.Leave s)) = tt
-  asks_tell (duties.Ask (ask_duties.LeaveNoted s)) = tt
-  asks_tell (duties.Ask (ask_duties.Dead s)) = tt
-  asks_tell duties.End = tt
+  asks_tell _ = tt

@@ -44,14 +44,7 @@ module _ (spelling : Spelling) (short : spelling.short ≡ true) where
 
   option_short : (from : Side) (o : PlainOption) → GoesShort (said_option spelling from o)
   option_short from (Dss next mapping) = (numbers_short (peer from) next, mapping_short from mapping)
-  option_short from (Capable flag_a flag_c keys) = tt
-  option_short from (Join form) = tt
-  option_short from (AddAddr echo id address port hmac) = tt
-  option_short from (Remove ids) = tt
-  option_short from (Prio backup) = tt
-  option_short from (Fail place) = tt
-  option_short from (FastClose key) = tt
-  option_short from (Reset transient reason) = tt
+  option_short from _ = tt
 
   segment_short : (carried : Carried) → SegmentGoesShort spelling carried
   segment_short carried = record { each = λ i o there. option_short _ o }

@@ -112,18 +112,7 @@ app_told by_peer six a End is = tt
 -- such answers bring no byte
 nothing_came : (by_peer : Bool) (r : Reply) → TellsAbortAlone by_peer r → bytes_in r ≡ []
 nothing_came by_peer (replies.Reassembly (reassembly_replies.Bytes bytes)) told = absurd told
-nothing_came by_peer (replies.Reassembly (reassembly_replies.Placed count)) told = refl
-nothing_came by_peer (replies.Reassembly (reassembly_replies.Beyond edge)) told = refl
-nothing_came by_peer (replies.Reassembly reassembly_replies.FinSet) told = refl
-nothing_came by_peer (replies.Reassembly (reassembly_replies.FinClash fin at)) told = refl
-nothing_came by_peer (replies.Reassembly reassembly_replies.End) told = refl
-nothing_came by_peer (replies.Reassembly reassembly_replies.NoneYet) told = refl
-nothing_came by_peer (replies.Reassembly (reassembly_replies.Aborted by)) told = refl
-nothing_came by_peer (replies.Reassembly (reassembly_replies.Ack next window)) told = refl
-nothing_came by_peer (replies.Reassembly reassembly_replies.Noted) told = refl
-nothing_came by_peer (replies.Send r) told = refl
-nothing_came by_peer (replies.Control r) told = refl
-nothing_came by_peer replies.Done told = refl
+nothing_came by_peer _ told = refl
 
 nothing_read : (by_peer : Bool) (steps : List Note) → All (λ n. TellsAbortAlone by_peer n.reply) steps → read_by steps ≡ []
 nothing_read by_peer [] told = refl

@@ -71,14 +71,7 @@ module _ (v : View) (path : ℕ) (p : Lane) (holds : LaneHolds v path p) where
 
     option_right : (window : ℕ) (acks : List AckCopy) (o : PlainOption) → OptionShows c s window acks p o → OptionIsRight c s e o
     option_right window acks (Dss next mapping) shows = mapping_right mapping shows.1
-    option_right window acks (Capable flag_a flag_c keys) shows = tt
-    option_right window acks (Join form) shows = tt
-    option_right window acks (AddAddr echo id address port hmac) shows = tt
-    option_right window acks (Remove ids) shows = tt
-    option_right window acks (Prio backup) shows = tt
-    option_right window acks (Fail place) shows = tt
-    option_right window acks (FastClose key) shows = tt
-    option_right window acks (Reset transient reason) shows = tt
+    option_right window acks _ shows = tt
 
     pub options_right : (acks : List AckCopy) (sg : PlainSegment) → SegmentShows c s acks p sg → Every (OptionIsRight c s e) sg.options
     options_right acks sg shows = Every-map (λ o told. option_right _ acks o told) shows.options

@@ -55,14 +55,7 @@ module _ (c : Profile) (s : Side) (e : PathEnd) where
 
   option_meant : (o : PlainOption) → OptionIsRight c s e o → HeardOptionIsRight c s e (meant_option o)
   option_meant (Dss next mapping) right = mapping_meant mapping right
-  option_meant (Capable flag_a flag_c keys) right = tt
-  option_meant (Join form) right = tt
-  option_meant (AddAddr echo id address port hmac) right = tt
-  option_meant (Remove ids) right = tt
-  option_meant (Prio backup) right = tt
-  option_meant (Fail place) right = tt
-  option_meant (FastClose key) right = tt
-  option_meant (Reset transient reason) right = tt
+  option_meant _ right = tt
 
   options_meant : (options : List PlainOption) → Every (OptionIsRight c s e) options → Every (HeardOptionIsRight c s e) (map meant_option options)
   options_meant options right = record {

@@ -277,28 +277,12 @@ close_untold b = by b.aborted
 
 ack_untold : (r : SendReply) → is_ack_future r ≡ false → tells_refusal (replies.Send r) ≡ false
 ack_untold (send_replies.AckFuture written) is = is
-ack_untold (send_replies.Taken count) is = refl
-ack_untold send_replies.Closed is = refl
-ack_untold send_replies.Shut is = refl
-ack_untold (send_replies.Granted span piece) is = refl
-ack_untold (send_replies.NoGrant why known) is = refl
-ack_untold (send_replies.Acked bytes fin) is = refl
-ack_untold (send_replies.Returned count) is = refl
-ack_untold send_replies.Noted is = refl
-ack_untold (send_replies.Infinite from) is = refl
-ack_untold send_replies.Scattered is = refl
+ack_untold _ is = refl
 
 place_untold : (r : ReassemblyReply) → is_beyond_or_clash r ≡ false → tells_refusal (replies.Reassembly r) ≡ false
 place_untold (reassembly_replies.Beyond edge) is = is
 place_untold (reassembly_replies.FinClash fin at) is = is
-place_untold (reassembly_replies.Placed count) is = refl
-place_untold reassembly_replies.FinSet is = refl
-place_untold (reassembly_replies.Bytes bytes) is = refl
-place_untold reassembly_replies.End is = refl
-place_untold reassembly_replies.NoneYet is = refl
-place_untold (reassembly_replies.Aborted by_peer) is = refl
-place_untold (reassembly_replies.Ack next window) is = refl
-place_untold reassembly_replies.Noted is = refl
+place_untold _ is = refl
 
 read_untold : (max : ℕ) (b : Arriving) → tells_refusal (replies.Reassembly (arriving.reading b.aborted max b)) ≡ false
 read_untold max b = by b.aborted

@@ -93,18 +93,9 @@ module _ {C : Type 0} (k : Codec C) (p : PathState C) (some : 1 ≤ payload_size
       by false = tt
 
   item_some : (s : Side) (o : Option Heard) → AsksSome (item_ask k s o p)
-  item_some s None = tt
-  item_some s (Some says.Dss) = tt
-  item_some s (Some (says.DataAck next window)) = tt
   item_some s (Some (says.Mapping fin)) = mapping_some s
-  item_some s (Some (says.DataFin place)) = tt
-  item_some s (Some (says.InfiniteMapping place position)) = tt
-  item_some s (Some (says.PeerKey key)) = tt
-  item_some s (Some (says.Keys own peer)) = tt
-  item_some s (Some (says.Join form)) = tt
-  item_some s (Some (says.Notice notice)) = tt
   item_some s (Some says.Fail) = fail_asks_so AsksSome s p tt tt
-  item_some s (Some (says.FastClose key)) = tt
+  item_some s _ = tt
 
   piece_some : (s : Side) (o : Option Piece) → AsksSome (piece_ask s o)
   piece_some s None = tt
@@ -119,58 +110,19 @@ module _ {C : Type 0} (k : Codec C) (p : PathState C) (some : 1 ≤ payload_size
   rate_some s (Some pending) = tt
 
   pub asks_some : (d : Duty) → AsksSome (ask_for k d p)
-  asks_some (duties.Ask ask_duties.JoinAgain) = tt
-  asks_some (duties.Step (step_duties.Look s)) = tt
-  asks_some (duties.Ask (ask_duties.Window s)) = tt
   asks_some (duties.Send (send_duties.Update s)) = tt
-  asks_some (duties.Send (send_duties.FastClose s)) = tt
-  asks_some (duties.Send (send_duties.Notice s)) = tt
-  asks_some (duties.Send (send_duties.Syn s)) = tt
   asks_some (duties.Step (step_duties.Data s)) = data_some s (first_unsent (end_at s p))
-  asks_some (duties.Send (send_duties.DataFin s)) = tt
-  asks_some (duties.Send (send_duties.Fin s)) = tt
   asks_some (duties.Silent (silent_duties.Timer s)) = tt
   asks_some (duties.Step step_duties.Events) = step_some (next_event p)
-  asks_some (duties.Ask (ask_duties.SynHeard s)) = tt
-  asks_some (duties.Ask (ask_duties.SynAnswered s)) = tt
   asks_some (duties.Ask (ask_duties.PeerKey s)) = key_some s (key_heard (end_at s p).treated.items)
-  asks_some (duties.Send (send_duties.SynAck s)) = tt
   asks_some (duties.Ask (ask_duties.JoinHeard s)) = join_some s (asked_at s p)
-  asks_some (duties.Send (send_duties.Refuse s)) = tt
   asks_some (duties.Ask (ask_duties.Opened s)) = opened_some s (keys_heard (end_at s p).treated.items)
-  asks_some (duties.Ask (ask_duties.Live s)) = tt
   asks_some (duties.Step (step_duties.Heard s index)) = item_some s (item_of index (end_at s p))
-  asks_some (duties.Ask (ask_duties.AckHeard s)) = tt
-  asks_some (duties.Ask (ask_duties.FailHeard s)) = tt
   asks_some (duties.Step (step_duties.PlainAck s)) = plain_ack_some s
-  asks_some (duties.Ask (ask_duties.PlainHandshake s)) = tt
   asks_some (duties.Ask (ask_duties.SubflowAck s)) = subflow_acks_so AsksSome s (end_at s p) tt (λ next. tt)
-  asks_some (duties.Ask (ask_duties.PlainData s)) = tt
-  asks_some (duties.Ask (ask_duties.GoIdentity s)) = tt
   asks_some (duties.Step (step_duties.Unmapped s)) = break_some s 6
   asks_some (duties.Ask (ask_duties.SubflowFin s)) = fin_some s (plain_fin (end_at s p))
-  asks_some (duties.Silent (silent_duties.Keep s)) = tt
   asks_some (duties.Ask (ask_duties.Edge s)) = piece_some s (piece_of s p)
-  asks_some (duties.Ask (ask_duties.CheckFailed s)) = tt
   asks_some (duties.Ask (ask_duties.HeardFin s index)) = fin_some s (data_fin_of index (end_at s p))
-  asks_some (duties.Silent (silent_duties.PassFin s)) = tt
-  asks_some (duties.Ask (ask_duties.AckOut s)) = tt
   asks_some (duties.Ask (ask_duties.Rate s)) = rate_some s (end_at s p).tcp.congestion.pending
-  asks_some (duties.Send (send_duties.Acknowledge s)) = tt
-  asks_some (duties.Send (send_duties.Again s)) = tt
-  asks_some (duties.Send (send_duties.Answer s)) = tt
-  asks_some (duties.Send (send_duties.ResetAnswer s)) = tt
-  asks_some (duties.Ask (ask_duties.Return s)) = tt
-  asks_some (duties.Ask (ask_duties.AbortSend s)) = tt
-  asks_some (duties.Ask (ask_duties.AbortReceive s)) = tt
-  asks_some (duties.Ask (ask_duties.Announce s id)) = tt
-  asks_some (duties.Ask (ask_duties.Withdraw s id)) = tt
-  asks_some (duties.Send (send_duties.Resend s)) = tt
-  asks_some (duties.Ask (ask_duties.BreakAck s reason)) = tt
-  asks_some (duties.Send (send_duties.BreakReset s reason)) = tt
-  asks_some (duties.Send (send_duties.Reset s)) = tt
-  asks_some (duties.Send (send_duties.ResetNoted s)) = tt
-  asks_some (duties.Ask (ask_duties.Leave s)) = tt
-  asks_some (duties.Ask (ask_duties.LeaveNoted s)) = tt
-  asks_some (duties.Ask (ask_duties.Dead s)) = tt
-  asks_some duties.End = tt
+  asks_some _ = tt

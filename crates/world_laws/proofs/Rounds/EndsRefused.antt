@@ -209,31 +209,11 @@ pub record IsPaid (c : Profile) (s : Side) (e : PathEnd) (refused : Bool) : Type
 
 finished : (state : EndPhase) → states.may_finish (states.after_finish state) ≡ false
 finished phase.Waiting = refl
-finished phase.Listen = refl
-finished phase.SynSent = refl
-finished phase.SynReceived = refl
-finished phase.Established = refl
-finished phase.FinWait1 = refl
-finished phase.FinWait2 = refl
-finished phase.CloseWait = refl
-finished phase.Closing = refl
-finished phase.LastAck = refl
-finished phase.TimeWait = refl
-finished phase.Dead = refl
+finished _ = refl
 
 dead_is_done : (state : EndPhase) → states.is_dead state ≡ true → states.may_finish state ≡ false
 dead_is_done phase.Dead is = refl
-dead_is_done phase.Waiting is = absurd (false≢true is)
-dead_is_done phase.Listen is = absurd (false≢true is)
-dead_is_done phase.SynSent is = absurd (false≢true is)
-dead_is_done phase.SynReceived is = absurd (false≢true is)
-dead_is_done phase.Established is = absurd (false≢true is)
-dead_is_done phase.FinWait1 is = absurd (false≢true is)
-dead_is_done phase.FinWait2 is = absurd (false≢true is)
-dead_is_done phase.CloseWait is = absurd (false≢true is)
-dead_is_done phase.Closing is = absurd (false≢true is)
-dead_is_done phase.LastAck is = absurd (false≢true is)
-dead_is_done phase.TimeWait is = absurd (false≢true is)
+dead_is_done _ is = absurd (false≢true is)
 
 -- an end that can't push a FIN asks for nothing
 closed_paid : (c : Profile) (s : Side) (e : PathEnd) (refused : Bool) → states.may_finish e.tcp.state ≡ false → IsPaid c s e refused
@@ -246,16 +226,7 @@ closed_paid c s e refused over = record {
 sends_records : (state : EndPhase) → states.may_finish state ≡ true → states.is_closed_to_segments state ≡ false
 sends_records phase.Established is = refl
 sends_records phase.CloseWait is = refl
-sends_records phase.Waiting is = absurd (false≢true is)
-sends_records phase.Listen is = absurd (false≢true is)
-sends_records phase.SynSent is = absurd (false≢true is)
-sends_records phase.SynReceived is = absurd (false≢true is)
-sends_records phase.FinWait1 is = absurd (false≢true is)
-sends_records phase.FinWait2 is = absurd (false≢true is)
-sends_records phase.Closing is = absurd (false≢true is)
-sends_records phase.LastAck is = absurd (false≢true is)
-sends_records phase.TimeWait is = absurd (false≢true is)
-sends_records phase.Dead is = absurd (false≢true is)
+sends_records _ is = absurd (false≢true is)
 
 unless_dead_paid : (c : Profile) (s : Side) (e : PathEnd) (refused : Bool) → IsPaid c s (died_unless_dead e) refused
 unless_dead_paid c s e refused = by (states.is_dead e.tcp.state) refl
@@ -570,28 +541,8 @@ module _ {C : Type 0} where
   passed_pays (duties.Step (step_duties.Unmapped s)) ds p refused none f each =
       own_passed s _ ds p refused (inl (and_parts (is_owed s ds) (not (is_owed (peer s) ds)) (first_need (duties.Step (step_duties.Unmapped s)) ds f)).0) (each (peer s))
   passed_pays (duties.Ask (ask_duties.PlainHandshake s)) ds p refused none f each = each
-  passed_pays (duties.Ask (ask_duties.SubflowAck s)) ds p refused none f each = each
-  passed_pays (duties.Ask (ask_duties.PlainData s)) ds p refused none f each = each
-  passed_pays (duties.Ask (ask_duties.GoIdentity s)) ds p refused none f each = each
-  passed_pays (duties.Ask (ask_duties.SubflowFin s)) ds p refused none f each = each
   passed_pays (duties.Send (send_duties.Refuse s)) ds p refused none f each = each
-  passed_pays (duties.Ask (ask_duties.HeardFin s index)) ds p refused none f each = each
-  passed_pays (duties.Ask (ask_duties.AckOut s)) ds p refused none f each = each
-  passed_pays (duties.Ask (ask_duties.Rate s)) ds p refused none f each = each
-  passed_pays (duties.Send (send_duties.Acknowledge s)) ds p refused none f each = each
-  passed_pays (duties.Send (send_duties.Again s)) ds p refused none f each = each
-  passed_pays (duties.Send (send_duties.Answer s)) ds p refused none f each = each
-  passed_pays (duties.Send (send_duties.ResetAnswer s)) ds p refused none f each = each
-  passed_pays (duties.Ask (ask_duties.Return s)) ds p refused none f each = each
-  passed_pays (duties.Ask (ask_duties.AbortSend s)) ds p refused none f each = each
-  passed_pays (duties.Ask (ask_duties.AbortReceive s)) ds p refused none f each = each
-  passed_pays (duties.Ask (ask_duties.Announce s id)) ds p refused none f each = each
-  passed_pays (duties.Ask (ask_duties.Withdraw s id)) ds p refused none f each = each
-  passed_pays (duties.Send (send_duties.Resend s)) ds p refused none f each = each
-  passed_pays (duties.Ask (ask_duties.Leave s)) ds p refused none f each = each
-  passed_pays (duties.Ask (ask_duties.LeaveNoted s)) ds p refused none f each = each
-  passed_pays (duties.Ask (ask_duties.Dead s)) ds p refused none f each = each
-  passed_pays duties.End ds p refused none f each = each
+  passed_pays _ ds p refused none f each = each
 
   pub settled_done : (ds : List Duty) (p : PathState C) (refused : Side → Bool) → is_followed ds ≡ true → ((t : Side) → Pays p ds refused t) → Granting (settled ds p) refused
   settled_done [] p refused f each = agenda_on p refused [] refl each

@@ -110,18 +110,9 @@ module _ {C : Type 0} (k : Codec C) (p : PathState C) where
       by false = tt
 
   item_none : (s : Side) (o : Option Heard) → AsksNone (item_ask k s o p)
-  item_none s None = tt
-  item_none s (Some says.Dss) = tt
-  item_none s (Some (says.DataAck next window)) = tt
   item_none s (Some (says.Mapping fin)) = mapping_none s
-  item_none s (Some (says.DataFin place)) = tt
-  item_none s (Some (says.InfiniteMapping place position)) = tt
-  item_none s (Some (says.PeerKey key)) = tt
-  item_none s (Some (says.Keys own peer)) = tt
-  item_none s (Some (says.Join form)) = tt
-  item_none s (Some (says.Notice notice)) = tt
   item_none s (Some says.Fail) = fail_asks_so AsksNone s p tt tt
-  item_none s (Some (says.FastClose key)) = tt
+  item_none s _ = tt
 
   piece_none : (s : Side) (o : Option Piece) → AsksNone (piece_ask s o)
   piece_none s None = tt
@@ -136,58 +127,19 @@ module _ {C : Type 0} (k : Codec C) (p : PathState C) where
   rate_none s (Some pending) = tt
 
   pub asks_none : (d : Duty) → MayNotAsk d → AsksNone (ask_for k d p)
-  asks_none (duties.Ask ask_duties.JoinAgain) other = tt
-  asks_none (duties.Step (step_duties.Look s)) other = tt
-  asks_none (duties.Ask (ask_duties.Window s)) other = tt
   asks_none (duties.Send (send_duties.Update s)) other = tt
-  asks_none (duties.Send (send_duties.FastClose s)) other = tt
-  asks_none (duties.Send (send_duties.Notice s)) other = tt
-  asks_none (duties.Send (send_duties.Syn s)) other = tt
   asks_none (duties.Step (step_duties.Data s)) other = absurd other
-  asks_none (duties.Send (send_duties.DataFin s)) other = tt
-  asks_none (duties.Send (send_duties.Fin s)) other = tt
   asks_none (duties.Silent (silent_duties.Timer s)) other = tt
   asks_none (duties.Step step_duties.Events) other = step_none (next_event p)
-  asks_none (duties.Ask (ask_duties.SynHeard s)) other = tt
-  asks_none (duties.Ask (ask_duties.SynAnswered s)) other = tt
   asks_none (duties.Ask (ask_duties.PeerKey s)) other = key_none s (key_heard (end_at s p).treated.items)
-  asks_none (duties.Send (send_duties.SynAck s)) other = tt
   asks_none (duties.Ask (ask_duties.JoinHeard s)) other = join_none s (asked_at s p)
-  asks_none (duties.Send (send_duties.Refuse s)) other = tt
   asks_none (duties.Ask (ask_duties.Opened s)) other = opened_none s (keys_heard (end_at s p).treated.items)
-  asks_none (duties.Ask (ask_duties.Live s)) other = tt
   asks_none (duties.Step (step_duties.Heard s index)) other = item_none s (item_of index (end_at s p))
-  asks_none (duties.Ask (ask_duties.AckHeard s)) other = tt
-  asks_none (duties.Ask (ask_duties.FailHeard s)) other = tt
   asks_none (duties.Step (step_duties.PlainAck s)) other = plain_ack_none s
-  asks_none (duties.Ask (ask_duties.PlainHandshake s)) other = tt
   asks_none (duties.Ask (ask_duties.SubflowAck s)) other = subflow_acks_so AsksNone s (end_at s p) tt (λ next. tt)
-  asks_none (duties.Ask (ask_duties.PlainData s)) other = tt
-  asks_none (duties.Ask (ask_duties.GoIdentity s)) other = tt
   asks_none (duties.Step (step_duties.Unmapped s)) other = break_none s 6
   asks_none (duties.Ask (ask_duties.SubflowFin s)) other = fin_none s (plain_fin (end_at s p))
-  asks_none (duties.Silent (silent_duties.Keep s)) other = tt
   asks_none (duties.Ask (ask_duties.Edge s)) other = piece_none s (piece_of s p)
-  asks_none (duties.Ask (ask_duties.CheckFailed s)) other = tt
   asks_none (duties.Ask (ask_duties.HeardFin s index)) other = fin_none s (data_fin_of index (end_at s p))
-  asks_none (duties.Silent (silent_duties.PassFin s)) other = tt
-  asks_none (duties.Ask (ask_duties.AckOut s)) other = tt
   asks_none (duties.Ask (ask_duties.Rate s)) other = rate_none s (end_at s p).tcp.congestion.pending
-  asks_none (duties.Send (send_duties.Acknowledge s)) other = tt
-  asks_none (duties.Send (send_duties.Again s)) other = tt
-  asks_none (duties.Send (send_duties.Answer s)) other = tt
-  asks_none (duties.Send (send_duties.ResetAnswer s)) other = tt
-  asks_none (duties.Ask (ask_duties.Return s)) other = tt
-  asks_none (duties.Ask (ask_duties.AbortSend s)) other = tt
-  asks_none (duties.Ask (ask_duties.AbortReceive s)) other = tt
-  asks_none (duties.Ask (ask_duties.Announce s id)) other = tt
-  asks_none (duties.Ask (ask_duties.Withdraw s id)) other = tt
-  asks_none (duties.Send (send_duties.Resend s)) other = tt
-  asks_none (duties.Ask (ask_duties.BreakAck s reason)) other = tt
-  asks_none (duties.Send (send_duties.BreakReset s reason)) other = tt
-  asks_none (duties.Send (send_duties.Reset s)) other = tt
-  asks_none (duties.Send (send_duties.ResetNoted s)) other = tt
-  asks_none (duties.Ask (ask_duties.Leave s)) other = tt
-  asks_none (duties.Ask (ask_duties.LeaveNoted s)) other = tt
-  asks_none (duties.Ask (ask_duties.Dead s)) other = tt
-  asks_none duties.End other = tt
+  asks_none _ other = tt

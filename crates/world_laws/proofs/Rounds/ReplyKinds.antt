@@ -216,17 +216,9 @@ control_kind c (control_calls.JoinHeard path token) =
     either_kind (control_calls.JoinHeard path token) _ (control_replies.UnknownToken _) _ tt
     (either_kind (control_calls.JoinHeard path token) (not c.fall.confirmed) control_replies.NotConfirmed _ tt
     (either_kind (control_calls.JoinHeard path token) _ (control.begin c) (control_replies.Fallen c.fall.mode) tt tt))
-control_kind c (control_calls.Live path backup) = tt
-control_kind c (control_calls.Dead path) = tt
-control_kind c (control_calls.Backup path on) = tt
-control_kind c (control_calls.Rate path window rtt) = tt
-control_kind c (control_calls.Announce id) = tt
-control_kind c (control_calls.Withdraw id) = tt
 control_kind c (control_calls.Heard id address port hmac) = free_kind c (control_calls.Heard id address port hmac) tt
-control_kind c (control_calls.Echoed id) = tt
-control_kind c (control_calls.Removed id) = tt
-control_kind c control_calls.FastClose = tt
 control_kind c (control_calls.FastHeard key) = free_kind c (control_calls.FastHeard key) tt
+control_kind c _ = tt
 
 -- ---- all six
 

@@ -119,18 +119,10 @@ module _ {C : Type 0} (k : Codec C) (p : PathState C) where
   note_none s (peer_notes.Prio backup) = tt
 
   item_none : (s : Side) (o : Option Heard) → LooksNot (item_ask k s o p)
-  item_none s None = tt
-  item_none s (Some says.Dss) = tt
-  item_none s (Some (says.DataAck next window)) = tt
   item_none s (Some (says.Mapping fin)) = mapping_none s
-  item_none s (Some (says.DataFin place)) = tt
-  item_none s (Some (says.InfiniteMapping place position)) = tt
-  item_none s (Some (says.PeerKey key)) = tt
-  item_none s (Some (says.Keys own peer)) = tt
-  item_none s (Some (says.Join form)) = tt
   item_none s (Some (says.Notice notice)) = note_none s notice
   item_none s (Some says.Fail) = fail_asks_so LooksNot s p tt tt
-  item_none s (Some (says.FastClose key)) = tt
+  item_none s _ = tt
 
   piece_none : (s : Side) (o : Option Piece) → LooksNot (piece_ask s o)
   piece_none s None = tt
@@ -149,58 +141,20 @@ module _ {C : Type 0} (k : Codec C) (p : PathState C) where
   rate_none s (Some pending) = tt
 
   pub looks_none : (d : Duty) → MayNotLook d → LooksNot (ask_for k d p)
-  looks_none (duties.Ask ask_duties.JoinAgain) other = tt
   looks_none (duties.Step (step_duties.Look s)) other = absurd other
-  looks_none (duties.Ask (ask_duties.Window s)) other = tt
   looks_none (duties.Send (send_duties.Update s)) other = tt
-  looks_none (duties.Send (send_duties.FastClose s)) other = tt
-  looks_none (duties.Send (send_duties.Notice s)) other = tt
-  looks_none (duties.Send (send_duties.Syn s)) other = tt
   looks_none (duties.Step (step_duties.Data s)) other = data_none s (first_unsent (end_at s p))
-  looks_none (duties.Send (send_duties.DataFin s)) other = tt
-  looks_none (duties.Send (send_duties.Fin s)) other = tt
   looks_none (duties.Silent (silent_duties.Timer s)) other = tt
   looks_none (duties.Step step_duties.Events) other = step_none (next_event p)
-  looks_none (duties.Ask (ask_duties.SynHeard s)) other = tt
-  looks_none (duties.Ask (ask_duties.SynAnswered s)) other = tt
   looks_none (duties.Ask (ask_duties.PeerKey s)) other = key_none s (key_heard (end_at s p).treated.items)
-  looks_none (duties.Send (send_duties.SynAck s)) other = tt
   looks_none (duties.Ask (ask_duties.JoinHeard s)) other = join_none s (asked_at s p)
-  looks_none (duties.Send (send_duties.Refuse s)) other = tt
   looks_none (duties.Ask (ask_duties.Opened s)) other = opened_none s (keys_heard (end_at s p).treated.items)
-  looks_none (duties.Ask (ask_duties.Live s)) other = tt
   looks_none (duties.Step (step_duties.Heard s index)) other = item_none s (item_of index (end_at s p))
-  looks_none (duties.Ask (ask_duties.AckHeard s)) other = tt
-  looks_none (duties.Ask (ask_duties.FailHeard s)) other = tt
   looks_none (duties.Step (step_duties.PlainAck s)) other = plain_ack_none s
-  looks_none (duties.Ask (ask_duties.PlainHandshake s)) other = tt
   looks_none (duties.Ask (ask_duties.SubflowAck s)) other = subflow_acks_so LooksNot s (end_at s p) tt (λ next. tt)
-  looks_none (duties.Ask (ask_duties.PlainData s)) other = tt
-  looks_none (duties.Ask (ask_duties.GoIdentity s)) other = tt
   looks_none (duties.Step (step_duties.Unmapped s)) other = break_none s 6
   looks_none (duties.Ask (ask_duties.SubflowFin s)) other = fin_none s (plain_fin (end_at s p))
-  looks_none (duties.Silent (silent_duties.Keep s)) other = tt
   looks_none (duties.Ask (ask_duties.Edge s)) other = piece_none s (piece_of s p)
-  looks_none (duties.Ask (ask_duties.CheckFailed s)) other = tt
   looks_none (duties.Ask (ask_duties.HeardFin s index)) other = fin_none s (data_fin_of index (end_at s p))
-  looks_none (duties.Silent (silent_duties.PassFin s)) other = tt
-  looks_none (duties.Ask (ask_duties.AckOut s)) other = tt
   looks_none (duties.Ask (ask_duties.Rate s)) other = rate_none s (end_at s p).tcp.congestion.pending
-  looks_none (duties.Send (send_duties.Acknowledge s)) other = tt
-  looks_none (duties.Send (send_duties.Again s)) other = tt
-  looks_none (duties.Send (send_duties.Answer s)) other = tt
-  looks_none (duties.Send (send_duties.ResetAnswer s)) other = tt
-  looks_none (duties.Ask (ask_duties.Return s)) other = tt
-  looks_none (duties.Ask (ask_duties.AbortSend s)) other = tt
-  looks_none (duties.Ask (ask_duties.AbortReceive s)) other = tt
-  looks_none (duties.Ask (ask_duties.Announce s id)) other = tt
-  looks_none (duties.Ask (ask_duties.Withdraw s id)) other = tt
-  looks_none (duties.Send (send_duties.Resend s)) other = tt
-  looks_none (duties.Ask (ask_duties.BreakAck s reason)) other = tt
-  looks_none (duties.Send (send_duties.BreakReset s reason)) other = tt
-  looks_none (duties.Send (send_duties.Reset s)) other = tt
-  looks_none (duties.Send (send_duties.ResetNoted s)) other = tt
-  looks_none (duties.Ask (ask_duties.Leave s)) other = tt
-  looks_none (duties.Ask (ask_duties.LeaveNoted s)) other = tt
-  looks_none (duties.Ask (ask_duties.Dead s)) other = tt
-  looks_none duties.End other = tt
+  looks_none _ other = tt
