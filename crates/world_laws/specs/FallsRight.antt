@@ -79,3 +79,9 @@ module _ {C : Type 0} where
   -- so it is on path 0 where a side fell
   pub record PositionsArePlaces (w : WorldState C) : Type 0 where
     pub each : (s : Side) → has_fallen s w ≡ true → (c : ActorCrew C) → slice_get w.crew 2 ≡ Some c → PathIsPlain c.member
+
+  -- So it was at each moment before: each record of data that path 0 had at that moment, also one that is acknowledged since, has the
+  -- place before its position. The first world is that of the moment, and a side falls by the turns that follow, or fell before.
+  abbrev pub PositionsWerePlaces : Codec C → WorldState C → Type 0
+  PositionsWerePlaces k w =
+      (s : Side) (more : List Turn) → has_fallen s (world_run k more w) ≡ true → (c : ActorCrew C) → slice_get w.crew 2 ≡ Some c → PathIsPlain c.member

@@ -12,7 +12,7 @@ use Rattle.world_laws.specs.Altered.{BothKeepCount, FallsForGood, PlacedUntilThe
 use Rattle.world_laws.specs.Announcing.{AnnouncementsEnd}
 use Rattle.world_laws.specs.Agreement.{MappingsAgree}
 use Rattle.world_laws.specs.ChecksPass.{ChecksPass, ChecksumsAreRight}
-use Rattle.world_laws.specs.FallsRight.{FallsAreRight, FallsLast, PositionsArePlaces}
+use Rattle.world_laws.specs.FallsRight.{FallsAreRight, FallsLast, PositionsArePlaces, PositionsWerePlaces}
 use Rattle.world_laws.specs.Fresh.{shown_world}
 use Rattle.world_laws.specs.Granted.{GrantedOnce}
 use Rattle.world_laws.specs.InfiniteMappings.{InfiniteMappingsAreHeardRight, InfiniteMappingsAreRight}
@@ -76,6 +76,7 @@ pub record KeepsAnyway (w : WorldState (List ℕ)) : Type 0 where
   pub stopped : AbortIsLast octets w
   pub waiting : JoinsWait w
   pub infinite : InfiniteMappingsAreHeardRight octets w
+  pub whole : PositionsWerePlaces octets w
 
 -- so it keeps these promises, whatever the order of the steps
 abbrev pub ScriptsKeepAnyway : Type 0

@@ -4,7 +4,7 @@ ghost use Rattle.world_laws.specs.Agreement.{MappingsAgree};
 ghost use Rattle.world_laws.specs.Altered.{BothKeepCount, FallsForGood, HoldsChecked, HoldsCheckedOfOctets, PlacedUntilTheFall, PrefixUntilTheFall};
 ghost use Rattle.world_laws.specs.Announcing.{AnnouncementsEnd};
 ghost use Rattle.world_laws.specs.ChecksPass.{ChecksPass, ChecksumsAreRight, NoFailureIsTold};
-ghost use Rattle.world_laws.specs.FallsRight.{FallsAreRight, FallsLast, PositionsArePlaces};
+ghost use Rattle.world_laws.specs.FallsRight.{FallsAreRight, FallsLast, PositionsArePlaces, PositionsWerePlaces};
 ghost use Rattle.world_laws.specs.Granted.{GrantedOnce};
 ghost use Rattle.world_laws.specs.InfiniteMappings.{InfiniteMappingsAreHeardRight, InfiniteMappingsAreRight};
 ghost use Rattle.world_laws.specs.JoinsWait.{JoinsWait};
@@ -286,7 +286,8 @@ pub fn mappings_agree()
 /// (RFC 8684, sections 3.5 and 3.7). This holds whatever the script does; over octets where the numbers of the start fit.
 ///
 /// And on path 0 positions are places then: each record of data, and each mapping that an end learned, has the place before its
-/// position.
+/// position. So it was at each moment before, of octets that are acknowledged by now, too: whatever record of data either end of path 0
+/// ever had, it has the place before its position.
 pub fn falls_are_right()
     ensures values { Always values (λ start w. FallsAreRight w) }
     ensures last { Always values (λ start w. FallsLast values w) }
@@ -294,6 +295,8 @@ pub fn falls_are_right()
     ensures last_of_octets { HoldsAnywayOfOctets (FallsLast octets) }
     ensures places { HoldsAnyway PositionsArePlaces }
     ensures heard { HoldsAnywayOfOctets PositionsArePlaces }
+    ensures whole { HoldsAnyway (PositionsWerePlaces values) }
+    ensures whole_of_octets { HoldsAnywayOfOctets (PositionsWerePlaces octets) }
 {}
 
 /// A law: at every moment, where the connection begins with data numbers of four octets, each Data ACK and each mapping of every

@@ -44,11 +44,11 @@ use Rattle.path_rules.specs.Turns.{FirstStands}
 use Rattle.path_rules.specs.Values.{Carried, values}
 use Rattle.world_laws.specs.declared.member.Member.TheVariants.{App, Path}
 use Rattle.world_laws.specs.Actors.{Actor, ActorCrew, member_asks}
-use Rattle.world_laws.specs.FallsRight.{asks_bytes, has_fallen, is_fallen, is_stopped, IsAtPlace, EndIsPlain, FallsAreRight, FallsLast, PathIsPlain, PositionsArePlaces}
+use Rattle.world_laws.specs.FallsRight.{asks_bytes, has_fallen, is_fallen, is_stopped, IsAtPlace, EndIsPlain, FallsAreRight, FallsLast, PathIsPlain, PositionsArePlaces, PositionsWerePlaces}
 use Rattle.world_laws.specs.Fresh.{shown_crew, shown_member, shown_world}
 use Rattle.world_laws.specs.Laws.{Always}
 use Rattle.world_laws.specs.Openings.{Start, opened_world}
-use Rattle.world_laws.specs.Promises.{HoldsAnyway, HoldsAnywayOfOctets}
+use Rattle.world_laws.specs.Promises.{HasRoom, HoldsAnyway, HoldsAnywayOfOctets}
 use Rattle.world_laws.specs.RoundEnd.{asks_grant}
 use Rattle.world_laws.specs.Worlds.{WorldState, Turn, note_of, crew_after, asked, stepped, all_over, greatest, begins, after_turn, world_run}
 use Rattle.world_laws.proofs.Lanes.Applying.{any_more}
@@ -328,18 +328,20 @@ plain_end v u out back out_alone back_alone out_holds back_holds c s e h = recor
   learned = Every-map (λ kept shows. kept_place u back back_alone back_holds kept shows) h.receiver.mapped;
 }
 
-shown_plain : (links : Links) (start : Start) (d : Duo) (w : WorldState Carried) → Holds d → WorldShows links start d w → FallsAreRight w → PositionsArePlaces w
-shown_plain links start d w held h right = record { each = λ s fell c at. path s fell c (subst (λ (v : WorldState Carried). slice_get v.crew 2 ≡ Some c) h.is at) }
+-- as long as B answered no join
+unanswered_plain : (links : Links) (start : Start) (d : Duo) (w : WorldState Carried) → Holds d → WorldShows links start d w
+    → (books_in w.books).control_b.fall.joined ≡ false → (c : ActorCrew Carried) → slice_get w.crew 2 ≡ Some c → PathIsPlain c.member
+unanswered_plain links start d w held h none c there = path (subst (λ (v : WorldState Carried). slice_get v.crew 2 ≡ Some c) h.is there)
   where
     holds : Holds (duo_of links (books_in h.cast.books) h.lanes_ab h.lanes_ba h.reader_a h.reader_b)
     holds = subst Holds h.duo_is held
 
-    path : (s : Side) → has_fallen s w ≡ true → (c : ActorCrew Carried) → slice_get (world_of h.cast).crew 2 ≡ Some c → PathIsPlain c.member
-    path s fell c at =
+    path : slice_get (world_of h.cast).crew 2 ≡ Some c → PathIsPlain c.member
+    path at =
         let found = in_map walking h.cast.paths 0 c at in
         let x : Walker Carried = found.0 in
         let there = h.paths.each 0 0 x refl found.1 in
-        let unanswered : (books_in h.cast.books).control_b.fall.joined ≡ false = subst (λ (v : WorldState Carried). (books_in v.books).control_b.fall.joined ≡ false) h.is (right.answered s fell) in
+        let unanswered : (books_in h.cast.books).control_b.fall.joined ≡ false = subst (λ (v : WorldState Carried). (books_in v.books).control_b.fall.joined ≡ false) h.is none in
         let alone = ap not unanswered in
         let ab = holds.ab.lanes.each 0 0 there.ab refl there.ab_there in
         let ba = holds.ba.lanes.each 0 0 there.ba refl there.ba_there in
@@ -350,11 +352,58 @@ shown_plain links start d w held h right = record { each = λ s fell c at. path 
         sides p ab ba v u x y ab_holds ba_holds shows A = plain_end v u ab ba x y ab_holds ba_holds p.profile A p.a shows.a
         sides p ab ba v u x y ab_holds ba_holds shows B = plain_end u v ba ab y x ba_holds ab_holds p.profile B p.b shows.b
 
-pub positions_are_places : HoldsAnyway PositionsArePlaces
-positions_are_places start turns size =
+-- so it is at every moment
+always_plain : (start : Start) (turns : List Turn) → HasRoom start → (books_in (world_run values turns (opened_world start)).books).control_b.fall.joined ≡ false
+    → (c : ActorCrew Carried) → slice_get (world_run values turns (opened_world start)).crew 2 ≡ Some c → PathIsPlain c.member
+always_plain start turns size none =
     let can = anyhow start size in
     let r = each_run_shows start can turns (free_run can.links (anyhow_free start size) turns (opened_world start)) in
-    shown_plain can.links start (after_events r.events (first_duo can.links start)) (world_run values turns (opened_world start)) (any_held can.links.alters can.links.checked (length start.paths) start.buffer start.buffer r.events) r.shows (falls_are_right start turns)
+    unanswered_plain can.links start (after_events r.events (first_duo can.links start)) (world_run values turns (opened_world start))
+    (any_held can.links.alters can.links.checked (length start.paths) start.buffer start.buffer r.events) r.shows none
+
+pub positions_are_places : HoldsAnyway PositionsArePlaces
+positions_are_places start turns size = record { each = λ s fell. always_plain start turns size ((falls_are_right start turns).answered s fell) }
+
+-- ---- and were before
+
+-- B answered a join, and so it did at any later moment
+turn_joined : (start : Start) (turn : Turn) (w : WorldState Carried) → Joined (books_in w.books) B → Joined (books_in (after_turn values turn w).books) B
+turn_joined start (Turn.Step actor) w joined = by (slice_get w.crew actor)
+  where
+    asking : (c : ActorCrew Carried) (o : Option Ask) → Joined (books_in (asked values actor o c w).books) B
+    asking c None = joined
+    asking c (Some x) = subst (λ (y : SixBooks). Joined y B) (sym (books_after x c.pass w.books)) (joined_stays start.key_a start.key_b false (books_in w.books) x B joined)
+
+    by : (o : Option (ActorCrew Carried)) → Joined (books_in (stepped values actor o w).books) B
+    by None = joined
+    by (Some c) = asking c (member_asks values c.member)
+turn_joined start Turn.Round w joined = by (all_over w.crew)
+  where
+    by : (b : Bool) → Joined (books_in (if b then record w { crew = map (begins (greatest 0 w.crew)) w.crew } else w).books) B
+    by true = joined
+    by false = joined
+
+run_joined : (start : Start) (turns : List Turn) (w : WorldState Carried) → Joined (books_in w.books) B → Joined (books_in (world_run values turns w).books) B
+run_joined start [] w joined = joined
+run_joined start (turn ∷ turns) w joined = run_joined start turns (after_turn values turn w) (turn_joined start turn w joined)
+
+-- it answered none before either
+unanswered_before : (start : Start) (turns : List Turn) (w : WorldState Carried) → (books_in (world_run values turns w).books).control_b.fall.joined ≡ false
+    → (books_in w.books).control_b.fall.joined ≡ false
+unanswered_before start turns w none = by (books_in w.books).control_b.fall.joined refl
+  where
+    by : (b : Bool) → (books_in w.books).control_b.fall.joined ≡ b → b ≡ false
+    by false is = refl
+    by true is = absurd (both_ways _ none (run_joined start turns w is))
+
+pub positions_were_places : HoldsAnyway (PositionsWerePlaces values)
+positions_were_places start turns size s more fell =
+    let w = world_run values turns (opened_world start) in
+    let joins = run_append values turns more (opened_world start) in
+    let fell_then : has_fallen s (world_run values (turns ++ more) (opened_world start)) ≡ true = ap (has_fallen s) joins ∙ fell in
+    let none = (falls_are_right start (turns ++ more)).answered s fell_then in
+    always_plain start turns size
+    (unanswered_before start more w (subst (λ (v : WorldState Carried). (books_in v.books).control_b.fall.joined ≡ false) joins none))
 
 -- ---- over octets
 
@@ -403,3 +452,14 @@ falls_last_in_octets start turns size fit s more fell =
 
 pub places_in_octets : HoldsAnywayOfOctets PositionsArePlaces
 places_in_octets start turns size fit = subst PositionsArePlaces (sym (run_fresh start turns size fit)) (places_shown (world_run values turns (opened_world start)) (positions_are_places start turns size))
+
+pub places_were_in_octets : HoldsAnywayOfOctets (PositionsWerePlaces octets)
+places_were_in_octets start turns size fit s more fell c at =
+    let w : WorldState Carried = world_run values turns (opened_world start) in
+    let shown = run_fresh start turns size fit in
+    let later = run_fresh start (turns ++ more) size fit in
+    let fell_then : has_fallen s (world_run values more w) ≡ true =
+    sym (same_has_fallen s (world_run values more w))
+    ∙ ap (λ (v : WorldState (List ℕ)). has_fallen s v) (sym (sym (run_append octets turns more (opened_world start)) ∙ later ∙ ap shown_world (run_append values turns more (opened_world start)))) ∙ fell in
+    let found = in_map shown_crew w.crew 2 c (subst (λ (v : WorldState (List ℕ)). slice_get v.crew 2 ≡ Some c) shown at) in
+    subst (λ (y : ActorCrew (List ℕ)). PathIsPlain y.member) found.2 (member_plain found.0.member (positions_were_places start turns size s more fell_then found.0 found.1))

@@ -27,7 +27,7 @@ use Rattle.world_laws.proofs.Promises.InfiniteMappingsAreRight.{infinite_mapping
 use Rattle.world_laws.proofs.Promises.InfiniteOverOctets.{infinite_mappings_are_heard_right}
 use Rattle.world_laws.proofs.Promises.ChecksumsAreRight.{checksums_are_right}
 use Rattle.world_laws.proofs.Falls.ChecksPass.{checks_pass_in_octets}
-use Rattle.world_laws.proofs.Falls.AreRight.{falls_in_octets, falls_last_in_octets, places_in_octets}
+use Rattle.world_laws.proofs.Falls.AreRight.{falls_in_octets, falls_last_in_octets, places_in_octets, places_were_in_octets}
 use Rattle.world_laws.proofs.Places.GrantedOnce.{granted_once}
 use Rattle.world_laws.proofs.Announcements.AsTold.{announcements_end}
 use Rattle.world_laws.proofs.Standby.GrantedNothing.{backups_get_nothing}
@@ -146,6 +146,7 @@ scripts_keep_anyway script file_a file_b turns h =
       stopped = abort_is_last octets start turns;
       waiting = joins_wait octets start turns;
       infinite = infinite_mappings_are_heard_right start turns starts.0 starts.1;
+      whole = places_were_in_octets start turns starts.0 starts.1;
     }
 
 pub plain_scripts_keep_all_promises : PlainScriptsKeepAllPromises

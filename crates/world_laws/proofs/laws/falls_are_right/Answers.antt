@@ -18,3 +18,9 @@ returns-clause-places c = falls.positions_are_places
 
 pub returns-clause-heard : goal.returns-clause-heard
 returns-clause-heard c = falls.places_in_octets
+
+pub returns-clause-whole : goal.returns-clause-whole
+returns-clause-whole c = falls.positions_were_places
+
+pub returns-clause-whole_of_octets : goal.returns-clause-whole_of_octets
+returns-clause-whole_of_octets c = falls.places_were_in_octets
