@@ -168,7 +168,7 @@ una_stays : (pos : ℕ) (v : SendState) → 1 ≤ v.una → 1 ≤ (after_acknowl
 una_stays pos v some = by (nat_lt v.una pos && nat_le pos v.nxt) refl
   where
     by : (b : Bool) → (nat_lt v.una pos && nat_le pos v.nxt) ≡ b → 1 ≤ (if b then record v { una = pos; records = uncovered pos v.records } else v).una
-    by true is = let more = ltb-true v.una pos (and_parts (nat_lt v.una pos) (nat_le pos v.nxt) is).0 in omega (arith, more)
+    by true is = let more = ltb-true v.una pos (and_parts (nat_lt v.una pos) (nat_le pos v.nxt) is).0 in let low : 1 ≤ pos = omega (arith, more) in low
     by false is = some
 
 not_less : (x y : Bool) → (x && y) ≡ false → y ≡ true → x ≡ false
@@ -181,7 +181,7 @@ una_grows pos v some sent = by (nat_lt v.una pos && nat_le pos v.nxt) refl
   where
     by : (b : Bool) → (nat_lt v.una pos && nat_le pos v.nxt) ≡ b → 1 ≤ (if b then record v { una = pos; records = uncovered pos v.records } else v).una
     by true is = some
-    by false is = let least = ltb-false v.una pos (not_less (nat_lt v.una pos) (nat_le pos v.nxt) is (le-leb pos v.nxt sent)) in omega (arith, least, some)
+    by false is = let least = ltb-false v.una pos (not_less (nat_lt v.una pos) (nat_le pos v.nxt) is (le-leb pos v.nxt sent)) in let low : 1 ≤ v.una = omega (arith, least, some) in low
 
 acknowledged_fits : (limit pos now : ℕ) (s : EndState) → Every (IsSmall limit) s.send.records → (states.may_finish s.state ≡ true → 1 ≤ (after_acknowledge pos s.send).una)
     → TcpFits limit (after_acknowledgement pos now s)
