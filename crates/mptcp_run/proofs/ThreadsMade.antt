@@ -9,7 +9,8 @@ use Rattle.world_laws.specs.Fine.{IsFine}
 use Rattle.world_laws.specs.Weaving as weaving
 use Rattle.world_laws.specs.Worlds.{end_round, greatest}
 use Rattle.journal_weave.specs.Rounds.{HaveTurned, WeavesTo}
-use Rattle.world_core.specs.Kept.{Kept, IsSound, standing, world}
+use Rattle.world_core.specs.Kept.{Kept, IsInRoundAbove, IsSound, standing, world}
+use Rattle.world_core.proofs.InRound.{steps_in_round}
 use Rattle.world_core.specs.Rounds.{RoundTo}
 use Rattle.mptcp_run.specs.declared.threads.Orders.{Orders}
 use Rattle.mptcp_run.specs.Rounds.{Begins}
@@ -65,6 +66,7 @@ left_sound crew after books left sound have actors h = record {
   top = sound.top;
   fine = subst (IsFine sound.top) h.leads (steps_fine actors sound.top (world crew books) sound.fine);
   timely = record { each = λ i d at. each_timely crew after have.many have.turned (λ j c there. sound.timely.each j c there) i d at };
+  round = subst (IsInRoundAbove sound.top) h.leads (steps_in_round actors sound.top (world crew books) sound.round);
 }
 
 -- an order was found, or not

@@ -18,10 +18,11 @@ use Rattle.world_laws.specs.Timely.{CanBegin, IsTimely, IsTimelyMember}
 use Rattle.world_laws.proofs.Weaving.Paired.{round_fine, opened_fine}
 use Rattle.world_laws.proofs.Rounds.Frame.{first_keeps, first_stands}
 use Rattle.world_laws.proofs.Rounds.Lifting.{opened_lifted}
-use Rattle.world_core.specs.Kept.{world, IsSound, IsKept}
+use Rattle.world_core.specs.Kept.{world, BeginsAbove, IsInRoundAbove, IsSound, IsKept}
 use Rattle.world_core.specs.declared.hearing.Hearing.{Hearing}
 use Rattle.world_core.specs.Hearing.{heard_by}
 use Rattle.world_core.specs.Timely.{IsTimelyCrew, AreTimely, IsReady}
+use Rattle.world_core.proofs.InRound.{ended_in_round}
 use Rattle.world_core.proofs.Showing.{heard_begun}
 
 first_of_both : (a b : Bool) → (a && b) ≡ true → a ≡ true
@@ -109,6 +110,7 @@ ended_sound crew books h = record {
   top = top_after Turn.Round (world crew books) h.top;
   fine = subst (IsFine (top_after Turn.Round (world crew books) h.top)) (sym (ended_is crew books)) (round_fine h.top (world crew books) h.fine);
   timely = ended_timely crew h.timely;
+  round = subst (IsInRoundAbove (top_after Turn.Round (world crew books) h.top)) (sym (ended_is crew books)) (ended_in_round h.top (world crew books) h.round);
 }
 
 heard_ended : (crew : List (ActorCrew (List ℕ))) → heard_by (ended crew) ≡ heard_by crew
@@ -144,6 +146,12 @@ opened_sound start = record {
         few = omega arith;
         timely = first_timely (waiting_path (path_begins start number plan) start.lines) 0 (omega (arith));
       });
+  round = record {
+    begun = opened_world start;
+    begins = BeginsAbove.First refl (opened_lifted (λ (c : ActorCrew (List ℕ)). c.list ≡ []) start refl refl (λ number plan there. refl));
+    order = [];
+    steps = refl;
+  };
 }
 
 pub opened_parts : (start : Start) (crew : List (ActorCrew (List ℕ))) (books : StampedBooks) → crew ≡ (opened_world start).crew → books ≡ (opened_world {C = List ℕ} start).books

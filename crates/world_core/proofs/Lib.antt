@@ -9,3 +9,4 @@ mod CutMade
 pub mod RoundsMade
 pub mod Gathering
 pub mod SinceRound
+pub mod InRound

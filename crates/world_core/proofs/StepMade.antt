@@ -25,12 +25,13 @@ use Rattle.world_laws.proofs.Weaving.Paired.{step_fine}
 use Rattle.world_core.specs.Hearing.{heard_by, heard_with, told_in, heard_report, ShowsTheSame}
 use Rattle.world_core.specs.declared.hearing.Told.{Told}
 use Rattle.world_core.specs.declared.hearing.Hearing.{Hearing}
-use Rattle.world_core.specs.Kept.{world, IsSound}
+use Rattle.world_core.specs.Kept.{world, IsSound, IsInRoundAbove}
 use Rattle.world_core.specs.Steps.{note_if, crew_if, books_if, GoesUp, StampRises, stamp_or, note_by, next_note}
 use Rattle.world_laws.specs.Timely.{IsTimelyMember}
 use Rattle.world_laws.proofs.Rounds.Frame.{takes_keeps}
 use Rattle.world_core.specs.Timely.{IsTimelyCrew}
 use Rattle.world_core.proofs.Lists.{put_again, found, both_ok, each_ok, both_err}
+use Rattle.world_core.proofs.InRound.{step_in_round}
 use Rattle.world_core.proofs.Showing.{heard_again, shows_other}
 
 -- ---- an actor whose turn hasn't ended asks
@@ -147,6 +148,7 @@ module _ (crew : List (ActorCrew (List ℕ))) (books after : StampedBooks) (i : 
           (λ other. h.timely.each k x other.1)
           (in_set crew i d k x at);
     };
+    round = subst (IsInRoundAbove h.top) (sym step_is) (step_in_round i h.top (world crew books) h.round);
   }
 
 -- ---- where there is no such actor

@@ -11,6 +11,7 @@ pub mod AStepAtLeast
 pub mod ReadersEnd
 pub mod GrantAtOneDuty
 pub mod EndsRefused
+pub mod PiecesFit
 pub mod AskingForNothing
 pub mod CatchingUp
 pub mod ReadAll

@@ -56,10 +56,9 @@ module _ {C : Type 0} where
         → EndsAt (100 * (r.number + 1)) c.member
 
   -- Where all turns of a round are over. No line, copy or timer that was due before the round's end is left. Each end of a path
-  -- that may still ask for bytes was refused the last grant of the round, and asked for all that was written as the round began, or
-  -- has no room for a record that is still to be sent. Each reader
-  -- was told the end, or read as much as a side buffers, or its last read found nothing; and it read all that had arrived as the
-  -- round began.
+  -- that may still ask for bytes, with room in its window for a full segment, was refused the last grant of the round, and asked for all
+  -- that was written as the round began. Each reader was told the end, or read as much as a side buffers, or its last read found nothing;
+  -- and it read all that had arrived as the round began.
   pub record RoundIsDone (r : RoundState C) (w : WorldState C) : Type 0 where
     pub over : all_over w.crew ≡ true
     pub tick : EndsOnTime r w

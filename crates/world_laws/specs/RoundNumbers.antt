@@ -17,10 +17,8 @@ use Rattle.actor_desk.specs.declared.ask.Reply.{Reply}
 use Rattle.actor_desk.specs.declared.ask.Reply.TheVariants as replies
 use Rattle.actor_desk.specs.Words.{pick}
 use Rattle.path_rules.specs.Codec.{Codec}
-use Rattle.path_rules.specs.Emission.{first_unsent, fits, may_ask}
-use Rattle.path_rules.specs.Ends.{PathEnd}
+use Rattle.path_rules.specs.Emission.{may_ask}
 use Rattle.path_rules.specs.State.{PathState, end_at, path_of}
-use Rattle.subflow_send.specs.Records.{Record}
 use Rattle.world_laws.specs.declared.member.Member.TheVariants.{App, Path}
 use Rattle.world_laws.specs.Actors.{Actor, ActorCrew}
 use Rattle.world_laws.specs.Openings.{Start, opened_world}
@@ -82,14 +80,6 @@ frees_bytes _ edge _ reply = false
 abbrev pub frees_after : Side → ℕ → ℕ → Note → Bool
 frees_after s stamp edge note = nat_lt stamp note.stamp && frees_bytes s edge note.ask note.reply
 
--- ---- room
-
--- the first record that is to be sent has no room: the SYN isn't acknowledged, or it is longer than the congestion window has room for
-pub record HasNoRoom (e : PathEnd) : Type 0 where
-  pub first : Record
-  pub is : first_unsent e ≡ Some first
-  pub none : fits e.tcp first ≡ false
-
 -- ---- rounds
 
 module _ {C : Type 0} where
@@ -131,11 +121,10 @@ module _ {C : Type 0} where
     pub apart : other ≡ actor → ⊥
     pub freed : list_any (frees_since begun w actor s) (steps_since other begun w) ≡ true
 
-  -- An end that may ask for bytes, with room in its window for a full segment, was refused the last grant that it asked for by these
-  -- steps; or a record is still to be sent, for which there is no room.
+  -- an end that may ask for bytes, with room in its window for a full segment, was refused the last grant that it asked for by these steps
   abbrev pub IsDoneAsking : PathState C → List Note → Side → Type 0
   IsDoneAsking p steps s =
-      may_ask p.profile s (end_at s p) ≡ true → (last_refused s false steps ≡ true) ⊎ HasNoRoom (end_at s p)
+      may_ask p.profile s (end_at s p) ≡ true → last_refused s false steps ≡ true
 
   abbrev pub AreDoneAsking : Actor C → List Note → Type 0
   AreDoneAsking (App a) steps = Unit {0}
@@ -145,14 +134,13 @@ module _ {C : Type 0} where
   pub record GrantsAreDone (begun w : WorldState C) : Type 0 where
     pub each : (actor : ℕ) (c : ActorCrew C) → slice_get w.crew actor ≡ Some c → AreDoneAsking c.member (steps_since actor begun w)
 
-  -- An end that may ask for bytes, with room in its window for a full segment, asked for all, unless a record is still to be sent, for
-  -- which there is no room, or another path made more to be asked for.
+  -- An end that may ask for bytes, with room in its window for a full segment, asked for all, unless another path made more to be asked
+  -- for.
   abbrev pub AskForAll : WorldState C → WorldState C → ℕ → Actor C → Type 0
   AskForAll begun w actor (App a) = Unit {0}
   AskForAll begun w actor (Path p) =
       p.agenda ≡ [] → (s : Side) → may_ask p.profile s (end_at s p) ≡ true
-      → HasNoRoom (end_at s p)
-      ⊎ (AskedForAll (path_of p) s (steps_since actor begun w) (length (written_by s begun).written) (written_by s w) ⊎ OthersFreed begun w actor s)
+      → AskedForAll (path_of p) s (steps_since actor begun w) (length (written_by s begun).written) (written_by s w) ⊎ OthersFreed begun w actor s
 
   -- each end of a path whose turn is over
   pub record PathsAskForAll (begun w : WorldState C) : Type 0 where

@@ -56,9 +56,9 @@ pub fn rounds_end_on_time()
 {}
 
 /// A law: where all turns of a round are over, in whatever order the actors went, its end is as it has to be. It is at its tick;
-/// nothing that was due before it is left; each end of a path that may still ask for bytes was refused the round's last grant, and
-/// asked for all, or has no room for a record that is still to be sent; and each reader was told the end or an abort, or read as
-/// much as a side buffers, or found nothing more. So it is at each end of a round in lawful turns, and serial turns are lawful.
+/// nothing that was due before it is left; each end of a path that may still ask for bytes, with room in its window for a full segment,
+/// was refused the round's last grant, and asked for all; and each reader was told the end or an abort, or read as much as a side
+/// buffers, or found nothing more. So it is at each end of a round in lawful turns, and serial turns are lawful.
 pub fn rounds_are_done()
     ensures octets { RoundsAreDone octets }
     ensures values { RoundsAreDone values }
@@ -80,9 +80,8 @@ pub fn readers_catch_up()
     ensures values { InEachRound values ReadersCaughtUp }
 {}
 
-/// A law: in each round, in whatever order the actors go, where the turn of a path is over, an end that may ask for bytes, with room in
-/// its window for a full segment, was refused the last grant that it asked for in this round; or a record is still to be sent, for which
-/// there is no room.
+/// A law: in each round, in whatever order the actors go, where the turn of a path is over, an end that may ask for bytes was refused the
+/// last grant that it asked for in this round, or there is no room in its window for a full segment.
 pub fn grants_are_done()
     ensures octets { InEachRound octets GrantsAreDone }
     ensures values { InEachRound values GrantsAreDone }
@@ -90,8 +89,7 @@ pub fn grants_are_done()
 
 /// A law: in each round, in whatever order the actors go, where the turn of a path is over, an end that may ask for bytes, with room
 /// in its window for a full segment, asked for all: of the octets that were written as the round began none below the edge of the
-/// peer's window is left that the path may take. Else a record is still to be sent, for which there is no room; or the end was on
-/// standby when it asked last in this round;
+/// peer's window is left that the path may take. Else the end was on standby when it asked last in this round;
 /// or octets are given to another path alone, as after a fallback, and none is once the connection was aborted there; or after the
 /// path asked last another one gave back some octets, or took an acknowledgement with a window past the edge as the round began.
 pub fn paths_ask_for_all()

@@ -9,6 +9,7 @@ use Rattle.sides.specs.declared.side.Side.TheVariants.{A, B}
 use Rattle.stamped_book.specs.declared.stamped.Pass.{Pass}
 use Rattle.stamped_book.specs.Journal.{last_stamp}
 use Rattle.send_book.specs.State.{Sending, new_sending}
+use Rattle.stream_lanes.specs.Words.{Every}
 use Rattle.stream_lanes.proofs.Lists.{Every-nil, in_map, in_set, set_same, set_other}
 use Rattle.actor_desk.specs.declared.ask.Ask.{Ask}
 use Rattle.actor_desk.specs.declared.ask.Note.{Note}
@@ -35,7 +36,8 @@ use Rattle.world_laws.specs.Worlds.{WorldState, Turn, note_of, greatest, world_r
 use Rattle.world_laws.proofs.Asks.SendBooks.{IsOnes, any_last, any_more, asked_last}
 use Rattle.world_laws.proofs.Weaving.EdgesAndStamps.{edge_grows, stamp_grows, grant_entered, freeing_entered, lt_true, both_true}
 use Rattle.world_laws.proofs.Weaving.Journals.{books_after}
-use Rattle.world_laws.proofs.Rounds.AskingForNothing.{begun_grants, paid_or_waits}
+use Rattle.world_laws.proofs.Rounds.AskingForNothing.{begun_grants}
+use Rattle.world_laws.proofs.Rounds.PiecesFit.{CrewFits, PathFits, fits_at, paid_or_refused, round_fits}
 use Rattle.world_laws.proofs.Rounds.RefusedOverAll.{SideAsks, BothAsk, own_a, own_b, other_a, other_b, path_step, freed_then, other_both, FallsAsk}
 use Rattle.world_laws.proofs.Asks.OfPaths.{own_calls}
 use Rattle.world_laws.proofs.Rounds.Frame.{takes_keeps, first_keeps}
@@ -450,8 +452,8 @@ module _ {C : Type 0} (k : Codec C) (start : Start) where
   since_is u t number x steps there is =
       ap (drop (length (lists_at u number))) (sym (list_there t number x there) ∙ is) ∙ drop_front (lists_at u number) steps
 
-  path_asked_all : (u : WorldState C) (t : Cast C) (number : ℕ) (x : Walker C) → slice_get t.paths number ≡ Some x → Since number u t → AskForAll u (world_of t) (suc (suc number)) (Path x.path)
-  path_asked_all u t number x there h over s may = ⊎_elim (λ on. inr (asked on)) (λ room. inl room) (paid_or_waits x.path.profile s (end_at s x.path) (g.flags s) paid may)
+  path_asked_all : (u : WorldState C) (t : Cast C) (number : ℕ) (x : Walker C) → slice_get t.paths number ≡ Some x → PathFits x.path → Since number u t → AskForAll u (world_of t) (suc (suc number)) (Path x.path)
+  path_asked_all u t number x there fits h over s may = asked (paid_or_refused x.path.profile s (end_at s x.path) (g.flags s) (fits_at s x.path fits) paid may)
     where
       g : PathAsking number (lists_at u) (length (written_by A u).written) (length (written_by B u).written) (edges_at u.books) x t
       g = h.asking x there
@@ -478,14 +480,16 @@ module _ {C : Type 0} (k : Codec C) (start : Start) where
       asked : g.flags s ≡ true → AskedForAll (path_of x.path) s (steps_since (suc (suc number)) u (world_of t)) (length (written_by s u).written) (send_of s (books_in t.books)) ⊎ OthersFreed u (world_of t) (suc (suc number)) s
       asked on = by on (g.freed s) refl
 
-  has_asked : (u w : WorldState C) → ((number : ℕ) → Has start (Since number u) w) → PathsAskForAll u w
-  has_asked u w h = record { each = at }
+  has_asked : (u w : WorldState C) → Every CrewFits w.crew → ((number : ℕ) → Has start (Since number u) w) → PathsAskForAll u w
+  has_asked u w fits h = record { each = at }
     where
       paths : (number : ℕ) (c : ActorCrew C) → slice_get w.crew (suc (suc number)) ≡ Some c → AskForAll u w (suc (suc number)) c.member
       paths number = let g = h number in
           subst (λ v. (c : ActorCrew C) → slice_get v.crew (suc (suc number)) ≡ Some c → AskForAll u v (suc (suc number)) c.member) (sym g.is)
           (λ c there. let found = in_map walking g.cast.paths number c there in
-          subst (λ y. AskForAll u (world_of g.cast) (suc (suc number)) y.member) found.2 (path_asked_all u g.cast number found.0 found.1 g.holds))
+          let there_fits : CrewFits c = fits.each (suc (suc number)) c (subst (λ (v : WorldState C). slice_get v.crew (suc (suc number)) ≡ Some c) (sym g.is) there) in
+          subst (λ y. AskForAll u (world_of g.cast) (suc (suc number)) y.member) found.2
+          (path_asked_all u g.cast number found.0 found.1 (subst (λ (y : ActorCrew C). CrewFits y) (sym found.2) there_fits) g.holds))
 
       apps : (s : Side) (c : ActorCrew C) → slice_get w.crew (pick s 0 1) ≡ Some c → AskForAll u w (pick s 0 1) c.member
       apps s = let g = h 0 in
@@ -502,6 +506,6 @@ module _ {C : Type 0} (k : Codec C) (start : Start) where
 
 pub paths_ask : {C : Type 0} (k : Codec C) → InEachRound k PathsAskForAll
 paths_ask k start begun order begins =
-    has_asked k start begun (after_steps k order begun)
+    has_asked k start begun (after_steps k order begun) (round_fits k start begun order begins)
     (λ number. steps_have k start (Since k start number begun) (asks_stepwise k start number (lists_at k start begun) (length (written_by A begun).written) (length (written_by B begun).written) (edges_at k start begun.books)) order begun
     (since_begun k start number begun (begun_has k start number begun begins)))

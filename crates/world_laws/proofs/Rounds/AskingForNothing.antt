@@ -1,6 +1,5 @@
 -- At every moment an end of a path whose turn is over would ask for nothing, or was refused its last grant.
 use Rattle.std.proofs.Common.{◌≡◌, refl, sym, ◌∙◌, ap, subst, ℕ, ◌+◌, inl, inr, ◌⊎◌, ⊎_elim, Bool, true, false, if◌then◌else◌, Option, Some, None, Result, Ok, Err, List, [], ◌∷◌, ◌++◌, length, drop, map}
-use Rattle.std.proofs.lemmas.Bool.{and_parts}
 use Rattle.std.proofs.lemmas.List.{append-nil, append_assoc}
 use Rattle.std.proofs.lemmas.Option.{same_Some}
 use Rattle.std.specs.List.{slice_get}
@@ -10,9 +9,9 @@ use Rattle.send_book.specs.declared.call.Span.{Span}
 use Rattle.send_book.specs.declared.call.Why.{Why}
 use Rattle.send_book.specs.State.{Sending}
 use Rattle.send_book.specs.Steps as sending
+use Rattle.stream_lanes.specs.Words.{Every}
 use Rattle.stream_lanes.proofs.Lists.{in_map, in_set}
 use Rattle.subflow_send.specs.Records.{Record}
-use Rattle.subflow_tcp.specs.States.{may_finish}
 use Rattle.actor_desk.specs.declared.ask.Ask.{Ask}
 use Rattle.actor_desk.specs.declared.ask.Note.{Note}
 use Rattle.actor_desk.specs.declared.ask.Reply.{Reply}
@@ -27,7 +26,7 @@ use Rattle.path_agenda.specs.declared.duty.StepDuty.TheVariants as step_duties
 use Rattle.path_agenda.specs.Agenda.{start_of_turn}
 use Rattle.path_rules.specs.Codec.{Codec}
 use Rattle.path_rules.specs.Duties.{ask_for, answered}
-use Rattle.path_rules.specs.Emission.{first_unsent, may_ask, Grant, grant_in, grant_ask, answered_grant, answered_data, data_ask}
+use Rattle.path_rules.specs.Emission.{first_unsent, Grant, grant_in, grant_ask, answered_grant, answered_data, data_ask}
 use Rattle.path_rules.specs.Ends.{PathEnd}
 use Rattle.path_rules.specs.Starts.{waiting_path}
 use Rattle.path_rules.specs.State.{PathState, Profile, end_at, with_agenda}
@@ -37,11 +36,12 @@ use Rattle.world_laws.specs.Actors.{Actor, ActorCrew, member_asks, member_takes,
 use Rattle.world_laws.specs.Openings.{Start, path_begins, opened_world}
 use Rattle.world_laws.specs.Outcomes.{notes_or, notes_at}
 use Rattle.world_laws.specs.RoundEnd.{asks_grant, is_no_grant, refused_after, last_refused}
-use Rattle.world_laws.specs.RoundNumbers.{BeginsRound, InEachRound, HasNoRoom, AreDoneAsking, GrantsAreDone, after_steps, steps_since}
+use Rattle.world_laws.specs.RoundNumbers.{BeginsRound, InEachRound, AreDoneAsking, GrantsAreDone, after_steps, steps_since}
 use Rattle.world_laws.specs.StampedBooks.{answer_to}
 use Rattle.world_laws.specs.Worlds.{WorldState, note_of, crew_after, asked, stepped, world_step, all_over, greatest, begins, world_run}
 use Rattle.world_laws.proofs.Rounds.GrantAtOneDuty.{MayNotAsk, asks_none, ask_isn't}
-use Rattle.world_laws.proofs.Rounds.EndsRefused.{IsPaid, Pays, Granting, is_followed, is_owed, is_paid, settled_done, data_sent, granted_done, refused_done, answered_done}
+use Rattle.world_laws.proofs.Rounds.PiecesFit.{CrewFits, MemberFits, fits_at, paid_or_refused, round_fits}
+use Rattle.world_laws.proofs.Rounds.EndsRefused.{Pays, Granting, is_followed, is_owed, is_paid, settled_done, data_sent, granted_done, refused_done, answered_done}
 use Rattle.world_laws.proofs.Worlds.Opened.{opened_actors}
 
 -- ---- steps more
@@ -65,14 +65,6 @@ answered_none (Err why) b none = refl
 -- the flags by the steps so far
 abbrev flags_of : List Note → Side → Bool
 flags_of notes s = last_refused s false notes
-
--- an end that may ask was refused, or has no room for a record
-pub paid_or_waits : (c : Profile) (s : Side) (e : PathEnd) (refused : Bool) → IsPaid c s e refused → may_ask c s e ≡ true → (refused ≡ true) ⊎ HasNoRoom e
-paid_or_waits c s e refused paid may = by (first_unsent e) refl
-  where
-    by : (o : Option Record) → first_unsent e ≡ o → (refused ≡ true) ⊎ HasNoRoom e
-    by None is = inl (paid.paid is may)
-    by (Some r) is = inr (record { first = r; is = is; none = paid.waits r is (and_parts (may_finish e.tcp.state) _ may).0 })
 
 module _ {C : Type 0} where
   flags_same : (ds : List Duty) (p : PathState C) (f g : Side → Bool) → ((s : Side) → f s ≡ g s) → ((s : Side) → Pays p ds f s) → (s : Side) → Pays p ds g s
@@ -242,11 +234,11 @@ module _ {C : Type 0} where
 
   -- ---- where a turn is over
 
-  done_asking : (m : Actor C) (notes : List Note) → MemberGrants m notes → AreDoneAsking m notes
-  done_asking (App a) notes h = tt
-  done_asking (Path p) notes h = λ over s may.
+  done_asking : (m : Actor C) (notes : List Note) → MemberFits m → MemberGrants m notes → AreDoneAsking m notes
+  done_asking (App a) notes fits h = tt
+  done_asking (Path p) notes fits h = λ over s may.
       let none : is_owed s p.agenda ≡ false = ap (is_owed s) over in
-      paid_or_waits p.profile s (end_at s p) (flags_of notes s) (is_paid p p.agenda (flags_of notes) s none (h.each s)) may
+      paid_or_refused p.profile s (end_at s p) (flags_of notes s) (fits_at s p fits) (is_paid p p.agenda (flags_of notes) s none (h.each s)) may
 
   -- ---- a round, which began in this world
 
@@ -297,13 +289,13 @@ module _ {C : Type 0} where
     drop_front [] ys = refl
     drop_front (x ∷ xs) ys = drop_front xs ys
 
-    grants_since : (w : WorldState C) → EachSince w → GrantsAreDone u w
-    grants_since w h = record {
+    grants_since : (w : WorldState C) → Every CrewFits w.crew → EachSince w → GrantsAreDone u w
+    grants_since w fits h = record {
       each = λ actor c there.
           let s = h.each actor c there in
           let steps_are : steps_since actor u w ≡ s.steps =
           ap (λ o. drop (length (notes_at actor u.crew)) (notes_or o)) there ∙ ap (drop (length (notes_at actor u.crew))) s.list_is ∙ drop_front (notes_at actor u.crew) s.steps in
-          subst (AreDoneAsking c.member) (sym steps_are) (done_asking c.member s.steps s.grants);
+          subst (AreDoneAsking c.member) (sym steps_are) (done_asking c.member s.steps (fits.each actor c there) s.grants);
     }
 
   begun_members : (k : Codec C) (start : Start) (u : WorldState C) → BeginsRound k start u → (actor : ℕ) (c : ActorCrew C) → slice_get u.crew actor ≡ Some c → MemberGrants c.member []
@@ -321,4 +313,4 @@ module _ {C : Type 0} where
 
   pub grants_are_done : (k : Codec C) → InEachRound k GrantsAreDone
   grants_are_done k start begun order begins =
-      grants_since k begun (after_steps k order begun) (steps_since_then k begun order begun (begun_since k begun (begun_members k start begun begins)))
+      grants_since k begun (after_steps k order begun) (round_fits k start begun order begins) (steps_since_then k begun order begun (begun_since k begun (begun_members k start begun begins)))

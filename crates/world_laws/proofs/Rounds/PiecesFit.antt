@@ -1,0 +1,723 @@
+-- An end that may ask for bytes, with room for a full segment, has room for each record that is to be sent: no piece is longer than the
+-- payload of a full segment, and its SYN is acknowledged.
+use Rattle.std.proofs.Common.{◌≡◌, refl, sym, subst, ap, ℕ, zero, suc, ◌-◌, ◌≤◌, ◌&&◌, ◌||◌, ◌==◌, min, not, nat_lt, nat_le, Bool, true, false, if◌then◌else◌, Option, Some, None, List, [], ◌∷◌, length, take, drop, Result, Ok, Err, arith}
+use Rattle.std.proofs.lemmas.Bool.{and_parts, and_from, both_ways, false≢true, true≢false, leb-true, le-leb, ltb-true, ltb-false}
+use Rattle.std.proofs.lemmas.List.{length-take, length-drop}
+use Rattle.std.proofs.lemmas.Option.{same_Some}
+use Rattle.sides.specs.declared.side.Side.{Side}
+use Rattle.sides.specs.declared.side.Side.TheVariants.{A, B}
+use Rattle.send_book.specs.declared.call.Span.{Span}
+use Rattle.send_book.specs.declared.call.Why.{Why}
+use Rattle.send_book.specs.declared.call.SendReply.TheVariants as send_replies
+use Rattle.send_book.specs.State.{Sending as SendBook}
+use Rattle.send_book.specs.Steps as booking
+use Rattle.send_book.proofs.Decisions.{decision-MayTake}
+use Rattle.dss_mapping.specs.declared.kept.KeptMapping.{KeptMapping}
+use Rattle.join_handshake.specs.declared.hearing.JoinSyn.{JoinSyn}
+use Rattle.link_script.specs.declared.script.ScriptLine.{ScriptLine}
+use Rattle.link_model.specs.Steps.{arriving, after_delivery}
+use Rattle.path_segments.specs.Heard.{HeardSegment}
+use Rattle.subflow_send.specs.Records.{Record, SendState}
+use Rattle.subflow_send.specs.Rules.{is_unsent, uncovered, after_acknowledge, ack_kind, sample_of, after_resent}
+use Rattle.subflow_send.specs.declared.record.AckKind.{AckKind}
+use Rattle.subflow_send.specs.declared.record.AckKind.TheVariants.{New, Duplicate, Old, Future}
+use Rattle.subflow_tcp.specs.declared.handshake.State.{State as EndPhase}
+use Rattle.subflow_tcp.specs.declared.handshake.State.TheVariants as phase
+use Rattle.subflow_tcp.specs.declared.segments.Occasion.{Occasion}
+use Rattle.subflow_tcp.specs.declared.segments.Occasion.TheVariants as to_send
+use Rattle.subflow_tcp.specs.declared.segments.Hint.{Hint}
+use Rattle.subflow_tcp.specs.declared.verdicts.Meaning.{Meaning}
+use Rattle.subflow_tcp.specs.declared.verdicts.Meaning.TheVariants as means
+use Rattle.subflow_tcp.specs.Closing.{is_fin_next, after_finishing, after_passing_fin}
+use Rattle.subflow_tcp.specs.Emitting.{after_sending}
+use Rattle.subflow_tcp.specs.Expiring.{is_sixth, after_expiry, after_fire}
+use Rattle.subflow_tcp.specs.Judging.{is_syn_alone, is_repeated_syn, is_acceptable, meaning_outside, meaning_acknowledging, meaning_within, meaning_placed, meaning_connected, meaning_answer, meaning_answering, meaning_opening, meaning_at, meaning_of}
+use Rattle.subflow_tcp.specs.Opening.{after_begin}
+use Rattle.subflow_tcp.specs.Segments.{Copy}
+use Rattle.subflow_tcp.specs.Sizes.{room}
+use Rattle.subflow_tcp.specs.State.{EndState, is_at_limit}
+use Rattle.subflow_tcp.specs.States as states
+use Rattle.subflow_tcp.specs.Taking.{after_death, after_dropping_held, after_keeping_held, after_holding, is_fin_acked, after_ack_kind, after_acknowledgement, is_duplicate, after_duplicate, after_interruption, told_by, after_payload, after_hearing, after_established, after_taken, after_syn_ack, after_syn, after_arrival, unkept}
+use Rattle.stream_lanes.specs.Words.{Every}
+use Rattle.stream_lanes.proofs.Lists.{Every-push}
+use Rattle.actor_desk.specs.declared.ask.Ask.{Ask}
+use Rattle.actor_desk.specs.declared.ask.Reply.{Reply}
+use Rattle.actor_desk.specs.declared.ask.Reply.TheVariants as replies
+use Rattle.actor_desk.specs.Books.{StampedBooks, books_in}
+use Rattle.actor_desk.specs.Words.{is_nil, tail_of}
+use Rattle.path_agenda.specs.Agenda.{start_of_turn, leaves, emission}
+use Rattle.path_agenda.specs.Items.{keys_heard, key_heard}
+use Rattle.path_agenda.specs.Words.{replaced}
+use Rattle.path_agenda.specs.declared.duty.Duty.{Duty}
+use Rattle.path_agenda.specs.declared.duty.Duty.TheVariants as duties
+use Rattle.path_agenda.specs.declared.duty.AskDuty.TheVariants as ask_duties
+use Rattle.path_agenda.specs.declared.duty.SendDuty.TheVariants as send_duties
+use Rattle.path_agenda.specs.declared.duty.SilentDuty.TheVariants as silent_duties
+use Rattle.path_agenda.specs.declared.duty.StepDuty.TheVariants as step_duties
+use Rattle.path_agenda.specs.declared.heard.Heard.{Heard}
+use Rattle.path_agenda.specs.declared.heard.Heard.TheVariants as says
+use Rattle.path_agenda.specs.declared.keys.KeyPair.{KeyPair}
+use Rattle.path_rules.specs.Arriving.{copy_of, hint_of, items_of, judged_in, taken_as, options_heard, after_judged, owes_by, owing_if, with_payload}
+use Rattle.path_rules.specs.Breaking.{answered_break}
+use Rattle.path_rules.specs.Codec.{Codec}
+use Rattle.path_rules.specs.declared.event.Event.{Event}
+use Rattle.path_rules.specs.declared.event.Event.TheVariants as happenings
+use Rattle.path_rules.specs.Deliver.{Piece, is_wrong, forgotten_by, mapping_here, with_learned, with_skipped}
+use Rattle.path_rules.specs.Duties.{stands, passed, answered, ask_for}
+use Rattle.path_rules.specs.Emission.{Grant, grant_in, grant_ask, data_ask, answered_grant, answered_data, first_unsent, payload_size, may_ask, may_send_data, fits}
+use Rattle.path_rules.specs.Ends.{PathEnd}
+use Rattle.path_rules.specs.Events.{next_event, after_line, at_tick, died, died_unless_dead, join_begun, copy_heard, heard_in, happens_if, told_at, never_joined}
+use Rattle.path_store.specs.declared.lines.LineAction.{LineAction}
+use Rattle.path_store.specs.declared.lines.LineAction.TheVariants as actions
+use Rattle.path_rules.specs.Joining.{keys_begun, is_never, opened_by, join_taken, asked_at, syn_alone, after_joining_syn, is_listening}
+use Rattle.path_rules.specs.Joins.{is_joined}
+use Rattle.path_rules.specs.Opening.{answered_peer_key, answered_opened}
+use Rattle.path_rules.specs.Passing.{answered_piece, is_placed, is_fin_set, piece_of, answer_occasion, resend_occasion}
+use Rattle.path_rules.specs.Starts.{PathStart, first_state, waiting_path}
+use Rattle.path_rules.specs.State.{PathState, Profile, end_at, goes_on, left, path_of, with_agenda}
+use Rattle.path_rules.specs.Steps.{settled, answers, takes, begins_turn, asks_first}
+use Rattle.path_rules.specs.Treating.{counts, is_clash, heard_passed, item_passed, answered_heard, answered_item, item_of, breaks_by_ack, is_dropped, with_data_fin}
+use Rattle.path_rules.proofs.Judgements.{judged_taken}
+use Rattle.world_laws.specs.declared.member.Member.TheVariants.{App, Path}
+use Rattle.world_laws.specs.Actors.{Actor, ActorCrew, member_asks, member_takes, member_next, is_over}
+use Rattle.world_laws.specs.Openings.{Start, path_begins, opened_world}
+use Rattle.world_laws.specs.RoundNumbers.{BeginsRound, after_steps}
+use Rattle.world_laws.specs.StampedBooks.{answer_to}
+use Rattle.world_laws.specs.Worlds.{WorldState, Turn, crew_after, begins, world_step, world_run}
+use Rattle.world_laws.proofs.Falls.FailedChecks.{check_failed_so, fail_heard_so, infinite_came_so, fail_answered_so}
+use Rattle.world_laws.proofs.Lanes.Records.{unsent_sent_kept, first_sent_kept, fin_sent_kept, expired_kept, uncovered_kept}
+use Rattle.world_laws.proofs.Lanes.Saying.{every_one}
+use Rattle.world_laws.proofs.Rounds.EndsRefused.{IsPaid}
+use Rattle.world_laws.proofs.Rounds.Lifting.{step_lifted, round_lifted, run_lifted, opened_lifted}
+use Rattle.world_laws.proofs.Worlds.Finding.{find_every}
+
+-- ---- a sending side
+
+abbrev pub IsSmall : ℕ → Record → Type 0
+IsSmall limit r = length r.piece ≤ limit
+
+-- no octets are
+none_small : (limit : ℕ) → 0 ≤ limit
+none_small limit = omega arith
+
+-- no piece is longer than so many octets; and where the state lets a FIN be sent the SYN is acknowledged
+pub record SendFits (limit : ℕ) (state : EndPhase) (v : SendState) : Type 0 where
+  pub sizes : Every (IsSmall limit) v.records
+  pub begun : states.may_finish state ≡ true → 1 ≤ v.una
+
+abbrev pub TcpFits : ℕ → EndState → Type 0
+TcpFits limit s = SendFits limit s.state s.send
+
+abbrev pub EndFits : ℕ → PathEnd → Type 0
+EndFits limit e = TcpFits limit e.tcp
+
+-- ---- states
+
+finish_never : (state : EndPhase) → states.may_finish (states.after_finish state) ≡ false
+finish_never phase.Waiting = refl
+finish_never phase.Listen = refl
+finish_never phase.SynSent = refl
+finish_never phase.SynReceived = refl
+finish_never phase.Established = refl
+finish_never phase.FinWait1 = refl
+finish_never phase.FinWait2 = refl
+finish_never phase.CloseWait = refl
+finish_never phase.Closing = refl
+finish_never phase.LastAck = refl
+finish_never phase.TimeWait = refl
+finish_never phase.Dead = refl
+
+passed_may : (state : EndPhase) → states.may_finish (states.after_fin_passed state) ≡ true → states.may_finish state ≡ true
+passed_may phase.Waiting is = is
+passed_may phase.Listen is = is
+passed_may phase.SynSent is = is
+passed_may phase.SynReceived is = is
+passed_may phase.Established is = refl
+passed_may phase.FinWait1 is = is
+passed_may phase.FinWait2 is = is
+passed_may phase.CloseWait is = is
+passed_may phase.Closing is = is
+passed_may phase.LastAck is = is
+passed_may phase.TimeWait is = is
+passed_may phase.Dead is = is
+
+acked_may : (state : EndPhase) → states.may_finish (states.after_fin_acked state) ≡ true → states.may_finish state ≡ true
+acked_may phase.Waiting is = is
+acked_may phase.Listen is = is
+acked_may phase.SynSent is = is
+acked_may phase.SynReceived is = is
+acked_may phase.Established is = is
+acked_may phase.FinWait1 is = is
+acked_may phase.FinWait2 is = is
+acked_may phase.CloseWait is = is
+acked_may phase.Closing is = is
+acked_may phase.LastAck is = is
+acked_may phase.TimeWait is = is
+acked_may phase.Dead is = is
+
+-- ---- acknowledgements
+
+sizes_acked : (limit pos : ℕ) (v : SendState) → Every (IsSmall limit) v.records → Every (IsSmall limit) (after_acknowledge pos v).records
+sizes_acked limit pos v h = by (nat_lt v.una pos && nat_le pos v.nxt)
+  where
+    by : (b : Bool) → Every (IsSmall limit) (if b then record v { una = pos; records = uncovered pos v.records } else v).records
+    by true = uncovered_kept pos v.records h
+    by false = h
+
+una_stays : (pos : ℕ) (v : SendState) → 1 ≤ v.una → 1 ≤ (after_acknowledge pos v).una
+una_stays pos v some = by (nat_lt v.una pos && nat_le pos v.nxt) refl
+  where
+    by : (b : Bool) → (nat_lt v.una pos && nat_le pos v.nxt) ≡ b → 1 ≤ (if b then record v { una = pos; records = uncovered pos v.records } else v).una
+    by true is = let more = ltb-true v.una pos (and_parts (nat_lt v.una pos) (nat_le pos v.nxt) is).0 in let low : 1 ≤ pos = omega (arith, more) in low
+    by false is = some
+
+not_less : (x y : Bool) → (x && y) ≡ false → y ≡ true → x ≡ false
+not_less true y none is = absurd (both_ways y none is)
+not_less false y none is = refl
+
+-- the SYN is acknowledged by a position that was sent
+una_grows : (pos : ℕ) (v : SendState) → 1 ≤ pos → pos ≤ v.nxt → 1 ≤ (after_acknowledge pos v).una
+una_grows pos v some sent = by (nat_lt v.una pos && nat_le pos v.nxt) refl
+  where
+    by : (b : Bool) → (nat_lt v.una pos && nat_le pos v.nxt) ≡ b → 1 ≤ (if b then record v { una = pos; records = uncovered pos v.records } else v).una
+    by true is = some
+    by false is = let least = ltb-false v.una pos (not_less (nat_lt v.una pos) (nat_le pos v.nxt) is (le-leb pos v.nxt sent)) in let low : 1 ≤ v.una = omega (arith, least, some) in low
+
+acknowledged_fits : (limit pos now : ℕ) (s : EndState) → Every (IsSmall limit) s.send.records → (states.may_finish s.state ≡ true → 1 ≤ (after_acknowledge pos s.send).una)
+    → TcpFits limit (after_acknowledgement pos now s)
+acknowledged_fits limit pos now s sizes begun = by (ack_kind pos s.send)
+  where
+    t : EndState
+    t = record s { send = after_acknowledge pos s.send }
+
+    fits_then : TcpFits limit t
+    fits_then = record { sizes = sizes_acked limit pos s.send sizes; begun = begun }
+
+    back : (b : Bool) → states.may_finish (if b then states.after_fin_acked s.state else s.state) ≡ true → states.may_finish s.state ≡ true
+    back true is = acked_may s.state is
+    back false is = is
+
+    by : (kind : AckKind) → TcpFits limit (after_ack_kind kind (sample_of pos s.send) now t)
+    by (New octets) = record { sizes = fits_then.sizes; begun = λ is. begun (back (is_fin_acked t.send) is) }
+    by Duplicate = fits_then
+    by Old = fits_then
+    by Future = fits_then
+
+row_fits : (limit : ℕ) (b : Bool) (s : EndState) → TcpFits limit s → TcpFits limit (if b then after_duplicate s else after_interruption s)
+row_fits limit true s h = h
+row_fits limit false s h = h
+
+-- ---- what a copy means: it acknowledges a position that was sent, behind the SYN where the end isn't open yet
+
+abbrev MeansSo : EndPhase → ℕ → Meaning → Type 0
+MeansSo state nxt (means.Accepts acknowledged) = (1 ≤ acknowledged) × (acknowledged ≤ nxt)
+MeansSo state nxt (means.Taken pos acknowledged) = states.is_half_open state ≡ true → (1 ≤ acknowledged) × (acknowledged ≤ nxt)
+MeansSo state nxt _ = Unit {0}
+
+some_acked : (half : Bool) (n : ℕ) → half ≡ true → (half && n == 0) ≡ false → 1 ≤ n
+some_acked true zero is none = absurd (true≢false none)
+some_acked true (suc n) is none = omega arith
+some_acked false n is none = absurd (false≢true is)
+
+positive : (n : ℕ) → nat_lt 0 n ≡ true → 1 ≤ n
+positive n is = let more = ltb-true 0 n is in omega (arith, more)
+
+module _ (c : Copy) (s : EndState) where
+  abbrev Says : Meaning → Type 0
+  Says = MeansSo s.state s.send.nxt
+
+  either_says : (b : Bool) (x y : Meaning) → (b ≡ true → Says x) → (b ≡ false → Says y) → Says (if b then x else y)
+  either_says true x y first second = first refl
+  either_says false x y first second = second refl
+
+  acknowledging : (o : Option ℕ) (pos : ℕ) → Says (meaning_acknowledging o pos s)
+  acknowledging None pos = tt
+  acknowledging (Some acknowledged) pos =
+      either_says (nat_lt s.send.nxt acknowledged) means.Ahead (if states.is_half_open s.state && acknowledged == 0 then means.Unacknowledging else means.Taken pos acknowledged)
+      (λ is. tt)
+      (λ low. either_says (states.is_half_open s.state && acknowledged == 0) means.Unacknowledging (means.Taken pos acknowledged)
+      (λ is. tt)
+      (λ none half. (some_acked (states.is_half_open s.state) acknowledged half none, ltb-false s.send.nxt acknowledged low)))
+
+  outside : Says (meaning_outside c)
+  outside = either_says c.rst means.Ignored means.Outside (λ is. tt) (λ is. tt)
+
+  within : (pos : ℕ) → Says (meaning_within pos c s)
+  within pos =
+      either_says c.rst (if pos == s.recv.edge then means.Kills else means.Challenged) (if c.syn then means.Challenged else meaning_acknowledging c.acknowledged pos s)
+      (λ is. either_says (pos == s.recv.edge) means.Kills means.Challenged (λ at. tt) (λ at. tt))
+      (λ is. either_says c.syn means.Challenged (meaning_acknowledging c.acknowledged pos s) (λ syn. tt) (λ syn. acknowledging c.acknowledged pos))
+
+  placed : (o : Option ℕ) → Says (meaning_placed o c s)
+  placed None = outside
+  placed (Some pos) = either_says (is_acceptable s.recv.edge pos c) (meaning_within pos c s) (meaning_outside c) (λ is. within pos) (λ is. outside)
+
+  connected : Says (meaning_connected c s)
+  connected =
+      either_says (is_at_limit s) means.Ignored (if is_repeated_syn c s then means.RepeatedSyn else meaning_placed c.position c s) (λ is. tt)
+      (λ is. either_says (is_repeated_syn c s) means.RepeatedSyn (meaning_placed c.position c s) (λ again. tt) (λ again. placed c.position))
+
+  answering : (o : Option ℕ) → Says (meaning_answering o c s)
+  answering None = tt
+  answering (Some acknowledged) =
+      either_says (nat_lt 0 acknowledged && nat_le acknowledged s.send.nxt) (meaning_answer c acknowledged) means.Ignored
+      (λ is. let parts = and_parts (nat_lt 0 acknowledged) (nat_le acknowledged s.send.nxt) is in
+      either_says c.rst means.Kills (if c.syn then means.Accepts acknowledged else means.Ignored) (λ rst. tt)
+      (λ rst. either_says c.syn (means.Accepts acknowledged) means.Ignored (λ syn. (positive acknowledged parts.0, leb-true acknowledged s.send.nxt parts.1)) (λ syn. tt)))
+      (λ is. tt)
+
+  opening : Says (meaning_opening c s)
+  opening = either_says (is_at_limit s) means.Ignored (meaning_answering c.acknowledged c s) (λ is. tt) (λ is. answering c.acknowledged)
+
+  meant_so : Says (meaning_of c s)
+  meant_so = by s.state
+    where
+      by : (state : EndPhase) → Says (meaning_at state c s)
+      by phase.Dead = either_says c.rst means.Ignored means.Unwanted (λ is. tt) (λ is. tt)
+      by phase.Waiting = tt
+      by phase.Listen = either_says (is_syn_alone c) means.Opens means.Ignored (λ is. tt) (λ is. tt)
+      by phase.SynSent = opening
+      by phase.SynReceived = connected
+      by phase.Established = connected
+      by phase.FinWait1 = connected
+      by phase.FinWait2 = connected
+      by phase.CloseWait = connected
+      by phase.Closing = connected
+      by phase.LastAck = connected
+      by phase.TimeWait = connected
+
+-- ---- an end of a subflow
+
+opens_acked : (state : EndPhase) (v : SendState) (acknowledged : ℕ) → (states.is_half_open state ≡ true → (1 ≤ acknowledged) × (acknowledged ≤ v.nxt)) → (states.may_finish state ≡ true → 1 ≤ v.una)
+    → states.may_finish (states.after_handshake state) ≡ true → 1 ≤ (after_acknowledge acknowledged v).una
+opens_acked phase.SynReceived v acknowledged half begun is = let sent = half refl in una_grows acknowledged v sent.0 sent.1
+opens_acked phase.Established v acknowledged half begun is = una_stays acknowledged v (begun refl)
+opens_acked phase.CloseWait v acknowledged half begun is = una_stays acknowledged v (begun refl)
+opens_acked phase.Waiting v acknowledged half begun is = absurd (false≢true is)
+opens_acked phase.Listen v acknowledged half begun is = absurd (false≢true is)
+opens_acked phase.SynSent v acknowledged half begun is = absurd (false≢true is)
+opens_acked phase.FinWait1 v acknowledged half begun is = absurd (false≢true is)
+opens_acked phase.FinWait2 v acknowledged half begun is = absurd (false≢true is)
+opens_acked phase.Closing v acknowledged half begun is = absurd (false≢true is)
+opens_acked phase.LastAck v acknowledged half begun is = absurd (false≢true is)
+opens_acked phase.TimeWait v acknowledged half begun is = absurd (false≢true is)
+opens_acked phase.Dead v acknowledged half begun is = absurd (false≢true is)
+
+taken_fits : (limit pos acknowledged : ℕ) (hint : Hint) (now : ℕ) (c : Copy) (s : EndState) → (states.is_half_open s.state ≡ true → (1 ≤ acknowledged) × (acknowledged ≤ s.send.nxt)) → TcpFits limit s
+    → TcpFits limit (after_taken pos acknowledged hint now c s)
+taken_fits limit pos acknowledged hint now c s half h =
+    let t : EndState = after_established (after_hearing (after_payload pos hint c s)) in
+    row_fits limit (is_duplicate (ack_kind acknowledged t.send) (told_by hint c) c (after_acknowledgement acknowledged now t)) (after_acknowledgement acknowledged now t)
+    (acknowledged_fits limit acknowledged now t h.sizes (opens_acked s.state s.send acknowledged half h.begun))
+
+syn_ack_fits : (limit acknowledged : ℕ) (hint : Hint) (now : ℕ) (c : Copy) (s : EndState) → (1 ≤ acknowledged) × (acknowledged ≤ s.send.nxt) → TcpFits limit s
+    → TcpFits limit (after_syn_ack acknowledged hint now c s)
+syn_ack_fits limit acknowledged hint now c s sent h =
+    let t : EndState = record (after_hearing (after_payload 1 hint c s)) { state = phase.Established } in
+    acknowledged_fits limit acknowledged now t h.sizes (λ is. una_grows acknowledged s.send sent.0 sent.1)
+
+dead_fits : (limit : ℕ) (reset : Bool) (s : EndState) → TcpFits limit s → TcpFits limit (after_death reset s)
+dead_fits limit reset s h = record { sizes = sizes_acked limit s.send.nxt s.send h.sizes; begun = λ is. absurd (false≢true is) }
+
+syn_fits : (limit : ℕ) (hint : Hint) (c : Copy) (s : EndState) → TcpFits limit s → TcpFits limit (after_syn hint c s)
+syn_fits limit hint c s h = record { sizes = h.sizes; begun = λ is. absurd (false≢true is) }
+
+arrived_fits : (limit : ℕ) (m : Meaning) (hint : Hint) (now : ℕ) (c : Copy) (s : EndState) → MeansSo s.state s.send.nxt m → TcpFits limit s → TcpFits limit (after_arrival m hint now c s)
+arrived_fits limit means.Ignored hint now c s so h = h
+arrived_fits limit means.Unwanted hint now c s so h = h
+arrived_fits limit means.Opens hint now c s so h = syn_fits limit hint c s h
+arrived_fits limit (means.Accepts acknowledged) hint now c s so h = syn_ack_fits limit acknowledged hint now c s so h
+arrived_fits limit means.RepeatedSyn hint now c s so h = h
+arrived_fits limit means.Outside hint now c s so h = h
+arrived_fits limit means.Kills hint now c s so h = dead_fits limit false s h
+arrived_fits limit means.Challenged hint now c s so h = h
+arrived_fits limit means.Unacknowledging hint now c s so h = h
+arrived_fits limit means.Ahead hint now c s so h = h
+arrived_fits limit (means.Taken pos acknowledged) hint now c s so h = taken_fits limit pos acknowledged hint now c s so h
+
+sent_fits : (limit : ℕ) (o : Occasion) (now : ℕ) (s : EndState) → TcpFits limit s → TcpFits limit (after_sending o now s)
+sent_fits limit to_send.Reset now s h = h
+sent_fits limit to_send.Answer now s h = h
+sent_fits limit to_send.SynAck now s h = by (s.send.una == 0)
+  where
+    by : (b : Bool) → SendFits limit s.state (if b then after_resent now s.send else s.send)
+    by true = record { sizes = first_sent_kept (IsSmall limit) (λ r x small. small) now s.send.records h.sizes; begun = h.begun }
+    by false = h
+sent_fits limit to_send.Ack now s h = h
+sent_fits limit to_send.Probe now s h = h
+sent_fits limit to_send.First now s h = record { sizes = first_sent_kept (IsSmall limit) (λ r x small. small) now s.send.records h.sizes; begun = h.begun }
+sent_fits limit to_send.Unsent now s h = record { sizes = unsent_sent_kept (IsSmall limit) (λ r x small. small) now s.send.records h.sizes; begun = h.begun }
+sent_fits limit to_send.Fin now s h = record { sizes = fin_sent_kept (IsSmall limit) (λ r x small. small) now s.send.records h.sizes; begun = h.begun }
+
+fin_fits : (limit now : ℕ) (s : EndState) → TcpFits limit s → TcpFits limit (after_sending to_send.Fin now (after_finishing s))
+fin_fits limit now s h = sent_fits limit to_send.Fin now (after_finishing s) (record {
+  sizes = Every-push _ h.sizes (none_small limit);
+  begun = λ is. absurd (both_ways _ (finish_never s.state) is);
+})
+
+fired_fits : (limit now : ℕ) (s : EndState) → TcpFits limit s → TcpFits limit (after_fire now s)
+fired_fits limit now s h = by (is_sixth s)
+  where
+    by : (b : Bool) → TcpFits limit (if b then after_death true s else after_expiry now s)
+    by true = dead_fits limit true s h
+    by false = record { sizes = expired_kept (IsSmall limit) (λ r x small. small) s.send.records h.sizes; begun = h.begun }
+
+passed_fits : (limit : ℕ) (s : EndState) → TcpFits limit s → TcpFits limit (if is_fin_next s then after_passing_fin s else s)
+passed_fits limit s h = by (is_fin_next s)
+  where
+    by : (b : Bool) → TcpFits limit (if b then after_passing_fin s else s)
+    by true = record { sizes = h.sizes; begun = λ is. h.begun (passed_may s.state is) }
+    by false = h
+
+joining_fits : (limit window : ℕ) (s : EndState) → TcpFits limit s → TcpFits limit (after_joining_syn window s)
+joining_fits limit window s h = by (is_listening s.state)
+  where
+    by : (b : Bool) → TcpFits limit (if b then after_syn (unkept None) (syn_alone window) s else s)
+    by true = record { sizes = h.sizes; begun = λ is. absurd (false≢true is) }
+    by false = h
+
+-- ---- an end of a path
+
+either_end : (limit : ℕ) (b : Bool) (e f : PathEnd) → EndFits limit e → EndFits limit f → EndFits limit (if b then e else f)
+either_end limit true e f x y = x
+either_end limit false e f x y = y
+
+died_fits : (limit : ℕ) (e : PathEnd) → EndFits limit e → EndFits limit (died_unless_dead e)
+died_fits limit e h = either_end limit (states.is_dead e.tcp.state) e (died e) h (dead_fits limit false e.tcp h)
+
+opened_fits : (limit : ℕ) (keys : Option KeyPair) (e : PathEnd) → EndFits limit e → EndFits limit (opened_by keys e)
+opened_fits limit None e h = h
+opened_fits limit (Some keys) e h = by (states.is_waiting e.tcp.state)
+  where
+    by : (b : Bool) → TcpFits limit (if b then after_begin e.tcp else e.tcp)
+    by true = record { sizes = h.sizes; begun = λ is. absurd (false≢true is) }
+    by false = h
+
+kept_fits : (limit : ℕ) (s : Side) (e : PathEnd) → EndFits limit e → TcpFits limit (if is_dropped s e then after_dropping_held e.tcp else after_keeping_held e.tcp)
+kept_fits limit s e h = by (is_dropped s e)
+  where
+    by : (b : Bool) → TcpFits limit (if b then after_dropping_held e.tcp else after_keeping_held e.tcp)
+    by true = h
+    by false = h
+
+item_fits : (limit : ℕ) (s : Side) (item : Heard) (e : PathEnd) → EndFits limit e → EndFits limit (heard_passed s item e)
+item_fits limit s says.Dss e h = h
+item_fits limit s (says.Mapping fin) e h = either_end limit (counts e) (with_learned e) (with_skipped e) h h
+item_fits limit s (says.DataFin place) e h = either_end limit (counts e) (with_data_fin place e) e h h
+item_fits limit s _ e h = h
+
+maybe_fits : (limit : ℕ) (s : Side) (o : Option Heard) (e : PathEnd) → EndFits limit e → EndFits limit (item_passed s o e)
+maybe_fits limit s None e h = h
+maybe_fits limit s (Some item) e h = item_fits limit s item e h
+
+checked_fits : (limit : ℕ) (checksums : Bool) (o : Option KeptMapping) (e : PathEnd) → EndFits limit e → EndFits limit (forgotten_by checksums o e)
+checked_fits limit checksums None e h = h
+checked_fits limit checksums (Some kept) e h = either_end limit (is_wrong checksums kept e.tcp) _ e h h
+
+payload_fits : (limit : ℕ) (m : Meaning) (octets : List ℕ) (s : EndState) → MeansSo s.state s.send.nxt m → TcpFits limit s
+    → MeansSo (with_payload m octets s).state (with_payload m octets s).send.nxt m × TcpFits limit (with_payload m octets s)
+payload_fits limit (means.Taken pos acknowledged) octets s so h = by (is_nil octets)
+  where
+    by : (b : Bool) → MeansSo (if b then s else after_holding pos octets s).state (if b then s else after_holding pos octets s).send.nxt (means.Taken pos acknowledged)
+        × TcpFits limit (if b then s else after_holding pos octets s)
+    by true = (so, h)
+    by false = (so, h)
+payload_fits limit _ octets s so h = (so, h)
+
+owing_fits : (limit : ℕ) (b : Bool) (s : EndState) → TcpFits limit s → TcpFits limit (owing_if b s)
+owing_fits limit true s h = h
+owing_fits limit false s h = h
+
+judged_fits : (limit : ℕ) (c : Profile) (s : Side) (now : ℕ) (x : HeardSegment) (e : PathEnd) → EndFits limit e → EndFits limit (after_judged c s now x (judged_in (is_joined c) s x e) e)
+judged_fits limit c s now x e h =
+    let items = items_of (is_joined c) s x in
+    let m : Meaning = taken_as (judged_in (is_joined c) s x e) in
+    let so : MeansSo e.tcp.state e.tcp.send.nxt m = judged_taken x.rst items e (MeansSo e.tcp.state e.tcp.send.nxt) tt (is_joined c) (meaning_of (copy_of x) e.tcp) (meant_so (copy_of x) e.tcp) in
+    let held = payload_fits limit m x.payload e.tcp so h in
+    owing_fits limit (owes_by m items) (after_arrival m (hint_of items) now (copy_of x) (with_payload m x.payload e.tcp))
+    (arrived_fits limit m (hint_of items) now (copy_of x) (with_payload m x.payload e.tcp) held.0 held.1)
+
+-- ---- a path
+
+-- the grants that answer this ask are of a full segment's payload at most
+abbrev GrantsSmall : {C : Type 0} → Ask → Reply → PathState C → Type 0
+GrantsSmall x r p = (s : Side) → x ≡ grant_ask s p → (grant : Grant) → grant_in r ≡ Some grant → length grant.piece ≤ payload_size p.profile
+
+module _ {C : Type 0} where
+  pub record PathFits (p : PathState C) : Type 0 where
+    pub a : EndFits (payload_size p.profile) p.a
+    pub b : EndFits (payload_size p.profile) p.b
+
+  pub fits_at : (s : Side) (p : PathState C) → PathFits p → EndFits (payload_size p.profile) (end_at s p)
+  fits_at A p h = h.a
+  fits_at B p h = h.b
+
+  either_fits : (c : Bool) (q r : PathState C) → PathFits q → PathFits r → PathFits (if c then q else r)
+  either_fits true q r x y = x
+  either_fits false q r x y = y
+
+  -- the end of a side becomes this, whatever else is on the path
+  side_fits : (s : Side) (p q : PathState C) (e : PathEnd) → q.a ≡ (goes_on s e [] p).a → q.b ≡ (goes_on s e [] p).b → q.profile ≡ p.profile → PathFits p → EndFits (payload_size p.profile) e → PathFits q
+  side_fits A p q e same_a same_b same h x = record { a = rw (same, same_a) x; b = rw (same, same_b) h.b }
+  side_fits B p q e same_a same_b same h x = record { a = rw (same, same_a) h.a; b = rw (same, same_b) x }
+
+  -- the ends stay as they are
+  keeps : (p : PathState C) (ds : List Duty) → PathFits p → PathFits (with_agenda ds p)
+  keeps p ds h = record { a = h.a; b = h.b }
+
+  passed_duty : (d : Duty) (p : PathState C) → PathFits p → PathFits (passed d p)
+  passed_duty (duties.Silent (silent_duties.Timer s)) p h = side_fits s p _ _ refl refl refl h (fits_at s p h)
+  passed_duty (duties.Step (step_duties.Heard s index)) p h = side_fits s p _ _ refl refl refl h (maybe_fits (payload_size p.profile) s (item_of index (end_at s p)) (end_at s p) (fits_at s p h))
+  passed_duty (duties.Silent (silent_duties.Keep s)) p h = side_fits s p _ _ refl refl refl h (kept_fits (payload_size p.profile) s (end_at s p) (fits_at s p h))
+  passed_duty (duties.Ask (ask_duties.CheckFailed s)) p h =
+      side_fits s p _ _ refl refl refl h (checked_fits (payload_size p.profile) p.profile.spelling.checksums (mapping_here (end_at s p)) (end_at s p) (fits_at s p h))
+  passed_duty (duties.Step (step_duties.PlainAck s)) p h = side_fits s p _ _ refl refl refl h (fits_at s p h)
+  passed_duty (duties.Step (step_duties.Unmapped s)) p h = side_fits s p _ _ refl refl refl h (fits_at s p h)
+  passed_duty (duties.Silent (silent_duties.PassFin s)) p h = side_fits s p _ _ refl refl refl h (passed_fits (payload_size p.profile) (end_at s p).tcp (fits_at s p h))
+  passed_duty _ p h = h
+
+  settled_fits : (ds : List Duty) (p : PathState C) → PathFits p → PathFits (settled ds p)
+  settled_fits [] p h = keeps p [] h
+  settled_fits (d ∷ ds) p h = either_fits (stands d p) (with_agenda (d ∷ ds) p) (settled ds (passed d p)) (keeps p (d ∷ ds) h) (settled_fits ds (passed d p) (passed_duty d p h))
+
+  -- ---- what happens by itself
+
+  begun_fits : (r : Reply) (dead living : List Duty) (p : PathState C) → PathFits p → PathFits (join_begun r dead living p)
+  begun_fits r dead living p h =
+      either_fits (is_never r) (goes_on A (never_joined r (end_at A p)) dead p) (goes_on A (opened_by (keys_begun r) (end_at A p)) living p)
+      (record { a = dead_fits (payload_size p.profile) false p.a.tcp h.a; b = h.b }) (record { a = opened_fits (payload_size p.profile) (keys_begun r) p.a h.a; b = h.b })
+
+  line_fits : (action : LineAction) (p : PathState C) → PathFits p → PathFits (after_line action p)
+  line_fits actions.Die p h = record { a = died_fits (payload_size p.profile) p.a h.a; b = died_fits (payload_size p.profile) p.b h.b }
+  line_fits (actions.Prio s backup) p h = side_fits s p _ _ refl refl refl h (fits_at s p h)
+  line_fits (actions.Announce s id) p h = record { a = h.a; b = h.b }
+  line_fits (actions.Withdraw s id) p h = record { a = h.a; b = h.b }
+
+  told_fits : (now : ℕ) (s : Side) (x : HeardSegment) (p : PathState C) → PathFits p → PathFits (told_at now s x p)
+  told_fits now s x p h =
+      side_fits s p (told_at now s x p) (after_judged p.profile s now x (judged_in (is_joined p.profile) s x (end_at s p)) (end_at s p)) refl refl refl h
+      (judged_fits (payload_size p.profile) p.profile s now x (end_at s p) (fits_at s p h))
+
+  copy_fits : (s : Side) (heard : Option HeardSegment) (p : PathState C) → PathFits p → PathFits (copy_heard s heard p)
+  copy_fits s None p h = record { a = h.a; b = h.b }
+  copy_fits s (Some heard) p h = told_fits p.clock s (options_heard (end_at s p) heard) p h
+
+  happens_fits : (k : Codec C) (event : Option Event) (r : Reply) (p : PathState C) → PathFits p → PathFits (happens_if k event r p)
+  happens_fits k None r p h = record { a = h.a; b = h.b }
+  happens_fits k (Some (happenings.Joins tick)) r p h =
+      begun_fits r (leaves A) (emission A) (record (at_tick tick p) { joined_at = None }) (record { a = h.a; b = h.b })
+  happens_fits k (Some (happenings.Takes line)) r p h =
+      line_fits line.action (record (at_tick line.tick p) { lines = tail_of p.lines }) (record { a = h.a; b = h.b })
+  happens_fits k (Some (happenings.Arrives due)) r p h =
+      copy_fits due.to (heard_in k due.to (arriving due p.link) p) (record (at_tick due.tick p) { link = after_delivery due p.link }) (record { a = h.a; b = h.b })
+  happens_fits k (Some (happenings.Fires s tick)) r p h =
+      side_fits s p _ _ refl refl refl h (fired_fits (payload_size p.profile) (at_tick tick p).clock (end_at s p).tcp (fits_at s p h))
+
+  -- ---- replies
+
+  grant_fits : (s : Side) (o : Option Grant) (r : Reply) (p : PathState C) → ((grant : Grant) → o ≡ Some grant → length grant.piece ≤ payload_size p.profile) → PathFits p → PathFits (answered_grant s o r p)
+  grant_fits s None r p small h = side_fits s p _ _ refl refl refl h (fits_at s p h)
+  grant_fits s (Some grant) r p small h =
+      let x = fits_at s p h in side_fits s p _ _ refl refl refl h (record { sizes = Every-push _ x.sizes (small grant refl); begun = x.begun })
+
+  data_fits : (k : Codec C) (s : Side) (o : Option Record) (r : Reply) (p : PathState C) (x : Ask) → x ≡ data_ask k s o p → GrantsSmall x r p → PathFits p → PathFits (answered_data k s o r p)
+  data_fits k s (Some first) r p x asks small h = side_fits s p _ _ refl refl refl h (sent_fits (payload_size p.profile) to_send.Unsent p.clock (end_at s p).tcp (fits_at s p h))
+  data_fits k s None r p x asks small h = grant_fits s (grant_in r) r p (small s asks) h
+
+  break_fits : (k : Codec C) (s : Side) (reason : ℕ) (r : Reply) (p : PathState C) → PathFits p → PathFits (answered_break k s reason r p)
+  break_fits k s reason r p h =
+      either_fits (end_at s p).treated.asked _ _ (side_fits s p _ _ refl refl refl h (fits_at s p h))
+      (side_fits s p _ _ refl refl refl h (dead_fits (payload_size p.profile) false (end_at s p).tcp (fits_at s p h)))
+
+  key_fits : (s : Side) (key : Option ℕ) (r : Reply) (p : PathState C) → PathFits p → PathFits (answered_peer_key s key r p)
+  key_fits s None r p h = side_fits s p _ _ refl refl refl h (fits_at s p h)
+  key_fits s (Some key) r p h = side_fits s p _ _ refl refl refl h (fits_at s p h)
+
+  keys_fit : (s : Side) (keys : Option KeyPair) (r : Reply) (p : PathState C) → PathFits p → PathFits (answered_opened s keys r p)
+  keys_fit s None r p h = side_fits s p _ _ refl refl refl h (fits_at s p h)
+  keys_fit s (Some keys) r p h = side_fits s p _ _ refl refl refl h (fits_at s p h)
+
+  heard_fits : (k : Codec C) (s : Side) (item : Heard) (r : Reply) (p : PathState C) → PathFits p → PathFits (answered_heard k s item r p)
+  heard_fits k s (says.DataAck next window) r p h = side_fits s p _ _ refl refl refl h (fits_at s p h)
+  heard_fits k s (says.Mapping fin) r p h = either_fits (is_clash (end_at s p)) _ _ (break_fits k s 1 r p h) (side_fits s p _ _ refl refl refl h (fits_at s p h))
+  heard_fits k s (says.DataFin place) r p h = side_fits s p _ _ refl refl refl h (fits_at s p h)
+  heard_fits k s (says.InfiniteMapping place position) r p h =
+      side_fits s p _ _ refl refl refl h (infinite_came_so (EndFits (payload_size p.profile)) place position r (end_at s p) (λ other. fits_at s p h))
+  heard_fits k s (says.Keys own peer) r p h = side_fits s p _ _ refl refl refl h (fits_at s p h)
+  heard_fits k s (says.Notice notice) r p h = side_fits s p _ _ refl refl refl h (fits_at s p h)
+  heard_fits k s says.Fail r p h = fail_answered_so PathFits s r p (side_fits s p _ _ refl refl refl h (fits_at s p h)) (side_fits s p _ _ refl refl refl h (fits_at s p h))
+  heard_fits k s _ r p h = record { a = h.a; b = h.b }
+
+  items_fit : (k : Codec C) (s : Side) (item : Option Heard) (r : Reply) (p : PathState C) → PathFits p → PathFits (answered_item k s item r p)
+  items_fit k s None r p h = record { a = h.a; b = h.b }
+  items_fit k s (Some item) r p h = heard_fits k s item r p h
+
+  piece_fits : (s : Side) (piece : Option Piece) (placed : Bool) (p : PathState C) → PathFits p → PathFits (answered_piece s piece placed p)
+  piece_fits s None placed p h = side_fits s p _ _ refl refl refl h (fits_at s p h)
+  piece_fits s (Some piece) placed p h = either_fits placed _ _ (side_fits s p _ _ refl refl refl h (fits_at s p h)) (side_fits s p _ _ refl refl refl h (fits_at s p h))
+
+  joined_fits : (s : Side) (keys : Option KeyPair) (asked : Option JoinSyn) (r : Reply) (p : PathState C) → PathFits p → PathFits (join_taken s keys asked r p)
+  joined_fits s (Some keys) (Some asked) r p h =
+      side_fits s p _ _ refl refl refl h (joining_fits (payload_size p.profile) (end_at s p).treated.window (end_at s p).tcp (fits_at s p h))
+  joined_fits s (Some keys) None r p h = record { a = h.a; b = h.b }
+  joined_fits s None (Some asked) r p h = side_fits s p _ _ refl refl refl h (fits_at s p h)
+  joined_fits s None None r p h = record { a = h.a; b = h.b }
+
+  answered_fits : (k : Codec C) (d : Duty) (r : Reply) (p : PathState C) (x : Ask) → x ≡ ask_for k d p → GrantsSmall x r p → PathFits p → PathFits (answered k d r p)
+  answered_fits k (duties.Ask ask_duties.JoinAgain) r p x asks small h = begun_fits r (replaced (duties.Ask (ask_duties.Leave A)) p.agenda) (left p) p h
+  answered_fits k (duties.Step (step_duties.Data s)) r p x asks small h = data_fits k s (first_unsent (end_at s p)) r p x asks small h
+  answered_fits k (duties.Send (send_duties.Syn s)) r p x asks small h = side_fits s p _ _ refl refl refl h (sent_fits (payload_size p.profile) to_send.Unsent p.clock (end_at s p).tcp (fits_at s p h))
+  answered_fits k (duties.Send (send_duties.Fin s)) r p x asks small h = side_fits s p _ _ refl refl refl h (fin_fits (payload_size p.profile) p.clock (end_at s p).tcp (fits_at s p h))
+  answered_fits k (duties.Step step_duties.Events) r p x asks small h = happens_fits k (next_event p) r p h
+  answered_fits k (duties.Ask (ask_duties.PeerKey s)) r p x asks small h = key_fits s (key_heard (end_at s p).treated.items) r p h
+  answered_fits k (duties.Send (send_duties.SynAck s)) r p x asks small h = side_fits s p _ _ refl refl refl h (sent_fits (payload_size p.profile) to_send.SynAck p.clock (end_at s p).tcp (fits_at s p h))
+  answered_fits k (duties.Ask (ask_duties.JoinHeard s)) r p x asks small h = joined_fits s (keys_begun r) (asked_at s p) r p h
+  answered_fits k (duties.Ask (ask_duties.Opened s)) r p x asks small h = keys_fit s (keys_heard (end_at s p).treated.items) r p h
+  answered_fits k (duties.Step (step_duties.Heard s index)) r p x asks small h = items_fit k s (item_of index (end_at s p)) r p h
+  answered_fits k (duties.Ask (ask_duties.FailHeard s)) r p x asks small h =
+      side_fits s p _ _ refl refl refl h (fail_heard_so (EndFits (payload_size p.profile)) r (end_at s p) (λ own owes. fits_at s p h))
+  answered_fits k (duties.Step (step_duties.PlainAck s)) r p x asks small h =
+      either_fits (breaks_by_ack p.profile (end_at s p)) _ _ (break_fits k s 6 r p h) (side_fits s p _ _ refl refl refl h (fits_at s p h))
+  answered_fits k (duties.Step (step_duties.Unmapped s)) r p x asks small h = break_fits k s 6 r p h
+  answered_fits k (duties.Ask (ask_duties.SubflowFin s)) r p x asks small h =
+      either_fits (is_fin_set r) _ _ (side_fits s p _ _ refl refl refl h (fits_at s p h)) (side_fits s p _ _ refl refl refl h (fits_at s p h))
+  answered_fits k (duties.Ask (ask_duties.Edge s)) r p x asks small h = piece_fits s (piece_of s p) (is_placed r) p h
+  answered_fits k (duties.Ask (ask_duties.CheckFailed s)) r p x asks small h =
+      side_fits s p _ _ refl refl refl h
+      (check_failed_so (EndFits (payload_size p.profile)) p.profile.spelling.checksums r (end_at s p) (λ told broken recv forgets. fits_at s p h))
+  answered_fits k (duties.Ask (ask_duties.HeardFin s index)) r p x asks small h =
+      either_fits (is_fin_set r) _ _ (side_fits s p _ _ refl refl refl h (fits_at s p h)) (side_fits s p _ _ refl refl refl h (fits_at s p h))
+  answered_fits k (duties.Send (send_duties.Again s)) r p x asks small h = side_fits s p _ _ refl refl refl h (sent_fits (payload_size p.profile) to_send.First p.clock (end_at s p).tcp (fits_at s p h))
+  answered_fits k (duties.Send (send_duties.Answer s)) r p x asks small h =
+      side_fits s p _ _ refl refl refl h (sent_fits (payload_size p.profile) (answer_occasion (end_at s p)) p.clock (end_at s p).tcp (fits_at s p h))
+  answered_fits k (duties.Send (send_duties.Resend s)) r p x asks small h =
+      side_fits s p _ _ refl refl refl h (sent_fits (payload_size p.profile) (resend_occasion (end_at s p)) p.clock (end_at s p).tcp (fits_at s p h))
+  answered_fits k (duties.Send (send_duties.BreakReset s reason)) r p x asks small h = side_fits s p _ _ refl refl refl h (dead_fits (payload_size p.profile) false (end_at s p).tcp (fits_at s p h))
+  answered_fits k (duties.Send (send_duties.Reset s)) r p x asks small h = side_fits s p _ _ refl refl refl h (dead_fits (payload_size p.profile) false (end_at s p).tcp (fits_at s p h))
+  answered_fits k (duties.Send (send_duties.ResetNoted s)) r p x asks small h = side_fits s p _ _ refl refl refl h (dead_fits (payload_size p.profile) false (end_at s p).tcp (fits_at s p h))
+  answered_fits k (duties.Ask (ask_duties.LeaveNoted s)) r p x asks small h = side_fits s p _ _ refl refl refl h (dead_fits (payload_size p.profile) false (end_at s p).tcp (fits_at s p h))
+  answered_fits k (duties.Step (step_duties.Look s)) r p x asks small h = side_fits s p _ _ refl refl refl h (fits_at s p h)
+  answered_fits k (duties.Ask (ask_duties.Window s)) r p x asks small h = side_fits s p _ _ refl refl refl h (fits_at s p h)
+  answered_fits k (duties.Send (send_duties.Update s)) r p x asks small h = side_fits s p _ _ refl refl refl h (fits_at s p h)
+  answered_fits k (duties.Send (send_duties.FastClose s)) r p x asks small h = side_fits s p _ _ refl refl refl h (fits_at s p h)
+  answered_fits k (duties.Send (send_duties.Notice s)) r p x asks small h = side_fits s p _ _ refl refl refl h (fits_at s p h)
+  answered_fits k (duties.Send (send_duties.DataFin s)) r p x asks small h = side_fits s p _ _ refl refl refl h (fits_at s p h)
+  answered_fits k (duties.Send (send_duties.Refuse s)) r p x asks small h = side_fits s p _ _ refl refl refl h (fits_at s p h)
+  answered_fits k (duties.Send (send_duties.Acknowledge s)) r p x asks small h = side_fits s p _ _ refl refl refl h (fits_at s p h)
+  answered_fits k (duties.Send (send_duties.ResetAnswer s)) r p x asks small h = side_fits s p _ _ refl refl refl h (fits_at s p h)
+  answered_fits k (duties.Ask (ask_duties.AckHeard s)) r p x asks small h = side_fits s p _ _ refl refl refl h (fits_at s p h)
+  answered_fits k (duties.Ask (ask_duties.PlainHandshake s)) r p x asks small h = side_fits s p _ _ refl refl refl h (fits_at s p h)
+  answered_fits k (duties.Ask (ask_duties.PlainData s)) r p x asks small h = side_fits s p _ _ refl refl refl h (fits_at s p h)
+  answered_fits k (duties.Ask (ask_duties.SubflowAck s)) r p x asks small h = side_fits s p _ _ refl refl refl h (fits_at s p h)
+  answered_fits k (duties.Ask (ask_duties.GoIdentity s)) r p x asks small h = side_fits s p _ _ refl refl refl h (fits_at s p h)
+  answered_fits k (duties.Ask (ask_duties.AckOut s)) r p x asks small h = side_fits s p _ _ refl refl refl h (fits_at s p h)
+  answered_fits k (duties.Ask (ask_duties.Rate s)) r p x asks small h = side_fits s p _ _ refl refl refl h (fits_at s p h)
+  answered_fits k (duties.Ask (ask_duties.BreakAck s reason)) r p x asks small h = side_fits s p _ _ refl refl refl h (fits_at s p h)
+  answered_fits k (duties.Ask (ask_duties.Leave s)) r p x asks small h = record { a = h.a; b = h.b }
+  answered_fits k duties.End r p x asks small h = record { a = h.a; b = h.b }
+  answered_fits k _ r p x asks small h = record { a = h.a; b = h.b }
+
+  answers_fit : (k : Codec C) (ds : List Duty) (r : Reply) (p : PathState C) (x : Ask) → asks_first k ds p ≡ Some x → GrantsSmall x r p → PathFits p → PathFits (answers k ds r p)
+  answers_fit k [] r p x asks small h = h
+  answers_fit k (d ∷ ds) r p x asks small h = answered_fits k d r p x (sym (same_Some (ask_for k d p) x asks)) small h
+
+  takes_fit : (k : Codec C) (r : Reply) (p : PathState C) (x : Ask) → asks_first k p.agenda p ≡ Some x → GrantsSmall x r p → PathFits p → PathFits (takes k r p)
+  takes_fit k r p x asks small h =
+      let q : PathState C = answers k p.agenda r p in settled_fits q.agenda q (answers_fit k p.agenda r p x asks small h)
+
+  begins_fit : (p : PathState C) → PathFits p → PathFits (begins_turn p)
+  begins_fit p h = settled_fits start_of_turn (with_agenda start_of_turn p) (keeps p start_of_turn h)
+
+  first_fits : (start : PathStart) (lines : List ScriptLine) → PathFits (waiting_path {C = C} start lines)
+  first_fits start lines = record {
+    a = record { sizes = every_one _ (none_small (payload_size start.profile)); begun = by start.joined_at };
+    b = record { sizes = every_one _ (none_small (payload_size start.profile)); begun = λ is. absurd (false≢true is) };
+  }
+    where
+      by : (o : Option ℕ) → states.may_finish (first_state o) ≡ true → 1 ≤ 0
+      by None is = absurd (false≢true is)
+      by (Some tick) is = absurd (false≢true is)
+
+  -- ---- an actor
+
+  abbrev pub MemberFits : Actor C → Type 0
+  MemberFits (App a) = Unit {0}
+  MemberFits (Path p) = PathFits p
+
+  sized : (path max : ℕ) (standby : Bool) (b : SendBook) (o : Result Span Why) → booking.decision path max standby b ≡ o → (grant : Grant) → grant_in (replies.Send (booking.reply_by o b)) ≡ Some grant → length grant.piece ≤ max
+  sized path max standby b (Err why) is grant found = cc
+  sized path max standby b (Ok span) is grant found =
+      let may = decision-MayTake path max standby b span is in
+      let len : length (booking.part_of span b.written) ≡ min (span.to - span.from) (length b.written - span.from)
+      = rw (length-take (span.to - span.from) (drop span.from b.written), length-drop span.from b.written) refl in
+      let small : length (booking.part_of span b.written) ≤ max = omega (arith, len, may.whole, may.most) in
+      subst (λ (g : Grant). length g.piece ≤ max) (same_Some _ grant found) small
+
+  granted_small : (books : StampedBooks) (p : PathState C) (x : Ask) → GrantsSmall x (answer_to books x) p
+  granted_small books p x s is grant found = by s (subst (λ y. grant_in (answer_to books y) ≡ Some grant) is found)
+    where
+      by : (t : Side) → grant_in (answer_to books (grant_ask t p)) ≡ Some grant → length grant.piece ≤ payload_size p.profile
+      by A at =
+          sized (path_of p) (payload_size p.profile) p.a.modes.standby (books_in books).send_a
+          (booking.decision (path_of p) (payload_size p.profile) p.a.modes.standby (books_in books).send_a) refl grant at
+      by B at =
+          sized (path_of p) (payload_size p.profile) p.b.modes.standby (books_in books).send_b
+          (booking.decision (path_of p) (payload_size p.profile) p.b.modes.standby (books_in books).send_b) refl grant at
+
+  member_step : (k : Codec C) (books : StampedBooks) (m : Actor C) (x : Ask) → member_asks k m ≡ Some x → MemberFits m → MemberFits (member_takes k (answer_to books x) m)
+  member_step k books (App a) x is h = tt
+  member_step k books (Path p) x is h = takes_fit k (answer_to books x) p x is (granted_small books p x) h
+
+  member_begins : (m : Actor C) → MemberFits m → MemberFits (member_next m)
+  member_begins (App a) h = tt
+  member_begins (Path p) h = begins_fit (record p { clock = p.until; until = p.until + 100 }) (record { a = h.a; b = h.b })
+
+  -- ---- the actors of a world
+
+  abbrev pub CrewFits : ActorCrew C → Type 0
+  CrewFits c = MemberFits c.member
+
+  pub opened_world_fits : (start : Start) → Every CrewFits (opened_world {C = C} start).crew
+  opened_world_fits start = opened_lifted CrewFits start tt tt (λ number plan there. begins_fit (waiting_path (path_begins start number plan) start.lines) (first_fits (path_begins start number plan) start.lines))
+
+  module _ (k : Codec C) where
+    crew_step : (books : StampedBooks) (c : ActorCrew C) (x : Ask) → member_asks k c.member ≡ Some x → CrewFits c → CrewFits (crew_after k x books c)
+    crew_step books c x is h = member_step k books c.member x is h
+
+    crew_begins : (stamp : ℕ) (c : ActorCrew C) → is_over c.member ≡ true → CrewFits c → CrewFits (begins stamp c)
+    crew_begins stamp c over h = member_begins c.member h
+
+    run_fits : (turns : List Turn) (w : WorldState C) → Every CrewFits w.crew → Every CrewFits (world_run k turns w).crew
+    run_fits turns w h = run_lifted k CrewFits crew_step crew_begins turns w h
+
+    steps_fit : (order : List ℕ) (w : WorldState C) → Every CrewFits w.crew → Every CrewFits (after_steps k order w).crew
+    steps_fit [] w h = h
+    steps_fit (actor ∷ order) w h = steps_fit order (world_step k actor w) (step_lifted k CrewFits crew_step crew_begins actor w h)
+
+    begun_world_fits : (start : Start) (u : WorldState C) → BeginsRound k start u → Every CrewFits u.crew
+    begun_world_fits start u (BeginsRound.First is) = subst (λ (v : WorldState C). Every CrewFits v.crew) (sym is) (opened_world_fits start)
+    begun_world_fits start u (BeginsRound.Next turns over is) =
+        subst (λ (v : WorldState C). Every CrewFits v.crew) (sym is) (round_lifted k CrewFits crew_step crew_begins (world_run k turns (opened_world start)) (run_fits turns (opened_world start) (opened_world_fits start)))
+
+    -- so it is in each round
+    pub round_fits : (start : Start) (begun : WorldState C) (order : List ℕ) → BeginsRound k start begun → Every CrewFits (after_steps k order begun).crew
+    round_fits start begun order begins = steps_fit order begun (begun_world_fits start begun begins)
+
+-- ---- room
+
+-- an end that may ask was refused: each record that is to be sent has room
+pub paid_or_refused : (c : Profile) (s : Side) (e : PathEnd) (refused : Bool) → EndFits (payload_size c) e → IsPaid c s e refused → may_ask c s e ≡ true → refused ≡ true
+paid_or_refused c s e refused h paid may = by (first_unsent e) refl
+  where
+    asks : (states.may_finish e.tcp.state ≡ true) × (payload_size c ≤ room e.tcp)
+    asks =
+        let first = and_parts (states.may_finish e.tcp.state) (nat_le (payload_size c) (room e.tcp) && (not (is_at_limit e.tcp) && may_send_data c s e)) may in
+        (first.0, leb-true (payload_size c) (room e.tcp) (and_parts (nat_le (payload_size c) (room e.tcp)) (not (is_at_limit e.tcp) && may_send_data c s e) first.1).0)
+
+    by : (o : Option Record) → first_unsent e ≡ o → refused ≡ true
+    by None is = paid.paid is may
+    by (Some r) is =
+        let small : length r.piece ≤ payload_size c = (find_every (IsSmall (payload_size c)) is_unsent e.tcp.send.records r h.sizes is).0 in
+        let roomy : payload_size c ≤ room e.tcp = asks.1 in
+        absurd (both_ways (fits e.tcp r) (paid.waits r is asks.0)
+        (and_from (nat_le 1 e.tcp.send.una) (nat_le (length r.piece) (room e.tcp)) (le-leb 1 e.tcp.send.una (h.begun asks.0)) (le-leb (length r.piece) (room e.tcp) (omega (arith, small, roomy)))))
