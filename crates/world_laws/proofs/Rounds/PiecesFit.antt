@@ -1,6 +1,6 @@
 -- An end that may ask for bytes, with room for a full segment, has room for each record that is to be sent: no piece is longer than the
 -- payload of a full segment, and its SYN is acknowledged.
-use Rattle.std.proofs.Common.{◌≡◌, refl, sym, subst, ap, ℕ, zero, suc, ◌-◌, ◌≤◌, ◌&&◌, ◌||◌, ◌==◌, min, not, nat_lt, nat_le, Bool, true, false, if◌then◌else◌, Option, Some, None, List, [], ◌∷◌, length, take, drop, Result, Ok, Err, arith}
+use Rattle.std.proofs.Common.{◌≡◌, refl, sym, subst, ap, ℕ, zero, suc, ◌+◌, ◌-◌, ◌≤◌, ◌&&◌, ◌||◌, ◌==◌, min, not, nat_lt, nat_le, Bool, true, false, if◌then◌else◌, Option, Some, None, List, [], ◌∷◌, length, take, drop, Result, Ok, Err, arith}
 use Rattle.std.proofs.lemmas.Bool.{and_parts, and_from, both_ways, false≢true, true≢false, leb-true, le-leb, ltb-true, ltb-false}
 use Rattle.std.proofs.lemmas.List.{length-take, length-drop}
 use Rattle.std.proofs.lemmas.Option.{same_Some}
@@ -443,6 +443,15 @@ judged_fits limit c s now x e h =
 abbrev GrantsSmall : {C : Type 0} → Ask → Reply → PathState C → Type 0
 GrantsSmall x r p = (s : Side) → x ≡ grant_ask s p → (grant : Grant) → grant_in r ≡ Some grant → length grant.piece ≤ payload_size p.profile
 
+sized : (path max : ℕ) (standby : Bool) (b : SendBook) (o : Result Span Why) → booking.decision path max standby b ≡ o → (grant : Grant) → grant_in (replies.Send (booking.reply_by o b)) ≡ Some grant → length grant.piece ≤ max
+sized path max standby b (Err why) is grant found = cc
+sized path max standby b (Ok span) is grant found =
+    let may = decision-MayTake path max standby b span is in
+    let len : length (booking.part_of span b.written) ≡ min (span.to - span.from) (length b.written - span.from)
+    = rw (length-take (span.to - span.from) (drop span.from b.written), length-drop span.from b.written) refl in
+    let small : length (booking.part_of span b.written) ≤ max = omega (arith, len, may.whole, may.most) in
+    subst (λ (g : Grant). length g.piece ≤ max) (same_Some _ grant found) small
+
 module _ {C : Type 0} where
   pub record PathFits (p : PathState C) : Type 0 where
     pub a : EndFits (payload_size p.profile) p.a
@@ -643,15 +652,6 @@ module _ {C : Type 0} where
   abbrev pub MemberFits : Actor C → Type 0
   MemberFits (App a) = Unit {0}
   MemberFits (Path p) = PathFits p
-
-  sized : (path max : ℕ) (standby : Bool) (b : SendBook) (o : Result Span Why) → booking.decision path max standby b ≡ o → (grant : Grant) → grant_in (replies.Send (booking.reply_by o b)) ≡ Some grant → length grant.piece ≤ max
-  sized path max standby b (Err why) is grant found = cc
-  sized path max standby b (Ok span) is grant found =
-      let may = decision-MayTake path max standby b span is in
-      let len : length (booking.part_of span b.written) ≡ min (span.to - span.from) (length b.written - span.from)
-      = rw (length-take (span.to - span.from) (drop span.from b.written), length-drop span.from b.written) refl in
-      let small : length (booking.part_of span b.written) ≤ max = omega (arith, len, may.whole, may.most) in
-      subst (λ (g : Grant). length g.piece ≤ max) (same_Some _ grant found) small
 
   granted_small : (books : StampedBooks) (p : PathState C) (x : Ask) → GrantsSmall x (answer_to books x) p
   granted_small books p x s is grant found = by s (subst (λ y. grant_in (answer_to books y) ≡ Some grant) is found)
