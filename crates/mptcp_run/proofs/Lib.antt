@@ -28,4 +28,5 @@ mod ThreadsMade
 mod TurnsTimely
 mod Taken
 mod CleanRuns
+mod MessagesClean
 mod Unstopped

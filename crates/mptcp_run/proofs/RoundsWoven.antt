@@ -1,48 +1,27 @@
 -- Rounds whose steps stand by stamp, then actor: how one is made of any steps, and what many of them come to.
-use Rattle.std.proofs.Common.{◌≡◌, refl, sym, ◌∙◌, ap, subst, ℕ, zero, suc, ◌+◌, ◌<◌, true, false, List, [], ◌∷◌, ◌++◌, map, drop, length, get_or, append_assoc}
-use Rattle.std.proofs.lemmas.Bool.{both_ways}
-use Rattle.std.proofs.lemmas.List.{append-nil, drop_more}
+use Rattle.std.proofs.Common.{◌≡◌, refl, sym, ◌∙◌, ap, subst, ℕ, suc, ◌+◌, false, List, [], ◌∷◌, ◌++◌, map, length, append_assoc}
+use Rattle.std.proofs.lemmas.List.{append-nil}
 use Rattle.actor_desk.specs.declared.ask.Note.{Note}
 use Rattle.actor_desk.specs.Journals.{order_of}
 use Rattle.path_rules.specs.Octets.{octets}
 use Rattle.world_laws.specs.Fine.{lists_of}
-use Rattle.world_laws.specs.Serial.{after_turns}
-use Rattle.world_laws.specs.Weaving.{Worked, steps_by}
-use Rattle.world_laws.specs.Worlds.{Turn, is_going, world_step, all_over, end_round, greatest, world_run, RunTo, AreLawful}
-use Rattle.world_laws.proofs.Rounds.SerialIsLawful.{all_turns_over}
+use Rattle.world_laws.specs.Weaving.{steps_by}
+use Rattle.world_laws.specs.Worlds.{Turn, world_step, greatest, world_run, AreLawful}
 use Rattle.world_laws.proofs.Weaving.WholeRounds.{run_append, lawful_append}
-use Rattle.world_laws.proofs.Weaving.WorldSteps.{begins_working, turns_working, worked}
-use Rattle.journal_weave.specs.Rounds.{IsWovenRound}
-use Rattle.journal_weave.proofs.RoundsWoven.{worked_round}
 use Rattle.world_core.specs.RoundEnds.{round_ends, last_end, round_steps, steps_by_round}
-use Rattle.world_core.specs.Rounds.{RoundTo}
 use Rattle.world_core.specs.Kept.{Kept}
 use Rattle.world_core.specs.Weaving.{AllGrewAbove, IsSince}
 use Rattle.mptcp_run.specs.declared.rounds.Run.{Run}
 use Rattle.mptcp_run.specs.Replaying.{GoesOn}
 use Rattle.mptcp_run.specs.Rounds.{AtRound, Begins}
 use Rattle.mptcp_run.specs.Task.{Connection}
-use Rattle.mptcp_run.specs.Threads.{after_orders, AreOrders, LeadTo}
-use Rattle.mptcp_run.specs.WovenRounds.{after_woven, WovenTo, turns_told, AreAtMost, AreWovenRounds}
+use Rattle.mptcp_run.specs.WovenRounds.{WovenTo, turns_told, AreAtMost, AreWovenRounds}
 use Rattle.mptcp_run.proofs.Courses.{one_true, one_false, one_both}
 use Rattle.mptcp_run.proofs.LogWoven.{steps_end, steps_fine, told_to_the_end}
 use Rattle.mptcp_run.proofs.RoundsMade.{IsKind}
 use Rattle.mptcp_run.proofs.UnderWay.{step_goes, begins_going, lists_at_end, next_begins}
 
 -- ---- one round
-
--- what steps made of a world, up to the end of each turn, is a round of those steps by stamp, then actor
-worked_woven : (w x : Connection) → Begins w → Worked octets (greatest 0 w.crew) w x → all_over x.crew ≡ true → WovenTo w (end_round x)
-worked_woven w x begins worked over =
-    let r = worked_round w x (record { fine = begins.fine; known = begins.known }) worked over in
-    record { actors = order_of (greatest 0 w.crew) (lists_of x.crew); round = r.round; world = ap end_round (sym r.leads) }
-
--- whole turns in order of number do
-pub serial_woven : (w v : Connection) → Begins w → RoundTo octets w v → WovenTo w v
-serial_woven w v begins r =
-    let x : Connection = after_turns octets 0 r.0 w in
-    let working = turns_working octets (greatest 0 w.crew) 0 r.0 w w (begins_working octets (greatest 0 w.crew) w (record { fine = begins.fine; known = begins.known })) in
-    subst (WovenTo w) (sym r.2) (worked_woven w x begins (worked octets (greatest 0 w.crew) w x working) (all_turns_over octets r.0 w r.1))
 
 -- the next round begins behind it
 pub woven_begins : (w v : Connection) → Begins w → WovenTo w v → Begins v
@@ -104,48 +83,6 @@ woven_kind = record {
 pub woven_to_the_end : (most : ℕ) (turns : List Turn) (w : Connection) → AreWovenRounds most turns w → last_end w (round_ends turns w) ≡ world_run octets turns w
 woven_to_the_end most turns w h =
     subst (λ ts. last_end w (round_ends ts w) ≡ world_run octets ts w) (sym h.in_order) (told_to_the_end (steps_by_round w (round_ends turns w)) w)
-
--- ---- made again
-
--- lawful steps are made whole
-pub run_whole : (order : List ℕ) (count : ℕ) (w v : Connection) → AreLawful octets (steps_by order) w → RunTo octets order count w v → v ≡ world_run octets (steps_by order) w
-run_whole [] count w v lawful h = h.1
-run_whole (actor ∷ order) zero w v lawful h = absurd (both_ways (is_going actor w) h.0 lawful.0)
-run_whole (actor ∷ order) (suc count) w v lawful h = run_whole order count (world_step octets actor w) v lawful.1 h.1
-
--- one of the rounds was made again
-order_again : (actors : List ℕ) (rest : List (List ℕ)) (count : ℕ) (w x v u : Connection) → AreOrders (actors ∷ rest) w → RunTo octets actors count w x → v ≡ end_round x
-    → after_orders (actors ∷ rest) w ≡ u → AreOrders rest v × (after_orders rest v ≡ u)
-order_again actors rest count w x v u h ran ended is =
-    let v_is : after_woven actors w ≡ v = ap end_round (sym (run_whole actors count w x h.0.lawful ran)) ∙ sym ended in
-    (subst (AreOrders rest) v_is h.1, ap (after_orders rest) (sym v_is) ∙ is)
-
--- as a loop over them has it
-pub again_more : {X : Type 0} (f : X → List ℕ) (xs : List X) (i : ℕ) (d : X) (actors : List ℕ) (count : ℕ) (w x v u : Connection) → i < length xs
-    → actors ≡ f d → d ≡ get_or xs i d → AreOrders (map f (drop i xs)) w → RunTo octets actors count w x → v ≡ end_round x → after_orders (map f (drop i xs)) w ≡ u
-    → AreOrders (map f (drop (i + 1) xs)) v × (after_orders (map f (drop (i + 1) xs)) v ≡ u)
-again_more f xs i d actors count w x v u within actors_are d_is h ran ended all =
-    let actors_is = actors_are ∙ ap f d_is in
-    let is : map f (drop i xs) ≡ f (get_or xs i d) ∷ map f (drop (i + 1) xs) = ap (map f) (drop_more xs i d within) in
-    order_again (f (get_or xs i d)) (map f (drop (i + 1) xs)) count w x v u (subst (λ os. AreOrders os w) is h)
-    (subst (λ as_made. RunTo octets as_made count w x) actors_is ran) ended (subst (λ os. after_orders os w ≡ u) is all)
-
-orders_after : (orders : List (List ℕ)) (actors : List ℕ) (w : Connection) → after_orders (orders ++ actors ∷ []) w ≡ after_woven actors (after_orders orders w)
-orders_after [] actors w = refl
-orders_after (first ∷ orders) actors w = orders_after orders actors (after_woven first w)
-
-orders_with : (orders : List (List ℕ)) (actors : List ℕ) (w : Connection) → AreOrders orders w → IsWovenRound actors (after_orders orders w)
-    → AreOrders (orders ++ actors ∷ []) w
-orders_with [] actors w h round = (round, tt)
-orders_with (first ∷ orders) actors w h round = (h.0, orders_with orders actors (after_woven first w) h.1 round)
-
--- with one round more
-pub lead_on : (orders : List (List ℕ)) (actors : List ℕ) (opening w : Connection) → LeadTo orders opening w → IsWovenRound actors w
-    → LeadTo (orders ++ actors ∷ []) opening (after_woven actors w)
-lead_on orders actors opening w h round = record {
-  are = orders_with orders actors opening h.are (subst (IsWovenRound actors) h.end round);
-  end = ap (after_woven actors) h.end ∙ sym (orders_after orders actors opening);
-}
 
 -- ---- a run
 

@@ -1,9 +1,7 @@
--- The next world of a run by threads: behind a round of theirs, or behind one of whole turns.
-use Rattle.std.proofs.Common.{◌≡◌, refl, sym, ◌∙◌, ap, subst, ℕ, ◌-◌, Bool, true, false, not, Result, List, [], ◌∷◌, ◌++◌, map, arith}
+-- The next world of a run by threads.
+use Rattle.std.proofs.Common.{◌≡◌, refl, sym, ◌∙◌, ap, subst, ℕ, ◌-◌, Bool, true, false, not, Result, List, arith}
 use Rattle.std.specs.Prelude.{Ok, Err, IfOk, IfErr, OnOk}
-use Rattle.std.proofs.lemmas.Bool.{both_ways}
 use Rattle.actor_desk.specs.Books.{StampedBooks}
-use Rattle.path_rules.specs.Octets.{octets}
 use Rattle.world_laws.specs.Actors.{ActorCrew}
 use Rattle.world_laws.specs.Fine.{IsFine}
 use Rattle.world_laws.specs.Weaving as weaving
@@ -11,14 +9,10 @@ use Rattle.world_laws.specs.Worlds.{end_round, greatest}
 use Rattle.journal_weave.specs.Rounds.{HaveTurned, WeavesTo}
 use Rattle.world_core.specs.Kept.{Kept, IsInRoundAbove, IsSound, standing, world}
 use Rattle.world_core.proofs.InRound.{steps_in_round}
-use Rattle.world_core.specs.Rounds.{RoundTo}
-use Rattle.mptcp_run.specs.declared.threads.Orders.{Orders}
 use Rattle.mptcp_run.specs.Rounds.{Begins}
 use Rattle.mptcp_run.specs.Task.{Connection}
-use Rattle.mptcp_run.specs.Threads.{CanBeMadeAgain, GoesTo, IsWoven, LeadTo, NextMade, actors_of, after_orders, has_order}
-use Rattle.mptcp_run.specs.WovenRounds.{after_woven}
+use Rattle.mptcp_run.specs.Threads.{GoesTo, IsWoven, has_order}
 use Rattle.mptcp_run.proofs.LogWoven.{steps_fine}
-use Rattle.mptcp_run.proofs.RoundsWoven.{serial_woven, lead_on}
 use Rattle.mptcp_run.proofs.TurnsTimely.{each_timely}
 
 -- ---- orders
@@ -91,38 +85,17 @@ module _ {V E : Type 0} (items : V → List ℕ) (r : Result V E) (found : Bool)
 
 -- ---- the next world
 
--- behind whole turns, threads make no further round
-pub alone_next : (orders : Orders) (opening w : Connection) (next : Kept) → orders.alone ≡ true → GoesTo w next → NextMade orders opening w next
-alone_next orders opening w next alone goes = record { goes = goes; again = λ is. absurd (both_ways orders.alone is alone) }
-
--- in a world that was made again
-pub remade_next : (orders new : Orders) (opening w : Connection) (next : Kept) → LeadTo (actors_of orders) opening w → new.alone ≡ true
-    → GoesTo (after_orders (actors_of orders) opening) next → NextMade new opening w next
-remade_next orders new opening w next lead alone goes =
-    alone_next new opening w next alone (subst (λ (x : Connection). GoesTo x next) (sym lead.end) goes)
-
 -- all are left
 pub less_none : (P : ℕ → Type 0) (most : ℕ) → P (most - 0) → P most
 less_none P most h = let is : most - 0 ≡ most = omega arith in subst P is h
 
--- before the first round
-pub none_kept : {X : Type 0} (f : X → List ℕ) (made : List X) (opening w : Connection) → made ≡ [] → w ≡ opening → LeadTo (map f made) opening w
-none_kept f made opening w none same =
-    subst (λ xs. LeadTo (map f xs) opening w) (sym none) (record { are = tt; end = same })
-
--- behind a round by threads, which is kept
-pub woven_made : (orders new : Orders) (opening w : Connection) (mid next : Kept) (actors : List ℕ) → IsWoven w mid actors → CanBeMadeAgain orders opening w
-    → new.alone ≡ orders.alone → next ≡ standing (end_round mid.state) → actors_of new ≡ actors_of orders ++ actors ∷ [] → NextMade new opening w next
-woven_made orders new opening w mid next actors h again alone is kept =
-    let after : next.state ≡ after_woven actors w = ap (λ (k : Kept). k.state) is ∙ ap end_round (sym h.weaves.leads) in
-    record {
-      goes = record { round = record { actors = actors; round = h.weaves.round; world = after }; stands = ap (λ (k : Kept). k.failed) is };
-      again = λ going.
-          subst (λ lists. LeadTo lists opening next.state) (sym kept)
-          (subst (LeadTo (actors_of orders ++ actors ∷ []) opening) (sym after)
-          (lead_on (actors_of orders) actors opening w (again (sym alone ∙ going)) h.weaves.round));
-    }
-
--- whole turns in order of number are such a round
-pub serial_goes : (w : Connection) (next : Kept) → Begins w → RoundTo octets w next.state → next.failed ≡ false → GoesTo w next
-serial_goes w next begins r stands = record { round = serial_woven w next.state begins r; stands = stands }
+-- behind the end of a round by threads
+pub woven_goes : (w : Connection) (mid next : Kept) (actors : List ℕ) → IsWoven w mid actors → next ≡ standing (end_round mid.state) → GoesTo w next
+woven_goes w mid next actors h is = record {
+  round = record {
+    actors = actors;
+    round = h.weaves.round;
+    world = ap (λ (k : Kept). k.state) is ∙ ap end_round (sym h.weaves.leads);
+  };
+  stands = ap (λ (k : Kept). k.failed) is;
+}

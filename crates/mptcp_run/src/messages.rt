@@ -4,7 +4,9 @@ ghost use Rattle.std.specs.Prelude.{◌≡◌, [], Some, map, string_bytes, IfOk
 ghost use Rattle.outside_kit.specs.declared.port.Port.{Port};
 ghost use Rattle.run_words.specs.Lines.{as_line, shown_work};
 ghost use Rattle.mptcp_run.specs.Answers.{NothingWasRun};
+ghost use Rattle.message_pipe.specs.Lined.{lined_content};
 ghost use Rattle.mptcp_run.specs.Asked.{asked_in, is_run};
+ghost use Rattle.mptcp_run.specs.Clean.{DeliversIfClean};
 ghost use Rattle.mptcp_run.specs.Promised.{NoneIsAltered};
 ghost use Rattle.run_outside.specs.Inputs.{order_of};
 ghost use Rattle.mptcp_run.specs.Messages.{IsMessagesAnswer, IsRunOverFrames, ReadersShow, is_apart, is_order, messages_in, refused_or, status_for, takes_messages, with_refusals};
@@ -156,7 +158,7 @@ fn run_line<O: Outside, G: Gate + Sync, R: Threads + Wait + Sync>(
 
 /// Runs a connection as the words say, with each line of FILE_A and of FILE_B as one message: what [`run`](crate::run) does where
 /// both files hold the frames of their lines, each line behind its length in four octets. Lines end with LF, and a last line
-/// without one counts. A reader's port gets each message with LF behind it, in one put, once all of it has come.
+/// without one counts. A reader's port gets each message with LF behind it, once all of it has come.
 ///
 /// The modes are `run`, `serial` and `replay`; a log of `replay` is that of a run of messages. Neither file is the script or the log. The
 /// limit of a file is that of its frames. The readers' ports are empty, where that is told. The outside is given back as
@@ -176,6 +178,12 @@ pub fn run_messages<O: Outside, G: Gate + Sync, R: Threads + Wait + Sync>(
         NoneIsAltered (O.content outside) line → ReadersShow
         (O.content outside line.names.file_a) (O.content outside line.names.file_b)
         (O.holds outside) (O.holds result.1) result.0) }
+    // A clean script, one path and no line, in `run` or `serial`, with rounds that are enough for the frames of its files: all lines
+    // are delivered, or memory is wanting, as long as the inputs are valid and no count of faults rises.
+    ensures clean { IfSome (messages_in (map string_bytes words.now)) (λ line. DeliversIfClean
+        (lined_content line.names.file_a line.names.file_b (O.content outside)) line
+        (O.load_faults outside) (O.load_faults result.1)
+        (O.port_faults outside) (O.port_faults result.1) result.0) }
     // Why it ends so: what `run` answers where both files hold the frames of their lines.
     ensures answer { IfSome (messages_in (map string_bytes words.now)) (λ line. IsMessagesAnswer
         (O.content outside) line

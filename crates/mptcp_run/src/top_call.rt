@@ -220,7 +220,6 @@ fn take_threaded_rounds<O: Outside, G: Gate + Sync, R: Threads + Wait + Sync>(
     run: Run,
 ) -> (Run, Result<Status, Status>)
     requires opened { IsOpened input.now Report.Log run }
-    requires ranges { HasRanges input.now.script }
     ensures ended { IfOk result.1 (CameToEnd [] (as_line line.now)
         (task_from input.now (course.threads rounds))
         (O.holds outside.old) (O.holds outside.new) (O.calls outside.old) (O.calls outside.new)) }
@@ -234,7 +233,7 @@ fn take_threaded_rounds<O: Outside, G: Gate + Sync, R: Threads + Wait + Sync>(
         Ok(()) => {}
         Err(status) => return (run, Err(status)),
     }
-    let (run, told) = make_threaded_rounds(rt, alloc, outside, input, run, rounds, gate);
+    let (run, told) = make_threaded_rounds(rt, alloc, outside, run, rounds, gate);
     match told {
         Ok(()) => {
             let told = end(alloc, outside, &run, Report::Log);
@@ -399,11 +398,11 @@ fn run_line<O: Outside, G: Gate + Sync, R: Threads + Wait + Sync>(
 /// `Log` gets one line in the place of a log, at the end.
 ///
 /// In `run` the actors of a round take their turns at the same time, each in a thread of its own,
-/// over books behind locks; the rest is as in `serial`. Which steps come first is up to the threads,
-/// so two runs may differ, but each is that of its log. A round whose steps can't be put in order by
-/// stamp, or that ran out of stamps, isn't put: the rounds before it are made again, and it and all
-/// later ones are made as in `serial`. Only in `run` is a thread started and `gate` passed, and only
-/// there may the call wait.
+/// over books that lie in tables, each behind a ticket lock for as long as the round takes; the rest
+/// is as in `serial`. Which steps come first is up to the threads, so two runs may differ, but each
+/// is that of its log: the steps of every round can be put in order by stamp. Only in `run` is a
+/// thread started and `gate` passed, and only there may the call wait. In each mode stamps that are
+/// used up, behind 2^62 steps, count as want of memory.
 ///
 /// The promises on what `outside` holds are kept as far as it tells it. None says that a thread is
 /// started, that a lock is got, or that the call returns.

@@ -1,9 +1,7 @@
 use Rattle.std.proofs.Common.{refl, sym, subst, inl, inr}
 use Rattle.std.proofs.lemmas.Result.{on_ok_weaker}
 use Rattle.world_core.specs.Kept.{Kept}
-use Rattle.world_laws.specs.Openings.{opened_world, start_of}
 use Rattle.mptcp_run.specs.Making.{RoundMade}
-use Rattle.mptcp_run.specs.Threads.{CanBeMadeAgain}
 use Rattle.mptcp_run.specs.WovenRounds.{WovenTo}
 use Rattle.mptcp_run.proofs.AllTurns.{since_length}
 use Rattle.mptcp_run.proofs.RoundsWoven.{woven_since, woven_next}
@@ -18,50 +16,42 @@ pub put_round-told-requires-clause-made : goal.put_round-told-requires-clause-ma
 put_round-told-requires-clause-made g c =
     let made = when_ok c.next_world-world.result.1 c.in-Ok.field-0 c.in-Ok.is c.next_world-world.ensures in
     since_length c.args.run.made.items c.args.run.world.state c.next_world-world.result.0.state
-    (woven_since c.args.run c.next_world-world.result.0.state c.requires.begins made.goes.round)
+    (woven_since c.args.run c.next_world-world.result.0.state c.requires.begins made.round)
 
 pub returns-in-Ok-clause-begins : goal.returns-in-Ok-clause-begins
 returns-in-Ok-clause-begins g c =
     let made = when_ok c.next_world-world.result.1 c.in-Ok.field-0 c.in-Ok.is c.next_world-world.ensures in
     on_ok_weaker c.put_round-told.result
-    (woven_next c.args.run c.put_round-told.new.self c.next_world-world.result.0 c.requires.begins made.goes.round made.goes.stands c.put_round-told.ensures.world)
+    (woven_next c.args.run c.put_round-told.new.self c.next_world-world.result.0 c.requires.begins made.round made.stands c.put_round-told.ensures.world)
     c.put_round-told.ensures.made
 
 pub returns-in-Ok-clause-made : goal.returns-in-Ok-clause-made
 returns-in-Ok-clause-made g c =
     let made = when_ok c.next_world-world.result.1 c.in-Ok.field-0 c.in-Ok.is c.next_world-world.ensures in
-    let put = c.put_round-told.ensures.put c.args.run.world.state (woven_since c.args.run c.next_world-world.result.0.state c.requires.begins made.goes.round) in
+    let put = c.put_round-told.ensures.put c.args.run.world.state (woven_since c.args.run c.next_world-world.result.0.state c.requires.begins made.round) in
     OnOk-both c.put_round-told.result
     (λ held calls. subst (λ (k : Kept). RoundMade WovenTo c.args.run.opening c.args.run.rounds c.args.run.world.state k.state
     (g.O.Outside.holds c.args.outside.now) (g.O.Outside.holds c.put_round-told.new.outside) (g.O.Outside.calls c.args.outside.now) (g.O.Outside.calls c.put_round-told.new.outside))
-    (sym c.put_round-told.ensures.world) (record { round = made.goes.round; ports = held; calls = calls }))
+    (sym c.put_round-told.ensures.world) (record { round = made.round; ports = held; calls = calls }))
     put.whole put.puts.made
-
-pub returns-in-Ok-clause-again : goal.returns-in-Ok-clause-again
-returns-in-Ok-clause-again g c =
-    let made = when_ok c.next_world-world.result.1 c.in-Ok.field-0 c.in-Ok.is c.next_world-world.ensures in
-    on_ok_weaker c.put_round-told.result
-    (λ _. subst (λ (k : Kept). CanBeMadeAgain c.next_world-world.new.orders
-    (opened_world (start_of c.args.input.now.script c.args.input.now.file_a c.args.input.now.file_b)) k.state) (sym c.put_round-told.ensures.world) made.again)
-    c.put_round-told.ensures.made
 
 pub returns-in-Ok-clause-stops : goal.returns-in-Ok-clause-stops
 returns-in-Ok-clause-stops g c =
     let made = when_ok c.next_world-world.result.1 c.in-Ok.field-0 c.in-Ok.is c.next_world-world.ensures in
-    let put = c.put_round-told.ensures.put c.args.run.world.state (woven_since c.args.run c.next_world-world.result.0.state c.requires.begins made.goes.round) in
+    let put = c.put_round-told.ensures.put c.args.run.world.state (woven_since c.args.run c.next_world-world.result.0.state c.requires.begins made.round) in
     IfErr-both c.put_round-told.result
-    (λ status cut part. inr (record { end = c.next_world-world.result.0.state; round = made.goes.round; ports = part; calls = cut })) put.puts.cut put.part
+    (λ status cut part. inr (record { end = c.next_world-world.result.0.state; round = made.round; ports = part; calls = cut })) put.puts.cut put.part
 
 pub returns-in-Ok-clause-fault : goal.returns-in-Ok-clause-fault
 returns-in-Ok-clause-fault g c =
     let made = when_ok c.next_world-world.result.1 c.in-Ok.field-0 c.in-Ok.is c.next_world-world.ensures in
-    let put = c.put_round-told.ensures.put c.args.run.world.state (woven_since c.args.run c.next_world-world.result.0.state c.requires.begins made.goes.round) in
+    let put = c.put_round-told.ensures.put c.args.run.world.state (woven_since c.args.run c.next_world-world.result.0.state c.requires.begins made.round) in
     put.puts.fault
 
 pub returns-in-Ok-clause-only : goal.returns-in-Ok-clause-only
 returns-in-Ok-clause-only g c =
     let made = when_ok c.next_world-world.result.1 c.in-Ok.field-0 c.in-Ok.is c.next_world-world.ensures in
-    let put = c.put_round-told.ensures.put c.args.run.world.state (woven_since c.args.run c.next_world-world.result.0.state c.requires.begins made.goes.round) in
+    let put = c.put_round-told.ensures.put c.args.run.world.state (woven_since c.args.run c.next_world-world.result.0.state c.requires.begins made.round) in
     put.puts.only
 
 pub returns-in-Err-clause-stops : goal.returns-in-Err-clause-stops

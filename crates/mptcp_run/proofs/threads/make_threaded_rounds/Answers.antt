@@ -1,4 +1,4 @@
-use Rattle.std.proofs.Common.{refl, ◌∙◌, sym, ap, ℕ, Vec, Global, ◌+◌, ◌-◌, arith}
+use Rattle.std.proofs.Common.{refl, ◌∙◌, sym, ap, ◌+◌, ◌-◌, arith}
 use Rattle.mptcp_run.specs.WovenRounds.{WovenTo, AreWovenRounds}
 use Rattle.run_outside.proofs.Calling.{only_none, only_then}
 use Rattle.run_outside.proofs.PortsLemmas.{fault_after}
@@ -6,7 +6,7 @@ use Rattle.mptcp_run.proofs.Folding.{RoundsPut, RoundsCut}
 use Rattle.mptcp_run.proofs.Courses.{woven_made, woven_cut}
 use Rattle.mptcp_run.proofs.RoundsMade.{put_more, put_last, cut_later, cut_now, rounds_over}
 use Rattle.mptcp_run.proofs.RoundsWoven.{woven_kind}
-use Rattle.mptcp_run.proofs.ThreadsMade.{when_ok, when_err, none_kept, less_none}
+use Rattle.mptcp_run.proofs.ThreadsMade.{when_ok, when_err, less_none}
 use Rattle.mptcp_run.proofs.threads.make_threaded_rounds.Goals as goal
 
 pub loop-round-init : goal.loop-round-init
@@ -15,7 +15,6 @@ loop-round-init g c = record {
   opening = refl;
   rounds = c.requires.none;
   few = omega arith;
-  again = λ _. none_kept (λ (order : Vec ℕ Global). order.items) _ _ _ c.new.ensures.items c.requires.opened;
   put = λ count v new after h. less_none (λ m. RoundsPut AreWovenRounds c.args.run.opening m 0 count c.args.run.world.state v
       (g.O.Outside.holds c.args.outside.now) new (g.O.Outside.calls c.args.outside.now) after) c.args.most h;
   cut = λ new after status h. less_none (λ m. RoundsCut AreWovenRounds c.args.run.opening m 0 c.args.run.world.state
@@ -34,7 +33,6 @@ loop-round-preserved g c =
       opening = opening ∙ inv.opening;
       rounds = when_ok c.make_round-next.result.1 c.in-Ok.field-0 c.in-Ok.is c.make_round-next.ensures.rounds ∙ ap (λ n. n + 1) inv.rounds;
       few = omega (arith, c.loop-round-test.true);
-      again = when_ok c.make_round-next.result.1 c.in-Ok.field-0 c.in-Ok.is c.make_round-next.ensures.again;
       put = λ count v new after rest. inv.put count v new after
           (put_more WovenTo AreWovenRounds woven_kind c.loop-round.run.opening (c.args.most - c.loop-round._round) (c.args.most - (c.loop-round._round + 1)) c.loop-round._round c.loop-round.run.rounds
           (omega (arith, c.loop-round-test.true)) inv.rounds

@@ -1,8 +1,6 @@
 use Rattle.std.proofs.Common.{◌≡◌, ◌≤◌, ◌-◌}
-use Rattle.world_laws.specs.Openings.{opened_world, start_of}
 use Rattle.run_outside.specs.Calling.{OnlyPuts}
 use Rattle.mptcp_run.specs.Rounds.{AtRound}
-use Rattle.mptcp_run.specs.Threads.{CanBeMadeAgain}
 use Rattle.mptcp_run.specs.WovenRounds.{AreWovenRounds}
 use Rattle.mptcp_run.proofs.threads.make_threaded_rounds.Given as goal
 use Rattle.mptcp_run.proofs.Folding.{RoundsPut, RoundsCut}
@@ -14,7 +12,6 @@ invariant-loop-round g l = record {
   opening : l.run.opening ≡ l.initial.run.opening;
   rounds : l.run.rounds ≡ l._round;
   few : l._round ≤ l.most;
-  again : CanBeMadeAgain l.orders (opened_world (start_of l.input.script l.input.file_a l.input.file_b)) l.run.world.state;
   put : (count : _) (v : _) (new : _) (after : _) → RoundsPut AreWovenRounds l.run.opening (l.most - l._round) l._round count l.run.world.state v
       (g.O.Outside.holds l.outside) new (g.O.Outside.calls l.outside) after
       → RoundsPut AreWovenRounds l.initial.run.opening l.most 0 count l.initial.run.world.state v

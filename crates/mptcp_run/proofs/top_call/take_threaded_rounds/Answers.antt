@@ -1,7 +1,6 @@
-use Rattle.std.proofs.Common.{ap, arith}
+use Rattle.std.proofs.Common.{arith}
 use Rattle.outside_kit.specs.declared.port.Port.TheVariants.{ReadByA, ReadByB}
 use Rattle.run_words.specs.Lines.{as_line}
-use Rattle.world_core.specs.Kept.{Kept}
 use Rattle.mptcp_run.specs.Task.{Task, task_from, first_world}
 use Rattle.mptcp_run.specs.Task as course
 use Rattle.mptcp_run.specs.declared.report.Report.TheVariants as report
@@ -14,9 +13,6 @@ use Rattle.mptcp_run.proofs.top_call.take_threaded_rounds.Goals as goal
 
 pub make_threaded_rounds-run-requires-clause-begins : goal.make_threaded_rounds-run-requires-clause-begins
 make_threaded_rounds-run-requires-clause-begins g c κs lives = opened_at c.args.input.now report.Log c.args.run c.requires.opened
-
-pub make_threaded_rounds-run-requires-clause-opened : goal.make_threaded_rounds-run-requires-clause-opened
-make_threaded_rounds-run-requires-clause-opened g c κs lives = ap (λ (k : Kept). k.state) c.requires.opened.world
 
 pub returns-in-Err-clause-cut : goal.returns-in-Err-clause-cut
 returns-in-Err-clause-cut g c =
