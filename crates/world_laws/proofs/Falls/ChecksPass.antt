@@ -23,7 +23,7 @@ use Rattle.control_book.specs.Control.{Control}
 use Rattle.control_book.specs.Registry.{sole}
 use Rattle.control_book.specs.Replies as replying
 use Rattle.control_book.specs.Steps as controlling
-use Rattle.path_segments.specs.declared.segment.PathOption.TheVariants.{Capable, Join, Dss, AddAddr, Remove, Prio, Fail, FastClose, Reset}
+use Rattle.path_segments.specs.declared.segment.PathOption.TheVariants.{Fail}
 use Rattle.path_segments.specs.Options.{PlainOption}
 use Rattle.path_segments.specs.Spelled.{PlainSegment}
 use Rattle.stream_lanes.specs.Duo.{Duo, after_events}

@@ -14,7 +14,7 @@ use Rattle.dss_mapping.specs.Learning.{first_of, others_of, learn_of, after_skip
 use Rattle.dss_mapping.specs.Mappings.{Mappings, run_of, mapping_at, after_learn, octets_of}
 use Rattle.dss_mapping.specs.Runs.{covers}
 use Rattle.reassembly_book.specs.declared.call.ReassemblyReply.TheVariants as reassembly_replies
-use Rattle.subflow_recv.specs.Receiving.{Receiving, filled, after_advance, after_pass}
+use Rattle.subflow_recv.specs.Receiving.{Receiving, filled, after_pass}
 use Rattle.subflow_tcp.specs.Closing.{is_fin_next, after_passing_fin}
 use Rattle.subflow_tcp.specs.Judging.{is_at}
 use Rattle.subflow_tcp.specs.State.{EndState}
@@ -26,7 +26,7 @@ use Rattle.stream_lanes.specs.Laws.{copy_clashes}
 use Rattle.stream_lanes.specs.Moves.{takes_placed, ack_copy, sub_next, in_order, part_of, bytes_of, passes, are_same}
 use Rattle.stream_lanes.specs.View.{View}
 use Rattle.stream_lanes.specs.Words.{Every, From}
-use Rattle.stream_lanes.proofs.Checking.{came_within, came_cases, checksum_shows, came_unaltered}
+use Rattle.stream_lanes.proofs.Checking.{came_cases, checksum_shows, came_unaltered}
 use Rattle.stream_lanes.proofs.Lists.{Every-map, Every-push, Has-more}
 use Rattle.stream_lanes.proofs.Bytes.{From-take, From-filled, part_is_honest}
 use Rattle.path_rules.specs.Ends.{PathEnd}

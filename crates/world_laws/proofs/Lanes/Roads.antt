@@ -13,7 +13,7 @@ use Rattle.reassembly_book.specs.Steps.{reply_to as arrival_reply, after_call as
 use Rattle.stream_lanes.specs.Lane.{Ask as LaneAsk, Lane}
 use Rattle.stream_lanes.specs.Lane.Ask.{Nothing, AskGrant, AskAckIn, AskPlace, AskFin, AskAckOut}
 use Rattle.stream_lanes.specs.Moves.{Flags, Move, moved, takes_grant, takes_ack, takes_placed, takes_fin, takes_ack_out}
-use Rattle.stream_lanes.specs.Moves.Move.{Open, LookAtSender, LookAtReceiver, WantGrant, HearAck, HearSubAck, SendPiece, SendAltered, SendDataFin, SendFin, SendPair, SendPlainPair, SendFinPair, Hear, Learn, HearDataFin, HearFin, Forget, WantPlace, WantPlacePlain, WantFin, TakePair, WantPlacePair, WantFinPair, WantAckOut, SendAck}
+use Rattle.stream_lanes.specs.Moves.Move.{Open, LookAtSender, LookAtReceiver}
 use Rattle.stream_lanes.specs.Streams.{Reader, Direction, after, asks, asks_at, moves as moves_in}
 use Rattle.stream_lanes.specs.Streams.StreamEvent.{Moves, Asks}
 

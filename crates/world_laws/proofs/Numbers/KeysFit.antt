@@ -1,5 +1,5 @@
 -- The keys that control books have, and those that they answer, have 64 bits: each key that a path tells one was heard or drawn.
-use Rattle.std.proofs.Common.{ℕ, ◌<◌, ◌==◌, ◌&&◌, ◌||◌, not, Bool, true, false, if◌then◌else◌, Option, Some, None, List, arith}
+use Rattle.std.proofs.Common.{ℕ, ◌<◌, ◌==◌, ◌||◌, not, Bool, true, false, if◌then◌else◌, Option, Some, None, List, arith}
 use Rattle.std.specs.Option.{IfSome}
 use Rattle.sides.specs.declared.side.Side.{Side}
 use Rattle.sides.specs.declared.side.Side.TheVariants.{A, B}

@@ -7,7 +7,7 @@ use Rattle.sides.specs.declared.side.Side.TheVariants.{A, B}
 use Rattle.sides.specs.Side.{peer}
 use Rattle.path_segments.specs.declared.segment.PathMapping.{PathMapping}
 use Rattle.path_segments.specs.declared.segment.PathMapping.TheVariants.{Bytes, End, Infinite}
-use Rattle.path_segments.specs.declared.segment.PathOption.TheVariants.{Capable, Join, Dss, AddAddr, Remove, Prio, Fail, FastClose, Reset}
+use Rattle.path_segments.specs.declared.segment.PathOption.TheVariants.{Dss}
 use Rattle.path_segments.specs.Options.{PlainOption}
 use Rattle.path_segments.specs.Spelled.{PlainSegment}
 use Rattle.subflow_send.specs.declared.record.RecordKind.{RecordKind}

@@ -1,5 +1,5 @@
 -- At every moment an end of a path whose turn is over would ask for nothing, or was refused its last grant.
-use Rattle.std.proofs.Common.{◌≡◌, refl, sym, ◌∙◌, ap, subst, ℕ, ◌+◌, inl, inr, ◌⊎◌, ⊎_elim, Bool, true, false, if◌then◌else◌, Option, Some, None, Result, Ok, Err, List, [], ◌∷◌, ◌++◌, length, drop, map}
+use Rattle.std.proofs.Common.{◌≡◌, refl, sym, ◌∙◌, ap, subst, ℕ, ◌+◌, inl, inr, ⊎_elim, Bool, true, false, if◌then◌else◌, Option, Some, None, Result, Ok, Err, List, [], ◌∷◌, ◌++◌, length, drop, map}
 use Rattle.std.proofs.lemmas.List.{append-nil, append_assoc}
 use Rattle.std.proofs.lemmas.Option.{same_Some}
 use Rattle.std.specs.List.{slice_get}
@@ -27,9 +27,8 @@ use Rattle.path_agenda.specs.Agenda.{start_of_turn}
 use Rattle.path_rules.specs.Codec.{Codec}
 use Rattle.path_rules.specs.Duties.{ask_for, answered}
 use Rattle.path_rules.specs.Emission.{first_unsent, Grant, grant_in, grant_ask, answered_grant, answered_data, data_ask}
-use Rattle.path_rules.specs.Ends.{PathEnd}
 use Rattle.path_rules.specs.Starts.{waiting_path}
-use Rattle.path_rules.specs.State.{PathState, Profile, end_at, with_agenda}
+use Rattle.path_rules.specs.State.{PathState, end_at, with_agenda}
 use Rattle.path_rules.specs.Steps.{asks_first, takes, begins_turn}
 use Rattle.world_laws.specs.declared.member.Member.TheVariants.{App, Path}
 use Rattle.world_laws.specs.Actors.{Actor, ActorCrew, member_asks, member_takes, member_next}
