@@ -1,6 +1,6 @@
 -- What a segment carries, counted from the beginnings of its subflow and of the streams (RFC 9293, section 3.4; RFC 8684,
 -- section 3.3).
-use Rattle.std.specs.Prelude.{ℕ, ◌+◌, ◌-◌, ◌%◌, ◌^◌, ◌==◌, min, Bool, true, false, if◌then◌else◌, Option, Some, None, unwrap_or, option_map, Result, Ok, Err, List, [], ◌∷◌, map, length, slice_get}
+use Rattle.std.specs.Prelude.{ℕ, ◌+◌, ◌-◌, ◌%◌, ◌^◌, ◌==◌, ◌&&◌, nat_lt, min, Bool, true, false, if◌then◌else◌, Option, Some, None, unwrap_or, option_map, Result, Ok, Err, List, [], ◌∷◌, length, slice_get}
 use Rattle.std.specs.Option.{option_or}
 use Rattle.sides.specs.declared.side.Side.{Side}
 use Rattle.sides.specs.declared.side.Side.TheVariants.{A, B}
@@ -19,8 +19,10 @@ use Rattle.link_trace.specs.declared.carried.Carried.{Carried}
 use Rattle.link_trace.specs.declared.carried.Dss.{Dss}
 use Rattle.link_trace.specs.declared.carried.PathInitials.{PathInitials}
 use Rattle.link_trace.specs.declared.sent.Sent.{Sent}
+use Rattle.link_trace.specs.declared.shifts.Shift.{Shift}
 use Rattle.link_trace.specs.Fates.{is_lost}
 use Rattle.link_trace.specs.Meanings.{meaning_in}
+use Rattle.link_trace.specs.Shifts.{shift_in, with_shift}
 
 -- how far a number of 32 bits stands behind another one
 abbrev pub behind : ℕ → ℕ → ℕ
@@ -79,7 +81,7 @@ dss_in checksums (option ∷ options) = unwrap_or (dss_read (option_meaning opti
 
 -- ---- the place of a payload
 
--- the place that a mapping gives to a position; an infinite one gives none
+-- the place that the mapping of a piece gives to a position
 abbrev pub mapped : DssMap → ℕ → ℕ → Option ℕ
 mapped map first position =
     if map.length == 0 then None else Some ((behind (low_number map.number) first + behind position map.relative) % 2 ^ 32)
@@ -88,13 +90,13 @@ abbrev pub place_mapped : Option DssMap → ℕ → ℕ → Option ℕ
 place_mapped None first position = None
 place_mapped (Some map) first position = mapped map first position
 
--- on path 0 a position tells a place, with the first payload and after a fallback
-abbrev pub place_plain : ℕ → ℕ → Option ℕ
-place_plain path position = if path == 0 then Some (behind position 1) else None
+-- so far behind its position stands the place, in a direction of a path that sends without mappings of pieces
+abbrev pub shifted : Option ℕ → ℕ → Option ℕ
+shifted shift position = option_map (λ by. (position + by) % 2 ^ 32) shift
 
--- by the mapping, or else by the position
-abbrev pub place_of : ℕ → Option DssMap → ℕ → ℕ → Option ℕ
-place_of path mapping first position = option_or (place_mapped mapping first position) (place_plain path position)
+-- by the mapping of its piece, or else as the direction sends
+abbrev pub place_of : Option DssMap → ℕ → Option ℕ → ℕ → Option ℕ
+place_of mapping first shift position = option_or (place_mapped mapping first position) (shifted shift position)
 
 -- ---- a segment
 
@@ -106,9 +108,9 @@ acknowledged_by base from ack = option_map (λ number. behind (low_number number
 abbrev pub payload_len : Segment → ℕ
 payload_len segment = min (length segment.payload) 65535
 
--- of the segment of a side with this initial number
-abbrev pub carries : Base → Sent → ℕ → Segment → Carried
-carries base s initial segment =
+-- of the segment of a side with this initial number, after these infinite mappings
+abbrev pub carries : Base → Sent → ℕ → List Shift → Segment → Carried
+carries base s initial shifts segment =
     let dss = dss_in base.checksums (option_octets segment.options) in let position = behind segment.head.seq initial in record {
       tick = s.tick;
       path = s.path;
@@ -116,7 +118,7 @@ carries base s initial segment =
       lost = is_lost s.fate.arrival;
       position = position;
       len = payload_len segment;
-      place = place_of s.path dss.mapping (first_byte base s.from) position;
+      place = place_of dss.mapping (first_byte base s.from) (shift_in shifts s.path s.from) position;
       acknowledged = acknowledged_by base s.from dss.ack;
     }
 
@@ -133,14 +135,43 @@ carries_nothing s = record {
 }
 
 -- octets that are no segment carry nothing
-abbrev pub carried_in : Base → Sent → ℕ → Result Segment SegmentFault → Carried
-carried_in base s initial (Ok segment) = carries base s initial segment
-carried_in base s initial (Err fault) = carries_nothing s
+abbrev pub carried_in : Base → Sent → ℕ → List Shift → Result Segment SegmentFault → Carried
+carried_in base s initial shifts (Ok segment) = carries base s initial shifts segment
+carried_in base s initial shifts (Err fault) = carries_nothing s
 
--- what a segment carries on paths with these initial numbers
-abbrev pub carried_of : Base → List PathInitials → Sent → Carried
-carried_of base initials s = carried_in base s (initial_in initials s.path s.from) (meaning_in s)
+-- what a segment carries on paths with these initial numbers, after these infinite mappings, its own among them
+abbrev pub carried_of : Base → List PathInitials → List Shift → Sent → Carried
+carried_of base initials shifts s = carried_in base s (initial_in initials s.path s.from) shifts (meaning_in s)
+
+-- ---- infinite mappings
+
+-- the infinite mapping of a payload
+abbrev pub shift_told : Option DssMap → ℕ → ℕ → Option ℕ
+shift_told None first len = None
+shift_told (Some map) first len =
+    if map.length == 0 && nat_lt 0 len then Some (behind (behind (low_number map.number) first) map.relative) else None
+
+-- that of a segment
+abbrev pub shift_by : Base → Side → Segment → Option ℕ
+shift_by base from segment =
+    shift_told (dss_in base.checksums (option_octets segment.options)).mapping (first_byte base from) (payload_len segment)
+
+abbrev pub shifts_in : Base → Sent → List Shift → Result Segment SegmentFault → List Shift
+shifts_in base s shifts (Ok segment) = with_shift (shift_by base s.from segment) s.path s.from shifts
+shifts_in base s shifts (Err fault) = shifts
+
+-- the infinite mappings after this segment
+abbrev pub shifts_after : Base → Sent → List Shift → List Shift
+shifts_after base s shifts = shifts_in base s shifts (meaning_in s)
+
+-- ---- a trace
+
+-- behind these infinite mappings
+abbrev pub carried_behind : Base → List PathInitials → List Shift → List Sent → List Carried
+carried_behind base initials shifts [] = []
+carried_behind base initials shifts (s ∷ trace) =
+    carried_of base initials (shifts_after base s shifts) s ∷ carried_behind base initials (shifts_after base s shifts) trace
 
 -- what each segment of a trace carries, on paths with these initial numbers
 abbrev pub all_carried : Base → List PathInitials → List Sent → List Carried
-all_carried base initials trace = map (carried_of base initials) trace
+all_carried base initials trace = carried_behind base initials [] trace

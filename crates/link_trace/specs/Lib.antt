@@ -2,7 +2,9 @@ pub mod Fates
 pub mod Meanings
 pub mod Lines
 pub mod Captures
+pub mod Shifts
 pub mod Carrying
+pub mod Marks
 pub mod Rows
 pub mod Tables
 pub mod Strokes

@@ -1,13 +1,15 @@
 //! What a segment of a trace carries: its position, its payload, the place of that in the stream, and its Data ACK.
 
-ghost use Rattle.std.specs.Prelude.{◌≡◌, ◌^◌, ◌%◌, IfOk};
+ghost use Rattle.std.specs.Prelude.{◌≡◌, ◌∷◌, ◌++◌, [], ◌^◌, ◌%◌, IfOk, OnOk};
 ghost use Rattle.segment_wire.specs.Options.{option_octets};
 ghost use Rattle.segment_wire.specs.Reading.{segment_of};
 ghost use Rattle.mptcp_options.specs.Meaning.{option_meaning};
-ghost use Rattle.link_trace.specs.Carrying.{acknowledged_by, all_carried, base_of, behind, carried_of, carries, carries_nothing, dss_in, dss_read, first_byte, first_number, initial_in, low_half, low_number, mapped, payload_len, place_mapped, place_of, place_plain};
+ghost use Rattle.link_trace.specs.Carrying.{acknowledged_by, all_carried, base_of, behind, carried_of, carries, carries_nothing, dss_in, dss_read, first_byte, first_number, initial_in, low_half, low_number, mapped, payload_len, place_mapped, place_of, shift_by, shift_told, shifted, shifts_after};
+ghost use Rattle.link_trace.specs.Shifts.{shift_in};
 
 use crate::fate::is_lost;
 use crate::sent::Sent;
+use crate::shifts::{Shift, keep_shift, shift_in};
 use key_material::idsn;
 use mptcp_options::{DataNumber, DssMap, MpOption, Read, read};
 use segment_wire::{SegmentRef, addresses_from, parse};
@@ -30,7 +32,8 @@ pub struct Carried {
     pub position: u32,
     /// Octets of the payload.
     pub len: u32,
-    /// The place of the first octet, where the segment tells it.
+    /// The place of the first octet, as the mapping of its piece tells it, or an infinite mapping that its direction of the path sends
+    /// under, or on path 0 its position.
     pub place: Option<u32>,
     /// How many bytes of the other side's stream it acknowledges, the DATA_FIN among them.
     pub acknowledged: Option<u32>,
@@ -136,7 +139,7 @@ fn dss_of(segment: &SegmentRef<'_>, checksums: bool) -> Dss
     }
 }
 
-/// The place that a mapping gives to a position; an infinite one gives none.
+/// The place that the mapping of a piece gives to a position; an infinite one gives none.
 fn mapped(map: &DssMap, first: u32, position: u32) -> Option<u32>
     ensures { result ≡ mapped map.now first position }
 {
@@ -157,22 +160,22 @@ fn place_mapped(map: Option<DssMap>, first: u32, position: u32) -> Option<u32>
     }
 }
 
-fn place_plain(path: u8, position: u32) -> Option<u32>
-    ensures { result ≡ place_plain path position }
+/// So far behind its position stands the place, in a direction of a path that sends without mappings of pieces.
+fn shifted(shift: Option<u32>, position: u32) -> Option<u32>
+    ensures { result ≡ shifted shift position }
 {
-    if path == 0 {
-        Some(behind(position, 1))
-    } else {
-        None
+    match shift {
+        None => None,
+        Some(by) => Some(position.wrapping_add(by)),
     }
 }
 
-/// The place of a payload: by its mapping, or on path 0 by its position, as with the first payload and after a fallback.
-fn place_of(path: u8, map: Option<DssMap>, first: u32, position: u32) -> Option<u32>
-    ensures { result ≡ place_of path map first position }
+/// The place of a payload: by the mapping of its piece, or else as its direction of the path sends.
+fn place_of(map: Option<DssMap>, first: u32, shift: Option<u32>, position: u32) -> Option<u32>
+    ensures { result ≡ place_of map first shift position }
 {
     match place_mapped(map, first, position) {
-        None => place_plain(path, position),
+        None => shifted(shift, position),
         Some(place) => Some(place),
     }
 }
@@ -193,12 +196,19 @@ fn payload_len(segment: &SegmentRef<'_>) -> u32
     segment.payload().len().min(65_535) as u32
 }
 
-/// What a segment carries, of a side with this initial number.
-fn carries(base: &Base, sent: &Sent, initial: u32, segment: &SegmentRef<'_>) -> Carried
-    ensures { result ≡ carries base.now sent.now initial (segment_of segment.now) }
+/// What a segment carries, of a side with this initial number, after these infinite mappings.
+fn carries(
+    base: &Base,
+    sent: &Sent,
+    initial: u32,
+    shifts: &[Shift],
+    segment: &SegmentRef<'_>,
+) -> Carried
+    ensures { result ≡ carries base.now sent.now initial shifts.now (segment_of segment.now) }
 {
     let dss = dss_of(segment, base.checksums);
     let position = behind(segment.head.seq, initial);
+    let shift = shift_in(shifts, sent.path, sent.from);
     Carried {
         tick: sent.tick,
         path: sent.path,
@@ -206,7 +216,7 @@ fn carries(base: &Base, sent: &Sent, initial: u32, segment: &SegmentRef<'_>) -> 
         lost: is_lost(sent.fate.arrival),
         position,
         len: payload_len(segment),
-        place: place_of(sent.path, dss.mapping, base.first_byte(sent.from), position),
+        place: place_of(dss.mapping, base.first_byte(sent.from), shift, position),
         acknowledged: acknowledged_by(base, sent.from, dss.ack),
     }
 }
@@ -238,15 +248,51 @@ fn initial_in(initials: &[PathInitials], path: u8, side: Side) -> u32
     }
 }
 
-/// What a segment carries.
-fn carried_of(base: &Base, initials: &[PathInitials], sent: &Sent) -> Carried
-    ensures { result ≡ carried_of base.now initials.now sent.now }
+/// What the infinite mapping of a payload tells.
+fn shift_told(map: Option<DssMap>, first: u32, len: u32) -> Option<u32>
+    ensures { result ≡ shift_told map first len }
+{
+    match map {
+        None => None,
+        Some(map) => {
+            if map.length == 0 && len > 0 {
+                Some(behind(behind(low_number(map.number), first), map.relative))
+            } else {
+                None
+            }
+        }
+    }
+}
+
+/// That of a segment.
+fn shift_by(base: &Base, from: Side, segment: &SegmentRef<'_>) -> Option<u32>
+    ensures { result ≡ shift_by base.now from (segment_of segment.now) }
+{
+    let dss = dss_of(segment, base.checksums);
+    shift_told(dss.mapping, base.first_byte(from), payload_len(segment))
+}
+
+/// What a segment carries, whose own infinite mapping is kept with those before it.
+fn carry_one(
+    base: &Base,
+    initials: &[PathInitials],
+    shifts: &mut Vec<Shift>,
+    sent: &Sent,
+) -> Result<Carried, AllocError>
+    ensures carried { IfOk result (λ carried.
+        carried ≡ carried_of base.now initials.now shifts.new.items sent.now) }
+    ensures shifts { OnOk result (shifts.new.items ≡
+        shifts_after base.now sent.now shifts.old.items) }
 {
     let initial = initial_in(initials, sent.path, sent.from);
     let addresses = addresses_from(sent.path, sent.from);
     match parse(sent.octets.as_bytes(), &addresses) {
-        Ok(segment) => carries(base, sent, initial, &segment),
-        Err(_) => carries_nothing(sent),
+        Ok(segment) => {
+            let told = shift_by(base, sent.from, &segment);
+            keep_shift(shifts, told, sent.path, sent.from)?;
+            Ok(carries(base, sent, initial, shifts, &segment))
+        }
+        Err(_) => Ok(carries_nothing(sent)),
     }
 }
 
@@ -260,8 +306,10 @@ pub fn all_carried(
     ensures { IfOk result
         (λ carried. carried.items ≡ all_carried base.now initials.now trace.now) }
 {
-    trace
-        .iter()
-        .map(|sent| carried_of(base, initials, sent))
-        .collect(alloc)
+    let (mut carried, mut shifts) = (Vec::new(alloc), Vec::new(alloc));
+    for sent in trace {
+        let one = carry_one(base, initials, &mut shifts, sent)?;
+        carried.push(one)?;
+    }
+    Ok(carried)
 }

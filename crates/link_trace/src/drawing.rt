@@ -21,10 +21,11 @@ const HEAD: &str =
 <rect width=\"10000\" height=\"9000\" fill=\"#ffffff\"/>
 ";
 
-/// What was drawn so far, and how many octets may still be.
+/// What was drawn so far, what goes over it, and how many octets may still be drawn. What goes over is drawn first, so that it has room.
 #[derive(Drop)]
 pub(crate) struct Drawing {
     pub text: String,
+    pub over: String,
     pub left: u64,
 }
 
@@ -36,6 +37,7 @@ impl Drawing {
     {
         Drawing {
             text: String::new(alloc),
+            over: String::new(alloc),
             left: 2_097_152,
         }
     }
@@ -48,6 +50,19 @@ impl Drawing {
         let len = part.len() as u64;
         if len <= self.left {
             self.text.push_str(part)?;
+            self.left -= len;
+        }
+        Ok(())
+    }
+
+    /// Puts a part that goes over the others, where it still has room.
+    fn put_over(&mut self, part: &str) -> Result<(), AllocError>
+        requires { IsWithin self.old }
+        ensures { OnOk result (IsWithin self.new) }
+    {
+        let len = part.len() as u64;
+        if len <= self.left {
+            self.over.push_str(part)?;
             self.left -= len;
         }
         Ok(())
@@ -67,17 +82,25 @@ impl Drawing {
         Ok(())
     }
 
-    /// A panel: its marks, and its frame.
+    /// The dots and the strokes of a panel.
     fn put_panel(&mut self, alloc: Global, panel: &Panel, paths: usize) -> Result<(), AllocError>
         requires { IsWithin self.old }
         ensures { OnOk result (IsWithin self.new) }
     {
-        let (dots, crosses) = (dots(alloc, panel)?, crosses(alloc, panel)?);
+        let dots = dots(alloc, panel)?;
         self.put(dots.as_str())?;
-        self.put_strokes(alloc, panel, paths)?;
-        self.put(crosses.as_str())?;
+        self.put_strokes(alloc, panel, paths)
+    }
+
+    /// Over them its crosses and its frame.
+    fn put_panel_over(&mut self, alloc: Global, panel: &Panel) -> Result<(), AllocError>
+        requires { IsWithin self.old }
+        ensures { OnOk result (IsWithin self.new) }
+    {
+        let crosses = crosses(alloc, &panel.scale, &panel.strokes)?;
+        self.put_over(crosses.as_str())?;
         let frame = frame(alloc, panel)?;
-        self.put(frame.as_str())
+        self.put_over(frame.as_str())
     }
 
     /// A line through both panels where a path dies.
@@ -93,10 +116,24 @@ impl Drawing {
         for line in lines {
             if let ScriptLine::Die { path, tick } = *line {
                 let death = death(alloc, scale, path, tick)?;
-                self.put(death.as_str())?;
+                self.put_over(death.as_str())?;
             }
         }
         Ok(())
+    }
+
+    /// All of it.
+    fn whole(self) -> Result<Vec<u8>, AllocError>
+        requires { IsWithin self }
+        ensures { IfOk result (λ text. length text.items ≤ 2 ^ 21) }
+    {
+        let Drawing {
+            mut text,
+            over,
+            left: _,
+        } = self;
+        text.push_str(over.as_str())?;
+        Ok(text.into_bytes())
     }
 }
 
@@ -252,9 +289,11 @@ pub fn picture(
     let mut drawing = Drawing::new(alloc);
     drawing.put(HEAD)?;
     drawing.put(legend.as_str())?;
+    drawing.put_deaths(alloc, &from_a.scale, lines)?;
+    drawing.put_panel_over(alloc, &from_a)?;
+    drawing.put_panel_over(alloc, &from_b)?;
+    drawing.put_over("</svg>\n")?;
     drawing.put_panel(alloc, &from_a, paths)?;
     drawing.put_panel(alloc, &from_b, paths)?;
-    drawing.put_deaths(alloc, &from_a.scale, lines)?;
-    drawing.put("</svg>\n")?;
-    Ok(drawing.text.into_bytes())
+    drawing.whole()
 }

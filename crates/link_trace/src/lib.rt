@@ -12,6 +12,7 @@ mod packets;
 mod places;
 mod rows;
 mod sent;
+mod shifts;
 mod strokes;
 mod table;
 mod text;

@@ -1,5 +1,8 @@
 //! The marks of a panel: strokes, crosses and dots.
 
+ghost use Rattle.std.specs.Prelude.{◌≡◌, ◌++◌, IfOk, OnOk, codes, string_bytes};
+ghost use Rattle.link_trace.specs.Marks.{cross_of, crosses_of, crosses_words, part_of, x_of, y_of};
+
 use crate::strokes::{Dot, Stroke};
 use std::alloc::{AllocError, Global};
 
@@ -29,16 +32,22 @@ pub struct Panel {
 }
 
 /// So much of a length as a part is of a whole.
-pub fn part_of(length: u64, part: u64, whole: u64) -> u64 {
+pub fn part_of(length: u64, part: u64, whole: u64) -> u64
+    ensures { result ≡ part_of length part whole }
+{
     length.saturating_mul(part.min(whole)) / whole.max(1)
 }
 
 impl Scale {
-    pub fn x(&self, tick: u64) -> u64 {
+    pub fn x(&self, tick: u64) -> u64
+        ensures { result ≡ x_of self.now tick }
+    {
         part_of(8_800, tick, self.ticks).saturating_add(900)
     }
 
-    pub fn y(&self, place: u64) -> u64 {
+    pub fn y(&self, place: u64) -> u64
+        ensures { result ≡ y_of self.now place }
+    {
         self.floor
             .saturating_sub(part_of(3_400, place, self.places))
     }
@@ -167,18 +176,29 @@ pub fn strokes(
     Ok(text)
 }
 
-/// A cross at each payload that is lost.
-pub fn crosses(alloc: Global, panel: &Panel) -> Result<String, AllocError> {
+/// Puts a cross, where the payload is lost.
+fn put_cross(text: &mut String, scale: &Scale, stroke: &Stroke) -> Result<(), AllocError>
+    ensures { OnOk result (string_bytes text.new ≡
+        string_bytes text.old ++ cross_of scale.now stroke.now) }
+{
+    if !stroke.lost {
+        return Ok(());
+    }
+    let (x, y) = (scale.x(stroke.tick), scale.y(stroke.from));
+    write!(text, "M{x} {y}m-40 -40l80 80m0 -80l-80 80")
+}
+
+/// A cross at each payload that is lost, however many strokes there are.
+pub fn crosses(alloc: Global, scale: &Scale, strokes: &[Stroke]) -> Result<String, AllocError>
+    ensures { IfOk result (λ text. string_bytes text ≡ crosses_words scale.now strokes.now) }
+{
     let mut text = String::new(alloc);
     write!(
         text,
         "<path fill=\"none\" stroke-width=\"30\" stroke=\"#d62728\" d=\""
     )?;
-    for (index, stroke) in panel.strokes.iter().enumerate() {
-        if stroke.lost && index % panel.step.max(1) == 0 {
-            let (x, y) = (panel.scale.x(stroke.tick), panel.scale.y(stroke.from));
-            write!(text, "M{x} {y}m-40 -40l80 80m0 -80l-80 80")?;
-        }
+    for stroke in strokes {
+        put_cross(&mut text, scale, stroke)?;
     }
     writeln!(text, "\"/>")?;
     Ok(text)

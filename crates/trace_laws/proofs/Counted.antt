@@ -7,9 +7,10 @@ use Rattle.sides.specs.declared.side.Side.TheVariants.{A, B}
 use Rattle.stream_lanes.specs.Words.{Every, Has}
 use Rattle.actor_desk.specs.Words.{pick}
 use Rattle.link_trace.specs.declared.sent.Sent.{Sent}
-use Rattle.link_trace.specs.Carrying.{all_carried, carried_of}
+use Rattle.link_trace.specs.declared.carried.Carried.{Carried}
+use Rattle.link_trace.specs.Carrying.{all_carried, carried_behind, carried_of, shifts_after}
 use Rattle.link_trace.specs.FirstOctets.{EachEndsBy, EndsBy, OneHasOctet}
-use Rattle.link_trace.specs.Rows.{capped}
+use Rattle.link_trace.specs.Rows.{capped, first_octets_from, rows_of}
 use Rattle.link_trace.proofs.FirstOctets.{first_octets}
 use Rattle.run_trace.specs.Initials.{initials_of}
 use Rattle.run_trace.specs.Trace.{trace_of}
@@ -20,23 +21,35 @@ use Rattle.trace_laws.specs.Sending.{ended}
 use Rattle.trace_laws.proofs.Going.{CarriesTold, delivered_were_told}
 use Rattle.trace_laws.proofs.MomentFacts.{GoodSent, carried_from, moment_facts, trace_good}
 
+-- what each segment carries, without a segment before it
+abbrev alone : Start → List Sent → List Carried
+alone start trace = map (carried_of (base_from start) (initials_of start.paths) []) trace
+
+-- so each is read, since none tells an infinite mapping that says anything new
+each_alone : (start : Start) (trace : List Sent) → Every (GoodSent start) trace → all_carried (base_from start) (initials_of start.paths) trace ≡ alone start trace
+each_alone start [] good = refl
+each_alone start (x ∷ trace) good =
+    let g = good.each 0 x refl in
+    ap (λ shifts. carried_of (base_from start) (initials_of start.paths) shifts x ∷ carried_behind (base_from start) (initials_of start.paths) shifts trace) g.steady
+    ∙ ap (λ (cs : List Carried). carried_of (base_from start) (initials_of start.paths) [] x ∷ cs) (each_alone start trace (record { each = λ i y at. good.each (suc i) y at }))
+
 -- each payload of a side ends within its file
 each_ends : (start : Start) (s : Side) (paths : ℕ) (trace : List Sent) → paths ≡ length start.paths → Every (GoodSent start) trace
-    → EachEndsBy paths (length (pick s start.file_a start.file_b)) s (all_carried (base_from start) (initials_of start.paths) trace)
+    → EachEndsBy paths (length (pick s start.file_a start.file_b)) s (alone start trace)
 each_ends start s paths [] same good = tt
 each_ends start s paths (x ∷ trace) same good = (
   λ from.
       let g = good.each 0 x refl in let path = g.path in
       let of_side : x.from ≡ s = sym (carried_from (base_from start) (initials_of start.paths) x) ∙ from in (
         omega (arith, path, same),
-        subst (λ (t : Side). ((carried_of (base_from start) (initials_of start.paths) x).len ≡ 0) ⊎ EndsBy (length (pick t start.file_a start.file_b)) (carried_of (base_from start) (initials_of start.paths) x)) of_side g.ends,
+        subst (λ (t : Side). ((carried_of (base_from start) (initials_of start.paths) [] x).len ≡ 0) ⊎ EndsBy (length (pick t start.file_a start.file_b)) (carried_of (base_from start) (initials_of start.paths) [] x)) of_side g.ends,
       ),
   each_ends start s paths trace same (record { each = λ i y at. good.each (suc i) y at }),
 )
 
 -- a segment that has an octet
 one_has : (start : Start) (s : Side) (place i : ℕ) (x : Sent) (trace : List Sent) → slice_get trace i ≡ Some x → CarriesTold start s place x
-    → OneHasOctet s place (all_carried (base_from start) (initials_of start.paths) trace)
+    → OneHasOctet s place (alone start trace)
 one_has start s place i x [] there carries = cc
 one_has start s place zero x (y ∷ trace) there carries = inl (subst (CarriesTold start s place) (sym (same_Some y x there)) carries).told
 one_has start s place (suc i) x (y ∷ trace) there carries = inr (one_has start s place i x trace there carries)
@@ -48,9 +61,10 @@ file_short start fit B = let short = fit.short_b in omega (arith, short)
 pub delivered_were_counted : DeliveredFilesWereCounted
 delivered_were_counted start turns plain fit lawful delivered s rates many =
     let trace = trace_of (ended turns) (opened_world start) in let small = file_short start fit s in
-    let counted = first_octets rates (carried_by start (ended turns)) s (length (pick s start.file_a start.file_b)) (omega (arith, small))
-    (each_ends start s (length rates) trace many (trace_good start (ended turns) (opened_world start) (λ more. moment_facts start more plain fit)))
+    let good = trace_good start (ended turns) (opened_world start) (λ more. moment_facts start more plain fit) in
+    let counted = first_octets rates (alone start trace) s (length (pick s start.file_a start.file_b)) (omega (arith, small))
+    (each_ends start s (length rates) trace many good)
     (λ at below.
     let has = delivered_were_told start turns plain fit lawful delivered s at below in
     one_has start s at has.at has.item trace has.there has.holds) in
-    ap capped counted ∙ omega (arith, small)
+    ap (λ (cs : List Carried). capped (first_octets_from s (rows_of rates cs))) (each_alone start trace good) ∙ ap capped counted ∙ omega (arith, small)

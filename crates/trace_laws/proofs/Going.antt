@@ -187,7 +187,7 @@ module _ (p : PathState (List ℕ)) (s : Side) (path most : ℕ) (standby : Bool
 -- a segment that carries the octet at this place of the side's file, and tells that place
 pub record CarriesTold (start : Start) (s : Side) (place : ℕ) (x : Sent) : Type 0 where
   pub carries : CarriesPlace s (pick s start.file_a start.file_b) place x
-  pub told : HasOctet s place (carried_of (base_from start) (initials_of start.paths) x)
+  pub told : HasOctet s place (carried_of (base_from start) (initials_of start.paths) [] x)
 
 -- the next step of a path sends it
 abbrev Pending : Start → Side → ℕ → Actor (List ℕ) → Type 0
@@ -196,7 +196,7 @@ Pending start s place (Path p) = (x : Sent) × (sent_by p ≡ Some x) × Carries
 
 -- a segment that is read at a place has that octet
 told_at_place : (start : Start) (s : Side) (place from len : ℕ) (x : Sent) → x.from ≡ s → Placed (base_from start) (initials_of start.paths) x from len → from ≤ place → place < from + len
-    → HasOctet s place (carried_of (base_from start) (initials_of start.paths) x)
+    → HasOctet s place (carried_of (base_from start) (initials_of start.paths) [] x)
 told_at_place start s place from len x same_side placed below above = record {
   from = carried_from (base_from start) (initials_of start.paths) x ∙ same_side;
   place = from;

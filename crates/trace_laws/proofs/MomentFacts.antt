@@ -29,7 +29,7 @@ use Rattle.actor_desk.specs.Words.{pick}
 use Rattle.link_trace.specs.declared.carried.Base.{Base}
 use Rattle.link_trace.specs.declared.carried.PathInitials.{PathInitials}
 use Rattle.link_trace.specs.declared.sent.Sent.{Sent}
-use Rattle.link_trace.specs.Carrying.{carried_in, carried_of, initial_at, initial_in}
+use Rattle.link_trace.specs.Carrying.{carried_in, carried_of, initial_at, initial_in, shifts_after}
 use Rattle.link_trace.specs.FirstOctets.{EndsBy}
 use Rattle.link_trace.specs.Meanings.{meaning_in}
 use Rattle.path_store.specs.declared.infinite_mapping.InfiniteMapping.{InfiniteMapping}
@@ -290,18 +290,19 @@ moment_facts start turns plain fit =
 -- ---- what a path sends
 
 -- whose side it is, and which path
-pub carried_from : (base : Base) (initials : List PathInitials) (x : Sent) → (carried_of base initials x).from ≡ x.from
+pub carried_from : (base : Base) (initials : List PathInitials) (x : Sent) → (carried_of base initials [] x).from ≡ x.from
 carried_from base initials x = by (meaning_in x)
   where
-    by : (o : Result Segment SegmentFault) → (carried_in base x (initial_in initials x.path x.from) o).from ≡ x.from
+    by : (o : Result Segment SegmentFault) → (carried_in base x (initial_in initials x.path x.from) [] o).from ≡ x.from
     by (Err fault) = refl
     by (Ok segment) = refl
 
--- it is on one of the paths, and its payload ends within its side's file
+-- it is on one of the paths, its payload ends within its side's file, and it tells no infinite mapping that says anything new
 pub record GoodSent (start : Start) (x : Sent) : Type 0 where
-  pub path : (carried_of (base_from start) (initials_of start.paths) x).path < length start.paths
-  pub ends : ((carried_of (base_from start) (initials_of start.paths) x).len ≡ 0)
-      ⊎ EndsBy (length (pick x.from start.file_a start.file_b)) (carried_of (base_from start) (initials_of start.paths) x)
+  pub path : (carried_of (base_from start) (initials_of start.paths) [] x).path < length start.paths
+  pub ends : ((carried_of (base_from start) (initials_of start.paths) [] x).len ≡ 0)
+      ⊎ EndsBy (length (pick x.from start.file_a start.file_b)) (carried_of (base_from start) (initials_of start.paths) [] x)
+  pub steady : shifts_after (base_from start) x [] ≡ []
 
 path_sends : (start : Start) (p : PathState (List ℕ)) → PathFacts start p → IfSome (sent_by p) (GoodSent start)
 path_sends start p facts = by (departing p) (first_sent p.agenda)
@@ -313,7 +314,7 @@ path_sends start p facts = by (departing p) (first_sent p.agenda)
     by : (o : Option Departing) → IfSome o (Sends start p facts.number facts.ends facts.numbered) → IfSome (option_map (sent_as p) o) (GoodSent start)
     by None sends = tt
     by (Some d) sends =
-        let ends = sent_ends start p facts.number facts.ends facts.numbered (sent_as p d) refl sends.0 sends.1.0 sends.1.1 in record { path = ends.0; ends = ends.1 }
+        let ends = sent_ends start p facts.number facts.ends facts.numbered (sent_as p d) refl sends.0 sends.1.0 sends.1.1 in record { path = ends.0; ends = ends.1; steady = ends.2 }
 
 next_good : (start : Start) (i : ℕ) (w : WorldState (List ℕ)) → MomentFacts start w → IfSome (sent_next i w) (GoodSent start)
 next_good start i w facts = by (slice_get w.crew i) refl

@@ -31,7 +31,7 @@ use Rattle.actor_desk.specs.Words.{pick}
 use Rattle.link_trace.specs.declared.carried.Base.{Base}
 use Rattle.link_trace.specs.declared.carried.PathInitials.{PathInitials}
 use Rattle.link_trace.specs.declared.sent.Sent.{Sent}
-use Rattle.link_trace.specs.Carrying.{carried_in, carried_of, first_byte, first_number, initial_in, place_mapped}
+use Rattle.link_trace.specs.Carrying.{carried_in, carried_of, first_byte, first_number, initial_in, place_mapped, shifts_after}
 use Rattle.link_trace.specs.FirstOctets.{EndsBy}
 use Rattle.link_trace.specs.Meanings.{meaning_in}
 use Rattle.path_agenda.specs.Words.{first_of}
@@ -67,7 +67,7 @@ use Rattle.world_laws.proofs.Numbers.TellSmall.{EndTells, OptionTells, PairTells
 use Rattle.trace_laws.specs.Counting.{base_from}
 use Rattle.trace_laws.specs.Sending.{payload_in}
 use Rattle.trace_laws.proofs.Handing.{made_payload}
-use Rattle.trace_laws.proofs.ReadingBack.{IsSaid, OneSaid, Placed, by_mapping, mapping_said, by_position, unmapped_infinite, unmapped_keys, unmapped_none}
+use Rattle.trace_laws.proofs.ReadingBack.{IsSaid, OneSaid, Placed, by_mapping, mapping_said, by_position, steady_infinite, steady_keys, steady_none, steady_without, unmapped_infinite, unmapped_keys, unmapped_none}
 
 -- ---- the payload of a segment that is meant
 
@@ -216,12 +216,14 @@ module _ (start : Start) (p : PathState (List ℕ)) (n : ℕ) (x : Sent) (h : En
 
     -- the position tells the place
     at_position : (one : OneSaid c.spelling s sg.options)
-        → place_mapped (mapping_said c.spelling s sg.options) (first_byte base s) (sg.position % 2 ^ 32) ≡ None
+        → place_mapped (mapping_said c.spelling s sg.options) (first_byte base s) (sg.position % 2 ^ 32) ≡ None → shifts_after base x [] ≡ []
         → (n ≡ 0) × (suc place ≡ r.pos) → Placed base initials x place (length r.piece)
-    at_position one unmapped at = by_position base initials x c.spelling sg key (is_said one) place unmapped (path ∙ numbered ∙ at.0) at.1 f.small
+    at_position one unmapped steady at = by_position base initials x c.spelling sg key (is_said one) place unmapped steady (path ∙ numbered ∙ at.0) at.1 f.small
 
     at_none : sg.options ≡ [] → (n ≡ 0) × (suc place ≡ r.pos) → Placed base initials x place (length r.piece)
-    at_none are at = let one = none_of are in at_position one (unmapped_none base initials x c.spelling sg key (is_said one) are) at
+    at_none are at =
+        let one = none_of are in
+        at_position one (unmapped_none base initials x c.spelling sg key (is_said one) are) (steady_none base initials x c.spelling sg key (is_said one) are) at
 
     placed_plain : e.modes.identity ≡ true → Placed base initials x place (length r.piece)
     placed_plain identity = by (owes_mapping e) refl
@@ -234,7 +236,9 @@ module _ (start : Start) (p : PathState (List ℕ)) (n : ℕ) (x : Sent) (h : En
         by : (b : Bool) → owes_mapping e ≡ b → Placed base initials x place (length r.piece)
         by true owes =
             let one = one_of (Dss None (Some (Infinite (r.pos - 1) r.pos))) (are true owes) in
-            at_position one (unmapped_infinite base initials x c.spelling sg key (is_said one) None (r.pos - 1) r.pos (are true owes)) (f.plain identity)
+            let at = f.plain identity in let after = at.1 in
+            at_position one (unmapped_infinite base initials x c.spelling sg key (is_said one) None (r.pos - 1) r.pos (are true owes))
+            (steady_infinite base initials x c.spelling sg key (is_said one) None (r.pos - 1) r.pos (are true owes) (path ∙ numbered ∙ at.0) (omega (arith, after))) at
         by false owes = at_none (are false owes) (f.plain identity)
 
     placed_mapped : sg.options ≡ mapped_options c s r e → Placed base initials x place (length r.piece)
@@ -252,7 +256,8 @@ module _ (start : Start) (p : PathState (List ℕ)) (n : ℕ) (x : Sent) (h : En
             let carried = WithData e.modes.own_key peer r.mapping.length (checksum_told c r.mapping.checksum) in
             let as_keys : sg.options ≡ Capable c.spelling.checksums false carried ∷ [] = chosen true is ∙ ap (λ (k : Option ℕ). first_piece_options c k r e) there in
             let one = one_of (Capable c.spelling.checksums false carried) as_keys in
-            at_position one (unmapped_keys base initials x c.spelling sg key (is_said one) c.spelling.checksums false carried as_keys) (f.first is)
+            at_position one (unmapped_keys base initials x c.spelling sg key (is_said one) c.spelling.checksums false carried as_keys)
+            (steady_keys base initials x c.spelling sg key (is_said one) c.spelling.checksums false carried as_keys) (f.first is)
 
         by : (b : Bool) → is_first_piece s r e ≡ b → Placed base initials x place (length r.piece)
         by true is = keys is e.modes.peer_key refl
@@ -370,7 +375,7 @@ module _ (start : Start) (p : PathState (List ℕ)) (n : ℕ) (ends : (s : Side)
   -- what is sent is on a path, and its payload ends within the file
   module _ (x : Sent) (path : x.path ≡ path_of p) (sg : PlainSegment) (is : x.octets ≡ made p.profile.spelling x.from sg) where
     abbrev read_as : Carried
-    read_as = carried_of (base_from start) (initials_of start.paths) x
+    read_as = carried_of (base_from start) (initials_of start.paths) [] x
 
     empty_carried : sg.payload ≡ [] → read_as.len ≡ 0
     empty_carried none = by (meaning_in x) refl
@@ -378,20 +383,30 @@ module _ (start : Start) (p : PathState (List ℕ)) (n : ℕ) (ends : (s : Side)
         payload_none : payload_in x.octets ≡ []
         payload_none = ap payload_in is ∙ made_payload p.profile.spelling x.from sg ∙ none
 
-        by : (o : Result Segment SegmentFault) → meaning_in x ≡ o → (carried_in (base_from start) x (initial_in (initials_of start.paths) x.path x.from) o).len ≡ 0
+        by : (o : Result Segment SegmentFault) → meaning_in x ≡ o → (carried_in (base_from start) x (initial_in (initials_of start.paths) x.path x.from) [] o).len ≡ 0
         by (Err fault) means = refl
         by (Ok segment) means = let same = ap length (payload_of _ x.octets segment means ∙ payload_none) in omega (arith, same)
 
     path_is : read_as.path ≡ x.path
     path_is = by (meaning_in x)
       where
-        by : (o : Result Segment SegmentFault) → (carried_in (base_from start) x (initial_in (initials_of start.paths) x.path x.from) o).path ≡ x.path
+        by : (o : Result Segment SegmentFault) → (carried_in (base_from start) x (initial_in (initials_of start.paths) x.path x.from) [] o).path ≡ x.path
         by (Err fault) = refl
         by (Ok segment) = refl
 
-    pub sent_ends : IsOf x.from sg → (read_as.path < length start.paths) × ((read_as.len ≡ 0) ⊎ EndsBy (length (pick x.from start.file_a start.file_b)) read_as)
-    sent_ends of_it = (let within = (ends x.from).within in let same = path_is in omega (arith, within, same, path, numbered), by of_it)
+    empty_steady : sg.payload ≡ [] → shifts_after (base_from start) x [] ≡ []
+    empty_steady none =
+        let payload_none : payload_in x.octets ≡ [] = ap payload_in is ∙ made_payload p.profile.spelling x.from sg ∙ none in
+        steady_without (base_from start) x (λ segment means. let same = ap length (payload_of _ x.octets segment means ∙ payload_none) in omega (arith, same))
+
+    pub sent_ends : IsOf x.from sg
+        → (read_as.path < length start.paths) × ((read_as.len ≡ 0) ⊎ EndsBy (length (pick x.from start.file_a start.file_b)) read_as) × (shifts_after (base_from start) x [] ≡ [])
+    sent_ends of_it = (let within = (ends x.from).within in let same = path_is in omega (arith, within, same, path, numbered), by of_it, steady of_it)
       where
+        steady : IsOf x.from sg → shifts_after (base_from start) x [] ≡ []
+        steady (inl none) = empty_steady none
+        steady (inr some) = (payload_placed start p n x (ends x.from) numbered path some.0 some.1.0 (is ∙ ap (made p.profile.spelling x.from) some.1.1)).steady
+
         by : IsOf x.from sg → (read_as.len ≡ 0) ⊎ EndsBy (length (pick x.from start.file_a start.file_b)) read_as
         by (inl none) = inl (empty_carried none)
         by (inr some) =

@@ -1,7 +1,7 @@
 -- What the octets of a payload's segment tell of its place, read as any trace is.
-use Rattle.std.proofs.Common.{◌≡◌, refl, sym, ◌∙◌, ap, subst, ℕ, zero, suc, ◌+◌, ◌-◌, ◌%◌, ◌==◌, ◌^◌, ◌<◌, ◌≤◌, min, Bool, true, false, if◌then◌else◌, Result, Ok, Option, Some, None, unwrap_or, List, [], ◌∷◌, ◌++◌, length, replicate, append_assoc, append-nil, arith}
+use Rattle.std.proofs.Common.{◌≡◌, refl, sym, ◌∙◌, ap, subst, ℕ, zero, suc, ◌+◌, ◌-◌, ◌%◌, ◌==◌, ◌&&◌, ◌^◌, ◌<◌, ◌≤◌, nat_lt, min, Bool, true, false, if◌then◌else◌, Result, Ok, Err, Option, Some, None, unwrap_or, List, [], ◌∷◌, ◌++◌, length, replicate, append_assoc, append-nil, arith}
 use Rattle.std.specs.Option.{option_or}
-use Rattle.std.proofs.lemmas.Bool.{ne_eqb}
+use Rattle.std.proofs.lemmas.Bool.{eq-eqb, ne_eqb}
 use Rattle.sides.specs.declared.side.Side.{Side}
 use Rattle.sides.specs.Side.{peer}
 use Rattle.key_material.specs.KeyDigest.{idsn_of}
@@ -30,7 +30,8 @@ use Rattle.path_segments.proofs.SegmentsAgain.{four, written}
 use Rattle.link_trace.specs.declared.carried.Base.{Base}
 use Rattle.link_trace.specs.declared.carried.PathInitials.{PathInitials}
 use Rattle.link_trace.specs.declared.sent.Sent.{Sent}
-use Rattle.link_trace.specs.Carrying.{behind, carried_in, carried_of, carries, dss_in, dss_read, first_byte, first_number, initial_in, low_half, low_number, mapped, no_dss, payload_len, place_mapped, place_of, place_plain, value_dss}
+use Rattle.link_trace.specs.Carrying.{behind, carried_in, carried_of, carries, dss_in, dss_read, first_byte, first_number, initial_in, low_half, low_number, mapped, no_dss, payload_len, place_mapped, place_of, shift_by, shift_told, shifted, shifts_after, shifts_in, value_dss}
+use Rattle.link_trace.specs.Shifts.{is_in_force, shift_in, with_shift}
 use Rattle.link_trace.specs.Meanings.{meaning_in}
 
 -- ---- the segment
@@ -89,8 +90,9 @@ module _ (base : Base) (initials : List PathInitials) (x : Sent) (spelling : Spe
 
   -- as it is read
   record Reads : Type 0 where
-    len : (carried_of base initials x).len ≡ length sg.payload
-    place : (carried_of base initials x).place ≡ place_of x.path (mapping_said spelling from sg.options) (first_byte base x.from) (sg.position % 2 ^ 32)
+    len : (carried_of base initials [] x).len ≡ length sg.payload
+    place : (carried_of base initials [] x).place ≡ place_of (mapping_said spelling from sg.options) (first_byte base x.from) (shift_in [] x.path x.from) (sg.position % 2 ^ 32)
+    shifts : (l : ℕ) × (shifts_after base x [] ≡ with_shift (shift_told (mapping_said spelling from sg.options) (first_byte base x.from) l) x.path x.from [])
 
   spelled_seq : (spelled spelling from sg).head.seq ≡ subflow_number spelling from sg.position
   unfolding spelled
@@ -110,8 +112,8 @@ module _ (base : Base) (initials : List PathInitials) (x : Sent) (spelling : Spe
     abbrev text : Segment
     text = spelled spelling from sg
 
-    carried_is : carried_of base initials x ≡ carries base x (initial_in initials x.path x.from) text
-    carried_is = ap (carried_in base x (initial_in initials x.path x.from)) (meant x spelling sg can path is)
+    carried_is : carried_of base initials [] x ≡ carries base x (initial_in initials x.path x.from) [] text
+    carried_is = ap (carried_in base x (initial_in initials x.path x.from) []) (meant x spelling sg can path is)
 
     position_is : behind text.head.seq (initial_in initials x.path x.from) ≡ sg.position % 2 ^ 32
     position_is = omega (arith, spelled_seq, initial)
@@ -125,9 +127,32 @@ module _ (base : Base) (initials : List PathInitials) (x : Sent) (spelling : Spe
     reads = record {
       len = ap (λ c. c.len) carried_is ∙ (let fits = can.fits in let same = ap length spelled_payload in omega (arith, fits, same));
       place = ap (λ c. c.place) carried_is
-          ∙ ap (λ (o : Option DssMap). place_of x.path o (first_byte base x.from) (behind text.head.seq (initial_in initials x.path x.from))) mapping_is
-          ∙ ap (place_of x.path (mapping_said spelling from sg.options) (first_byte base x.from)) position_is;
+          ∙ ap (λ (o : Option DssMap). place_of o (first_byte base x.from) (shift_in [] x.path x.from) (behind text.head.seq (initial_in initials x.path x.from))) mapping_is
+          ∙ ap (place_of (mapping_said spelling from sg.options) (first_byte base x.from) (shift_in [] x.path x.from)) position_is;
+      shifts = (
+        payload_len text,
+        ap (shifts_in base x []) (meant x spelling sg can path is)
+            ∙ ap (λ (o : Option DssMap). with_shift (shift_told o (first_byte base x.from) (payload_len text)) x.path x.from []) mapping_is,
+      );
     }
+
+-- without a payload a segment tells no infinite mapping
+no_payload : (o : Option DssMap) (first len : ℕ) → len ≡ 0 → shift_told o first len ≡ None
+no_payload None first len none = refl
+no_payload (Some map) first len none = ap (λ (n : ℕ). if map.length == 0 && nat_lt 0 n then Some (behind (behind (low_number map.number) first) map.relative) else None) none ∙ by (map.length == 0)
+  where
+    by : (b : Bool) → (if b && false then Some (behind (behind (low_number map.number) first) map.relative) else None) ≡ None
+    by true = refl
+    by false = refl
+
+pub steady_without : (base : Base) (x : Sent) → ((segment : Segment) → meaning_in x ≡ Ok segment → payload_len segment ≡ 0) → shifts_after base x [] ≡ []
+steady_without base x empty = by (meaning_in x) refl
+  where
+    by : (o : Result Segment SegmentFault) → meaning_in x ≡ o → shifts_in base x [] o ≡ []
+    by (Err fault) means = refl
+    by (Ok segment) means =
+        ap (λ (o : Option ℕ). with_shift o x.path x.from [])
+        (no_payload (dss_in base.checksums (option_octets segment.options)).mapping (first_byte base x.from) (payload_len segment) (empty segment means))
 
 -- ---- the place of a mapping
 
@@ -160,8 +185,10 @@ module _ (spelling : Spelling) (from : Side) (key : ℕ) (keyed : (numbers_of sp
 
 -- where it stands, and how long it is
 pub record Placed (base : Base) (initials : List PathInitials) (x : Sent) (place len : ℕ) : Type 0 where
-  pub told : (carried_of base initials x).place ≡ Some place
-  pub len_is : (carried_of base initials x).len ≡ len
+  pub told : (carried_of base initials [] x).place ≡ Some place
+  pub len_is : (carried_of base initials [] x).len ≡ len
+  -- it tells no infinite mapping that says anything new
+  pub steady : shifts_after base x [] ≡ []
 
 -- a segment that can be said, without SYN, and with one option at most
 pub record IsSaid (base : Base) (initials : List PathInitials) (x : Sent) (spelling : Spelling) (sg : PlainSegment) (key : ℕ) : Type 0 where
@@ -184,21 +211,26 @@ module _ (base : Base) (initials : List PathInitials) (x : Sent) (spelling : Spe
       → 1 ≤ len → place < 2 ^ 31 → Placed base initials x place (length sg.payload)
   by_mapping next place len checksum options some small = record {
     told = read.place
-        ∙ ap (λ (os : List PlainOption). place_of x.path (mapping_said spelling x.from os) (first_byte base x.from) (sg.position % 2 ^ 32)) options
-        ∙ ap (λ (n : ℕ). place_of x.path (Some (said_mapping spelling x.from (Bytes place sg.position len false checksum))) n (sg.position % 2 ^ 32)) h.first
-        ∙ ap (λ (o : Option ℕ). option_or o (place_plain x.path (sg.position % 2 ^ 32))) (mapped_back spelling x.from key h.keyed place sg.position len checksum some small);
+        ∙ ap (λ (os : List PlainOption). place_of (mapping_said spelling x.from os) (first_byte base x.from) (shift_in [] x.path x.from) (sg.position % 2 ^ 32)) options
+        ∙ ap (λ (n : ℕ). place_of (Some (said_mapping spelling x.from (Bytes place sg.position len false checksum))) n (shift_in [] x.path x.from) (sg.position % 2 ^ 32)) h.first
+        ∙ ap (λ (o : Option ℕ). option_or o (shifted (shift_in [] x.path x.from) (sg.position % 2 ^ 32))) (mapped_back spelling x.from key h.keyed place sg.position len checksum some small);
     len_is = read.len;
+    steady = read.shifts.1
+        ∙ ap (λ (os : List PlainOption). with_shift (shift_told (mapping_said spelling x.from os) (first_byte base x.from) read.shifts.0) x.path x.from []) options
+        ∙ ap (λ (b : Bool). with_shift (if b && nat_lt 0 read.shifts.0 then Some (behind (behind (low_number (data_number spelling x.from place)) (first_byte base x.from)) (said_mapping spelling x.from (Bytes place sg.position len false checksum)).relative) else None) x.path x.from [])
+        (ne_eqb len 0 (λ none. omega (arith, some, none)));
   }
 
   -- without one on path 0
   pub by_position : (place : ℕ) → place_mapped (mapping_said spelling x.from sg.options) (first_byte base x.from) (sg.position % 2 ^ 32) ≡ None
-      → x.path ≡ 0 → suc place ≡ sg.position → place < 2 ^ 31 → Placed base initials x place (length sg.payload)
-  by_position place unmapped path at small = record {
+      → shifts_after base x [] ≡ [] → x.path ≡ 0 → suc place ≡ sg.position → place < 2 ^ 31 → Placed base initials x place (length sg.payload)
+  by_position place unmapped steady path at small = record {
     told = read.place
-        ∙ ap (λ (o : Option ℕ). option_or o (place_plain x.path (sg.position % 2 ^ 32))) unmapped
-        ∙ ap (λ (n : ℕ). place_plain n (sg.position % 2 ^ 32)) path
-        ∙ ap Some (let same : behind (sg.position % 2 ^ 32) 1 ≡ place = omega (arith, at, small) in same);
+        ∙ ap (λ (o : Option ℕ). option_or o (shifted (shift_in [] x.path x.from) (sg.position % 2 ^ 32))) unmapped
+        ∙ ap (λ (n : ℕ). shifted (shift_in [] n x.from) (sg.position % 2 ^ 32)) path
+        ∙ ap Some (let same : (sg.position % 2 ^ 32 + (2 ^ 32 - 1)) % 2 ^ 32 ≡ place = omega (arith, at, small) in same);
     len_is = read.len;
+    steady = steady;
   }
 
   pub unmapped_none : sg.options ≡ [] → place_mapped (mapping_said spelling x.from sg.options) (first_byte base x.from) (sg.position % 2 ^ 32) ≡ None
@@ -211,3 +243,32 @@ module _ (base : Base) (initials : List PathInitials) (x : Sent) (spelling : Spe
   pub unmapped_infinite : (next : Option ℕ) (place position : ℕ) → sg.options ≡ Dss next (Some (Infinite place position)) ∷ []
       → place_mapped (mapping_said spelling x.from sg.options) (first_byte base x.from) (sg.position % 2 ^ 32) ≡ None
   unmapped_infinite next place position is = ap (λ (os : List PlainOption). place_mapped (mapping_said spelling x.from os) (first_byte base x.from) (sg.position % 2 ^ 32)) is
+
+  pub steady_none : sg.options ≡ [] → shifts_after base x [] ≡ []
+  steady_none is = read.shifts.1 ∙ ap (λ (os : List PlainOption). with_shift (shift_told (mapping_said spelling x.from os) (first_byte base x.from) read.shifts.0) x.path x.from []) is
+
+  pub steady_keys : (a b : Bool) (keys : CapableKeys) → sg.options ≡ Capable a b keys ∷ [] → shifts_after base x [] ≡ []
+  steady_keys a b keys is = read.shifts.1 ∙ ap (λ (os : List PlainOption). with_shift (shift_told (mapping_said spelling x.from os) (first_byte base x.from) read.shifts.0) x.path x.from []) is
+
+  -- what its infinite mapping says
+  abbrev shift_said : ℕ → ℕ → ℕ → ℕ
+  shift_said place position number = behind (behind (low_number (data_number spelling x.from place)) number) (said_mapping spelling x.from (Infinite place position)).relative
+
+  abbrev shift_if_some : ℕ → ℕ → ℕ → Option ℕ
+  shift_if_some place position number = if nat_lt 0 read.shifts.0 then Some (shift_said place position number) else None
+
+  -- in plain TCP on path 0 the infinite mapping says what is so without one
+  pub steady_infinite : (next : Option ℕ) (place position : ℕ) → sg.options ≡ Dss next (Some (Infinite place position)) ∷ [] → x.path ≡ 0 → suc place ≡ position
+      → shifts_after base x [] ≡ []
+  steady_infinite next place position is path at =
+      read.shifts.1
+      ∙ ap (λ (os : List PlainOption). with_shift (shift_told (mapping_said spelling x.from os) (first_byte base x.from) read.shifts.0) x.path x.from []) is
+      ∙ ap (λ (n : ℕ). with_shift (shift_if_some place position n) x.path x.from []) h.first
+      ∙ ap (λ (n : ℕ). with_shift (shift_if_some place position (first_number key)) n x.from []) path ∙ by (nat_lt 0 read.shifts.0)
+    where
+      same : shift_said place position (first_number key) ≡ 2 ^ 32 - 1
+      same = let start = start_back spelling x.from key h.keyed place in omega (arith, start, at)
+
+      by : (b : Bool) → with_shift (if b then Some (shift_said place position (first_number key)) else None) 0 x.from [] ≡ []
+      by true = ap (λ (n : ℕ). with_shift (Some n) 0 x.from []) same
+      by false = refl
