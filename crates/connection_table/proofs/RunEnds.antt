@@ -147,9 +147,11 @@ module _ (content : Contents) (words : NamedList) (l0 l1 p0 p1 : ℕ) (held hold
     puts = puts_from 0 (map state_of table)
 
     pub ends_done : HoldsAfter held holds (λ text. text ++ lines_of table) → AddsAll puts b c → Ends Done
+    unfolding of_list
     ends_done lines calls = record { worlds = map state_of table; of = ended; lines = lines; calls_made = all_then (loads_of_list words of.names) puts a b c of.calls calls }
 
     pub ends_cut : (many : Many) → HoldsPrefix held holds (lines_of table) → IsPutFault p0 p1 many → PutAdds puts b c many → Ends many
+    unfolding of_list
     ends_cut Put part fault calls =
         (fault, record { worlds = map state_of table; of = ended; lines = part; calls_made = failed_behind (loads_of_list words of.names) puts a b c of.calls calls })
     ends_cut Memory part fault calls =

@@ -22,8 +22,8 @@ returns-in-Err-Failed-clause-calls_cut g c =
     (one_told (call.Put Port.Log c.as_bytes.result.now) (call.Put Port.Log (line_at c.args.connection c.args.table.now)) _ false _ _ c.in-Err-Failed.ensures.recorded
     (ap (λ piece. call.Put Port.Log piece) (c.as_bytes.ensures.value ∙ c.in_ok-line.ensures)) refl)
 
-pub returns-in-Err-Memory-clause-calls_cut : goal.returns-in-Err-Memory-clause-calls_cut
-returns-in-Err-Memory-clause-calls_cut g c =
+pub returns-clause-calls_cut : goal.returns-clause-calls_cut
+returns-clause-calls_cut g c =
     inr (one_failed (call.Put Port.Log (line_at c.args.connection c.args.table.now)) _ _
     (one_told (call.Put Port.Log c.as_bytes.result.now) (call.Put Port.Log (line_at c.args.connection c.args.table.now)) _ false _ _ c.in-Err-Memory.ensures.recorded
     (ap (λ piece. call.Put Port.Log piece) (c.as_bytes.ensures.value ∙ c.in_ok-line.ensures)) refl))

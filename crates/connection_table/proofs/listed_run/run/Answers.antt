@@ -26,14 +26,14 @@ returns-in_err-admit_listed-clause-ends g c =
 pub returns-in_err-make_rounds-clause-ends : goal.returns-in_err-make_rounds-clause-ends
 returns-in_err-make_rounds-clause-ends g c =
     let p = err_from_is_err_and c.from_residual-in_err-make_rounds.result c.from_residual-in_err-make_rounds.ensures.1 in
-    rw (p.1, p.2) (ends_unmade (g.O.Outside.content c.args.outside.now) (as_words c.args.words.now) _ _ _ _ _ _ _ _ _ c.in_ok-admit_listed.ensures.ok
+    rw (p.1, p.2) (ends_unmade (g.O.Outside.content c.args.outside.now) (as_words c.args.words.now) 0 0 0 0 _ _ _ _ _ c.in_ok-admit_listed.ensures.ok
     (c.admit_listed.ensures.only.held Port.Log))
 
 pub returns-clause-done : goal.returns-clause-done
 returns-clause-done g c =
     let content = g.O.Outside.content c.args.outside.now in let words = as_words c.args.words.now in
     OnOk-both c.put_lines.result
-    (λ put calls. ends_done content words _ _ _ _ _ _ _ _ _ c.admit_listed.new.table c.make_rounds.new.table c.in_ok-admit_listed.ensures.ok c.in_ok-make_rounds.ensures.made
+    (λ put calls. ends_done content words 0 0 0 0 _ _ _ _ _ c.admit_listed.new.table c.make_rounds.new.table c.in_ok-admit_listed.ensures.ok c.in_ok-make_rounds.ensures.made
     (after_from (g.O.Outside.holds c.args.outside.now Port.Log) (g.O.Outside.holds c.admit_listed.new.outside Port.Log) (g.O.Outside.holds c.put_lines.new.outside Port.Log)
     (λ held. held ++ lines_of c.make_rounds.new.table) (c.admit_listed.ensures.only.held Port.Log) put)
     calls)

@@ -12,7 +12,8 @@ end_round-requires c =
     let there = c.requires.there in
     omega (arith, many, there)
 
-pub returns-clause-made : goal.returns-clause-made
-returns-clause-made c =
-    changes_then TurnsMade (λ (y z : Entry). z ≡ after_end y) RoundMade round_made c.args.connection c.args.table.now c.make_turns.new.table c.end_round.new.self
-    c.in_ok-make_turns.ensures.made (changes_are after_end c.args.connection c.make_turns.new.table c.end_round.new.self c.end_round.ensures.next)
+pub returns : goal.returns
+returns c = record {
+  made = changes_then TurnsMade (λ (y z : Entry). z ≡ after_end y) RoundMade round_made c.args.connection c.args.table.now c.make_turns.new.table c.end_round.new.self
+      c.in_ok-make_turns.ensures.made (changes_are after_end c.args.connection c.make_turns.new.table c.end_round.new.self c.end_round.ensures.next);
+}

@@ -22,8 +22,10 @@ loop-preserved c =
           c.loop.invariant.so_far step;
     }
 
-pub returns-clause-made : goal.returns-clause-made
-returns-clause-made c =
+pub returns : goal.returns
+returns c =
     let step = subst (λ b. Changes (StepMade c.args.actor b) c.args.connection c.loop.table c.go.new.table) c.if-branch.false c.in_ok-go.ensures.made in
-    changes_then (TurnSoFar c.args.actor) (StepMade c.args.actor _) (TurnMade c.args.actor) (turn_made c.args.actor) c.args.connection _ c.loop.table c.go.new.table
-    c.loop.invariant.so_far step
+    record {
+      made = changes_then (TurnSoFar c.args.actor) (StepMade c.args.actor _) (TurnMade c.args.actor) (turn_made c.args.actor) c.args.connection _ c.loop.table c.go.new.table
+          c.loop.invariant.so_far step;
+    }

@@ -4,7 +4,7 @@ use Rattle.world_core.specs.Rounds.{TurnsTo}
 use Rattle.world_laws.specs.Serial.{TurnTo}
 use Rattle.path_rules.specs.Octets.{octets}
 use Rattle.connection_table.specs.ManyRounds.{Runs, TurnMade, TurnsMade}
-use Rattle.connection_table.specs.Tables.{Entry}
+use Rattle.connection_table.specs.Tables.{Entry, entry_at}
 use Rattle.connection_table.proofs.Changes.{all_changed, all_there, changed_many, changes_know, changes_none, changes_then, made_runs, some_map}
 use Rattle.connection_table.proofs.RoundMore.{TurnsSoFar, turns_begin, turns_go, turns_made}
 use Rattle.connection_table.proofs.rounds.make_turns.Goals as goal
@@ -31,10 +31,13 @@ loop-actor-preserved c =
           c.args.connection _ c.loop-actor.table c.make_turn.new.table c.loop-actor.invariant.so_far made;
     }
 
-pub returns-clause-made : goal.returns-clause-made
-returns-clause-made c =
+pub returns : goal.returns
+returns c =
     let past : c.actors-actors.result ≤ c.loop-actor.actor = omega (arith, c.loop-actor-test.false) in
-    changes_know (λ (x : Entry). c.actors-actors.result ≡ length x.world.state.crew) (TurnsSoFar c.actors-actors.result c.loop-actor.actor) TurnsMade
-    (λ x y count so. turns_made c.actors-actors.result c.loop-actor.actor past x y count so) c.args.connection c.args.table.now c.loop-actor.table
-    (some_map _ _ _ (λ x is. c.actors-actors.ensures ∙ ap (λ (k : Kept). length k.state.crew) is) c.world.ensures.world)
-    c.loop-actor.invariant.so_far
+    record {
+      made = changes_know (λ (x : Entry). c.actors-actors.result ≡ length x.world.state.crew) (TurnsSoFar c.actors-actors.result c.loop-actor.actor) TurnsMade
+          (λ x y count so. turns_made c.actors-actors.result c.loop-actor.actor past x y count so) c.args.connection c.args.table.now c.loop-actor.table
+          (some_map (entry_at c.args.connection c.args.table.now) (λ x. c.world.result.now ≡ x.world) (λ x. c.actors-actors.result ≡ length x.world.state.crew)
+          (λ x is. c.actors-actors.ensures ∙ ap (λ (k : Kept). length k.state.crew) is) c.world.ensures.world)
+          c.loop-actor.invariant.so_far;
+    }
