@@ -1,9 +1,7 @@
 -- The connections of a list, loaded and admitted one after the other.
 use Rattle.std.proofs.Common.{◌≡◌, refl, sym, ◌∙◌, ap, subst, ℕ, zero, suc, ◌+◌, ◌<◌, ◌≤◌, ◌⊎◌, inl, inr, List, [], ◌∷◌, ◌++◌, length, get_or, map, take, drop, None, arith}
 use Rattle.std.specs.Prelude.{IfSome}
-use Rattle.std.specs.List.{All}
 use Rattle.std.proofs.lemmas.List.{length-append, length-map, map-append, take_more}
-use Rattle.std.proofs.lemmas.List.Elements.{All-nil, All-cons}
 use Rattle.run_outside.specs.declared.input.Input.{Input}
 use Rattle.run_outside.proofs.PortsLemmas.{risen_later}
 use Rattle.connection_list.specs.Lists.{Names, as_names}
@@ -13,7 +11,7 @@ use Rattle.listed_inputs.specs.declared.many.Many.TheVariants.{Done, Usage, Load
 use Rattle.listed_inputs.specs.Causes.{IsInputFault}
 use Rattle.listed_inputs.specs.Inputs.{AreWithin, Contents, IsInput, IsLong}
 use Rattle.connection_table.specs.ManyEnds.{AreAdmitted, AreInputs, AtFault, IsAdmitFault, IsListedFault}
-use Rattle.connection_table.specs.Tables.{Entry, Stands, holder_of, key_token, opened_entry}
+use Rattle.connection_table.specs.Tables.{Entry, holder_of, key_token, opened_entry}
 use Rattle.connection_table.proofs.OwnTokens.{apart_more}
 
 -- ---- a connection more
@@ -200,9 +198,3 @@ pub count_more : (table new : List Entry) (e : Entry) (i : ℕ) → length table
 count_more table new e i count is =
     let more : length new ≡ length (table ++ e ∷ []) = ap length is in
     omega (arith, count, more, length-append table (e ∷ []))
-
--- ---- before the first step
-
-pub opened_stand : (inputs : List Input) → All Stands (map opened_entry inputs)
-opened_stand [] = All-nil Stands
-opened_stand (input ∷ inputs) = All-cons Stands (opened_entry input) (map opened_entry inputs) refl (opened_stand inputs)

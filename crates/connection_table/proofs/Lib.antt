@@ -6,8 +6,10 @@ mod Placed
 mod Changing
 mod Isolation
 mod RoundMore
-mod EachMade
+mod Changes
 mod LinesPut
+mod CallsMade
+mod EndsRight
 mod LoadsMade
 mod OwnTokens
 mod Admitted

@@ -1,5 +1,5 @@
 -- The loads of a list, line by line.
-use Rattle.std.proofs.Common.{◌≡◌, refl, sym, ◌∙◌, ap, subst, ℕ, zero, suc, ◌+◌, ◌<◌, Option, Some, None, Result, Ok, Err, List, [], ◌∷◌, ◌++◌, length, get_or, map, take, append_assoc, arith}
+use Rattle.std.proofs.Common.{◌≡◌, refl, sym, ◌∙◌, ap, subst, inl, inr, ℕ, zero, suc, ◌+◌, ◌<◌, Option, Some, None, Result, Ok, Err, List, [], ◌∷◌, ◌++◌, length, get_or, map, take, append_assoc, arith}
 use Rattle.std.specs.Prelude.{IfOk, IfSome}
 use Rattle.std.specs.List.{slice_get}
 use Rattle.std.proofs.lemmas.Grind.{flat_map-append}
@@ -16,27 +16,10 @@ use Rattle.listed_inputs.specs.declared.many.Many.{Many}
 use Rattle.listed_inputs.specs.declared.many.Many.TheVariants.{Done, Usage, Load, TooLong, List as Listing, Script, SameToken, Put, Memory}
 use Rattle.listed_inputs.specs.Causes.{IsInputFault, IsListFault, IsLoadFault}
 use Rattle.listed_inputs.specs.Inputs.{Contents}
-use Rattle.listed_inputs.specs.Loads.{AddsLoadsThrough, AddsLoadsTo, AddsToFailed, InputAdds, LinesAdd, ListAdds, joined, loads_by_line, loads_of}
-use Rattle.connection_table.specs.ManyEnds.{IsAdmitFault, IsPutFault}
-
--- ---- one part after the other
-
--- calls that succeeded, and then some of a plan up to one that failed
-failed_then : (front first plan : List Call) (a b c : Told) → AddsAll front a b → AddsToFailed first plan b c → AddsToFailed (front ++ first) plan a c
-failed_then front first plan a b c before cut = record {
-  made = cut.made;
-  failing = cut.failing;
-  behind = cut.behind;
-  plan_is = cut.plan_is;
-  adds = subst (λ made. Adds made a c) (sym seam)
-      (adds_then (map succeeded front) (map succeeded (first ++ cut.made) ++ failed cut.failing ∷ []) a b c before cut.adds);
-}
-  where
-    seam : map succeeded ((front ++ first) ++ cut.made) ++ failed cut.failing ∷ [] ≡ map succeeded front ++ (map succeeded (first ++ cut.made) ++ failed cut.failing ∷ [])
-    seam =
-        ap (λ calls. map succeeded calls ++ failed cut.failing ∷ []) (append_assoc front first cut.made)
-        ∙ ap (λ made. made ++ failed cut.failing ∷ []) (map-append succeeded front (first ++ cut.made))
-        ∙ append_assoc (map succeeded front) (map succeeded (first ++ cut.made)) (failed cut.failing ∷ [])
+use Rattle.listed_inputs.specs.Loads.{AddsCut, AddsLoadsThrough, AddsLoadsTo, AddsToFailed, InputAdds, LinesAdd, ListAdds, joined, loads_by_line, loads_of}
+use Rattle.listed_inputs.proofs.Adding.{all_cut}
+use Rattle.connection_table.specs.ManyEnds.{IsAdmitFault}
+use Rattle.connection_table.proofs.CallsMade.{cut_behind, cut_within, failed_then}
 
 -- ---- the connections
 
@@ -51,6 +34,17 @@ there_is (x ∷ listed) (suc i) e within = there_is listed i e (omega (arith, wi
 -- the first lines of all of them
 first_lines : (listed : List Listed) (n : ℕ) → take n (lines_of_listed listed) ≡ lines_of_listed (take n listed)
 first_lines listed n = take-map loads_of n (map as_names listed) ∙ ap (map loads_of) (take-map as_names n listed)
+
+-- those behind a line
+behind_entry : (listed : List Listed) (i : ℕ) (e : Listed) → i < length listed → (more : List Call)
+    × (joined ([] ∷ lines_of_listed listed) ≡ joined (lines_of_listed (take i listed)) ++ (loads_of (as_names (get_or listed i e)) ++ more))
+behind_entry [] i e within = absurd (omega (arith, within))
+behind_entry (x ∷ listed) zero e within = (joined (lines_of_listed listed), refl)
+behind_entry (x ∷ listed) (suc i) e within =
+    let rest = behind_entry listed i e (omega (arith, within)) in
+    let own : List Call = loads_of (as_names x) in
+    let next : List Call = loads_of (as_names (get_or listed i e)) in
+    (rest.0, ap (λ calls. own ++ calls) rest.1 ∙ sym (append_assoc own (joined (lines_of_listed (take i listed))) (next ++ rest.0)))
 
 module _ (listed : List Listed) (i : ℕ) (e : Listed) (within : i < length listed) (a b c : Told) (before : AddsAll (joined (lines_of_listed (take i listed))) a b) where
   abbrev at_i : Names
@@ -88,12 +82,18 @@ module _ (listed : List Listed) (i : ℕ) (e : Listed) (within : i < length list
         at : suc (i + 1) ≡ line + 1
         at = omega (arith, is, entry_is)
 
+    -- some of its loads were made
+    of_lines : AddsCut (loads_of at_i) b c → AddsCut (joined Lines) a c
+    of_lines cut =
+        let rest = behind_entry listed i e within in
+        subst (λ plan. AddsCut plan a c) (sym rest.1) (cut_within (joined (lines_of_listed (take i listed))) (loads_of at_i) rest.0 a b c before cut)
+
     -- one of its loads failed, or its script is refused
     pub entry_cut : (content : Contents) (old new : ℕ) (many : Many) → IsInputFault entry content at_i old new many → InputAdds (loads_of at_i) b c many → LinesAdd Lines a c many
     entry_cut content old new (Load line) fault adds = to_line line fault.0 adds
     entry_cut content old new (TooLong line) fault adds = to_line line fault.0 adds
     entry_cut content old new (Script named line kind) fault adds = through_line (named + 1) (ap (λ n. n + 1) fault.0) adds
-    entry_cut content old new Memory fault adds = tt
+    entry_cut content old new Memory fault adds = of_lines adds
     entry_cut content old new Done fault adds = tt
     entry_cut content old new Usage fault adds = tt
     entry_cut content old new (Listing line) fault adds = absurd fault
@@ -103,7 +103,7 @@ module _ (listed : List Listed) (i : ℕ) (e : Listed) (within : i < length list
     -- its token is another's
     pub entry_made : (holder : Option ℕ) (many : Many) → IsAdmitFault entry holder many → AddsAll (loads_of at_i) b c → LinesAdd Lines a c many
     entry_made holder (SameToken line named) fault own = through_line line fault.0 own
-    entry_made holder Memory fault own = tt
+    entry_made holder Memory fault own = of_lines (all_cut (loads_of at_i) b c own)
     entry_made holder Done fault own = tt
     entry_made holder Usage fault own = tt
     entry_made holder Put fault own = tt
@@ -158,7 +158,13 @@ module _ (content : Contents) (words : NamedList) where
       by : (many : Many) → IsLoadFault 0 told old new many → LinesAdd LinesTold a b many
       by (Load line) fault = to_list line fault.0
       by (TooLong line) fault = to_list line fault.0
-      by Memory fault = tt
+      by Memory fault = inr (record {
+        made = [];
+        failing = call.Load words.list;
+        behind = joined (map loads_of (names_told (content words.list)));
+        plan_is = refl;
+        adds = one;
+      })
       by Done fault = tt
       by Usage fault = tt
       by Put fault = tt
@@ -172,7 +178,12 @@ module _ (content : Contents) (words : NamedList) where
     where
       by : (many : Many) → IsListFault list many → LinesAdd LinesTold a b many
       by (Listing line) fault = one
-      by Memory fault = tt
+      by Memory fault = inl (record {
+        made = call.Load words.list ∷ [];
+        behind = joined (map loads_of (names_told (content words.list)));
+        plan_is = refl;
+        adds = one;
+      })
       by Done fault = tt
       by Usage fault = tt
       by Put fault = tt
@@ -212,31 +223,7 @@ module _ (content : Contents) (words : NamedList) where
       behind_list (Script entry line kind) adds = behind_through (entry + 1) adds
       behind_list (SameToken line holder) adds = behind_through line adds
       behind_list (Listing line) adds = behind_through 0 adds
-      behind_list Memory adds = tt
+      behind_list Memory adds = cut_behind (call.Load words.list ∷ []) (joined (map loads_of names)) a b c one adds
       behind_list Done adds = tt
       behind_list Usage adds = tt
       behind_list Put adds = tt
-
-  -- memory was wanting, or a line wasn't put
-  pub none_told : (a b : Told) (p q : ℕ) (many : Many) → IsPutFault p q many → ListAdds content words a b many
-  none_told a b p q many fault = told_adds a b many (by many fault)
-    where
-      by : (many : Many) → IsPutFault p q many → LinesAdd LinesTold a b many
-      by Put fault = tt
-      by Memory fault = tt
-      by Done fault = tt
-      by Usage fault = tt
-      by (Load line) fault = absurd fault
-      by (TooLong line) fault = absurd fault
-      by (Listing line) fault = absurd fault
-      by (Script entry line kind) fault = absurd fault
-      by (SameToken line holder) fault = absurd fault
-
-  pub done_told : (a b : Told) → ListAdds content words a b Done
-  done_told a b = told_adds a b Done tt
-
--- where the words name a list
-pub listed_adds : (content : Contents) (o : Option NamedList) (words : NamedList) (a b : Told) (many : Many) → Some words ≡ o → ListAdds content words a b many
-    → IfSome o (λ named. ListAdds content named a b many)
-listed_adds content None words a b many is adds = tt
-listed_adds content (Some named) words a b many is adds = subst (λ w. ListAdds content w a b many) (same_Some words named is) adds

@@ -1,17 +1,17 @@
 -- A round more of a connection, and of each one of a table.
-use Rattle.std.proofs.Common.{◌≡◌, refl, sym, ◌∙◌, ap, subst, ℕ, zero, suc, ◌+◌, ◌-◌, ◌≤◌, Bool, true, false, List, [], ◌∷◌, ◌++◌, length, map, if◌then◌else◌, not, ◌&&◌, arith}
+use Rattle.std.proofs.Common.{◌≡◌, refl, sym, ◌∙◌, ap, subst, ℕ, zero, suc, ◌+◌, ◌-◌, ◌<◌, ◌≤◌, Bool, true, false, List, [], ◌∷◌, ◌++◌, length, map, if◌then◌else◌, not, ◌&&◌, arith}
 use Rattle.std.specs.List.{All}
 use Rattle.std.proofs.lemmas.List.Elements.{All-nil, All-cons}
 use Rattle.path_rules.specs.Octets.{octets}
 use Rattle.run_log.specs.declared.turn.Turn.TheVariants.{Round, Step}
 use Rattle.world_core.specs.Kept.{Kept, standing}
 use Rattle.world_core.specs.Rounds.{RoundTo, TurnsFrom, after_rounds}
-use Rattle.world_core.proofs.RoundsMade.{turn_over, turns_round}
+use Rattle.world_core.proofs.RoundsMade.{turn_more, turn_over, turns_more, turns_over, turns_round}
 use Rattle.world_laws.specs.Outcomes.{outcome_of}
 use Rattle.world_laws.specs.Serial.{AreRounds, AreTurns, OneOf, TurnTo, after_round, goes_on}
 use Rattle.world_laws.specs.Worlds.{all_over, begins, end_round, greatest, is_going, world_step}
-use Rattle.connection_table.specs.ManyRounds.{EachRound, IsSerialEnd, Made, RoundIfGoing, RoundMade, TurnsMade, goes_on_still}
-use Rattle.connection_table.specs.Steps.{after_end, after_step}
+use Rattle.connection_table.specs.ManyRounds.{EachRound, IsSerialEnd, Made, RoundIfGoing, RoundMade, Runs, StepMade, TurnMade, TurnsMade, goes_on_still}
+use Rattle.connection_table.specs.Steps.{after_end, after_step, ends}
 use Rattle.connection_table.specs.Tables.{Connection, Entry, Stands}
 
 -- ---- rounds of one connection
@@ -134,6 +134,88 @@ stayed old stands over = record {
   stands = stands;
   state = subst (λ b. OneOf b (RoundTo octets old.world.state old.world.state) (old.world.state ≡ old.world.state)) (sym over) refl;
 }
+
+-- ---- an actor's turn, step by step
+
+step_input : (actor : ℕ) (e : Entry) → (after_step actor e).input ≡ e.input
+step_input actor e = by (is_going actor e.world.state)
+  where
+    by : (b : Bool) → (if b then record e { turns = e.turns ++ Step actor ∷ []; world = standing (world_step octets actor e.world.state) } else e).input ≡ e.input
+    by true = refl
+    by false = refl
+
+-- where it goes
+step_goes : (actor : ℕ) (e : Entry) → is_going actor e.world.state ≡ true → (after_step actor e).world ≡ standing (world_step octets actor e.world.state)
+step_goes actor e going =
+    ap (λ b. (if b then record e { turns = e.turns ++ Step actor ∷ []; world = standing (world_step octets actor e.world.state) } else e).world) going
+
+-- what the rest of the turn comes to, the whole turn does
+pub record TurnSoFar (actor : ℕ) (before now : Entry) : Type 0 where
+  pub input : now.input ≡ before.input
+  pub stands : Stands now
+  pub whole : (v : Connection) → TurnTo octets actor now.world.state v → TurnTo octets actor before.world.state v
+
+pub turn_begins : (actor : ℕ) (x : Entry) → Runs x → TurnSoFar actor x x
+turn_begins actor x runs = record { input = refl; stands = runs.stands; whole = λ v h. h }
+
+pub turn_goes : (actor : ℕ) (x y z : Entry) → TurnSoFar actor x y → StepMade actor true y z → TurnSoFar actor x z
+turn_goes actor x y z so step =
+    let going = sym step.going in
+    let world_is : z.world ≡ standing (world_step octets actor y.world.state) = ap (λ (e : Entry). e.world) step.is ∙ step_goes actor y going in
+    record {
+      input = ap (λ (e : Entry). e.input) step.is ∙ step_input actor y ∙ so.input;
+      stands = ap (λ (k : Kept). k.failed) world_is;
+      whole = λ v h. so.whole v (turn_more octets actor y.world.state v going (subst (λ w. TurnTo octets actor w v) (ap (λ (k : Kept). k.state) world_is) h));
+    }
+
+pub turn_made : (actor : ℕ) (x y z : Entry) → TurnSoFar actor x y → StepMade actor false y z → TurnMade actor x z
+turn_made actor x y z so step =
+    let over = sym step.going in
+    let same : z ≡ y =
+    step.is ∙ ap (λ b. if b then record y { turns = y.turns ++ Step actor ∷ []; world = standing (world_step octets actor y.world.state) } else y) over in
+    record {
+      input = ap (λ (e : Entry). e.input) same ∙ so.input;
+      stands = ap (λ (e : Entry). e.world.failed) same ∙ so.stands;
+      state = so.whole z.world.state (turn_ends actor y z over step.is);
+    }
+
+-- ---- the turns of a round, one after the other
+
+-- what the turns that are left come to, all turns do
+pub record TurnsSoFar (n i : ℕ) (before now : Entry) : Type 0 where
+  pub input : now.input ≡ before.input
+  pub stands : Stands now
+  pub whole : (v : Connection) → TurnsFrom octets (n - i) i now.world.state v → TurnsFrom octets n 0 before.world.state v
+
+pub turns_begin : (n : ℕ) (x : Entry) → Runs x → TurnsSoFar n 0 x x
+turns_begin n x runs = record { input = refl; stands = runs.stands; whole = λ v h. all_turns n x.world.state v h }
+
+pub turns_go : (n i : ℕ) → i < n → (x y z : Entry) → TurnsSoFar n i x y → TurnMade i y z → TurnsSoFar n (i + 1) x z
+turns_go n i within x y z so made = record {
+  input = made.input ∙ so.input;
+  stands = made.stands;
+  whole = λ v h. so.whole v
+      (turns_more octets (n - i) (n - (i + 1)) i (i + 1) y.world.state z.world.state v (omega (arith, within)) (omega arith) made.state h);
+}
+
+pub turns_made : (n i : ℕ) → n ≤ i → (x y : Entry) → n ≡ length x.world.state.crew → TurnsSoFar n i x y → TurnsMade x y
+turns_made n i past x y count so = record {
+  input = so.input;
+  stands = so.stands;
+  state = subst (λ m. TurnsFrom octets m 0 x.world.state y.world.state) count
+      (so.whole y.world.state (turns_over octets (n - i) i y.world.state (omega (arith, past))));
+}
+
+end_input : (e : Entry) → (after_end e).input ≡ e.input
+end_input e = by (ends e)
+  where
+    by : (b : Bool) → (if b then record e { turns = e.turns ++ Round ∷ []; world = standing (end_round e.world.state) } else e).input ≡ e.input
+    by true = refl
+    by false = refl
+
+-- and the round's end
+pub round_made : (x y z : Entry) → TurnsMade x y → z ≡ after_end y → RoundMade x z
+round_made x y z made is = round_is x y z made is (ap (λ (e : Entry). e.input) is ∙ end_input y)
 
 -- ---- of each connection of a table
 

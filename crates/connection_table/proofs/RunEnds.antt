@@ -1,20 +1,28 @@
 -- How a run of a list ends: from its loads, its rounds and its lines.
-use Rattle.std.proofs.Common.{◌≡◌, subst, ℕ, ◌⊎◌, inl, inr, Option, List, [], ◌∷◌, ◌++◌, map}
+use Rattle.std.proofs.Common.{◌≡◌, refl, sym, ap, subst, ℕ, ◌⊎◌, inl, inr, Option, List, [], ◌∷◌, ◌++◌, map}
 use Rattle.std.specs.List.{All}
-use Rattle.std.specs.Prelude.{IfSome, ◌≢◌}
+use Rattle.std.specs.Prelude.{IfOk, IfSome, ◌≢◌}
 use Rattle.std.proofs.lemmas.List.Elements.{All-nil, All-cons}
 use Rattle.std.proofs.lemmas.Option.{IfSome_then}
-use Rattle.outside_kit.specs.Outside.{HasRisen, HoldsPrefix}
+use Rattle.outside_kit.specs.Calls.{Call, Made}
+use Rattle.outside_kit.specs.Outside.{HasRisen, HoldsAfter, HoldsPrefix}
 use Rattle.run_outside.specs.declared.input.Input.{Input}
 use Rattle.connection_list.specs.Lists.{Names}
 use Rattle.connection_list.specs.Words.{NamedList}
 use Rattle.listed_inputs.specs.declared.many.Many.{Many}
 use Rattle.listed_inputs.specs.declared.many.Many.TheVariants.{Done, Usage, Load, TooLong, List as Listing, Script, SameToken, Put, Memory}
 use Rattle.listed_inputs.specs.Inputs.{Contents, IsShort}
-use Rattle.connection_table.specs.ManyEnds.{AreAdmitted, AreInputs, AreOfList, AreSerial, AtFault, IsEnd, IsListedFault, IsLoadingFault, IsOfListed, IsPutFault, IsTableOf, Says}
+use Rattle.listed_inputs.specs.Loads.{AddsCut, AddsFirst, AddsToFailed, LinesAdd, ListAdds, joined, loads_by_line}
+use Rattle.listed_inputs.specs.Scripts.{LeavesPayload}
+use Rattle.listed_inputs.proofs.Adding.{all_cut}
+use Rattle.connection_table.specs.ManyEnds.{AllPut, AreAdmitted, AreInputs, AreListed, AreOfList, AreSerial, AtFault, IsEnd, IsListedFault, IsLoadingFault, IsOfListed, IsPutFault, IsTableOf, NonePut, PutAdds, Says, SomePut, UpToAny, UpToPut, loads_of_list, puts_from}
 use Rattle.connection_table.specs.ManyLines.{lines_of, state_of}
 use Rattle.connection_table.specs.ManyRounds.{EachRound, IsSerialEnd}
 use Rattle.connection_table.specs.Tables.{Entry, opened_entry}
+use Rattle.connection_table.proofs.CallsMade.{cut_behind, failed_behind}
+use Rattle.connection_table.proofs.EndsRight.{all_end_right}
+use Rattle.run_outside.specs.Plan.{AddsAll}
+use Rattle.run_outside.proofs.Calls.{Told, all_then}
 
 -- ---- before any line is put
 
@@ -47,22 +55,38 @@ module _ (content : Contents) (words : NamedList) (old new : ℕ) (bytes : List 
   one_refused Usage fault = caused Usage ⊥ (λ e. cc) (λ inputs at h. h) fault
   one_refused Put fault = caused Put ⊥ (λ e. cc) (λ inputs at h. h) fault
 
--- what they begin with is within the limit
+-- what they begin with is within the limit, and leaves payload as it is
 all_short : (content : Contents) (names : List Names) (inputs : List Input) → AreInputs content names inputs → All IsShort inputs
 all_short content [] [] are = All-nil IsShort
 all_short content [] (x ∷ inputs) are = absurd are
 all_short content (n ∷ names) [] are = absurd are
 all_short content (n ∷ names) (x ∷ inputs) are = All-cons IsShort x inputs are.0.short (all_short content names inputs are.1)
 
--- all of them were admitted
-pub table_of : (content : Contents) (words : NamedList) (bytes : List ℕ) (names : List Names) (table : List Entry) → IfSome (content words.list) (λ told. bytes ≡ told)
-    → Says bytes names → AreAdmitted content names table → IsTableOf content words table
-table_of content words bytes names table whole read are = record {
+abbrev Leaves : Input → Type 0
+Leaves input = LeavesPayload input.script
+
+all_leave : (content : Contents) (names : List Names) (inputs : List Input) → AreInputs content names inputs → All Leaves inputs
+all_leave content [] [] are = All-nil Leaves
+all_leave content [] (x ∷ inputs) are = absurd are
+all_leave content (n ∷ names) [] are = absurd are
+all_leave content (n ∷ names) (x ∷ inputs) are = All-cons Leaves x inputs are.0.leaves (all_leave content names inputs are.1)
+
+-- all of them were admitted, behind the loads of all
+pub table_of : (content : Contents) (words : NamedList) (bytes : List ℕ) (names : List Names) (table : List Entry) (a b : Told)
+    → IfSome (content words.list) (λ told. bytes ≡ told) → Says bytes names → AddsAll (loads_of_list words names) a b
+    → AreAdmitted content names table → IsTableOf content words a b table
+table_of content words bytes names table a b whole read calls are = record {
+  names = names;
   inputs = are.inputs;
-  are = IfSome_then (content words.list) whole (λ told is. (names, (subst (λ xs. Says xs names) is read, are.are)));
-  short = all_short content names are.inputs are.are;
-  apart = are.apart;
+  listed = record {
+    said = IfSome_then (content words.list) whole (λ told is. subst (λ xs. Says xs names) is read);
+    are = are.are;
+    short = all_short content names are.inputs are.are;
+    leave = all_leave content names are.inputs are.are;
+    apart = are.apart;
+  };
   table_is = are.table_is;
+  calls = calls;
 }
 
 -- ---- the rounds
@@ -73,29 +97,69 @@ serial_of most [] (e ∷ table) each = absurd each
 serial_of most (input ∷ inputs) [] each = absurd each
 serial_of most (input ∷ inputs) (e ∷ table) each = (each.0.state, serial_of most inputs table each.1)
 
-pub of_list : (content : Contents) (words : NamedList) (before after : List Entry) → IsTableOf content words before → EachRound (IsSerialEnd words.rounds) before after
-    → AreOfList content words (map state_of after)
-of_list content words before after of each = record {
-  inputs = of.inputs;
-  are = of.are;
-  short = of.short;
-  apart = of.apart;
-  serial = serial_of words.rounds of.inputs after (subst (λ es. EachRound (IsSerialEnd words.rounds) es after) of.table_is each);
-}
+pub of_list : (content : Contents) (words : NamedList) (a b : Told) (before after : List Entry) → IsTableOf content words a b before
+    → EachRound (IsSerialEnd words.rounds) before after → AreOfList content words (map state_of after)
+of_list content words a b before after of each =
+    let serial = serial_of words.rounds of.inputs after (subst (λ es. EachRound (IsSerialEnd words.rounds) es after) of.table_is each) in
+    record {
+      names = of.names;
+      inputs = of.inputs;
+      listed = of.listed;
+      serial = serial;
+      right = all_end_right words.rounds of.inputs (map state_of after) of.listed.short of.listed.leave serial;
+    }
 
 -- ---- the end
 
-module _ (content : Contents) (words : NamedList) (l0 l1 p0 p1 : ℕ) (held holds : Option (List ℕ)) where
+module _ (content : Contents) (words : NamedList) (l0 l1 p0 p1 : ℕ) (held holds : Option (List ℕ)) (a c : Told) where
   abbrev Ends : Many → Type 0
-  Ends many = IsEnd content words (l0, l1) (p0, p1) (held, holds) many
+  Ends many = IsEnd content words (l0, l1) (p0, p1) (held, holds) (a, c) many
 
-  pub ends_cut : (table : List Entry) (many : Many) → AreOfList content words (map state_of table) → HoldsPrefix held holds (lines_of table) → IsPutFault p0 p1 many → Ends many
-  ends_cut table Put of part fault = (fault, (map state_of table, (of, part)))
-  ends_cut table Memory of part fault = inr (map state_of table, (of, part))
-  ends_cut table Done of part fault = absurd fault
-  ends_cut table Usage of part fault = absurd fault
-  ends_cut table (Load line) of part fault = absurd fault
-  ends_cut table (TooLong line) of part fault = absurd fault
-  ends_cut table (Listing line) of part fault = absurd fault
-  ends_cut table (Script entry line kind) of part fault = absurd fault
-  ends_cut table (SameToken line holder) of part fault = absurd fault
+  -- nothing was put
+  pub ends_unput : (many : Many) → IsLoadingFault content words l0 l1 many → holds ≡ held → ListAdds content words a c many → Ends many
+  ends_unput Memory fault same calls = inl (record { log_is = same; calls_made = calls })
+  ends_unput (Load line) fault same calls = (fault, record { log_is = same; calls_made = calls })
+  ends_unput (TooLong line) fault same calls = (fault, record { log_is = same; calls_made = calls })
+  ends_unput (Listing line) fault same calls = (fault, record { log_is = same; calls_made = calls })
+  ends_unput (Script entry line kind) fault same calls = (fault, record { log_is = same; calls_made = calls })
+  ends_unput (SameToken line holder) fault same calls = (fault, record { log_is = same; calls_made = calls })
+  ends_unput Done fault same calls = absurd fault
+  ends_unput Usage fault same calls = absurd fault
+  ends_unput Put fault same calls = absurd fault
+
+  -- memory was wanting in the rounds, behind all loads
+  pub ends_unmade : (table : List Entry) → IsTableOf content words a c table → holds ≡ held → Ends Memory
+  ends_unmade table of same =
+      inl (record {
+        log_is = same;
+        calls_made = record {
+          names = of.names;
+          said = IfSome_then (content words.list) of.listed.said (λ told says. subst (λ r. IfOk r (λ read. of.names ≡ read)) (sym says.1) refl);
+          adds = all_cut (loads_of_list words of.names) a c of.calls;
+        };
+      })
+
+  module _ (b : Told) (before table : List Entry) (of : IsTableOf content words a b before) (made : EachRound (IsSerialEnd words.rounds) before table) where
+    abbrev ended : AreOfList content words (map state_of table)
+    ended = of_list content words a b before table of made
+
+    abbrev puts : List Call
+    puts = puts_from 0 (map state_of table)
+
+    pub ends_done : HoldsAfter held holds (λ text. text ++ lines_of table) → AddsAll puts b c → Ends Done
+    unfolding of_list
+    ends_done lines calls = record { worlds = map state_of table; of = ended; lines = lines; calls_made = all_then (loads_of_list words of.names) puts a b c of.calls calls }
+
+    pub ends_cut : (many : Many) → HoldsPrefix held holds (lines_of table) → IsPutFault p0 p1 many → PutAdds puts b c many → Ends many
+    unfolding of_list
+    ends_cut Put part fault calls =
+        (fault, record { worlds = map state_of table; of = ended; lines = part; calls_made = failed_behind (loads_of_list words of.names) puts a b c of.calls calls })
+    ends_cut Memory part fault calls =
+        inr (record { worlds = map state_of table; of = ended; lines = part; calls_made = cut_behind (loads_of_list words of.names) puts a b c of.calls calls })
+    ends_cut Done part fault calls = absurd fault
+    ends_cut Usage part fault calls = absurd fault
+    ends_cut (Load line) part fault calls = absurd fault
+    ends_cut (TooLong line) part fault calls = absurd fault
+    ends_cut (Listing line) part fault calls = absurd fault
+    ends_cut (Script entry line kind) part fault calls = absurd fault
+    ends_cut (SameToken line holder) part fault calls = absurd fault

@@ -8,6 +8,7 @@ use Rattle.std.proofs.lemmas.Option.{same_Some}
 use Rattle.std.proofs.lemmas.List.Quantifiers.{position-Some}
 use Rattle.link_script.specs.declared.fault.ScriptFault.TheVariants.{Line}
 use Rattle.link_script.specs.declared.fault.ScriptKind.{ScriptKind}
+use Rattle.outside_kit.specs.Calls.{Made}
 use Rattle.outside_kit.specs.Outside.{HasRisen}
 use Rattle.run_outside.specs.declared.input.Input.{Input}
 use Rattle.connection_list.specs.Lists.{Names, list_reading}
@@ -168,22 +169,22 @@ module _ (content : Contents) (words : NamedList) (valid : IsValid content words
           no_holder p.front p.rest p.input holder (subst (λ is. AreApart (map token_in is)) p.inputs_is valid.apart)
           (subst (λ i. holder_of (token_in i) (map opened_entry p.front) ≡ Some holder) same held)
 
-pub valid_ends : (content : Contents) (words : NamedList) (l0 l1 p0 p1 : ℕ) (held holds : Option (List ℕ)) (many : Many) → IsEnd content words (l0, l1) (p0, p1) (held, holds) many
+pub valid_ends : (content : Contents) (words : NamedList) (l0 l1 p0 p1 : ℕ) (held holds : Option (List ℕ)) (a b : Option (List Made)) (many : Many) → IsEnd content words (l0, l1) (p0, p1) (held, holds) (a, b) many
     → IsValid content words → (many ≡ Done) ⊎ ((many ≡ Memory) ⊎ (HasRisen l0 l1 ⊎ HasRisen p0 p1))
-valid_ends content words l0 l1 p0 p1 held holds Done h valid = inl refl
-valid_ends content words l0 l1 p0 p1 held holds Memory h valid = inr (inl refl)
-valid_ends content words l0 l1 p0 p1 held holds Put h valid = inr (inr (inr h.0))
-valid_ends content words l0 l1 p0 p1 held holds (Load line) h valid = inr (inr (inl h.0.0))
-valid_ends content words l0 l1 p0 p1 held holds Usage h valid = absurd h
-valid_ends content words l0 l1 p0 p1 held holds (TooLong line) h valid = absurd (not_too_long content words valid l0 l1 line h.0)
-valid_ends content words l0 l1 p0 p1 held holds (Listing line) h valid = absurd (not_listing content words valid l0 l1 line h.0)
-valid_ends content words l0 l1 p0 p1 held holds (Script entry line kind) h valid = absurd (not_script content words valid l0 l1 entry line kind h.0)
-valid_ends content words l0 l1 p0 p1 held holds (SameToken line holder) h valid = absurd (not_same content words valid l0 l1 line holder h.0)
+valid_ends content words l0 l1 p0 p1 held holds a b Done h valid = inl refl
+valid_ends content words l0 l1 p0 p1 held holds a b Memory h valid = inr (inl refl)
+valid_ends content words l0 l1 p0 p1 held holds a b Put h valid = inr (inr (inr h.0))
+valid_ends content words l0 l1 p0 p1 held holds a b (Load line) h valid = inr (inr (inl h.0.0))
+valid_ends content words l0 l1 p0 p1 held holds a b Usage h valid = absurd h
+valid_ends content words l0 l1 p0 p1 held holds a b (TooLong line) h valid = absurd (not_too_long content words valid l0 l1 line h.0)
+valid_ends content words l0 l1 p0 p1 held holds a b (Listing line) h valid = absurd (not_listing content words valid l0 l1 line h.0)
+valid_ends content words l0 l1 p0 p1 held holds a b (Script entry line kind) h valid = absurd (not_script content words valid l0 l1 entry line kind h.0)
+valid_ends content words l0 l1 p0 p1 held holds a b (SameToken line holder) h valid = absurd (not_same content words valid l0 l1 line holder h.0)
 
 -- where the words name a list
-pub valid_listed : (content : Contents) (o : Option NamedList) (words : NamedList) (l0 l1 p0 p1 : ℕ) (held holds : Option (List ℕ)) (many : Many) → Some words ≡ o
-    → IsEnd content words (l0, l1) (p0, p1) (held, holds) many
+pub valid_listed : (content : Contents) (o : Option NamedList) (words : NamedList) (l0 l1 p0 p1 : ℕ) (held holds : Option (List ℕ)) (a b : Option (List Made)) (many : Many) → Some words ≡ o
+    → IsEnd content words (l0, l1) (p0, p1) (held, holds) (a, b) many
     → IfSome o (λ named. IsValid content named → (many ≡ Done) ⊎ ((many ≡ Memory) ⊎ (HasRisen l0 l1 ⊎ HasRisen p0 p1)))
-valid_listed content None words l0 l1 p0 p1 held holds many is end = tt
-valid_listed content (Some named) words l0 l1 p0 p1 held holds many is end = λ valid.
-    valid_ends content named l0 l1 p0 p1 held holds many (subst (λ w. IsEnd content w (l0, l1) (p0, p1) (held, holds) many) (same_Some words named is) end) valid
+valid_listed content None words l0 l1 p0 p1 held holds a b many is end = tt
+valid_listed content (Some named) words l0 l1 p0 p1 held holds a b many is end = λ valid.
+    valid_ends content named l0 l1 p0 p1 held holds a b many (subst (λ w. IsEnd content w (l0, l1) (p0, p1) (held, holds) (a, b) many) (same_Some words named is) end) valid

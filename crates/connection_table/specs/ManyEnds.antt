@@ -1,8 +1,17 @@
 -- How a run of many connections ends, and why.
-use Rattle.std.specs.Prelude.{ℕ, ◌≡◌, ◌≢◌, ◌⊎◌, ◌+◌, ◌<◌, ◌≤◌, List, [], ◌∷◌, ◌++◌, length, map, Option, Some, Ok, Err, IfSome}
+use Rattle.std.specs.Prelude.{ℕ, suc, ◌≡◌, ◌≢◌, ◌⊎◌, ◌+◌, ◌<◌, ◌≤◌, List, [], ◌∷◌, ◌++◌, length, map, Option, Some, Ok, Err, IfSome}
 use Rattle.std.specs.List.{All, AllZip}
+use Rattle.outside_kit.specs.declared.port.Port.TheVariants.{Log}
+use Rattle.sides.specs.declared.side.Side.TheVariants.{A, B}
+use Rattle.outside_kit.specs.Calls.{Call, Made}
+use Rattle.outside_kit.specs.Calls as call
 use Rattle.outside_kit.specs.Outside.{HasRisen, HoldsAfter, HoldsPrefix}
+use Rattle.octet_text.specs.Prefix.{IsPrefix}
+use Rattle.clean_finish.specs.Bound.{enough}
 use Rattle.run_outside.specs.declared.input.Input.{Input}
+use Rattle.run_outside.specs.Plan.{AddsAll}
+use Rattle.world_laws.specs.declared.outcome.Outcome.TheVariants.{Delivered}
+use Rattle.world_laws.specs.Outcomes.{outcome_of, output_of}
 use Rattle.stream_lanes.specs.Words.{Every}
 use Rattle.connection_list.specs.Words.{NamedList}
 use Rattle.connection_list.specs.Lists.{Names, list_reading}
@@ -10,8 +19,9 @@ use Rattle.listed_inputs.specs.declared.many.Many.{Many}
 use Rattle.listed_inputs.specs.declared.many.Many.TheVariants as ends
 use Rattle.listed_inputs.specs.Causes.{IsInputFault}
 use Rattle.listed_inputs.specs.Inputs.{Contents, IsInput, IsShort}
-use Rattle.listed_inputs.specs.Scripts.{listed_reading}
-use Rattle.connection_table.specs.ManyLines.{lines_from}
+use Rattle.listed_inputs.specs.Loads.{AddsCut, AddsToFailed, ListAdds, joined, loads_by_line}
+use Rattle.listed_inputs.specs.Scripts.{LeavesPayload, listed_reading}
+use Rattle.connection_table.specs.ManyLines.{connection_line, lines_from}
 use Rattle.connection_table.specs.ManyRounds.{IsSerialEnd}
 use Rattle.connection_table.specs.Tables.{Connection, Entry, first_of, holder_of, key_token, opened_entry}
 
@@ -46,17 +56,26 @@ pub record AreAdmitted (content : Contents) (names : List Names) (table : List E
 abbrev pub Says : List ℕ → List Names → Type 0
 Says list names = (length list ≤ 65536) × (list_reading list ≡ Ok names)
 
--- the list, where it is told, names these
-abbrev pub AreListed : Contents → NamedList → List Input → Type 0
-AreListed content words inputs = IfSome (content words.list) (λ list. (names : List Names) × (Says list names × AreInputs content names inputs))
-
--- the table of a list, before the first step of any connection
-pub record IsTableOf (content : Contents) (words : NamedList) (table : List Entry) : Type 0 where
-  pub inputs : List Input
-  pub are : AreListed content words inputs
+-- the inputs of a list, of these names: it says these, where it is told; all are within their limits, by no script a payload is
+-- altered, and no two have one token
+pub record AreListed (content : Contents) (words : NamedList) (names : List Names) (inputs : List Input) : Type 0 where
+  pub said : IfSome (content words.list) (λ list. Says list names)
+  pub are : AreInputs content names inputs
   pub short : All IsShort inputs
+  pub leave : All (λ (input : Input). LeavesPayload input.script) inputs
   pub apart : HaveOwnTokens inputs
+
+-- the loads of a list of these names, in order
+abbrev pub loads_of_list : NamedList → List Names → List Call
+loads_of_list words names = joined (loads_by_line words.list names)
+
+-- the table of a list, before the first step of any connection, behind the loads of all
+pub record IsTableOf (content : Contents) (words : NamedList) (old new : Option (List Made)) (table : List Entry) : Type 0 where
+  pub names : List Names
+  pub inputs : List Input
+  pub listed : AreListed content words names inputs
   pub table_is : table ≡ map opened_entry inputs
+  pub calls : AddsAll (loads_of_list words names) old new
 
 -- ---- causes
 
@@ -86,22 +105,50 @@ pub record IsListedFault (content : Contents) (names : List Names) (old new : �
 abbrev pub AreSerial : ℕ → List Input → List Connection → Type 0
 AreSerial most inputs ws = AllZip (λ (input : Input) (w : Connection). IsSerialEnd most (first_of input) w) inputs ws
 
--- the connections of a list as they end, each by itself: their files are within the limit, and each has its own token
+-- What a line tells: B has read first octets of FILE_A, and A of FILE_B, and where the connection is delivered all of them. It is where
+-- its script is clean, and so many rounds are enough.
+pub record EndsRight (rounds : ℕ) (input : Input) (w : Connection) : Type 0 where
+  pub read_by_b : IsPrefix (output_of B w) input.file_a
+  pub read_by_a : IsPrefix (output_of A w) input.file_b
+  pub whole : outcome_of w.crew ≡ Delivered → (output_of B w ≡ input.file_a) × (output_of A w ≡ input.file_b)
+  pub clean : IfSome (enough input.script (length input.file_a) (length input.file_b)) (λ least. least ≤ rounds → outcome_of w.crew ≡ Delivered)
+
+-- the connections of a list as they end, each by itself
 pub record AreOfList (content : Contents) (words : NamedList) (worlds : List Connection) : Type 0 where
+  pub names : List Names
   pub inputs : List Input
-  pub are : AreListed content words inputs
-  pub short : All IsShort inputs
-  pub apart : HaveOwnTokens inputs
+  pub listed : AreListed content words names inputs
   pub serial : AreSerial words.rounds inputs worlds
+  pub right : AllZip (EndsRight words.rounds) inputs worlds
 
--- of each connection the line of its own serial run was put
-abbrev pub AllPut : Contents → NamedList → Option (List ℕ) → Option (List ℕ) → Type 0
-AllPut content words old new =
-    (worlds : List Connection) × (AreOfList content words worlds × HoldsAfter old new (λ held. held ++ lines_from 0 worlds))
+-- ---- what is put
 
--- a prefix of these lines
-abbrev pub SomePut : Contents → NamedList → Option (List ℕ) → Option (List ℕ) → Type 0
-SomePut content words old new = (worlds : List Connection) × (AreOfList content words worlds × HoldsPrefix old new (lines_from 0 worlds))
+-- the line of each of these connections, in one put
+abbrev pub puts_from : ℕ → List Connection → List Call
+puts_from number [] = []
+puts_from number (w ∷ ws) = call.Put Log (connection_line number w) ∷ puts_from (suc number) ws
+
+-- of each connection the line of its own serial run was put, behind the loads of all
+pub record AllPut (content : Contents) (words : NamedList) (log : Option (List ℕ) × Option (List ℕ)) (calls : Option (List Made) × Option (List Made)) : Type 0 where
+  pub worlds : List Connection
+  pub of : AreOfList content words worlds
+  pub lines : HoldsAfter log.0 log.1 (λ held. held ++ lines_from 0 worlds)
+  pub calls_made : AddsAll (loads_of_list words of.names ++ puts_from 0 worlds) calls.0 calls.1
+
+-- a prefix of these lines, by some of these puts: P holds of the calls, of the loads and of the puts
+pub record SomePut (P : List Call → List Call → Option (List Made) → Option (List Made) → Type 0) (content : Contents) (words : NamedList)
+    (log : Option (List ℕ) × Option (List ℕ)) (calls : Option (List Made) × Option (List Made)) : Type 0 where
+  pub worlds : List Connection
+  pub of : AreOfList content words worlds
+  pub lines : HoldsPrefix log.0 log.1 (lines_from 0 worlds)
+  pub calls_made : P (loads_of_list words of.names) (puts_from 0 worlds) calls.0 calls.1
+
+-- these loads and puts, up to a put that failed, or to any of them, which may have failed
+abbrev pub UpToPut : List Call → List Call → Option (List Made) → Option (List Made) → Type 0
+UpToPut loads puts old new = AddsToFailed loads puts old new
+
+abbrev pub UpToAny : List Call → List Call → Option (List Made) → Option (List Made) → Type 0
+UpToAny loads puts old new = AddsCut (loads ++ puts) old new
 
 -- ---- how a run of such a list ends
 
@@ -123,20 +170,32 @@ IsLoadingFault content words old new (ends.SameToken line holder) = IsOfListed c
 IsLoadingFault content words old new ends.Memory = Unit {0}
 IsLoadingFault content words old new _ = ⊥
 
+-- the calls of a run that a put ends
+abbrev pub PutAdds : List Call → Option (List Made) → Option (List Made) → Many → Type 0
+PutAdds plan old new ends.Put = AddsToFailed [] plan old new
+PutAdds plan old new ends.Memory = AddsCut plan old new
+PutAdds plan old new many = Unit {0}
+
 -- a put ends it
 abbrev pub IsPutFault : ℕ → ℕ → Many → Type 0
 IsPutFault old new ends.Put = HasRisen old new
 IsPutFault old new ends.Memory = Unit {0}
 IsPutFault old new _ = ⊥
 
--- each answer has its cause: `loads` and `puts` are counts of faults before and after, and `log` is what the log held
-abbrev pub IsEnd : Contents → NamedList → ℕ × ℕ → ℕ × ℕ → Option (List ℕ) × Option (List ℕ) → Many → Type 0
-IsEnd content words loads puts log ends.Done = AllPut content words log.0 log.1
-IsEnd content words loads puts log ends.Usage = ⊥
-IsEnd content words loads puts log ends.Put = HasRisen puts.0 puts.1 × SomePut content words log.0 log.1
+-- nothing was put, and these loads were made
+pub record NonePut (content : Contents) (words : NamedList) (log : Option (List ℕ) × Option (List ℕ)) (calls : Option (List Made) × Option (List Made)) (many : Many) : Type 0 where
+  pub log_is : log.1 ≡ log.0
+  pub calls_made : ListAdds content words calls.0 calls.1 many
+
+-- each answer has its cause: `loads` and `puts` are counts of faults before and after, `log` is what the log held, and `calls` are those
+-- that were made
+abbrev pub IsEnd : Contents → NamedList → ℕ × ℕ → ℕ × ℕ → Option (List ℕ) × Option (List ℕ) → Option (List Made) × Option (List Made) → Many → Type 0
+IsEnd content words loads puts log calls ends.Done = AllPut content words log calls
+IsEnd content words loads puts log calls ends.Usage = ⊥
+IsEnd content words loads puts log calls ends.Put = HasRisen puts.0 puts.1 × SomePut UpToPut content words log calls
 -- before any line was put, or behind some
-IsEnd content words loads puts log ends.Memory = (log.1 ≡ log.0) ⊎ SomePut content words log.0 log.1
-IsEnd content words loads puts log many = IsLoadingFault content words loads.0 loads.1 many × (log.1 ≡ log.0)
+IsEnd content words loads puts log calls ends.Memory = NonePut content words log calls ends.Memory ⊎ SomePut UpToAny content words log calls
+IsEnd content words loads puts log calls many = IsLoadingFault content words loads.0 loads.1 many × NonePut content words log calls many
 
 -- ---- a valid list
 

@@ -1,17 +1,20 @@
 //! A run of many connections.
 
-ghost use Rattle.std.specs.Prelude.{◌≡◌, ◌≢◌, ◌⊎◌, ◌<◌, ◌≤◌, ◌++◌, ◌↔◌, ℕ, List, [], None, length, map, string_bytes, IfErr, IfSome, OnErr, OnOk};
+ghost use Rattle.std.specs.Prelude.{◌≡◌, ◌≢◌, ◌⊎◌, ◌<◌, ◌≤◌, ◌++◌, ◌∷◌, ◌↔◌, ℕ, List, [], None, length, map, string_bytes, IfErr, IfSome, OnErr, OnOk};
 ghost use Rattle.outside_kit.specs.declared.port.Port.{Port};
 ghost use Rattle.outside_kit.specs.Outside.{HasRisen, HoldsAfter, HoldsPrefix};
 ghost use Rattle.connection_list.specs.Words.{as_words, words_in};
 ghost use Rattle.run_outside.specs.Ports.{IsUntouched};
 ghost use Rattle.listed_inputs.specs.Causes.{OnlyLoads};
 ghost use Rattle.listed_inputs.specs.Loads.{ListAdds};
-ghost use Rattle.connection_table.specs.ManyEnds.{IsEnd, IsLoadingFault, IsPutFault, IsTableOf, IsValid};
-ghost use Rattle.connection_table.specs.ManyLines.{line_at, lines_of};
+ghost use Rattle.outside_kit.specs.Calls as call;
+ghost use Rattle.run_outside.specs.Plan.{AddsAll};
+ghost use Rattle.connection_table.specs.ManyEnds.{IsEnd, IsLoadingFault, IsPutFault, IsTableOf, IsValid, PutAdds, puts_from};
+ghost use Rattle.connection_table.specs.ManyLines.{line_at, lines_of, state_of};
 
 use crate::lines::line;
 use crate::loading::admit_all;
+use crate::rounds::make_rounds;
 use crate::table::ConnectionTable;
 use connection_list::{ListWords, read_list_words};
 use listed_inputs::{Many, connections_of, load};
@@ -38,6 +41,11 @@ fn put_line<O: Outside>(
         O.holds outside.new other ≡ O.holds outside.old other }
     ensures other_counts { (other : Port) → other ≢ Port.Log →
         O.port_faults outside.new other ≡ O.port_faults outside.old other }
+    ensures calls { OnOk result (AddsAll (call.Put Port.Log (line_at connection table.now) ∷ [])
+        (O.calls outside.old) (O.calls outside.new)) }
+    ensures calls_cut { IfErr result
+        (PutAdds (call.Put Port.Log (line_at connection table.now) ∷ [])
+        (O.calls outside.old) (O.calls outside.new)) }
 {
     let line = line(alloc, table, connection)?;
     match outside.put(Port::Log, line.as_bytes()) {
@@ -64,6 +72,10 @@ fn put_lines<O: Outside>(
         O.holds outside.new other ≡ O.holds outside.old other }
     ensures other_counts { (other : Port) → other ≢ Port.Log →
         O.port_faults outside.new other ≡ O.port_faults outside.old other }
+    ensures calls { OnOk result (AddsAll (puts_from 0 (map state_of table.now))
+        (O.calls outside.old) (O.calls outside.new)) }
+    ensures calls_cut { IfErr result (PutAdds (puts_from 0 (map state_of table.now))
+        (O.calls outside.old) (O.calls outside.new)) }
 {
     for connection in 0..table.len() {
         put_line(alloc, outside, table, connection)?;
@@ -79,7 +91,8 @@ fn admit_listed<O: Outside>(
     table: &mut ConnectionTable,
 ) -> Result<(), Many>
     requires { table.old ≡ [] }
-    ensures ok { OnOk result (IsTableOf (O.content outside.old) (as_words words.now) table.new) }
+    ensures ok { OnOk result (IsTableOf (O.content outside.old) (as_words words.now)
+        (O.calls outside.old) (O.calls outside.new) table.new) }
     ensures fault { IfErr result (IsLoadingFault (O.content outside.old) (as_words words.now)
         (O.load_faults outside.old) (O.load_faults outside.new)) }
     ensures only { OnlyLoads (O.load_faults outside.old) (O.load_faults outside.new)
@@ -99,21 +112,21 @@ fn run<O: Outside>(alloc: Global, outside: &mut O, words: &ListWords<'_>) -> Res
     ensures done { OnOk result (IsEnd (O.content outside.old) (as_words words.now)
         (O.load_faults outside.old, O.load_faults outside.new)
         (O.port_faults outside.old Port.Log, O.port_faults outside.new Port.Log)
-        (O.holds outside.old Port.Log, O.holds outside.new Port.Log) Many.Done) }
+        (O.holds outside.old Port.Log, O.holds outside.new Port.Log)
+        (O.calls outside.old, O.calls outside.new) Many.Done) }
     ensures ends { IfErr result (IsEnd (O.content outside.old) (as_words words.now)
         (O.load_faults outside.old, O.load_faults outside.new)
         (O.port_faults outside.old Port.Log, O.port_faults outside.new Port.Log)
-        (O.holds outside.old Port.Log, O.holds outside.new Port.Log)) }
+        (O.holds outside.old Port.Log, O.holds outside.new Port.Log)
+        (O.calls outside.old, O.calls outside.new)) }
     ensures other_ports { (other : Port) → other ≢ Port.Log →
         O.holds outside.new other ≡ O.holds outside.old other }
     ensures other_counts { (other : Port) → other ≢ Port.Log →
         O.port_faults outside.new other ≡ O.port_faults outside.old other }
-    ensures calls { IfErr result (ListAdds (O.content outside.old) (as_words words.now)
-        (O.calls outside.old) (O.calls outside.new)) }
 {
     let mut table = ConnectionTable::new(alloc);
     admit_listed(alloc, outside, words, &mut table)?;
-    table.make_rounds(words.rounds)?;
+    make_rounds(&mut table, words.rounds)?;
     put_lines(alloc, outside, &table)
 }
 
@@ -126,18 +139,17 @@ fn run<O: Outside>(alloc: Global, outside: &mut O, words: &ListWords<'_>) -> Res
 pub fn run_many<O: Outside>(alloc: Global, words: &[String], outside: &mut O) -> Many
     // The words are refused exactly where they break the form.
     ensures usage { (result ≡ Many.Usage) ↔ (words_in (map string_bytes words.now) ≡ None) }
-    // Where each connection has its line, it is that of the serial run of the connection alone. After a fault at a line, or want
-    // of memory, the log has a prefix of these lines; at every other answer nothing was put, and each answer has its cause. What
-    // was run is within its limits, and each connection has its own token; so are those before the one that is refused.
+    // Where each connection has its line, it is that of the serial run of the connection alone, and tells what its readers have read:
+    // first octets of its files, and where it is delivered all of them. After a fault at a line, or want of memory, the log has a
+    // prefix of these lines; at every other answer nothing was put, and each answer has its cause. What was run is within its
+    // limits, and each connection has its own token; so are those before the one that is refused. The calls are the loads in order,
+    // and behind them one put a connection, up to one that failed, or for want of memory to any of them.
     ensures ends { IfSome (words_in (map string_bytes words.now)) (λ named. IsEnd
         (O.content outside.old) named
         (O.load_faults outside.old, O.load_faults outside.new)
         (O.port_faults outside.old Port.Log, O.port_faults outside.new Port.Log)
-        (O.holds outside.old Port.Log, O.holds outside.new Port.Log) result) }
-    // Which loads were made where one of them fails, or the list or a connection is refused: those of the lines before, and no more
-    // of its own than up to the one that failed.
-    ensures calls { IfSome (words_in (map string_bytes words.now)) (λ named. ListAdds
-        (O.content outside.old) named (O.calls outside.old) (O.calls outside.new) result) }
+        (O.holds outside.old Port.Log, O.holds outside.new Port.Log)
+        (O.calls outside.old, O.calls outside.new) result) }
     // At `Usage` no call was made, and nothing changed.
     ensures unasked { result ≡ Many.Usage → O.calls outside.new ≡ O.calls outside.old }
     ensures unloaded { result ≡ Many.Usage →

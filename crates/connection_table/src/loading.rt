@@ -4,7 +4,8 @@ ghost use Rattle.std.specs.Prelude.{◌≡◌, ◌<◌, ◌≤◌, ◌++◌, ◌
 ghost use Rattle.link_script.specs.Scripts.{HasRanges};
 ghost use Rattle.connection_list.specs.Lists.{as_names};
 ghost use Rattle.listed_inputs.specs.Causes.{OnlyLoads};
-ghost use Rattle.listed_inputs.specs.Loads.{LinesAdd, loads_of};
+ghost use Rattle.listed_inputs.specs.Loads.{LinesAdd, joined, loads_of};
+ghost use Rattle.run_outside.specs.Plan.{AddsAll};
 ghost use Rattle.connection_table.specs.ManyEnds.{AreAdmitted, IsAdmitFault, IsListedFault};
 ghost use Rattle.connection_table.specs.Tables.{holder_of, key_token, opened_entry};
 
@@ -54,6 +55,8 @@ pub(crate) fn admit_all<O: Outside>(
         (O.holds outside.old) (O.holds outside.new) }
     ensures same_contents { (other : List ℕ) →
         O.content outside.new other ≡ O.content outside.old other }
+    ensures calls { OnOk result (AddsAll (joined (map loads_of (map as_names listed.now)))
+        (O.calls outside.old) (O.calls outside.new)) }
     ensures calls_cut { IfErr result (LinesAdd ([] ∷ map loads_of (map as_names listed.now))
         (O.calls outside.old) (O.calls outside.new)) }
 {

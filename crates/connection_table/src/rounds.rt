@@ -1,107 +1,109 @@
-//! Serial rounds of many connections.
+//! Serial rounds of many connections, whose steps are those of their table.
 
-ghost use Rattle.std.specs.Prelude.{◌≡◌, ◌≤◌, All, OnOk, map};
+ghost use Rattle.std.specs.Prelude.{◌≡◌, ◌<◌, ◌≤◌, All, IfOk, OnOk, length};
 ghost use Rattle.path_rules.specs.Octets.{octets};
 ghost use Rattle.world_core.specs.Rounds.{RoundTo};
-ghost use Rattle.connection_table.specs.ManyRounds.{EachRound, IsSerialEnd, Made, RoundIfGoing, RoundMade, TurnMade, TurnsMade};
-ghost use Rattle.connection_table.specs.Tables.{Stands, input_of};
+ghost use Rattle.connection_table.specs.ManyRounds.{Changes, EachRound, IsSerialEnd, Made, RoundIfGoing, RoundMade, Runs, StepMade, TurnMade, TurnsMade};
 
-use crate::slot::Slot;
 use crate::table::ConnectionTable;
 use std::alloc::AllocError;
+use world_core::Stepped;
+
+/// Makes a step of an actor of a connection, and answers whether its turn hadn't ended.
+fn go(table: &mut ConnectionTable, connection: u8, actor: u8) -> Result<bool, AllocError>
+    requires there { connection < length table.old }
+    requires run { All Runs table.old }
+    ensures made { IfOk result
+        (λ went. Changes (StepMade actor went) connection table.old table.new) }
+{
+    match table.step(connection, actor) {
+        Ok(Stepped::Made(_)) => Ok(true),
+        Ok(Stepped::Ended) => Ok(false),
+        Err(fault) => Err(fault),
+    }
+}
 
 /// The steps of an actor of a connection, up to the end of its turn.
-fn make_turn(slot: &mut Slot, actor: u8) -> Result<(), AllocError>
-    requires { Stands slot.old }
-    ensures made { OnOk result (TurnMade actor slot.old slot.new) }
-    ensures input { slot.new.input ≡ slot.old.input }
+fn make_turn(table: &mut ConnectionTable, connection: u8, actor: u8) -> Result<(), AllocError>
+    requires there { connection < length table.old }
+    requires run { All Runs table.old }
+    ensures made { OnOk result (Changes (TurnMade actor) connection table.old table.new) }
 {
-    while slot.go(actor)? {}
+    while go(table, connection, actor)? {}
     Ok(())
 }
 
 /// The turns of its actors, one after the other.
-fn make_turns(slot: &mut Slot) -> Result<(), AllocError>
-    requires { Stands slot.old }
-    ensures made { OnOk result (TurnsMade slot.old slot.new) }
-    ensures input { slot.new.input ≡ slot.old.input }
+fn make_turns(table: &mut ConnectionTable, connection: u8) -> Result<(), AllocError>
+    requires there { connection < length table.old }
+    requires run { All Runs table.old }
+    ensures made { OnOk result (Changes TurnsMade connection table.old table.new) }
 {
-    let actors = slot.world().actors();
+    let actors = table.world(connection).actors();
     for actor in 0..actors {
-        make_turn(slot, actor)?;
+        make_turn(table, connection, actor)?;
     }
     Ok(())
 }
 
 /// A round: the turns of its actors, and its end.
-fn make_round(slot: &mut Slot) -> Result<(), AllocError>
-    requires { Stands slot.old }
-    ensures made { OnOk result (RoundMade slot.old slot.new) }
-    ensures input { slot.new.input ≡ slot.old.input }
+fn make_round(table: &mut ConnectionTable, connection: u8) -> Result<(), AllocError>
+    requires there { connection < length table.old }
+    requires run { All Runs table.old }
+    ensures made { OnOk result (Changes RoundMade connection table.old table.new) }
 {
-    make_turns(slot)?;
-    slot.end_round();
+    make_turns(table, connection)?;
+    table.end_round(connection);
     Ok(())
 }
 
 /// A round where the connection goes on.
-fn go_on(slot: &mut Slot) -> Result<(), AllocError>
-    requires { Stands slot.old }
-    ensures made { OnOk result (Made RoundIfGoing slot.old slot.new) }
-    ensures input { slot.new.input ≡ slot.old.input }
+fn go_on(table: &mut ConnectionTable, connection: u8) -> Result<(), AllocError>
+    requires there { connection < length table.old }
+    requires run { All Runs table.old }
+    ensures made { OnOk result (Changes (Made RoundIfGoing) connection table.old table.new) }
 {
-    if slot.world().goes_on() {
-        make_round(slot)
+    if table.world(connection).goes_on() {
+        make_round(table, connection)
     } else {
         Ok(())
     }
 }
 
 /// The first round of each connection, numbers rising.
-fn begin_each(slots: &mut [Slot]) -> Result<(), AllocError>
-    requires { All Stands slots.old }
-    ensures made { OnOk result (EachRound (RoundTo octets) slots.old slots.new) }
-    ensures inputs { map input_of slots.new ≡ map input_of slots.old }
+fn begin_each(table: &mut ConnectionTable) -> Result<(), AllocError>
+    requires { All Runs table.old }
+    ensures made { OnOk result (EachRound (RoundTo octets) table.old table.new) }
+    ensures run { OnOk result (All Runs table.new) }
 {
-    for slot in slots.iter_mut() {
-        make_round(slot)?;
+    for connection in 0..table.len() {
+        make_round(table, connection)?;
     }
     Ok(())
 }
 
 /// A round of each connection that goes on, numbers rising.
-fn go_on_each(slots: &mut [Slot]) -> Result<(), AllocError>
-    requires { All Stands slots.old }
-    ensures made { OnOk result (EachRound RoundIfGoing slots.old slots.new) }
-    ensures inputs { map input_of slots.new ≡ map input_of slots.old }
+fn go_on_each(table: &mut ConnectionTable) -> Result<(), AllocError>
+    requires { All Runs table.old }
+    ensures made { OnOk result (EachRound RoundIfGoing table.old table.new) }
+    ensures run { OnOk result (All Runs table.new) }
 {
-    for slot in slots.iter_mut() {
-        go_on(slot)?;
+    for connection in 0..table.len() {
+        go_on(table, connection)?;
     }
     Ok(())
 }
 
-/// At most so many serial rounds of each connection that has made no turn, up to the first round behind which it doesn't go on.
-fn rounds(slots: &mut [Slot], most: u32) -> Result<(), AllocError>
+/// At most so many serial rounds of each connection that has made no turn, up to the first round behind which it doesn't go on. Each
+/// step is one of the table.
+pub(crate) fn make_rounds(table: &mut ConnectionTable, most: u32) -> Result<(), AllocError>
     requires some { 1 ≤ most }
-    requires stand { All Stands slots.old }
-    ensures made { OnOk result (EachRound (IsSerialEnd most) slots.old slots.new) }
-    ensures inputs { map input_of slots.new ≡ map input_of slots.old }
+    requires run { All Runs table.old }
+    ensures made { OnOk result (EachRound (IsSerialEnd most) table.old table.new) }
 {
-    begin_each(slots)?;
+    begin_each(table)?;
     for _round in 1..most {
-        go_on_each(slots)?;
+        go_on_each(table)?;
     }
     Ok(())
-}
-
-impl ConnectionTable {
-    /// At most so many serial rounds of each connection, as `rounds` makes them.
-    pub(crate) fn make_rounds(&mut self, most: u32) -> Result<(), AllocError>
-        requires some { 1 ≤ most }
-        requires stand { All Stands self.old }
-        ensures made { OnOk result (EachRound (IsSerialEnd most) self.old self.new) }
-    {
-        rounds(&mut self.slots, most)
-    }
 }

@@ -3,9 +3,8 @@
 ghost use Rattle.std.specs.Prelude.{◌≡◌, ◌⊎◌, option_map, IfOk, OnOk, OnErr};
 ghost use Rattle.link_script.specs.Scripts.{HasRanges};
 ghost use Rattle.path_rules.specs.Looking.{shown_arriving};
-ghost use Rattle.path_rules.specs.Octets.{octets};
-ghost use Rattle.world_core.specs.Steps.{StampRises, next_note, stepped_by};
-ghost use Rattle.world_laws.specs.Worlds.{is_going, world_step};
+ghost use Rattle.world_core.specs.Steps.{StampRises, is_made, next_note, stepped_by};
+ghost use Rattle.world_laws.specs.Worlds.{is_going};
 ghost use Rattle.connection_table.specs.Routes.{arriving_in};
 ghost use Rattle.connection_table.specs.Steps.{IsStopped, after_end, after_step, ends};
 ghost use Rattle.connection_table.specs.Tables.{Stands, StandsAlone, key_token, opened_entry};
@@ -119,7 +118,10 @@ impl Slot {
     pub fn step(&mut self, actor: u8) -> Result<Stepped, AllocError>
         ensures told { IfOk result
             (λ stepped. stepped ≡ stepped_by (next_note actor self.old.world.state)) }
+        ensures going { IfOk result
+            (λ stepped. is_made stepped ≡ is_going actor self.old.world.state) }
         ensures ok { OnOk result (self.new ≡ after_step actor self.old) }
+        ensures rises { OnOk result (StampRises actor self.old.world.state self.new.world.state) }
         ensures stood { OnOk result (Stands self.old) }
         ensures input { self.new.input ≡ self.old.input }
         ensures err { OnErr result ((self.new ≡ self.old) ⊎ IsStopped self.old self.new) }
@@ -131,32 +133,6 @@ impl Slot {
                 Ok(Stepped::Made(note))
             }
             Ok(Stepped::Ended) => Ok(Stepped::Ended),
-            Err(_) => {
-                self.failed = true;
-                Err(AllocError)
-            }
-        }
-    }
-
-    /// Makes one step of an actor as `step` does, and answers whether its turn hadn't ended. No note is given.
-    pub fn go(&mut self, actor: u8) -> Result<bool, AllocError>
-        ensures going { IfOk result (λ went. went ≡ is_going actor self.old.world.state) }
-        ensures ok { OnOk result (self.new ≡ after_step actor self.old) }
-        ensures state { OnOk result
-            (self.new.world.state ≡ world_step octets actor self.old.world.state) }
-        ensures input { self.new.input ≡ self.old.input }
-        ensures rises { OnOk result (StampRises actor self.old.world.state self.new.world.state) }
-        ensures stood { OnOk result (Stands self.old) }
-        ensures stands { OnOk result (Stands self.new) }
-        ensures err { OnErr result ((self.new ≡ self.old) ⊎ IsStopped self.old self.new) }
-    {
-        self.turns.reserve(2)?;
-        match self.world.go(actor) {
-            Ok(true) => {
-                self.turns.put(Turn::Step(actor));
-                Ok(true)
-            }
-            Ok(false) => Ok(false),
             Err(_) => {
                 self.failed = true;
                 Err(AllocError)

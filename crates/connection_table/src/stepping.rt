@@ -1,7 +1,8 @@
 //! Steps of a connection in a table.
 
 ghost use Rattle.std.specs.Prelude.{◌≡◌, ◌≢◌, ◌⊎◌, ◌<◌, ℕ, length, IfOk, IsSomeAnd, OnOk, OnErr};
-ghost use Rattle.world_core.specs.Steps.{next_note, stepped_by};
+ghost use Rattle.world_core.specs.Steps.{StampRises, is_made, next_note, stepped_by};
+ghost use Rattle.world_laws.specs.Worlds.{is_going};
 ghost use Rattle.connection_table.specs.Routes.{home_of};
 ghost use Rattle.connection_table.specs.Steps.{IsStopped, after_end, after_step, ends};
 ghost use Rattle.connection_table.specs.Tables.{Entry, IsShortEntry, Stands, StandsAlone, entry_at, with_entry};
@@ -41,9 +42,17 @@ impl ConnectionTable {
         ensures told { IfOk result (λ stepped.
             IsSomeAnd (entry_at (home_of connection actor self.old) self.old)
             (λ entry. stepped ≡ stepped_by (next_note actor entry.world.state))) }
+        ensures going { IfOk result (λ stepped.
+            IsSomeAnd (entry_at (home_of connection actor self.old) self.old)
+            (λ entry. is_made stepped ≡ is_going actor entry.world.state)) }
         ensures ok { OnOk result (IsSomeAnd (entry_at (home_of connection actor self.old) self.old)
             (λ entry. self.new ≡
             with_entry (home_of connection actor self.old) (after_step actor entry) self.old)) }
+        // A step that was made raises the greatest stamp that the actor knows.
+        ensures rises { OnOk result
+            (IsSomeAnd (entry_at (home_of connection actor self.old) self.old)
+            (λ entry. StampRises actor entry.world.state
+            (after_step actor entry).world.state)) }
         ensures stood { OnOk result
             (IsSomeAnd (entry_at (home_of connection actor self.old) self.old) Stands) }
         ensures home { IsSomeAnd (entry_at connection self.old) (λ entry.

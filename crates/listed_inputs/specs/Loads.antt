@@ -1,5 +1,5 @@
 -- Which loads a run of many connections makes, line by line.
-use Rattle.std.specs.Prelude.{ℕ, ◌≡◌, ◌+◌, List, [], ◌∷◌, ◌++◌, map, flat_map, take, slice_get, Option, Some, IfOk, IfSome}
+use Rattle.std.specs.Prelude.{ℕ, ◌≡◌, ◌⊎◌, ◌+◌, List, [], ◌∷◌, ◌++◌, map, flat_map, take, slice_get, Option, Some, IfOk, IfSome}
 use Rattle.outside_kit.specs.Calls.{Call, Made}
 use Rattle.outside_kit.specs.Calls as call
 use Rattle.run_outside.specs.Plan.{succeeded, failed, Adds, AddsAll}
@@ -23,11 +23,23 @@ pub record AddsToFailed (first plan : List Call) (old new : Option (List Made)) 
   pub plan_is : plan ≡ made ++ failing ∷ behind
   pub adds : Adds (map succeeded (first ++ made) ++ failed failing ∷ []) old new
 
--- its loads end a run with this answer: up to one that failed, or all of them
+-- the first calls of a plan were made, and succeeded
+pub record AddsFirst (plan : List Call) (old new : Option (List Made)) : Type 0 where
+  pub made : List Call
+  pub behind : List Call
+  pub plan_is : plan ≡ made ++ behind
+  pub adds : AddsAll made old new
+
+-- so it was, or the last of them failed
+abbrev pub AddsCut : List Call → Option (List Made) → Option (List Made) → Type 0
+AddsCut plan old new = AddsFirst plan old new ⊎ AddsToFailed [] plan old new
+
+-- its loads end a run with this answer: up to one that failed, or all of them, and for want of memory anywhere between
 abbrev pub InputAdds : List Call → Option (List Made) → Option (List Made) → Many → Type 0
 InputAdds plan old new (ends.Load line) = AddsToFailed [] plan old new
 InputAdds plan old new (ends.TooLong line) = AddsToFailed [] plan old new
 InputAdds plan old new (ends.Script entry line kind) = AddsAll plan old new
+InputAdds plan old new ends.Memory = AddsCut plan old new
 InputAdds plan old new many = Unit {0}
 
 -- ---- the lines
@@ -57,6 +69,7 @@ LinesAdd lines old new (ends.TooLong line) = AddsLoadsTo lines line old new
 LinesAdd lines old new (ends.List line) = AddsLoadsThrough lines 0 old new
 LinesAdd lines old new (ends.Script entry line kind) = AddsLoadsThrough lines (entry + 1) old new
 LinesAdd lines old new (ends.SameToken line holder) = AddsLoadsThrough lines line old new
+LinesAdd lines old new ends.Memory = AddsCut (joined lines) old new
 LinesAdd lines old new many = Unit {0}
 
 -- ---- the list

@@ -8,7 +8,8 @@
 //! and the calls that were made on the outside: the name and the limit of a load, the port and the name of a bind, the port and the number
 //! of octets of a put. A line that begins with `meet` is a run by threads, as `meeting.rt` tells; one that begins with `round` is the
 //! first round of a run by threads at locks, as `opening.rt` tells; one that begins with `enough` asks within how many rounds a clean
-//! script ends, as `enough.rt` tells; and one that begins with `many` is a run of a list of connections, as `lists.rt` tells.
+//! script ends, as `enough.rt` tells; one that begins with `many` is a run of a list of connections, as `lists.rt` tells; and one that
+//! begins with `table` is calls of a table of connections, as `tables.rt` tells.
 #![tactic(auto)]
 
 mod case;
@@ -19,6 +20,7 @@ mod opening;
 mod order;
 mod recorder;
 mod report;
+mod tables;
 
 use case::Case;
 use case_fields::CaseFault;
@@ -34,6 +36,7 @@ use std::alloc::{AllocError, Global};
 use std::io;
 use std::sync::Wait;
 use std::thread::Threads;
+use tables::table_answer;
 
 /// The run of a case: how it ended, and the outside then.
 fn ended<R: Threads + Wait + Sync>(
@@ -83,6 +86,7 @@ fn respond<R: Threads + Wait + Sync>(
         Some(("round", _)) => first_round(rt, alloc, line),
         Some(("enough", _)) => bound(alloc, line),
         Some(("many", fields)) => list_answer(alloc, line, fields),
+        Some(("table", calls)) => table_answer(alloc, line, calls),
         _ => answer(rt, alloc, line, log),
     }
 }

@@ -1,6 +1,9 @@
-use Rattle.std.proofs.Common.{◌≡◌, ◌∙◌, ap, sym, Ok, map, arith}
-use Rattle.std.proofs.lemmas.Result.{err_from_is_err_and, on_ok_weaker}
-use Rattle.run_outside.proofs.PortsLemmas.{IfErr-map}
+use Rattle.std.proofs.Common.{◌≡◌, ◌∙◌, ap, sym, Ok, [], ◌∷◌, map, arith}
+use Rattle.std.proofs.lemmas.Result.{err_from_is_err_and}
+use Rattle.run_outside.proofs.PortsLemmas.{IfErr-map, OnOk-both}
+use Rattle.run_outside.proofs.Calls.{all_then}
+use Rattle.outside_kit.specs.Calls as call
+use Rattle.listed_inputs.specs.Loads.{joined, loads_of}
 use Rattle.connection_list.specs.Lists.{as_names, list_reading}
 use Rattle.connection_list.specs.Words.{as_words}
 use Rattle.connection_table.proofs.Admitted.{admitted_of_same, listed_of_same}
@@ -15,10 +18,11 @@ returns-clause-ok g c =
     let count = c.in_ok-list.list.ok.0 in
     let read : Says c.in_ok-list.list.items names =
     (omega (arith, count, c.in_ok-list.ensures.within), ap list_reading (sym c.deref.ensures.value) ∙ c.in_ok-listed.ensures.ok ∙ ap (λ listed. Ok (map as_names listed)) (sym c.deref-2.ensures.value)) in
-    on_ok_weaker c.admit_all.result
-    (λ are. table_of (g.O.Outside.content c.args.outside.now) (as_words c.args.words.now) c.in_ok-list.list.items names c.admit_all.new.table c.in_ok-list.ensures.whole read
+    OnOk-both c.admit_all.result
+    (λ are calls. table_of (g.O.Outside.content c.args.outside.now) (as_words c.args.words.now) c.in_ok-list.list.items names c.admit_all.new.table _ _ c.in_ok-list.ensures.whole read
+    (all_then (call.Load (as_words c.args.words.now).list ∷ []) (joined (map loads_of names)) _ _ _ c.in_ok-list.ensures.calls calls)
     (admitted_of_same (g.O.Outside.content c.load.new.outside) (g.O.Outside.content c.args.outside.now) c.load.ensures.same_contents names c.admit_all.new.table are))
-    c.admit_all.ensures.ok
+    c.admit_all.ensures.ok c.admit_all.ensures.calls
 
 pub returns-clause-fault : goal.returns-clause-fault
 returns-clause-fault g c =

@@ -1,9 +1,12 @@
-use Rattle.std.proofs.Common.{◌<◌, ◌≤◌, ◌∙◌, ◌++◌, refl, subst, length, arith}
+use Rattle.std.proofs.Common.{◌<◌, ◌≤◌, ◌∙◌, ◌++◌, refl, sym, subst, length, arith}
 use Rattle.std.specs.List.{slice_get}
 use Rattle.std.proofs.lemmas.Result.{err_from_is_err_and}
 use Rattle.outside_kit.specs.declared.port.Port.{Port}
 use Rattle.outside_kit.specs.Outside.{HoldsAfter}
 use Rattle.connection_table.specs.ManyLines.{line_if}
+use Rattle.run_outside.specs.Plan.{AddsAll}
+use Rattle.run_outside.proofs.Calls.{adds_none, all_then}
+use Rattle.connection_table.proofs.CallsMade.{put_ends, put_more, puts_all, puts_upto}
 use Rattle.connection_table.proofs.LinesPut.{line_more, line_part, lines_all, lines_upto, none_put, put_fault_later, whole_then}
 use Rattle.connection_table.proofs.listed_run.put_lines.Goals as goal
 
@@ -11,6 +14,7 @@ pub loop-connection-init : goal.loop-connection-init
 loop-connection-init g c = record {
   within = omega arith;
   held = none_put (g.O.Outside.holds c.args.outside.now Port.Log);
+  calls = adds_none (g.O.Outside.calls c.args.outside.now);
   counted = omega arith;
   loads = refl;
   other_counts = λ other not. refl;
@@ -35,6 +39,8 @@ loop-connection-preserved g c =
       within = omega (arith, within);
       held = whole_then _ _ _ (lines_upto 0 c.loop-connection.connection c.args.table.now) (line_if c.loop-connection.connection (slice_get c.args.table.now c.loop-connection.connection)) _
           c.loop-connection.invariant.held c.in_ok-put_line.ensures.ok (line_more c.loop-connection.connection c.args.table.now within);
+      calls = subst (λ plan. AddsAll plan (g.O.Outside.calls c.args.outside.now) (g.O.Outside.calls c.put_line.new.outside)) (sym (put_more c.loop-connection.connection c.args.table.now within))
+          (all_then (puts_upto 0 c.loop-connection.connection c.args.table.now) _ _ _ _ c.loop-connection.invariant.calls c.in_ok-put_line.ensures.calls);
       counted = (let first = c.loop-connection.invariant.counted in let second = c.put_line.ensures.counted in omega (arith, first, second));
       loads = c.put_line.ensures.loads ∙ c.loop-connection.invariant.loads;
       other_counts = λ other not. c.put_line.ensures.other_counts other not ∙ c.loop-connection.invariant.other_counts other not;
@@ -46,3 +52,15 @@ returns-clause-ok g c =
     let past : length c.args.table.now ≤ c.loop-connection.connection = omega (arith, c.loop-connection-test.false, c.len-connection-end.ensures.count) in
     subst (λ text. HoldsAfter (g.O.Outside.holds c.args.outside.now Port.Log) (g.O.Outside.holds c.loop-connection.outside Port.Log) (λ held. held ++ text))
     (lines_all c.loop-connection.connection c.args.table.now past) c.loop-connection.invariant.held
+
+pub returns-in_err-put_line-clause-calls_cut : goal.returns-in_err-put_line-clause-calls_cut
+returns-in_err-put_line-clause-calls_cut g c =
+    let p = err_from_is_err_and c.from_residual.result c.from_residual.ensures.1 in
+    let within : c.loop-connection.connection < length c.args.table.now = omega (arith, c.loop-connection-test.true, c.len-connection-end.ensures.count) in
+    rw (p.1, p.2) (put_ends c.loop-connection.connection c.args.table.now _ _ _ within c.loop-connection.invariant.calls c.in_err-put_line.field-0.0 c.in_err-put_line.ensures.calls_cut)
+
+pub returns-clause-calls : goal.returns-clause-calls
+returns-clause-calls g c =
+    let past : length c.args.table.now ≤ c.loop-connection.connection = omega (arith, c.loop-connection-test.false, c.len-connection-end.ensures.count) in
+    subst (λ plan. AddsAll plan (g.O.Outside.calls c.args.outside.now) (g.O.Outside.calls c.loop-connection.outside))
+    (puts_all c.loop-connection.connection c.args.table.now past) c.loop-connection.invariant.calls

@@ -1,4 +1,9 @@
-use Rattle.std.proofs.Common.{◌∙◌, [], ap, length, refl, subst, sym, arith}
+use Rattle.std.proofs.Common.{◌≤◌, ◌∙◌, List, [], ap, length, map, refl, subst, sym, arith}
+use Rattle.std.proofs.lemmas.List.{take_all}
+use Rattle.run_outside.specs.Plan.{AddsAll}
+use Rattle.connection_list.specs.Lists.{as_names}
+use Rattle.connection_list.specs.declared.list.Listed.{Listed}
+use Rattle.listed_inputs.specs.Loads.{joined, loads_of}
 use Rattle.std.proofs.lemmas.Result.{err_from_is_err_and}
 use Rattle.run_outside.proofs.Calls.{adds_none}
 use Rattle.connection_table.specs.ManyEnds.{AreAdmitted}
@@ -70,3 +75,9 @@ loop-entry-preserved g c =
       };
       same_contents = λ other. c.load_input.ensures.same_contents other ∙ inv.same_contents other;
     }
+
+pub returns-clause-calls : goal.returns-clause-calls
+returns-clause-calls g c =
+    let past : length c.args.listed.now ≤ c.loop-entry.entry-index = omega (arith, c.loop-entry-test.false) in
+    subst (λ (listed : List Listed). AddsAll (joined (map loads_of (map as_names listed))) (g.O.Outside.calls c.args.outside.now) (g.O.Outside.calls c.loop-entry.outside))
+    (take_all c.loop-entry.entry-index c.args.listed.now past) c.loop-entry.invariant.calls

@@ -1,29 +1,33 @@
-use Rattle.std.proofs.Common.{◌<◌, ◌≤◌, ◌∙◌, length, arith}
+use Rattle.std.proofs.Common.{◌≡◌, ◌≤◌, ◌<◌, ◌∙◌, refl, length, arith}
 use Rattle.path_rules.specs.Octets.{octets}
 use Rattle.world_core.specs.Rounds.{RoundTo}
-use Rattle.connection_table.proofs.EachMade.{inputs_kept, so_far_all, so_far_more, so_far_stands}
+use Rattle.connection_table.specs.ManyRounds.{Made, RoundIfGoing, RoundMade, Runs}
+use Rattle.connection_table.proofs.Changes.{all_changed, changed_many, made_runs, so_far_all, so_far_more}
 use Rattle.connection_table.proofs.rounds.begin_each.Goals as goal
 
-pub make_round-requires : goal.make_round-requires
-make_round-requires c =
-    let within : c.loop-slot.slot-index < length c.loop-slot.slots = omega (arith, c.loop-slot.auto.slots, c.loop-slot-test.true) in
-    so_far_stands (RoundTo octets) c.loop-slot.slot-index c.args.slots.now c.loop-slot.slots c.slot-item.result within c.loop-slot.invariant.made c.requires
+pub loop-connection-init : goal.loop-connection-init
+loop-connection-init c = record { run = c.requires; many = refl; within = omega arith; so_far = refl }
 
-pub returns-in_err-make_round-clause-inputs : goal.returns-in_err-make_round-clause-inputs
-returns-in_err-make_round-clause-inputs c =
-    let within : c.loop-slot.slot-index < length c.loop-slot.slots = omega (arith, c.loop-slot.auto.slots, c.loop-slot-test.true) in
-    inputs_kept c.loop-slot.slot-index c.loop-slot.slots c.slot-item.result c.make_round.new.slot within c.make_round.ensures.input ∙ c.loop-slot.invariant.inputs
+pub make_round-requires-clause-there : goal.make_round-requires-clause-there
+make_round-requires-clause-there c =
+    let many = c.loop-connection.invariant.many in
+    omega (arith, many, c.loop-connection-test.true, c.len-connection-end.ensures.count)
 
-pub loop-slot-preserved : goal.loop-slot-preserved
-loop-slot-preserved c =
-    let within : c.loop-slot.slot-index < length c.loop-slot.slots = omega (arith, c.loop-slot.auto.slots, c.loop-slot-test.true) in
+pub loop-connection-preserved : goal.loop-connection-preserved
+loop-connection-preserved c =
+    let many = c.loop-connection.invariant.many in
+    let within : c.loop-connection.connection < length c.loop-connection.table = omega (arith, many, c.loop-connection-test.true, c.len-connection-end.ensures.count) in
+    let made = c.in_ok-make_round.ensures.made in
+    let next = changed_many (RoundMade) c.loop-connection.connection c.loop-connection.table c.make_round.new.table made in
     record {
-      made = so_far_more (RoundTo octets) c.loop-slot.slot-index c.args.slots.now c.loop-slot.slots c.slot-item.result c.make_round.new.slot within
-          c.loop-slot.invariant.made c.in_ok-make_round.ensures.made;
-      inputs = inputs_kept c.loop-slot.slot-index c.loop-slot.slots c.slot-item.result c.make_round.new.slot within c.make_round.ensures.input ∙ c.loop-slot.invariant.inputs;
+      run = all_changed Runs (RoundMade) (made_runs (RoundTo octets)) c.loop-connection.connection c.loop-connection.table c.make_round.new.table c.loop-connection.invariant.run made;
+      many = next ∙ c.loop-connection.invariant.many;
+      within = omega (arith, within, next);
+      so_far = so_far_more (RoundTo octets) c.loop-connection.connection _ c.loop-connection.table c.make_round.new.table c.loop-connection.invariant.so_far made;
     }
 
 pub returns-clause-made : goal.returns-clause-made
 returns-clause-made c =
-    let past : length c.loop-slot.slots ≤ c.loop-slot.slot-index = omega (arith, c.loop-slot.auto.slots, c.loop-slot-test.false) in
-    so_far_all (RoundTo octets) c.loop-slot.slot-index c.args.slots.now c.loop-slot.slots past c.loop-slot.invariant.made
+    let many = c.loop-connection.invariant.many in
+    let past : length c.loop-connection.table ≤ c.loop-connection.connection = omega (arith, many, c.loop-connection-test.false, c.len-connection-end.ensures.count) in
+    so_far_all (RoundTo octets) c.loop-connection.connection _ c.loop-connection.table past c.loop-connection.invariant.so_far

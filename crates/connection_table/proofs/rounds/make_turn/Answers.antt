@@ -1,23 +1,31 @@
-use Rattle.std.proofs.Common.{sym, ◌∙◌, subst}
-use Rattle.path_rules.specs.Octets.{octets}
-use Rattle.world_core.proofs.RoundsMade.{turn_more}
-use Rattle.world_laws.specs.Serial.{TurnTo}
-use Rattle.connection_table.proofs.RoundMore.{turn_ends}
+use Rattle.std.proofs.Common.{refl, ◌∙◌, subst, arith}
+use Rattle.connection_table.specs.ManyRounds.{Changes, Runs, StepMade, TurnMade}
+use Rattle.connection_table.proofs.Changes.{all_changed, all_there, changed_many, changes_none, changes_then, goes_up, some_map, step_runs}
+use Rattle.connection_table.proofs.RoundMore.{TurnSoFar, turn_begins, turn_goes, turn_made}
 use Rattle.connection_table.proofs.rounds.make_turn.Goals as goal
 
-pub loop-preserved : goal.loop-preserved
-loop-preserved c = record {
-  stands = c.in_ok-go.ensures.stands;
-  input = c.go.ensures.input ∙ c.loop.invariant.input;
-  whole = λ v h. c.loop.invariant.whole v
-      (turn_more octets c.args.actor c.loop.slot.world.state v (sym c.in_ok-go.ensures.going ∙ c.if-branch.true)
-      (subst (λ w. TurnTo octets c.args.actor w v) c.in_ok-go.ensures.state h));
+pub loop-init : goal.loop-init
+loop-init c = record {
+  run = c.requires.run;
+  many = refl;
+  so_far = changes_none (TurnSoFar c.args.actor) c.args.connection c.args.table.now
+      (some_map _ Runs (λ x. TurnSoFar c.args.actor x x) (turn_begins c.args.actor) (all_there Runs c.args.table.now c.args.connection c.requires.run c.requires.there));
 }
 
-pub returns-clause-made : goal.returns-clause-made
-returns-clause-made c = record {
-  input = c.go.ensures.input ∙ c.loop.invariant.input;
-  stands = c.in_ok-go.ensures.stands;
-  state = c.loop.invariant.whole c.go.new.self.world.state
-      (turn_ends c.args.actor c.loop.slot c.go.new.self (sym c.in_ok-go.ensures.going ∙ c.if-branch.false) c.in_ok-go.ensures.ok);
-}
+pub loop-preserved : goal.loop-preserved
+loop-preserved c =
+    let step = subst (λ b. Changes (StepMade c.args.actor b) c.args.connection c.loop.table c.go.new.table) c.if-branch.true c.in_ok-go.ensures.made in
+    record {
+      run = all_changed Runs (StepMade c.args.actor _) (step_runs c.args.actor _) c.args.connection c.loop.table c.go.new.table c.loop.invariant.run step;
+      many = changed_many (StepMade c.args.actor _) c.args.connection c.loop.table c.go.new.table step ∙ c.loop.invariant.many;
+      so_far = changes_then (TurnSoFar c.args.actor) (StepMade c.args.actor _) (TurnSoFar c.args.actor) (turn_goes c.args.actor) c.args.connection _ c.loop.table c.go.new.table
+          c.loop.invariant.so_far step;
+    }
+
+pub returns : goal.returns
+returns c =
+    let step = subst (λ b. Changes (StepMade c.args.actor b) c.args.connection c.loop.table c.go.new.table) c.if-branch.false c.in_ok-go.ensures.made in
+    record {
+      made = changes_then (TurnSoFar c.args.actor) (StepMade c.args.actor _) (TurnMade c.args.actor) (turn_made c.args.actor) c.args.connection _ c.loop.table c.go.new.table
+          c.loop.invariant.so_far step;
+    }

@@ -1,35 +1,43 @@
-use Rattle.std.proofs.Common.{◌-◌, ◌+◌, ◌∙◌, refl, ap, subst, length, arith}
-use Rattle.path_rules.specs.Octets.{octets}
+use Rattle.std.proofs.Common.{◌≡◌, ◌≤◌, ◌<◌, ◌∙◌, refl, ap, length, arith}
 use Rattle.world_core.specs.Kept.{Kept}
-use Rattle.world_core.specs.Rounds.{TurnsFrom}
-use Rattle.world_core.proofs.RoundsMade.{turns_more, turns_over}
-use Rattle.connection_table.proofs.RoundMore.{all_turns}
+use Rattle.world_core.specs.Rounds.{TurnsTo}
+use Rattle.world_laws.specs.Serial.{TurnTo}
+use Rattle.path_rules.specs.Octets.{octets}
+use Rattle.connection_table.specs.ManyRounds.{Runs, TurnMade, TurnsMade}
+use Rattle.connection_table.specs.Tables.{Entry, entry_at}
+use Rattle.connection_table.proofs.Changes.{all_changed, all_there, changed_many, changes_know, changes_none, changes_then, made_runs, some_map}
+use Rattle.connection_table.proofs.RoundMore.{TurnsSoFar, turns_begin, turns_go, turns_made}
 use Rattle.connection_table.proofs.rounds.make_turns.Goals as goal
 
 pub loop-actor-init : goal.loop-actor-init
 loop-actor-init c = record {
-  stands = c.requires;
-  input = refl;
+  run = c.requires.run;
+  many = refl;
   within = omega arith;
-  whole = λ v h. all_turns c.actors-actors.result c.args.slot.now.world.state v h;
+  so_far = changes_none (TurnsSoFar c.actors-actors.result 0) c.args.connection c.args.table.now
+      (some_map _ Runs (λ x. TurnsSoFar c.actors-actors.result 0 x x) (turns_begin c.actors-actors.result)
+      (all_there Runs c.args.table.now c.args.connection c.requires.run c.requires.there));
 }
 
 pub loop-actor-preserved : goal.loop-actor-preserved
-loop-actor-preserved c = record {
-  stands = c.in_ok-make_turn.ensures.made.stands;
-  input = c.make_turn.ensures.input ∙ c.loop-actor.invariant.input;
-  within = omega (arith, c.loop-actor-test.true);
-  whole = λ v h. c.loop-actor.invariant.whole v
-      (turns_more octets (c.actors-actors.result - c.loop-actor.actor) (c.actors-actors.result - (c.loop-actor.actor + 1)) c.loop-actor.actor (c.loop-actor.actor + 1)
-      c.loop-actor.slot.world.state c.make_turn.new.slot.world.state v (omega (arith, c.loop-actor-test.true)) (omega arith) c.in_ok-make_turn.ensures.made.state h);
-}
+loop-actor-preserved c =
+    let within : c.loop-actor.actor < c.actors-actors.result = omega (arith, c.loop-actor-test.true) in
+    let made = c.in_ok-make_turn.ensures.made in
+    record {
+      run = all_changed Runs (TurnMade c.loop-actor.actor) (made_runs (TurnTo octets c.loop-actor.actor)) c.args.connection c.loop-actor.table c.make_turn.new.table c.loop-actor.invariant.run made;
+      many = changed_many (TurnMade c.loop-actor.actor) c.args.connection c.loop-actor.table c.make_turn.new.table made ∙ c.loop-actor.invariant.many;
+      within = omega (arith, within);
+      so_far = changes_then (TurnsSoFar c.actors-actors.result c.loop-actor.actor) (TurnMade c.loop-actor.actor) _ (turns_go c.actors-actors.result c.loop-actor.actor within)
+          c.args.connection _ c.loop-actor.table c.make_turn.new.table c.loop-actor.invariant.so_far made;
+    }
 
-pub returns-clause-made : goal.returns-clause-made
-returns-clause-made c = record {
-  input = c.loop-actor.invariant.input;
-  stands = c.loop-actor.invariant.stands;
-  state = subst (λ n. TurnsFrom octets n 0 c.args.slot.now.world.state c.loop-actor.slot.world.state)
-      (c.actors-actors.ensures ∙ ap (λ (k : Kept). length k.state.crew) c.world.ensures.world)
-      (c.loop-actor.invariant.whole c.loop-actor.slot.world.state
-      (turns_over octets (c.actors-actors.result - c.loop-actor.actor) c.loop-actor.actor c.loop-actor.slot.world.state (omega (arith, c.loop-actor-test.false))));
-}
+pub returns : goal.returns
+returns c =
+    let past : c.actors-actors.result ≤ c.loop-actor.actor = omega (arith, c.loop-actor-test.false) in
+    record {
+      made = changes_know (λ (x : Entry). c.actors-actors.result ≡ length x.world.state.crew) (TurnsSoFar c.actors-actors.result c.loop-actor.actor) TurnsMade
+          (λ x y count so. turns_made c.actors-actors.result c.loop-actor.actor past x y count so) c.args.connection c.args.table.now c.loop-actor.table
+          (some_map (entry_at c.args.connection c.args.table.now) (λ x. c.world.result.now ≡ x.world) (λ x. c.actors-actors.result ≡ length x.world.state.crew)
+          (λ x is. c.actors-actors.ensures ∙ ap (λ (k : Kept). length k.state.crew) is) c.world.ensures.world)
+          c.loop-actor.invariant.so_far;
+    }

@@ -1,14 +1,14 @@
-use Rattle.std.proofs.Common.{◌≡◌, ◌≤◌, ◌-◌}
-use Rattle.path_rules.specs.Octets.{octets}
-use Rattle.world_core.specs.Rounds.{TurnsFrom}
-use Rattle.connection_table.specs.Tables.{Stands}
+use Rattle.std.proofs.Common.{◌≡◌, ◌≤◌, length}
+use Rattle.std.specs.List.{All}
+use Rattle.connection_table.specs.ManyRounds.{Changes, Runs}
+use Rattle.connection_table.proofs.RoundMore.{TurnsSoFar}
 use Rattle.connection_table.proofs.rounds.make_turns.Given as goal
 
 -- what the turns that are left come to, all turns do
 abbrev pub invariant-loop-actor : goal.invariant-loop-actor
 invariant-loop-actor l = record {
-  stands : Stands l.slot;
-  input : l.slot.input ≡ l.initial.slot.input;
+  run : All Runs l.table;
+  many : length l.table ≡ length l.initial.table;
   within : l.actor ≤ l.actors;
-  whole : (v : _) → TurnsFrom octets (l.actors - l.actor) l.actor l.slot.world.state v → TurnsFrom octets l.actors 0 l.initial.slot.world.state v;
+  so_far : Changes (TurnsSoFar l.actors l.actor) l.connection l.initial.table l.table;
 }

@@ -1,7 +1,9 @@
 use Rattle.std.proofs.Common.{◌≡◌, ◌∙◌, ⊎_elim, inl, inr, ap, length, subst, arith}
 use Rattle.std.proofs.lemmas.Result.{IfOk-weaker, on_err_weaker, on_ok_weaker}
 use Rattle.std.specs.Prelude.{IsSomeAnd, slice_set}
-use Rattle.world_core.specs.Steps.{next_note, stepped_by}
+use Rattle.run_outside.proofs.PortsLemmas.{OnOk-both}
+use Rattle.world_core.specs.Steps.{StampRises, is_made, next_note, stepped_by}
+use Rattle.world_laws.specs.Worlds.{is_going}
 use Rattle.world_core.specs.declared.stepped.Stepped.{Stepped}
 use Rattle.connection_table.specs.Routes.{home_of}
 use Rattle.connection_table.specs.Steps.{IsStopped, after_step}
@@ -39,6 +41,25 @@ returns-clause-ok c =
     c.index_mut.result.now c.step.new.self c.index_mut.ensures.value
     (after_step c.args.actor c.index_mut.result.now) is))
     c.step.ensures.ok
+
+pub returns-clause-going : goal.returns-clause-going
+returns-clause-going c =
+    IfOk-weaker c.step.result _ _
+    (λ (stepped : Stepped) going. of_old c.args.self.now c.self.inside.slots.items c.self.view_is (home_of c.args.connection c.args.actor c.args.self.now) c.from.result
+    (c.from.ensures ∙ c.home_of-home.ensures.home) (omega (arith, c.from.ensures, c.home_of-home.ensures.within, ap length c.self.view_is))
+    c.index_mut.result.now c.step.new.self c.index_mut.ensures.value
+    (λ (entry : Entry). is_made stepped ≡ is_going c.args.actor entry.world.state) going)
+    c.step.ensures.going
+
+pub returns-clause-rises : goal.returns-clause-rises
+returns-clause-rises c =
+    OnOk-both c.step.result
+    (λ is rises. of_old c.args.self.now c.self.inside.slots.items c.self.view_is (home_of c.args.connection c.args.actor c.args.self.now) c.from.result
+    (c.from.ensures ∙ c.home_of-home.ensures.home) (omega (arith, c.from.ensures, c.home_of-home.ensures.within, ap length c.self.view_is))
+    c.index_mut.result.now c.step.new.self c.index_mut.ensures.value
+    (λ (entry : Entry). StampRises c.args.actor entry.world.state (after_step c.args.actor entry).world.state)
+    (subst (λ (e : Entry). StampRises c.args.actor c.index_mut.result.now.world.state e.world.state) is rises))
+    c.step.ensures.ok c.step.ensures.rises
 
 pub returns-clause-stood : goal.returns-clause-stood
 returns-clause-stood c =
