@@ -1,2 +1,3 @@
 pub mod DataFin
 pub mod Closing
+pub mod Said

@@ -1,31 +1,24 @@
--- The options of a path are those of the handshakes and of the ends.
-use Rattle.std.proofs.Common.{◌≡◌, ◌≢◌, refl, sym, ap, subst, ℕ, Option, Bool, true, false, Some, None, if◌then◌else◌, is_some, ◌||◌, ◌==◌, arith}
+-- MP_CAPABLE at a path is that of the handshake.
+use Rattle.std.proofs.Common.{◌≡◌, ◌≢◌, refl, sym, ap, subst, ℕ, [], ◌∷◌, Option, Bool, true, false, Some, None, if◌then◌else◌, ◌||◌, ◌==◌, arith}
 use Rattle.control_book.specs.Control.{Control}
 use Rattle.control_book.specs.Replies.{reply_to}
 use Rattle.control_book.specs.declared.call.ControlCall.TheVariants as control_calls
 use Rattle.control_book.specs.declared.call.ControlReply.TheVariants as control_replies
-use Rattle.sides.specs.declared.side.Side.TheVariants.{A, B}
 use Rattle.mptcp_options.specs.declared.capable.CapableKeys.{CapableKeys}
 use Rattle.mptcp_options.specs.declared.capable.CapableKeys.TheVariants.{NoKey, Sender, Both, WithData}
 use Rattle.mptcp_options.specs.Value as wire
-use Rattle.path_rules.specs.Ends.{PathEnd}
-use Rattle.path_rules.specs.Handshakes.{CapableIsSaid, CapableIsHeard, ChecksumsAreThose, KeysAreConfirmed, CapableIsTheHandshake, EndsAreThose}
+use Rattle.capable_handshake.specs.Said.{first_data_option}
+use Rattle.path_segments.specs.declared.segment.PathOption.TheVariants.{Capable}
+use Rattle.path_rules.specs.Handshakes.{CapableIsHeard, ChecksumsAreThose, KeysAreConfirmed, CapableIsTheHandshake}
+use Rattle.path_rules.specs.Unnumbered.{unnumbered}
 use Rattle.path_rules.specs.State.{Profile}
 
--- the flag of the first data is that of the checksum beside it
-flag_told : (checksums : Bool) (own peer len checksum : ℕ)
-    → wire.Capable checksums false (WithData own peer len (if checksums then Some checksum else None))
-    ≡ wire.Capable (is_some (if checksums then Some checksum else None)) false (WithData own peer len (if checksums then Some checksum else None))
-flag_told true own peer len checksum = refl
-flag_told false own peer len checksum = refl
-
-said : (c : Profile) (e : PathEnd) → CapableIsSaid c e
-said c e = record {
-  syn = refl;
-  syn_ack = λ asked plain. rw (asked, plain) refl;
-  ack = λ peer. refl;
-  first_data = λ peer r. rw (flag_told c.spelling.checksums e.modes.own_key peer r.mapping.length r.mapping.checksum) refl;
-}
+-- the first data says flag A where its mapping has a checksum, and that is where checksums are used
+pub first_is_said : (checksums : Bool) (own peer len checksum : ℕ)
+    → unnumbered (first_data_option own peer len (if checksums then Some checksum else None))
+    ≡ Capable checksums false (WithData own peer len (if checksums then Some checksum else None)) ∷ []
+first_is_said true own peer len checksum = refl
+first_is_said false own peer len checksum = refl
 
 heard : (flag_a flag_c : Bool) (keys : CapableKeys) → CapableIsHeard flag_a flag_c keys
 heard flag_a flag_c NoKey = record { syn = refl; syn_ack = refl; ack = refl }
@@ -71,8 +64,4 @@ confirmed (WithData sender receiver len checksum) book = record {
 }
 
 pub capable_is_the_handshake : CapableIsTheHandshake
-capable_is_the_handshake = record { said = said; heard = heard; checksums = checksums; confirmed = confirmed }
-
-pub ends_are_those : EndsAreThose
-ends_are_those c A = record { data_fin = λ whole next place. rw whole refl; reset = λ reason. refl; fast_close = λ key. refl }
-ends_are_those c B = record { data_fin = λ whole next place. rw whole refl; reset = λ reason. refl; fast_close = λ key. refl }
+capable_is_the_handshake = record { heard = heard; checksums = checksums; confirmed = confirmed }

@@ -18,6 +18,7 @@ pub mod Lowering
 pub mod TurnEnds
 pub mod FarResets
 mod ChangedCopies
+mod Thirds
 pub mod CopiesRead
 pub mod Showing
 pub mod Sayable

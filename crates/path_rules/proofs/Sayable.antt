@@ -381,7 +381,7 @@ module _ (c : Profile) (s : Side) (e : PathEnd) (path : c.spelling.path ≤ 15) 
   }
 
   dss_and_can : (option : PlainOption) → CanSayOption c.spelling s option
-      → length (option_text (said_option c.spelling s option)) ≤ 28 → CanBeSaid c.spelling s (dss_and c option e)
+      → length (option_text (said_option c.spelling s option)) ≤ 28 → CanBeSaid c.spelling s (dss_and c (option ∷ []) e)
   dss_and_can option can short =
       says_two (ack_at e.tcp.send.nxt e.tcp) (Dss (Some e.receiving.next) None) option refl (record { form = (tt, refl) }) can
       (two_room c.spelling s (Dss (Some e.receiving.next) None) option (short_ack (data_number c.spelling (peer s) e.receiving.next)) short)

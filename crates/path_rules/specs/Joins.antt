@@ -8,20 +8,18 @@ use Rattle.sides.specs.declared.side.Side.TheVariants.{A, B}
 use Rattle.key_material.specs.JoinHmac.{join_a160_of}
 use Rattle.key_material.specs.KeyDigest.{token_of}
 use Rattle.mptcp_options.specs.declared.join.JoinForm.{JoinForm}
-use Rattle.mptcp_options.specs.declared.option.MpOption.{MpOption}
-use Rattle.mptcp_options.specs.declared.option.MpOption.TheVariants as said
 use Rattle.mptcp_options.specs.Value as wire
 use Rattle.join_handshake.specs.declared.hearing.JoinSyn.{JoinSyn}
 use Rattle.join_handshake.specs.declared.hearing.JoinAnswer.{JoinAnswer}
 use Rattle.join_handshake.specs.Said.{syn_option, answer_option, third_option}
 use Rattle.join_handshake.specs.Heard.{syn_heard, answer_heard, answer_taken, third_heard}
 use Rattle.path_segments.specs.Options.{PlainOption}
-use Rattle.path_segments.specs.declared.segment.PathOption.TheVariants.{Join}
 use Rattle.path_agenda.specs.declared.heard.Heard.{Heard}
 use Rattle.path_agenda.specs.declared.heard.JoinStep.TheVariants as step
 use Rattle.path_agenda.specs.Items.{join_heard}
 use Rattle.path_rules.specs.declared.modes.Modes.{Modes}
 use Rattle.path_rules.specs.State.{Profile}
+use Rattle.path_rules.specs.Unnumbered.{unnumbered}
 
 -- path 0 opens the connection, and every other one joins it
 abbrev pub is_joined : Profile → Bool
@@ -33,19 +31,14 @@ peer_key_of m = unwrap_or m.peer_key 0
 
 -- ---- what is said
 
--- an option of the handshake, where it is an MP_JOIN
-abbrev pub said_join : MpOption → List PlainOption
-said_join (said.Join form) = Join form ∷ []
-said_join _ = []
-
 -- on the SYN B's token and A's nonce, on the SYN/ACK B's HMAC and nonce, and the script's flag on both
 abbrev pub join_options : Profile → Side → Modes → List PlainOption
-join_options c A m = said_join (syn_option c.backup c.spelling.path (token_of (peer_key_of m)) m.own_nonce)
-join_options c B m = said_join (answer_option (peer_key_of m) m.own_key m.peer_nonce m.own_nonce c.backup c.spelling.path)
+join_options c A m = unnumbered (syn_option c.backup c.spelling.path (token_of (peer_key_of m)) m.own_nonce)
+join_options c B m = unnumbered (answer_option (peer_key_of m) m.own_key m.peer_nonce m.own_nonce c.backup c.spelling.path)
 
 -- on what A sends then: A's HMAC
 abbrev pub third_options : Modes → List PlainOption
-third_options m = said_join (third_option m.own_key (peer_key_of m) m.own_nonce m.peer_nonce)
+third_options m = unnumbered (third_option m.own_key (peer_key_of m) m.own_nonce m.peer_nonce)
 
 -- ---- what is heard
 

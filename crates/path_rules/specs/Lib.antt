@@ -3,6 +3,7 @@ pub mod Codec
 pub mod Ends
 pub mod State
 pub mod Infinite
+pub mod Unnumbered
 pub mod Joins
 pub mod OptionsOut
 pub mod Handover

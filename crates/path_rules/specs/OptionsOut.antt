@@ -6,9 +6,11 @@ use Rattle.seq_units.specs.declared.mapping.Mapping.{Mapping}
 use Rattle.key_material.specs.declared.address.Address.TheVariants.{V4}
 use Rattle.key_material.specs.Address.{octets_of}
 use Rattle.key_material.specs.AddressHmac.{add_addr64_of}
-use Rattle.mptcp_options.specs.declared.capable.CapableKeys.TheVariants.{NoKey, Sender, Both, WithData}
+use Rattle.mptcp_options.specs.declared.capable.CapableKeys.TheVariants.{WithData}
+use Rattle.capable_handshake.specs.Said.{syn_option, syn_ack_option, ack_option}
+use Rattle.data_close.specs.Said.{fast_close_option, reset_option}
 use Rattle.dss_checksum.specs.Checksum.{dss_checksum}
-use Rattle.path_segments.specs.declared.segment.PathOption.TheVariants.{Capable, Dss, AddAddr, Remove, Prio, Fail, FastClose, Reset}
+use Rattle.path_segments.specs.declared.segment.PathOption.TheVariants.{Capable, Dss, AddAddr, Remove, Prio, Fail}
 use Rattle.path_segments.specs.declared.segment.PathMapping.{PathMapping}
 use Rattle.path_segments.specs.declared.segment.PathMapping.TheVariants.{Bytes, End, Infinite}
 use Rattle.path_segments.specs.Spelling.{whole_number}
@@ -29,6 +31,7 @@ use Rattle.path_rules.specs.Ends.{PathEnd}
 use Rattle.path_rules.specs.Infinite.{receives_infinite}
 use Rattle.path_rules.specs.Joins.{is_joined, peer_key_of, join_options, third_options}
 use Rattle.path_rules.specs.State.{Profile}
+use Rattle.path_rules.specs.Unnumbered.{unnumbered}
 use Rattle.path_rules.specs.Words.{is_side_a}
 
 -- ---- mappings
@@ -92,9 +95,9 @@ infinite_or (Some mapping) options e = infinite_options mapping e
 
 -- on a SYN that opens the connection: A asks for Multipath TCP, and B answers with its key where A asked (RFC 8684, section 3.1)
 abbrev pub capable_options : Profile → Side → PathEnd → List PlainOption
-capable_options c A e = Capable c.spelling.checksums false NoKey ∷ []
+capable_options c A e = unnumbered (syn_option c.spelling.checksums)
 capable_options c B e =
-    if e.modes.capable_asked && not e.modes.identity then Capable c.spelling.checksums false (Sender e.modes.own_key) ∷ [] else []
+    if e.modes.capable_asked && not e.modes.identity then unnumbered (syn_ack_option c.spelling.checksums e.modes.own_key) else []
 
 -- on a SYN and a SYN/ACK, of a path that joins or of the one that opens the connection
 abbrev pub syn_options : Profile → Side → PathEnd → List PlainOption
@@ -102,7 +105,7 @@ syn_options c s e = if is_joined c then join_options c s e.modes else capable_op
 
 -- before A may send a DSS it shows both keys; B says nothing before it has them
 abbrev pub key_options : Profile → Side → Option ℕ → PathEnd → List PlainOption
-key_options c A (Some peer) e = Capable c.spelling.checksums false (Both e.modes.own_key peer) ∷ []
+key_options c A (Some peer) e = unnumbered (ack_option c.spelling.checksums e.modes.own_key peer)
 key_options c A None e = []
 key_options c B peer e = []
 
@@ -171,7 +174,7 @@ record_options Fin c s r e = fin_options r.pos e
 -- why the path is reset, where there is a reason; the fault doesn't pass (RFC 8684, section 3.6)
 abbrev pub reset_options : Option ℕ → List PlainOption
 reset_options None = []
-reset_options (Some reason) = Reset false reason ∷ []
+reset_options (Some reason) = unnumbered (reset_option reason)
 
 -- MP_FAIL stands before the reason, where a failed check broke the path
 abbrev pub broken_options : Option ℕ → Option ℕ → List PlainOption
@@ -240,13 +243,13 @@ abbrev pub reset_said : Profile → Option ℕ → PathEnd → PlainSegment
 reset_said c reason e =
     segment_of c (own_reset e) (if e.modes.identity then [] else broken_options e.treated.failed_mapping reason) [] e
 
--- an acknowledgement with a DSS, and this option behind it
-abbrev pub dss_and : Profile → PlainOption → PathEnd → PlainSegment
-dss_and c option e = segment_of c (ack_at e.tcp.send.nxt e.tcp) (Dss (Some e.receiving.next) None ∷ option ∷ []) [] e
+-- an acknowledgement with a DSS, and these options behind it
+abbrev pub dss_and : Profile → List PlainOption → PathEnd → PlainSegment
+dss_and c options e = segment_of c (ack_at e.tcp.send.nxt e.tcp) (Dss (Some e.receiving.next) None ∷ options) [] e
 
 -- an acknowledgement with a DSS, and the notice behind it
 abbrev pub notice_said : Profile → OwnNotice → PathEnd → PlainSegment
-notice_said c notice e = dss_and c (notice_option notice e.modes) e
+notice_said c notice e = dss_and c (notice_option notice e.modes ∷ []) e
 
 -- a notice that may be there
 abbrev pub noted_said : Profile → Side → Option OwnNotice → PathEnd → PlainSegment
@@ -255,7 +258,7 @@ noted_said c s None e = ack_said c s e.tcp.send.nxt None e
 
 -- with the peer's key (RFC 8684, section 3.5)
 abbrev pub fast_close_said : Profile → ℕ → PathEnd → PlainSegment
-fast_close_said c key e = dss_and c (FastClose key) e
+fast_close_said c key e = dss_and c (unnumbered (fast_close_option key)) e
 
 -- with the key of an end that carries it
 abbrev pub carried_said : Profile → Side → Option ℕ → PathEnd → PlainSegment

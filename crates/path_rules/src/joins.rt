@@ -3,30 +3,20 @@
 
 ghost use Rattle.std.specs.Prelude.{◌≡◌, is_some};
 ghost use Rattle.sides.specs.declared.side.Side.TheVariants.{A, B};
-ghost use Rattle.path_rules.specs.Joins.{peer_key_of, said_join, join_options, third_options, join_asked, join_answer, third_in, is_third_right};
+ghost use Rattle.path_rules.specs.Joins.{peer_key_of, join_options, third_options, join_asked, join_answer, third_in, is_third_right};
 ghost use Rattle.path_rules.specs.Said.{options_by};
 
 use crate::modes::Modes;
 use crate::profile::Profile;
-use crate::said::Saying;
+use crate::said::{Saying, unnumbered};
 use join_handshake::{
-    JoinAnswer, JoinSyn, answer_option, client_answer, server_syn, syn_option, third_option,
+    JoinAnswer, JoinSyn, answer_option, client_answer, server_syn, server_third, syn_option,
+    third_option,
 };
-use key_material::{join_a160, token};
+use key_material::token;
 use mptcp_options::{JoinForm, MpOption};
 use path_agenda::{Heard, JoinStep, join_heard};
-use path_segments::PathOption;
 use sides::Side;
-
-/// An MP_JOIN as an option of a path's segments.
-fn said_join(option: MpOption<'static>) -> Option<Saying>
-    ensures { options_by result ≡ said_join option.entry }
-{
-    match option {
-        MpOption::Join { form } => Some(PathOption::Join { form }),
-        _ => None,
-    }
-}
 
 /// What A asks for by its SYN, where that has an MP_JOIN.
 pub fn join_asked(items: &[Heard]) -> Option<JoinSyn>
@@ -79,7 +69,7 @@ impl Modes {
         ensures { options_by result ≡ join_options profile.now A self.now }
     {
         let (backup, id) = (profile.is_backup(), profile.spelling().path);
-        said_join(syn_option(backup, id, token(self.peer_key_of()), self.own_nonce))
+        unnumbered(syn_option(backup, id, token(self.peer_key_of()), self.own_nonce))
     }
 
     /// On B's SYN/ACK: B's HMAC and nonce, and the script's flag.
@@ -89,7 +79,7 @@ impl Modes {
         let (own, peer) = (self.own_key, self.peer_key_of());
         let (backup, id) = (profile.is_backup(), profile.spelling().path);
         let option = answer_option(peer, own, self.peer_nonce, self.own_nonce, backup, id);
-        said_join(option)
+        unnumbered(option)
     }
 
     /// What the SYN or the SYN/ACK of a path that joins says.
@@ -107,7 +97,7 @@ impl Modes {
         ensures { options_by result ≡ third_options self.now }
     {
         let (own, peer) = (self.own_key, self.peer_key_of());
-        said_join(third_option(own, peer, self.own_nonce, self.peer_nonce))
+        unnumbered(third_option(own, peer, self.own_nonce, self.peer_nonce))
     }
 
     /// What B answers, where the HMAC is B's.
@@ -125,12 +115,16 @@ impl Modes {
     }
 
     /// Whether there is a third MP_JOIN, and its HMAC is A's.
+    #[tactic(auto, using(crate::proofs::Thirds::third_is_taken))]
     pub(crate) fn is_third_right(&self, items: &[Heard]) -> bool
         ensures { result ≡ is_third_right items.now self.now }
     {
         let (own, peer) = (self.own_key, self.peer_key_of());
-        match third_in(items) {
-            Some(hmac) => hmac == join_a160(peer, own, self.peer_nonce, self.own_nonce),
+        match join_heard(JoinStep::Third, items) {
+            Some(form) => {
+                let heard = MpOption::Join { form };
+                server_third(peer, own, self.peer_nonce, self.own_nonce, Some(&heard)).is_ok()
+            }
             None => false,
         }
     }

@@ -4,7 +4,7 @@ ghost use Rattle.std.specs.Prelude.{◌≡◌, take};
 ghost use Rattle.path_rules.specs.Example.{path_at_first, steps_made};
 ghost use Rattle.path_rules.specs.FirstRound.{turn_of_path};
 ghost use Rattle.path_rules.specs.FewThings.{CopiesSayFew, CopiesHaveFewPriorities};
-ghost use Rattle.path_rules.specs.Handshakes.{CapableIsTheHandshake, EndsAreThose};
+ghost use Rattle.path_rules.specs.Handshakes.{CapableIsTheHandshake};
 ghost use Rattle.path_rules.specs.Looking.{EachSegmentIsTold};
 ghost use Rattle.path_rules.specs.Octets.{octets};
 ghost use Rattle.path_rules.specs.Shown.{AsksTheSame, TakesTheSame, BeginsTheSame};
@@ -37,12 +37,10 @@ pub fn each_segment_is_told()
     ensures values { EachSegmentIsTold values }
 {}
 
-/// A law: what a path says and hears by MP_CAPABLE is what `capable_handshake` says and hears, checksums are used as it says, and
-/// keys are noted where it takes them (RFC 8684, section 3.1). The path's DATA_FIN alone, the reason of its resets and a fast close
-/// are said as by `data_close` (sections 3.3.3, 3.5 and 3.6).
-pub fn options_are_those_of_the_handshakes()
-    ensures capable { CapableIsTheHandshake }
-    ensures ends { EndsAreThose }
+/// A law: what path 0 hears by MP_CAPABLE is what `capable_handshake` hears; checksums are used as it says, and the keys are noted where
+/// it takes them (RFC 8684, section 3.1).
+pub fn keys_are_those_of_the_handshake()
+    ensures { CapableIsTheHandshake }
 {}
 
 /// A law: octets that are a segment say 37 things at most, and 13 of its options are MP_PRIO at most, since its options have forty

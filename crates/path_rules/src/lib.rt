@@ -60,8 +60,8 @@ pub use joining::join_begin_ask;
 pub use joins::join_asked;
 pub use judged::Judged;
 pub use laws::{
-    a_first_round, copies_say_few_things, each_segment_is_told, octets_do_as_values,
-    options_are_those_of_the_handshakes, settled_turns_end,
+    a_first_round, copies_say_few_things, each_segment_is_told, keys_are_those_of_the_handshake,
+    octets_do_as_values, settled_turns_end,
 };
 pub use looking::{Arriving, Departing, ToSend};
 pub use modes::Modes;

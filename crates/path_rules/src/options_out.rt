@@ -1,13 +1,13 @@
 //! The segments that an end sends: their options, their windows, and the mapping of a piece (RFC 8684, section 3).
 
-ghost use Rattle.std.specs.Prelude.{◌≡◌, ◌≤◌, ◌∷◌, [], Some, None, false, length, option_map, IfSome};
+ghost use Rattle.std.specs.Prelude.{◌≡◌, ◌≤◌, Some, None, length, option_map, IfSome};
 ghost use Rattle.dss_checksum.specs.Checksum.{dss_checksum};
 ghost use Rattle.sides.specs.declared.side.Side.TheVariants.{A};
-ghost use Rattle.path_segments.specs.declared.segment.PathOption.TheVariants.{Capable};
 ghost use Rattle.subflow_send.specs.Records.{record_of};
 ghost use Rattle.path_rules.specs.declared.segment_kind.SegmentKind.TheVariants.{DeadAnswer, Refusal};
 ghost use Rattle.path_agenda.specs.Words.{first_of};
-ghost use Rattle.path_rules.specs.OptionsOut.{owes_mapping, bare_mapping, checksum_in, mapping_of, place_numbered, checksum_told, plain_options, infinite_options, mapped_options, fail_beside, capable_options, syn_options, key_options, opening_options, data_fin_mapping, ack_options, piece_mapping, first_piece_options, piece_options, fin_options, record_options, reset_options, broken_options, announcement, notice_option, dss_and, noted_said, carried_said, HasAddress, segment_of, ack_said, record_said, record_or_ack, syn_ack_said, fin_said, own_reset, reset_said};
+ghost use Rattle.path_segments.specs.Spelling.{whole_number};
+ghost use Rattle.path_rules.specs.OptionsOut.{owes_mapping, bare_mapping, checksum_in, mapping_of, place_numbered, checksum_told, plain_options, infinite_options, mapped_options, fail_beside, capable_options, syn_options, key_options, opening_options, data_fin_mapping, ack_options, piece_mapping, first_piece_options, piece_options, fin_options, record_options, broken_options, announcement, notice_option, dss_and, noted_said, carried_said, HasAddress, segment_of, ack_said, record_said, record_or_ack, syn_ack_said, fin_said, own_reset, reset_said};
 ghost use Rattle.path_rules.specs.Infinite.{receives_infinite};
 ghost use Rattle.path_rules.specs.Passing.{answer_said, ack_resent, resend_said};
 ghost use Rattle.path_rules.specs.Said.{options_by, said_options, plain_said, said_by, CanBeSaid};
@@ -16,12 +16,13 @@ use crate::end::PathEnd;
 use crate::modes::Modes;
 use crate::profile::Profile;
 use crate::reset_reason::MPTCP_SPECIFIC;
-use crate::said::{Said, SaidOptions, Saying};
+use crate::said::{Said, SaidOptions, Saying, unnumbered};
 use crate::segment_kind::SegmentKind;
+use capable_handshake::{ack_option, first_data_option, syn_ack_option, syn_option};
+use data_close::{fast_close_option, fin_number, reset_option};
 use dss_checksum::DssSum;
 use fallback_state::Mode;
 use key_material::{Address, add_addr64};
-use mptcp_options::CapableKeys;
 use path_agenda::OwnNotice;
 use path_segments::{PathMapping, PathOption, relative_number};
 use path_store::InfiniteMapping;
@@ -81,14 +82,14 @@ impl Profile {
         self.spelling().checksums.then_some(checksum)
     }
 
-    /// MP_CAPABLE with these keys (RFC 8684, section 3.1).
-    fn capable(&self, keys: CapableKeys) -> Saying
-        ensures { result ≡ Capable self.now.spelling.checksums false keys }
+    /// The data number of the DATA_FIN that has this place.
+    fn data_fin_number(&self, side: Side, place: u64) -> u64
+        ensures { result ≡ whole_number self.now.spelling side place }
     {
-        PathOption::Capable {
-            flag_a: self.spelling().checksums,
-            flag_c: false,
-            keys,
+        let spelling = self.spelling();
+        match side {
+            Side::A => fin_number(spelling.a.idsn.0, place),
+            Side::B => fin_number(spelling.b.idsn.0, place),
         }
     }
 
@@ -97,7 +98,13 @@ impl Profile {
         ensures { result ≡ data_fin_mapping self.now side fin }
     {
         let place = fin?;
-        let checksum = self.checksum_in(&self.bare_mapping(side, place, 0, 1), &[]);
+        let bare = Mapping {
+            number: self.data_fin_number(side, place),
+            relative: 0,
+            length: 1,
+            checksum: 0,
+        };
+        let checksum = self.checksum_in(&bare, &[]);
         Some(PathMapping::End {
             place,
             checksum: self.checksum_told(checksum),
@@ -247,12 +254,11 @@ impl PathEnd {
     fn capable_option(&self, profile: &Profile, side: Side) -> Option<Saying>
         ensures value { options_by result ≡ capable_options profile.now side self.now }
     {
+        let checksums = profile.spelling().checksums;
         match side {
-            Side::A => Some(profile.capable(CapableKeys::NoKey)),
+            Side::A => unnumbered(syn_option(checksums)),
             Side::B if self.modes.capable_asked && !self.modes.identity => {
-                Some(profile.capable(CapableKeys::Sender {
-                    sender: self.modes.own_key,
-                }))
+                unnumbered(syn_ack_option(checksums, self.modes.own_key))
             }
             Side::B => None,
         }
@@ -275,10 +281,10 @@ impl PathEnd {
             key_options profile.now side self.now.modes.peer_key self.now }
     {
         match (side, self.modes.peer_key) {
-            (Side::A, Some(receiver)) => Some(profile.capable(CapableKeys::Both {
-                sender: self.modes.own_key,
-                receiver,
-            })),
+            (Side::A, Some(receiver)) => {
+                let checksums = profile.spelling().checksums;
+                unnumbered(ack_option(checksums, self.modes.own_key, receiver))
+            }
             _ => None,
         }
     }
@@ -312,17 +318,15 @@ impl PathEnd {
     }
 
     /// A's first piece carries both keys, until A may send a DSS.
+    #[tactic(auto, using(crate::proofs::Handshakes::first_is_said))]
     fn first_piece_option(&self, profile: &Profile, lent: &RecordRef<'_>) -> Option<Saying>
         ensures value { options_by result ≡
             first_piece_options profile.now self.now.modes.peer_key (record_of lent.now) self.now }
     {
         let receiver = self.modes.peer_key?;
-        Some(profile.capable(CapableKeys::WithData {
-            sender: self.modes.own_key,
-            receiver,
-            length: lent.mapping.length,
-            checksum: profile.checksum_told(lent.mapping.checksum),
-        }))
+        let checksum = profile.checksum_told(lent.mapping.checksum);
+        let (sender, length) = (self.modes.own_key, lent.mapping.length);
+        unnumbered(first_data_option(sender, receiver, length, checksum))
     }
 
     /// On data and FIN after the peer's MP_FAIL: the infinite mapping, as long as it is owed (RFC 8684, section 3.7).
@@ -489,15 +493,15 @@ impl PathEnd {
     }
 
     /// The acknowledgement that says this option behind its DSS.
-    fn dss_and(&self, profile: &Profile, option: Saying) -> Said<'_>
-        ensures { plain_said result ≡ dss_and profile.now option self.now }
+    fn dss_and(&self, profile: &Profile, option: Option<Saying>) -> Said<'_>
+        ensures { plain_said result ≡ dss_and profile.now (options_by option) self.now }
     {
         let dss = PathOption::Dss {
             next: Some(self.receiving.next()),
             mapping: None,
         };
         let outgoing = self.tcp.ack_at(self.tcp.nxt());
-        self.segment_of(profile, outgoing, SaidOptions::Two(dss, option), &[])
+        self.segment_of(profile, outgoing, SaidOptions::first_and(dss, option), &[])
     }
 
     /// The acknowledgement with the first of what is to be noted; without one an acknowledgement.
@@ -506,7 +510,7 @@ impl PathEnd {
             noted_said profile.now side (first_of self.now.notices.queue) self.now }
     {
         match self.notices.first() {
-            Some(notice) => self.dss_and(profile, self.modes.notice_option(notice)),
+            Some(notice) => self.dss_and(profile, Some(self.modes.notice_option(notice))),
             None => self.ack_said(profile, side, self.tcp.nxt(), None),
         }
     }
@@ -517,7 +521,7 @@ impl PathEnd {
             carried_said profile.now side self.now.notices.carrier self.now }
     {
         match self.notices.carrier {
-            Some(key) => self.dss_and(profile, PathOption::FastClose { key }),
+            Some(key) => self.dss_and(profile, unnumbered(fast_close_option(key))),
             None => self.ack_said(profile, side, self.tcp.nxt(), None),
         }
     }
@@ -552,7 +556,7 @@ impl PathEnd {
             Some(outgoing) => outgoing,
             None => self.tcp.reset_segment(),
         };
-        let options = SaidOptions::One(reset_option(MPTCP_SPECIFIC));
+        let options = SaidOptions::of(unnumbered(reset_option(MPTCP_SPECIFIC)));
         self.segment_of(profile, outgoing, options, &[])
     }
 
@@ -631,19 +635,9 @@ fn broken_options(failed: Option<u64>, reason: Option<u8>) -> SaidOptions
     let Some(reason) = reason else {
         return SaidOptions::Nothing;
     };
-    let reset = reset_option(reason);
+    let reset = unnumbered(reset_option(reason));
     match failed {
-        Some(place) => SaidOptions::Two(PathOption::Fail { place }, reset),
-        None => SaidOptions::One(reset),
-    }
-}
-
-/// Why the path is reset; the fault doesn't pass (RFC 8684, section 3.6).
-fn reset_option(reason: u8) -> Saying
-    ensures { result ∷ [] ≡ reset_options (Some reason) }
-{
-    PathOption::Reset {
-        transient: false,
-        reason,
+        Some(place) => SaidOptions::first_and(PathOption::Fail { place }, reset),
+        None => SaidOptions::of(reset),
     }
 }

@@ -3,7 +3,9 @@
 ghost use Rattle.std.specs.Prelude.{◌≡◌, ◌∷◌, IfOk};
 ghost use Rattle.path_segments.specs.Options.{plain_option};
 ghost use Rattle.path_rules.specs.Said.{options_by, said_options};
+ghost use Rattle.path_rules.specs.Unnumbered.{unnumbered};
 
+use mptcp_options::MpOption;
 use path_segments::{PathOption, SaidSegment, Spelling, sum, write};
 use sides::Side;
 use std::alloc::{AllocError, Global};
@@ -11,6 +13,27 @@ use subflow_tcp::Outgoing;
 
 /// An option that an end says. It takes one address back at most.
 pub(crate) type Saying = PathOption<u64, [u8; 1]>;
+
+/// An option of the handshakes or of the close, as an end says it: one that has no number of a place.
+pub(crate) fn unnumbered(option: MpOption<'static>) -> Option<Saying>
+    ensures { options_by result ≡ unnumbered option.entry }
+{
+    match option {
+        MpOption::Capable {
+            flag_a,
+            flag_c,
+            keys,
+        } => Some(PathOption::Capable {
+            flag_a,
+            flag_c,
+            keys,
+        }),
+        MpOption::Join { form } => Some(PathOption::Join { form }),
+        MpOption::FastClose { key } => Some(PathOption::FastClose { key }),
+        MpOption::Reset { transient, reason } => Some(PathOption::Reset { transient, reason }),
+        _ => None,
+    }
+}
 
 /// The options of Multipath TCP that a segment says, in their order: two at most, which have room in forty octets.
 #[derive(Clone, Copy)]

@@ -116,7 +116,9 @@ impl Sending {
         self.news |= self.is_news(next, fin);
         self.heard = self.heard.max(next);
         self.granted.let_go(self.heard);
-        self.close.own_acked |= fin;
+        if fin {
+            self.close.fin_acked();
+        }
     }
 
     /// A place that was granted, or the DATA_FIN, is acknowledged for the first time.

@@ -4,14 +4,14 @@
 //!   `capable-data SENDER RECEIVER LENGTH CHECKSUM`;
 //! - `join-syn BACKUP ID TOKEN NONCE`, `join-answer KEY_A KEY_B NONCE_A NONCE_B BACKUP ID`,
 //!   `join-third KEY_A KEY_B NONCE_A NONCE_B`;
-//! - `data-fin ACK NUMBER CHECKSUM`, `fast-close KEY`, `reset REASON`.
+//! - `fast-close KEY`, `reset REASON`.
 //!
 //! A checksum is `-` where none is used. `fin-number IDSN WRITTEN`: the data number of a DATA_FIN.
 
 use case_fields::{
     CaseFault, optional_at, pair_at, parsed_at, put_value, quad_at, triple_at, truth_at,
 };
-use data_close::{data_fin_option, fast_close_option, reset_option};
+use data_close::{fast_close_option, reset_option};
 use mptcp_options::MpOption;
 
 pub fn said(text: &mut String, fields: &[&str]) -> Result<(), CaseFault> {
@@ -28,16 +28,10 @@ pub fn fin_number(text: &mut String, fields: &[&str]) -> Result<(), CaseFault> {
 
 fn option_of(name: &str, fields: &[&str]) -> Result<MpOption<'static>, CaseFault> {
     match name {
-        "data-fin" => data_fin(fields),
         "fast-close" => Ok(fast_close_option(parsed_at(fields, 0)?)),
         "reset" => Ok(reset_option(parsed_at(fields, 0)?)),
         _ => handshake(name, fields),
     }
-}
-
-fn data_fin(fields: &[&str]) -> Result<MpOption<'static>, CaseFault> {
-    let (ack, number) = pair_at(fields, 0)?;
-    Ok(data_fin_option(ack, number, optional_at(fields, 2)?))
 }
 
 fn handshake(name: &str, fields: &[&str]) -> Result<MpOption<'static>, CaseFault> {
