@@ -115,7 +115,6 @@ impl Modes {
     }
 
     /// Whether there is a third MP_JOIN, and its HMAC is A's.
-    #[tactic(auto, using(crate::proofs::Thirds::third_is_taken))]
     pub(crate) fn is_third_right(&self, items: &[Heard]) -> bool
         ensures { result ≡ is_third_right items.now self.now }
     {
