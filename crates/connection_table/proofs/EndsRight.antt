@@ -35,16 +35,7 @@ use Rattle.connection_table.specs.Tables.{Connection, first_of, opened_entry}
 
 same_test : (line : ScriptLine) → alters_payload line ≡ is_alter line
 same_test (happens.Drop path from number) = refl
-same_test (happens.Strip path from number) = refl
-same_test (happens.Alter path from number) = refl
-same_test (happens.Dup path from number ticks) = refl
-same_test (happens.Late path from number ticks) = refl
-same_test (happens.StripAll path from tick) = refl
-same_test (happens.Die path tick) = refl
-same_test (happens.Prio path s tick backup) = refl
-same_test (happens.Add id tick) = refl
-same_test (happens.Remove s id tick) = refl
-same_test (happens.FastClose s tick) = refl
+same_test _ = refl
 
 leaves_all : (lines : List ScriptLine) → list_any is_alter lines ≡ false → list_any alters_payload lines ≡ false
 leaves_all [] none = refl

@@ -59,20 +59,13 @@ keys_once : (c : Control) (asked : ControlCall) → gives_key asked ≡ false �
 keys_once c (call.Look path) e = told (λ d. d.keys ≡ c.keys) (notice_on c path) path c (λ id. refl) refl
 keys_once c (call.PeerKey key) e = cc
 keys_once c (call.Keys own peer) e = cc
-keys_once c (call.Fell path event) e = refl
 keys_once c (call.JoinBegin path) e = either (λ d. d.keys ≡ c.keys) _ _ c refl refl
 keys_once c (call.JoinHeard path token) e = either (λ d. d.keys ≡ c.keys) _ _ c refl refl
-keys_once c (call.Live path backup) e = refl
-keys_once c (call.Dead path) e = refl
-keys_once c (call.Backup path on) e = refl
-keys_once c (call.Rate path window rtt) e = refl
-keys_once c (call.Announce id) e = refl
 keys_once c (call.Withdraw id) e = either (λ d. d.keys ≡ c.keys) _ _ c refl refl
-keys_once c (call.Heard id address port hmac) e = refl
 keys_once c (call.Echoed id) e = either (λ d. d.keys ≡ c.keys) _ _ c refl refl
 keys_once c (call.Removed id) e = either (λ d. d.keys ≡ c.keys) _ _ c refl refl
-keys_once c call.FastClose e = refl
 keys_once c (call.FastHeard key) e = either (λ d. d.keys ≡ c.keys) _ _ c refl refl
+keys_once c _ e = refl
 
 pub keys_all : (calls : List ControlCall) (c : Control) → list_any gives_key calls ≡ false → (after_all calls c).keys ≡ c.keys
 keys_all [] c other_kind = refl
@@ -151,22 +144,15 @@ removed_once c (call.FastHeard key) path is = either (λ d. IsRemoved d.paths pa
 
 carrier_once : (c : Control) (asked : ControlCall) → is_fast_close asked ≡ false → (after c asked).notices.carrier ≡ c.notices.carrier
 carrier_once c (call.Look path) e = told (λ d. d.notices.carrier ≡ c.notices.carrier) (notice_on c path) path c (λ id. refl) refl
-carrier_once c (call.PeerKey key) e = refl
 carrier_once c (call.Keys own peer) e = either (λ d. d.notices.carrier ≡ c.notices.carrier) _ _ c refl refl
-carrier_once c (call.Fell path event) e = refl
 carrier_once c (call.JoinBegin path) e = either (λ d. d.notices.carrier ≡ c.notices.carrier) _ _ c refl refl
 carrier_once c (call.JoinHeard path token) e = either (λ d. d.notices.carrier ≡ c.notices.carrier) _ _ c refl refl
-carrier_once c (call.Live path backup) e = refl
-carrier_once c (call.Dead path) e = refl
-carrier_once c (call.Backup path on) e = refl
-carrier_once c (call.Rate path window rtt) e = refl
-carrier_once c (call.Announce id) e = refl
 carrier_once c (call.Withdraw id) e = either (λ d. d.notices.carrier ≡ c.notices.carrier) _ _ c refl refl
-carrier_once c (call.Heard id address port hmac) e = refl
 carrier_once c (call.Echoed id) e = either (λ d. d.notices.carrier ≡ c.notices.carrier) _ _ c refl refl
 carrier_once c (call.Removed id) e = either (λ d. d.notices.carrier ≡ c.notices.carrier) _ _ c refl refl
 carrier_once c call.FastClose e = cc
 carrier_once c (call.FastHeard key) e = either (λ d. d.notices.carrier ≡ c.notices.carrier) _ _ c refl refl
+carrier_once c _ e = refl
 
 -- Why a path is told to reset.
 

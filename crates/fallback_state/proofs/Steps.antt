@@ -95,43 +95,19 @@ standing mode confirmed joined failed = record { mode = mode; confirmed = confir
 -- in Identity nothing but a fast close changes anything
 pub identity_kept : (confirmed joined : Bool) (failed : Option ℕ) (path : ℕ) (sole : Bool) (event : Event) → is_stop event ≡ false
     → (fall_step (standing Identity confirmed joined failed) path sole event).0 ≡ standing Identity confirmed joined failed
-identity_kept confirmed joined failed path sole PlainHandshake e = refl
-identity_kept confirmed joined failed path sole PlainData e = refl
-identity_kept confirmed joined failed path sole PlainAck e = refl
-identity_kept confirmed joined failed path sole KeysHeard e = refl
-identity_kept confirmed joined failed path sole MappingHeard e = refl
-identity_kept confirmed joined failed path sole AckHeard e = refl
-identity_kept confirmed joined failed path sole InfiniteHeard e = refl
-identity_kept confirmed joined failed path sole CheckFailed e = refl
-identity_kept confirmed joined failed path sole (FailHeard contiguous) e = refl
 identity_kept confirmed joined failed path sole Stop e = cc
+identity_kept confirmed joined failed path sole _ e = refl
 
 -- a fast close
 pub stopped : (fall : Fall) (path : ℕ) (sole : Bool) (event : Event) → is_stop event ≡ true → (fall_step fall path sole event).0.mode ≡ Aborted
 stopped fall path sole Stop e = refl
-stopped fall path sole PlainHandshake e = cc
-stopped fall path sole PlainData e = cc
-stopped fall path sole PlainAck e = cc
-stopped fall path sole KeysHeard e = cc
-stopped fall path sole MappingHeard e = cc
-stopped fall path sole AckHeard e = cc
-stopped fall path sole InfiniteHeard e = cc
-stopped fall path sole CheckFailed e = cc
-stopped fall path sole (FailHeard contiguous) e = cc
+stopped fall path sole _ e = cc
 
 -- after a fast close no event leads anywhere
 pub aborted_kept : (confirmed joined : Bool) (failed : Option ℕ) (path : ℕ) (sole : Bool) (event : Event)
     → (fall_step (standing Aborted confirmed joined failed) path sole event).0.mode ≡ Aborted
 aborted_kept confirmed joined failed path sole PlainHandshake = refl
-aborted_kept confirmed joined failed path sole PlainData = refl
-aborted_kept confirmed joined failed path sole PlainAck = refl
-aborted_kept confirmed joined failed path sole KeysHeard = refl
-aborted_kept confirmed joined failed path sole MappingHeard = refl
-aborted_kept confirmed joined failed path sole AckHeard = refl
-aborted_kept confirmed joined failed path sole InfiniteHeard = refl
-aborted_kept confirmed joined failed path sole CheckFailed = refl
-aborted_kept confirmed joined failed path sole (FailHeard contiguous) = refl
-aborted_kept confirmed joined failed path sole Stop = refl
+aborted_kept confirmed joined failed path sole _ = refl
 
 -- no infinite mode, and no failed path
 pub record IsUnfailed (fall : Fall) : Type 0 where

@@ -215,21 +215,7 @@ other_word word first.Alter other is =
     let same = (bytes_eq-Decides word (codes "alter")).1 (sym ((bytes_eq-Decides (codes "alter") word).0 spelled)) in
     absurd (both_ways (bytes_eq word (codes "alter")) other same)
 other_word word first.Seed other is = refl
-other_word word first.Checksum other is = refl
-other_word word first.Short other is = refl
-other_word word first.Buffer other is = refl
-other_word word first.Path other is = refl
-other_word word first.Drop other is = refl
-other_word word first.Strip other is = refl
-other_word word first.Dup other is = refl
-other_word word first.Late other is = refl
-other_word word first.StripAll other is = refl
-other_word word first.Die other is = refl
-other_word word first.Prio other is = refl
-other_word word first.Add other is = refl
-other_word word first.Remove other is = refl
-other_word word first.FastClose other is = refl
-other_word word first.End other is = refl
+other_word word _ other is = refl
 
 line_calm : (words : List (List ℕ)) → is_alter_first words ≡ false → IfOk (line_of words) IsCalm
 unfolding line_of

@@ -203,14 +203,7 @@ module _ (a b c : Ports) (same : (p : Port) → b p ≡ a p) where
     }
     replay_from lines (Put p) h = cut_from (Put p) h
     replay_from lines Memory h = cut_from Memory h
-    replay_from lines Delivered h = absurd h
-    replay_from lines Rounds h = absurd h
-    replay_from lines NoPath h = absurd h
-    replay_from lines (Aborted reader) h = absurd h
-    replay_from lines Usage h = absurd h
-    replay_from lines (ScriptStatus at kind) h = absurd h
-    replay_from lines (Load named) h = absurd h
-    replay_from lines (TooLong named) h = absurd h
+    replay_from lines _ h = absurd h
 
 -- ---- prefixes
 
@@ -421,15 +414,7 @@ module _ (content : List ℕ → Option (List ℕ)) (line : Line) (loads_before 
         → IsAnswer content line loads_before loads faults_before faults held holds ta tb status
     cut_answer (Put p) fault h = (fault, cut_row (Put p) h)
     cut_answer Memory fault h = inr (cut_row Memory h)
-    cut_answer Delivered fault h = absurd fault
-    cut_answer Rounds fault h = absurd fault
-    cut_answer NoPath fault h = absurd fault
-    cut_answer (Aborted reader) fault h = absurd fault
-    cut_answer Usage fault h = absurd fault
-    cut_answer (ScriptStatus at kind) fault h = absurd fault
-    cut_answer (Load named) fault h = absurd fault
-    cut_answer (TooLong named) fault h = absurd fault
-    cut_answer (Log at) fault h = absurd fault
+    cut_answer _ fault h = absurd fault
 
     -- or one of its turns can't be made
     module _ (log : List ℕ) (opening : ℕ) (is : line.work ≡ replay log) (count : IfSome (content log) (λ text. opening ≡ opening_count text)) where
@@ -455,14 +440,7 @@ module _ (content : List ℕ → Option (List ℕ)) (line : Line) (loads_before 
       replay_answer (Log at) fault h = inr (turn_row at h)
       replay_answer (Put p) fault h = (fault, cut_row (Put p) h)
       replay_answer Memory fault h = inr (cut_row Memory h)
-      replay_answer Delivered fault h = absurd h
-      replay_answer Rounds fault h = absurd h
-      replay_answer NoPath fault h = absurd h
-      replay_answer (Aborted reader) fault h = absurd h
-      replay_answer Usage fault h = absurd h
-      replay_answer (ScriptStatus at kind) fault h = absurd h
-      replay_answer (Load named) fault h = absurd h
-      replay_answer (TooLong named) fault h = absurd h
+      replay_answer _ fault h = absurd h
 
 -- ---- the made input
 
@@ -506,12 +484,4 @@ module _ (made : Bench) (plain : IsPlainTask made.task) (unstopped : (s : Side) 
       → IsMadeAnswer made loads_before loads faults_before faults held holds ta tb status
   made_cut_answer (Put p) fault h = with_row (Put p) (fault, made_cut_row (Put p) h)
   made_cut_answer Memory fault h = with_row Memory (made_cut_row Memory h)
-  made_cut_answer Delivered fault h = absurd fault
-  made_cut_answer Rounds fault h = absurd fault
-  made_cut_answer NoPath fault h = absurd fault
-  made_cut_answer (Aborted reader) fault h = absurd fault
-  made_cut_answer Usage fault h = absurd fault
-  made_cut_answer (ScriptStatus at kind) fault h = absurd fault
-  made_cut_answer (Load named) fault h = absurd fault
-  made_cut_answer (TooLong named) fault h = absurd fault
-  made_cut_answer (Log at) fault h = absurd fault
+  made_cut_answer _ fault h = absurd fault

@@ -82,43 +82,19 @@ module _ (loads : ℕ) (faults : Port → ℕ) (holds : Ports) (ta : Told) where
   unread_answer content words Usage is = subst
       (λ (o : Option Line). IfSome o (λ line. IsAnswer content line loads loads faults faults holds holds ta ta Usage)) (sym (asks_nothing words is)) tt
   unread_answer content words Memory is = asked_memory content (asked_in words)
-  unread_answer content words Delivered is = absurd is
-  unread_answer content words Rounds is = absurd is
-  unread_answer content words NoPath is = absurd is
-  unread_answer content words (Aborted reader) is = absurd is
-  unread_answer content words (Script at kind) is = absurd is
-  unread_answer content words (Load named) is = absurd is
-  unread_answer content words (Put port) is = absurd is
-  unread_answer content words (TooLong named) is = absurd is
-  unread_answer content words (Log at) is = absurd is
+  unread_answer content words _ is = absurd is
 
   pub unread_bench : (words : List (List ℕ)) (status : Status) → IsWordsFault words status
       → IfSome (bench_in words) (λ made. IsMadeAnswer made loads loads faults faults holds holds ta ta status)
   unread_bench words Usage is = subst
       (λ (o : Option Bench). IfSome o (λ made. IsMadeAnswer made loads loads faults faults holds holds ta ta Usage)) (sym (bench_nothing words is)) tt
   unread_bench words Memory is = words_memory words
-  unread_bench words Delivered is = absurd is
-  unread_bench words Rounds is = absurd is
-  unread_bench words NoPath is = absurd is
-  unread_bench words (Aborted reader) is = absurd is
-  unread_bench words (Script at kind) is = absurd is
-  unread_bench words (Load named) is = absurd is
-  unread_bench words (Put port) is = absurd is
-  unread_bench words (TooLong named) is = absurd is
-  unread_bench words (Log at) is = absurd is
+  unread_bench words _ is = absurd is
 
   pub unread : (words : List (List ℕ)) (status : Status) → IsWordsFault words status → NothingWasRun loads loads faults faults holds holds ta ta status
   unread words Usage is = nothing_asked
   unread words Memory is = nothing_read
-  unread words Delivered is = absurd is
-  unread words Rounds is = absurd is
-  unread words NoPath is = absurd is
-  unread words (Aborted reader) is = absurd is
-  unread words (Script at kind) is = absurd is
-  unread words (Load named) is = absurd is
-  unread words (Put port) is = absurd is
-  unread words (TooLong named) is = absurd is
-  unread words (Log at) is = absurd is
+  unread words _ is = absurd is
 
 -- what a line that asks for `bench` is to do
 pub made_by_work : (line : Line) (most number : ℕ) (P : Bench → Type 0) → line.work ≡ bench most number → P (record { line = line; task = made_task number most })

@@ -140,14 +140,7 @@ module _ (opening : Option (List ℕ)) (order : List Turn) (w : Connection) (ha 
   )
   turns_stop lines (Put p) fault = turns_cut (Put p) fault
   turns_stop lines Memory fault = turns_cut Memory fault
-  turns_stop lines Delivered fault = absurd fault
-  turns_stop lines Rounds fault = absurd fault
-  turns_stop lines NoPath fault = absurd fault
-  turns_stop lines (Aborted reader) fault = absurd fault
-  turns_stop lines Usage fault = absurd fault
-  turns_stop lines (Script at kind) fault = absurd fault
-  turns_stop lines (Load named) fault = absurd fault
-  turns_stop lines (TooLong named) fault = absurd fault
+  turns_stop lines _ fault = absurd fault
 
 -- no turn yet
 pub no_turn : (order : List Turn) (w : Connection) → AreFirstOf (course.told order) [] [] w

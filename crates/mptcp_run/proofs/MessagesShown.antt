@@ -468,14 +468,7 @@ unread_messages content loads faults holds words Usage is = of_nothing (messages
 unread_messages content loads faults holds words Memory is = nothing_asked_for (messages_in words) (λ line. IsMessagesAnswer content line loads loads faults faults holds holds Memory)
     (λ line. inl (record { status_is = refl; untouched = λ port. (refl, refl); unloaded = refl }))
 unread_messages content loads faults holds words Delivered is = absurd is
-unread_messages content loads faults holds words Rounds is = absurd is
-unread_messages content loads faults holds words NoPath is = absurd is
-unread_messages content loads faults holds words (Aborted reader) is = absurd is
-unread_messages content loads faults holds words (Script at kind) is = absurd is
-unread_messages content loads faults holds words (Load named) is = absurd is
-unread_messages content loads faults holds words (Put port) is = absurd is
-unread_messages content loads faults holds words (TooLong named) is = absurd is
-unread_messages content loads faults holds words (Log at) is = absurd is
+unread_messages content loads faults holds words _ is = absurd is
 
 pub unread_lines : (content : List ℕ → Option (List ℕ)) (holds : Ports) → IfSome (holds ReadByA) (λ text. text ≡ []) → IfSome (holds ReadByB) (λ text. text ≡ [])
     → (words : List (List ℕ)) (status : Status) → IsWordsFault words status
@@ -485,11 +478,4 @@ unread_lines content holds empty_a empty_b words Memory is = nothing_asked_for (
     (λ line unaltered. nothing_is_cut (content line.names.file_a) (content line.names.file_b) holds holds
     (empty_still (content line.names.file_a) (content line.names.file_b) holds holds empty_a empty_b (λ port. refl)))
 unread_lines content holds empty_a empty_b words Delivered is = absurd is
-unread_lines content holds empty_a empty_b words Rounds is = absurd is
-unread_lines content holds empty_a empty_b words NoPath is = absurd is
-unread_lines content holds empty_a empty_b words (Aborted reader) is = absurd is
-unread_lines content holds empty_a empty_b words (Script at kind) is = absurd is
-unread_lines content holds empty_a empty_b words (Load named) is = absurd is
-unread_lines content holds empty_a empty_b words (Put port) is = absurd is
-unread_lines content holds empty_a empty_b words (TooLong named) is = absurd is
-unread_lines content holds empty_a empty_b words (Log at) is = absurd is
+unread_lines content holds empty_a empty_b words _ is = absurd is

@@ -24,28 +24,12 @@ step_stops : (opening : Option (List ℕ)) (number actor : ℕ) (last w : Connec
     → StepFault actor w line status → TurnStops opening number (Turn.Step actor) last w line o o a a status
 step_stops opening number actor last w line o a (Log at) h = (h.0, ((λ going. let stopped = h.1 in cc (going, stopped)), ((λ port. refl), adds_none a)))
 step_stops opening number actor last w line o a Memory h = inl (refl, ((λ port. refl), adds_none a))
-step_stops opening number actor last w line o a Delivered h = absurd h
-step_stops opening number actor last w line o a Rounds h = absurd h
-step_stops opening number actor last w line o a NoPath h = absurd h
-step_stops opening number actor last w line o a (Aborted reader) h = absurd h
-step_stops opening number actor last w line o a Usage h = absurd h
-step_stops opening number actor last w line o a (Script at kind) h = absurd h
-step_stops opening number actor last w line o a (Load named) h = absurd h
-step_stops opening number actor last w line o a (Put p) h = absurd h
-step_stops opening number actor last w line o a (TooLong named) h = absurd h
+step_stops opening number actor last w line o a _ h = absurd h
 
 step_cause : (actor : ℕ) (w : Connection) (line : ℕ) (f : Port → ℕ) (status : Status) → StepFault actor w line status → IsReplayFault f f status
 step_cause actor w line f (Log at) h = tt
 step_cause actor w line f Memory h = tt
-step_cause actor w line f Delivered h = absurd h
-step_cause actor w line f Rounds h = absurd h
-step_cause actor w line f NoPath h = absurd h
-step_cause actor w line f (Aborted reader) h = absurd h
-step_cause actor w line f Usage h = absurd h
-step_cause actor w line f (Script at kind) h = absurd h
-step_cause actor w line f (Load named) h = absurd h
-step_cause actor w line f (Put p) h = absurd h
-step_cause actor w line f (TooLong named) h = absurd h
+step_cause actor w line f _ h = absurd h
 
 -- a step: nothing is bound, put or loaded
 pub step_made : (opening : Option (List ℕ)) (number : ℕ) (turn : log_turn.Turn) (actor : ℕ) (last : Connection) (line : ℕ) (run : Run) (world : Kept)

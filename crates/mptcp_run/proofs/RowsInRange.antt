@@ -174,21 +174,11 @@ module _ {C : Type 0} (k : Codec C) (p : PathState C) (low : path_of p < 16) whe
   path_asks_fair (duties.Send (send_duties.Refuse s)) = tt
   path_asks_fair (duties.Step (step_duties.PlainAck s)) = plain_ack_fair s
   path_asks_fair (duties.Step (step_duties.Look s)) = low
-  path_asks_fair (duties.Ask (ask_duties.Window s)) = tt
-  path_asks_fair (duties.Send (send_duties.Update s)) = tt
-  path_asks_fair (duties.Send (send_duties.FastClose s)) = tt
-  path_asks_fair (duties.Send (send_duties.Notice s)) = tt
-  path_asks_fair (duties.Send (send_duties.Syn s)) = tt
   path_asks_fair (duties.Step (step_duties.Data s)) = data_fair s (first_unsent (end_at s p))
-  path_asks_fair (duties.Send (send_duties.DataFin s)) = tt
-  path_asks_fair (duties.Send (send_duties.Fin s)) = tt
   path_asks_fair (duties.Silent (silent_duties.Timer s)) = tt
   path_asks_fair (duties.Step step_duties.Events) = event_fair (next_event p)
-  path_asks_fair (duties.Ask (ask_duties.SynHeard s)) = tt
   path_asks_fair (duties.Ask (ask_duties.PlainHandshake s)) = low
-  path_asks_fair (duties.Ask (ask_duties.SynAnswered s)) = tt
   path_asks_fair (duties.Ask (ask_duties.PeerKey s)) = key_fair s (key_heard (end_at s p).treated.items)
-  path_asks_fair (duties.Send (send_duties.SynAck s)) = tt
   path_asks_fair (duties.Ask (ask_duties.Opened s)) = opens_fair s (keys_heard (end_at s p).treated.items)
   path_asks_fair (duties.Ask (ask_duties.Live s)) = low
   path_asks_fair (duties.Step (step_duties.Heard s index)) = item_fair s (item_of index (end_at s p))
@@ -196,54 +186,19 @@ module _ {C : Type 0} (k : Codec C) (p : PathState C) (low : path_of p < 16) whe
   path_asks_fair (duties.Ask (ask_duties.FailHeard s)) = low
   path_asks_fair (duties.Ask (ask_duties.SubflowAck s)) = subflow_acks_so IsFair s (end_at s p) tt (λ next. tt)
   path_asks_fair (duties.Ask (ask_duties.PlainData s)) = low
-  path_asks_fair (duties.Ask (ask_duties.GoIdentity s)) = tt
-  path_asks_fair (duties.Silent (silent_duties.Keep s)) = tt
   path_asks_fair (duties.Ask (ask_duties.Edge s)) = piece_fair s (piece_of s p)
   path_asks_fair (duties.Ask (ask_duties.CheckFailed s)) = low
   path_asks_fair (duties.Step (step_duties.Unmapped s)) = break_fair s 6
   path_asks_fair (duties.Ask (ask_duties.HeardFin s index)) = fin_fair s (data_fin_of index (end_at s p))
-  path_asks_fair (duties.Silent (silent_duties.PassFin s)) = tt
   path_asks_fair (duties.Ask (ask_duties.SubflowFin s)) = fin_fair s (plain_fin (end_at s p))
-  path_asks_fair (duties.Ask (ask_duties.AckOut s)) = tt
   path_asks_fair (duties.Ask (ask_duties.Rate s)) = rate_fair s (end_at s p).tcp.congestion.pending
-  path_asks_fair (duties.Send (send_duties.Acknowledge s)) = tt
-  path_asks_fair (duties.Send (send_duties.Again s)) = tt
-  path_asks_fair (duties.Send (send_duties.Answer s)) = tt
-  path_asks_fair (duties.Send (send_duties.ResetAnswer s)) = tt
-  path_asks_fair (duties.Ask (ask_duties.Return s)) = tt
-  path_asks_fair (duties.Ask (ask_duties.AbortSend s)) = tt
-  path_asks_fair (duties.Ask (ask_duties.AbortReceive s)) = tt
-  path_asks_fair (duties.Ask (ask_duties.Announce s id)) = tt
-  path_asks_fair (duties.Ask (ask_duties.Withdraw s id)) = tt
-  path_asks_fair (duties.Send (send_duties.Resend s)) = tt
-  path_asks_fair (duties.Ask (ask_duties.BreakAck s reason)) = tt
-  path_asks_fair (duties.Send (send_duties.BreakReset s reason)) = tt
-  path_asks_fair (duties.Send (send_duties.Reset s)) = tt
-  path_asks_fair (duties.Send (send_duties.ResetNoted s)) = tt
-  path_asks_fair (duties.Ask (ask_duties.Leave s)) = tt
-  path_asks_fair (duties.Ask (ask_duties.LeaveNoted s)) = tt
   path_asks_fair (duties.Ask (ask_duties.Dead s)) = low
-  path_asks_fair duties.End = tt
+  path_asks_fair _ = tt
 
 -- ---- what is answered
 
 -- rows are told to `Rate` alone, and are in range then
 rows_of_reply : (call : ControlCall) (reply : ControlReply) → IsControlKind call reply → IsSmallControl call reply → HasRowsInRange (replies.Control reply)
-rows_of_reply call (control_replies.Standing mode standby sole notice) kind small = tt
-rows_of_reply call control_replies.Noted kind small = tt
-rows_of_reply call (control_replies.KeysDiffer own) kind small = tt
-rows_of_reply call (control_replies.Verdict verdict) kind small = tt
-rows_of_reply call (control_replies.Begin own peer) kind small = tt
-rows_of_reply call control_replies.NotYet kind small = tt
-rows_of_reply call (control_replies.Never mode) kind small = tt
-rows_of_reply call (control_replies.UnknownToken own) kind small = tt
-rows_of_reply call control_replies.NotConfirmed kind small = tt
-rows_of_reply call (control_replies.Fallen mode) kind small = tt
-rows_of_reply call control_replies.Echo kind small = tt
-rows_of_reply call control_replies.BadHmac kind small = tt
-rows_of_reply call control_replies.Known kind small = tt
-rows_of_reply call control_replies.Stopped kind small = tt
-rows_of_reply call (control_replies.OtherKey own) kind small = tt
 rows_of_reply (control_calls.Look path) (control_replies.Rows rows) kind small = absurd kind
 rows_of_reply (control_calls.PeerKey key) (control_replies.Rows rows) kind small = absurd kind
 rows_of_reply (control_calls.Keys own peer) (control_replies.Rows rows) kind small = absurd kind
@@ -261,6 +216,7 @@ rows_of_reply (control_calls.Removed id) (control_replies.Rows rows) kind small 
 rows_of_reply control_calls.FastClose (control_replies.Rows rows) kind small = absurd kind
 rows_of_reply (control_calls.FastHeard key) (control_replies.Rows rows) kind small = absurd kind
 rows_of_reply (control_calls.Rate path window rtt) (control_replies.Rows rows) kind small = small.in_range
+rows_of_reply call _ kind small = tt
 
 -- both control books keep rows that are right
 record AreRight (six : SixBooks) : Type 0 where

@@ -132,13 +132,7 @@ module _ (line : Line) (task : Task) (order : List Turn) (is : task.course ≡ c
   log_stops Memory h =
       rounds_short line task ha hb hc held a b c bound Memory (subst (λ x. CourseCut x (opening_in task) (first_world task) hb hc b c Memory) (sym is) h)
   log_stops Delivered h = absurd h
-  log_stops Rounds h = absurd h
-  log_stops NoPath h = absurd h
-  log_stops (Aborted reader) h = absurd h
-  log_stops Usage h = absurd h
-  log_stops (Script at kind) h = absurd h
-  log_stops (Load named) h = absurd h
-  log_stops (TooLong named) h = absurd h
+  log_stops _ h = absurd h
 
 pub replay_stops : (input : Input) (run : Run) → IsOpened input report.Log run → (line : Line) (ha hb hc : Ports) → AreBound ha hb → (a b c : Told)
     → AddsAll (binds_of line) a b → (order : List Turn) (lines : ℕ) (status : Status) → LogStops order lines run.opening run.world.state hb hc b c status
@@ -152,15 +146,7 @@ pub replay_is_cut : (line : Line) (task : Task) (lines : ℕ) (a b : Told) (ha h
     → IsCut [] line task ha hb a b status → ReplayEnds [] line task ha hb a b lines status
 replay_is_cut line task lines a b ha hb before faults (Put p) cause cut = cut
 replay_is_cut line task lines a b ha hb before faults Memory cause cut = cut
-replay_is_cut line task lines a b ha hb before faults Delivered cause cut = absurd cause
-replay_is_cut line task lines a b ha hb before faults Rounds cause cut = absurd cause
-replay_is_cut line task lines a b ha hb before faults NoPath cause cut = absurd cause
-replay_is_cut line task lines a b ha hb before faults (Aborted reader) cause cut = absurd cause
-replay_is_cut line task lines a b ha hb before faults Usage cause cut = absurd cause
-replay_is_cut line task lines a b ha hb before faults (Script at kind) cause cut = absurd cause
-replay_is_cut line task lines a b ha hb before faults (Load named) cause cut = absurd cause
-replay_is_cut line task lines a b ha hb before faults (TooLong named) cause cut = absurd cause
-replay_is_cut line task lines a b ha hb before faults (Log at) cause cut = absurd cause
+replay_is_cut line task lines a b ha hb before faults _ cause cut = absurd cause
 
 -- ---- causes
 
@@ -168,24 +154,10 @@ pub replay_cause : (before faults : Port → ℕ) (status : Status) → IsPortsF
 replay_cause before faults (Put p) cause = cause
 replay_cause before faults Memory cause = tt
 replay_cause before faults (Log at) cause = tt
-replay_cause before faults Delivered cause = absurd cause
-replay_cause before faults Rounds cause = absurd cause
-replay_cause before faults NoPath cause = absurd cause
-replay_cause before faults (Aborted reader) cause = absurd cause
-replay_cause before faults Usage cause = absurd cause
-replay_cause before faults (Script at kind) cause = absurd cause
-replay_cause before faults (Load named) cause = absurd cause
-replay_cause before faults (TooLong named) cause = absurd cause
+replay_cause before faults _ cause = absurd cause
 
 pub cause_after : (old middle new : Port → ℕ) (status : Status) → NeverFall old middle → IsReplayFault middle new status → IsReplayFault old new status
 cause_after old middle new (Put p) few cause = risen_later (old p) (middle p) (new p) (few p) cause
 cause_after old middle new Memory few cause = tt
 cause_after old middle new (Log at) few cause = tt
-cause_after old middle new Delivered few cause = absurd cause
-cause_after old middle new Rounds few cause = absurd cause
-cause_after old middle new NoPath few cause = absurd cause
-cause_after old middle new (Aborted reader) few cause = absurd cause
-cause_after old middle new Usage few cause = absurd cause
-cause_after old middle new (Script at kind) few cause = absurd cause
-cause_after old middle new (Load named) few cause = absurd cause
-cause_after old middle new (TooLong named) few cause = absurd cause
+cause_after old middle new _ few cause = absurd cause

@@ -75,15 +75,7 @@ round_stops opening number last w line old new before faults a b (Err status) ov
         → TurnStops opening number round_turn last w line old new a b status
     by (Put p) cause cut = inr (over, (part, cut))
     by Memory cause cut = inr (over, (part, cut))
-    by Delivered cause cut = absurd cause
-    by Rounds cause cut = absurd cause
-    by NoPath cause cut = absurd cause
-    by (Aborted reader) cause cut = absurd cause
-    by Usage cause cut = absurd cause
-    by (Script at kind) cause cut = absurd cause
-    by (Load input) cause cut = absurd cause
-    by (TooLong input) cause cut = absurd cause
-    by (Log at) cause cut = absurd cause
+    by _ cause cut = absurd cause
 
 -- a round didn't end, though the world stands: some turn isn't over
 pub not_over : (failed over result : Bool) → result ≡ (not failed && over) → failed ≡ false → result ≡ false → over ≡ true → ⊥

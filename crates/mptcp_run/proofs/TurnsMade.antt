@@ -115,14 +115,7 @@ module _ (opening : Option (List ℕ)) where
       (suc h.0, (let is = h.1.0 in omega (arith, is), refused_more number turn rest h.0 last w a b c ta tb tc lawful holds made h.1.1))
   fault_more number turn rest last w lines a b c ta tb tc (Put p) lawful holds made h = cut_more number turn rest last w a b c ta tb tc (Put p) lawful holds made h
   fault_more number turn rest last w lines a b c ta tb tc Memory lawful holds made h = cut_more number turn rest last w a b c ta tb tc Memory lawful holds made h
-  fault_more number turn rest last w lines a b c ta tb tc Delivered lawful holds made h = absurd h
-  fault_more number turn rest last w lines a b c ta tb tc Rounds lawful holds made h = absurd h
-  fault_more number turn rest last w lines a b c ta tb tc NoPath lawful holds made h = absurd h
-  fault_more number turn rest last w lines a b c ta tb tc (Aborted reader) lawful holds made h = absurd h
-  fault_more number turn rest last w lines a b c ta tb tc Usage lawful holds made h = absurd h
-  fault_more number turn rest last w lines a b c ta tb tc (Script at kind) lawful holds made h = absurd h
-  fault_more number turn rest last w lines a b c ta tb tc (Load input) lawful holds made h = absurd h
-  fault_more number turn rest last w lines a b c ta tb tc (TooLong input) lawful holds made h = absurd h
+  fault_more number turn rest last w lines a b c ta tb tc _ lawful holds made h = absurd h
 
   cut_here : (number : ℕ) (turn : Turn) (rest : List Turn) (last w : Connection) (a b : Ports) (ta tb : Told) (status : Status)
       → TurnCut opening number turn last w a b ta tb status → TurnsCut opening number (turn ∷ rest) last w a b ta tb status
@@ -172,14 +165,7 @@ module _ (opening : Option (List ℕ)) where
   )
   fault_here number turn rest last w lines line a b ta tb (Put p) is h = cut_here number turn rest last w a b ta tb (Put p) h
   fault_here number turn rest last w lines line a b ta tb Memory is h = cut_here number turn rest last w a b ta tb Memory h
-  fault_here number turn rest last w lines line a b ta tb Delivered is h = absurd h
-  fault_here number turn rest last w lines line a b ta tb Rounds is h = absurd h
-  fault_here number turn rest last w lines line a b ta tb NoPath is h = absurd h
-  fault_here number turn rest last w lines line a b ta tb (Aborted reader) is h = absurd h
-  fault_here number turn rest last w lines line a b ta tb Usage is h = absurd h
-  fault_here number turn rest last w lines line a b ta tb (Script at kind) is h = absurd h
-  fault_here number turn rest last w lines line a b ta tb (Load input) is h = absurd h
-  fault_here number turn rest last w lines line a b ta tb (TooLong input) is h = absurd h
+  fault_here number turn rest last w lines line a b ta tb _ is h = absurd h
 
 -- ---- the same, as a loop has them
 

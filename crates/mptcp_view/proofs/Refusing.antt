@@ -47,17 +47,9 @@ module _ (content : List ℕ → Option (List ℕ)) (asked : Asking) (held holds
   -- by OUT
   pub out_refused : (middle : ℕ) → middle ≡ old port.ReadByB → (s : Status) → IsOutFault middle (new port.ReadByB) s
       → IsCut content asked held holds told tells s → IsViewFault content asked held holds told tells loads_old loads_new old new s
-  out_refused middle same status.Delivered h cut = absurd h
-  out_refused middle same status.Rounds h cut = absurd h
-  out_refused middle same status.NoPath h cut = absurd h
-  out_refused middle same (status.Aborted reader) h cut = absurd h
-  out_refused middle same status.Usage h cut = absurd h
-  out_refused middle same (status.Script at kind) h cut = absurd h
-  out_refused middle same (status.Load input) h cut = absurd h
   out_refused middle same (status.Put at) h cut = (subst (λ (n : ℕ). IsOutFault n (new port.ReadByB) (status.Put at)) same h, cut)
-  out_refused middle same (status.TooLong input) h cut = absurd h
   out_refused middle same status.Memory h cut = inr cut
-  out_refused middle same (status.Log at) h cut = absurd h
+  out_refused middle same _ h cut = absurd h
 
 -- a fault of OUT comes late
 late : (old new : ℕ) (X : Type 0) (s : Status) → IsOutFault old new s → IsBeforeOut s → X

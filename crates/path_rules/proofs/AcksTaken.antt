@@ -76,15 +76,8 @@ module _ (c : Copy) (s : EndState) where
   meant phase.Waiting = tt
   meant phase.Listen = chosen (is_syn_alone c) means.Opens means.Ignored tt (λ _. tt)
   meant phase.SynSent = opening
-  meant phase.SynReceived = connected
-  meant phase.Established = connected
-  meant phase.FinWait1 = connected
-  meant phase.FinWait2 = connected
-  meant phase.CloseWait = connected
-  meant phase.Closing = connected
-  meant phase.LastAck = connected
-  meant phase.TimeWait = connected
   meant phase.Dead = chosen c.rst means.Ignored means.Unwanted tt (λ _. tt)
+  meant _ = connected
 
   taken : (pos acknowledged : ℕ) → IsTakenAs (means.Taken pos acknowledged) c s → IsSent acknowledged
   taken pos acknowledged (inl none) = absurd cc

@@ -134,14 +134,7 @@ module _ (c : Copy) (pos : ℕ) (tcp : EndState) (far : tcp.recv.edge + 2 ^ 31 �
   by_phase phase.Waiting = refl
   by_phase phase.Listen = refl
   by_phase phase.SynSent = ap (λ (m : Meaning). if is_at_limit tcp then means.Ignored else m) (answering c.acknowledged)
-  by_phase phase.SynReceived = connected
-  by_phase phase.Established = connected
-  by_phase phase.FinWait1 = connected
-  by_phase phase.FinWait2 = connected
-  by_phase phase.CloseWait = connected
-  by_phase phase.Closing = connected
-  by_phase phase.LastAck = connected
-  by_phase phase.TimeWait = connected
+  by_phase _ = connected
 
   pub same_meaning : meaning_of nowhere tcp ≡ meaning_of placed tcp
   same_meaning = by_phase tcp.state
@@ -156,16 +149,7 @@ same_answer c s position another occupied None some = absurd (cc some)
 module _ (items : List Heard) (now number : ℕ) (h : HeardSegment) where
   same_effect : (answer : Outgoing) (m : Meaning) (e : PathEnd) → after_copy items answer now (unplaced number h) m e ≡ after_copy items answer now h m e
   same_effect answer means.Ignored e = refl
-  same_effect answer means.Unwanted e = refl
-  same_effect answer means.Opens e = refl
-  same_effect answer (means.Accepts acknowledged) e = refl
-  same_effect answer means.RepeatedSyn e = refl
-  same_effect answer means.Outside e = refl
-  same_effect answer means.Kills e = refl
-  same_effect answer means.Challenged e = refl
-  same_effect answer means.Unacknowledging e = refl
-  same_effect answer means.Ahead e = refl
-  same_effect answer (means.Taken position acknowledged) e = refl
+  same_effect answer _ e = refl
 
 module _ (s : Side) (now number : ℕ) (h : HeardSegment) where
   same_end : (c : Profile) (verdict : Judged) (e : PathEnd) → IsSome h.acknowledged

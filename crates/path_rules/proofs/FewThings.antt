@@ -245,14 +245,7 @@ module _ (joined : Bool) (s : Side) (window : ℕ) (spelling : Spelling) (from :
       → 3 * length (filter is_priority (heard_option spelling from expected v ∷ others)) ≤ length (option_text v) + 3 * length (filter is_priority others)
   unfolding option_text
   value_priorities (wire.Capable flag_a flag_c keys) others = omega arith
-  value_priorities (wire.Join form) others = omega arith
-  value_priorities (wire.Dss ack mapping fin) others = omega arith
-  value_priorities (wire.AddAddr echo id address port hmac) others = omega arith
-  value_priorities (wire.RemoveAddr ids) others = omega arith
-  value_priorities (wire.Prio backup) others = omega arith
-  value_priorities (wire.Fail number) others = omega arith
-  value_priorities (wire.FastClose key) others = omega arith
-  value_priorities (wire.Reset transient reason) others = omega arith
+  value_priorities _ others = omega arith
 
   priorities_in : (options : List (List ℕ)) → EachOctets options → 3 * length (filter is_priority (heard_options spelling from expected options)) ≤ total options
   priorities_in [] are = omega arith

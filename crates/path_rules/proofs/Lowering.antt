@@ -97,18 +97,7 @@ grant_kind : (path max : ℕ) (standby : Bool) (s : Side) (r : Reply) (grant : G
 grant_kind path max standby s (replies.Send (send_replies.Granted span piece)) grant e kind =
     let same : piece ≡ grant.piece = cc in subst (IsSomeOf max) same kind.0
 grant_kind path max standby s (replies.Send (send_replies.Taken count)) grant e kind = cc
-grant_kind path max standby s (replies.Send send_replies.Closed) grant e kind = cc
-grant_kind path max standby s (replies.Send send_replies.Shut) grant e kind = cc
-grant_kind path max standby s (replies.Send (send_replies.NoGrant why known)) grant e kind = cc
-grant_kind path max standby s (replies.Send (send_replies.Acked bytes fin)) grant e kind = cc
-grant_kind path max standby s (replies.Send (send_replies.AckFuture written)) grant e kind = cc
-grant_kind path max standby s (replies.Send (send_replies.Returned count)) grant e kind = cc
-grant_kind path max standby s (replies.Send send_replies.Noted) grant e kind = cc
-grant_kind path max standby s (replies.Send (send_replies.Infinite from)) grant e kind = cc
-grant_kind path max standby s (replies.Send send_replies.Scattered) grant e kind = cc
-grant_kind path max standby s (replies.Reassembly reply) grant e kind = cc
-grant_kind path max standby s (replies.Control reply) grant e kind = cc
-grant_kind path max standby s replies.Done grant e kind = cc
+grant_kind path max standby s _ grant e kind = cc
 
 first_true : (x y : Bool) → (x && y) ≡ true → x ≡ true
 first_true true y both = refl

@@ -43,32 +43,16 @@ module _ (position : ℕ) (octets : List ℕ) (s : EndState) where
   in_state phase.Waiting c = refl
   in_state phase.Listen c = refl
   in_state phase.SynSent c = opening c
-  in_state phase.SynReceived c = connected c
-  in_state phase.Established c = connected c
-  in_state phase.FinWait1 c = connected c
-  in_state phase.FinWait2 c = connected c
-  in_state phase.CloseWait c = connected c
-  in_state phase.Closing c = connected c
-  in_state phase.LastAck c = connected c
-  in_state phase.TimeWait c = connected c
   in_state phase.Dead c = refl
+  in_state _ c = connected c
 
   pub holding_means : (c : Copy) (nothing : Bool) → meaning_of c (if nothing then s else held) ≡ meaning_of c s
   holding_means c true = refl
   holding_means c false = in_state s.state c
 
 pub means_the_same : (meaning : Meaning) (octets : List ℕ) (c : Copy) (s : EndState) → meaning_of c (with_payload meaning octets s) ≡ meaning_of c s
-means_the_same means.Ignored octets c s = refl
-means_the_same means.Unwanted octets c s = refl
-means_the_same means.Opens octets c s = refl
-means_the_same (means.Accepts acknowledged) octets c s = refl
-means_the_same means.RepeatedSyn octets c s = refl
-means_the_same means.Outside octets c s = refl
-means_the_same means.Kills octets c s = refl
-means_the_same means.Challenged octets c s = refl
-means_the_same means.Unacknowledging octets c s = refl
-means_the_same means.Ahead octets c s = refl
 means_the_same (means.Taken position acknowledged) octets c s = holding_means position octets s c (is_nil octets)
+means_the_same _ octets c s = refl
 
 -- so a copy is taken as before
 pub taken_the_same : (meaning : Meaning) (octets : List ℕ) (c : Copy) (s : EndState) → IsTakenAs meaning c s → IsTakenAs meaning c (with_payload meaning octets s)

@@ -72,52 +72,8 @@ module _ {C : Type 0} where
       end_calm s (after_pass_fin e) p t (same_rests p.clock e (after_pass_fin e) (pass_fin_same (is_fin_next e.tcp) e.tcp))
   passed_calm (duties.Ask ask_duties.JoinAgain) p t = unchanged p t
   passed_calm (duties.Step (step_duties.Look s)) p t = unchanged p t
-  passed_calm (duties.Ask (ask_duties.LeaveNoted s)) p t = unchanged p t
   passed_calm (duties.Send (send_duties.ResetNoted s)) p t = unchanged p t
-  passed_calm (duties.Ask (ask_duties.Window s)) p t = unchanged p t
-  passed_calm (duties.Send (send_duties.Update s)) p t = unchanged p t
-  passed_calm (duties.Send (send_duties.FastClose s)) p t = unchanged p t
-  passed_calm (duties.Send (send_duties.Notice s)) p t = unchanged p t
-  passed_calm (duties.Send (send_duties.Syn s)) p t = unchanged p t
-  passed_calm (duties.Step (step_duties.Data s)) p t = unchanged p t
-  passed_calm (duties.Send (send_duties.DataFin s)) p t = unchanged p t
-  passed_calm (duties.Send (send_duties.Fin s)) p t = unchanged p t
-  passed_calm (duties.Step step_duties.Events) p t = unchanged p t
-  passed_calm (duties.Ask (ask_duties.SynHeard s)) p t = unchanged p t
-  passed_calm (duties.Ask (ask_duties.SynAnswered s)) p t = unchanged p t
-  passed_calm (duties.Ask (ask_duties.PlainHandshake s)) p t = unchanged p t
-  passed_calm (duties.Ask (ask_duties.PeerKey s)) p t = unchanged p t
-  passed_calm (duties.Send (send_duties.SynAck s)) p t = unchanged p t
-  passed_calm (duties.Ask (ask_duties.JoinHeard s)) p t = unchanged p t
-  passed_calm (duties.Send (send_duties.Refuse s)) p t = unchanged p t
-  passed_calm (duties.Ask (ask_duties.Opened s)) p t = unchanged p t
-  passed_calm (duties.Ask (ask_duties.Live s)) p t = unchanged p t
-  passed_calm (duties.Ask (ask_duties.AckHeard s)) p t = unchanged p t
-  passed_calm (duties.Ask (ask_duties.FailHeard s)) p t = unchanged p t
-  passed_calm (duties.Ask (ask_duties.SubflowAck s)) p t = unchanged p t
-  passed_calm (duties.Ask (ask_duties.PlainData s)) p t = unchanged p t
-  passed_calm (duties.Ask (ask_duties.GoIdentity s)) p t = unchanged p t
-  passed_calm (duties.Ask (ask_duties.Edge s)) p t = unchanged p t
-  passed_calm (duties.Ask (ask_duties.HeardFin s index)) p t = unchanged p t
-  passed_calm (duties.Ask (ask_duties.SubflowFin s)) p t = unchanged p t
-  passed_calm (duties.Ask (ask_duties.AckOut s)) p t = unchanged p t
-  passed_calm (duties.Ask (ask_duties.Rate s)) p t = unchanged p t
-  passed_calm (duties.Send (send_duties.Acknowledge s)) p t = unchanged p t
-  passed_calm (duties.Send (send_duties.Again s)) p t = unchanged p t
-  passed_calm (duties.Send (send_duties.Answer s)) p t = unchanged p t
-  passed_calm (duties.Send (send_duties.ResetAnswer s)) p t = unchanged p t
-  passed_calm (duties.Ask (ask_duties.Return s)) p t = unchanged p t
-  passed_calm (duties.Ask (ask_duties.AbortSend s)) p t = unchanged p t
-  passed_calm (duties.Ask (ask_duties.AbortReceive s)) p t = unchanged p t
-  passed_calm (duties.Ask (ask_duties.Announce s id)) p t = unchanged p t
-  passed_calm (duties.Ask (ask_duties.Withdraw s id)) p t = unchanged p t
-  passed_calm (duties.Send (send_duties.Resend s)) p t = unchanged p t
-  passed_calm (duties.Ask (ask_duties.BreakAck s reason)) p t = unchanged p t
-  passed_calm (duties.Send (send_duties.BreakReset s reason)) p t = unchanged p t
-  passed_calm (duties.Send (send_duties.Reset s)) p t = unchanged p t
-  passed_calm (duties.Ask (ask_duties.Leave s)) p t = unchanged p t
-  passed_calm (duties.Ask (ask_duties.Dead s)) p t = unchanged p t
-  passed_calm duties.End p t = unchanged p t
+  passed_calm _ p t = unchanged p t
 
   -- ---- settling
 

@@ -56,13 +56,7 @@ same_settles clock t u same = record { due = rw same (omega arith); timeout = λ
 
 pub sent_same : (occasion : Occasion) (now : ℕ) (s : EndState) → (after_sending occasion now s).timing ≡ s.timing
 sent_same to_send.Reset now s = refl
-sent_same to_send.Answer now s = refl
-sent_same to_send.SynAck now s = refl
-sent_same to_send.Ack now s = refl
-sent_same to_send.Probe now s = refl
-sent_same to_send.First now s = refl
-sent_same to_send.Unsent now s = refl
-sent_same to_send.Fin now s = refl
+sent_same _ now s = refl
 
 -- ---- arrivals
 
@@ -105,18 +99,9 @@ arrival_settles clock (means.Taken pos acknowledged) hint now c s =
 
 -- a payload that is held changes no timer
 pub payload_same : (meaning : Meaning) (octets : List ℕ) (s : EndState) → (with_payload meaning octets s).timing ≡ s.timing
-payload_same means.Ignored octets s = refl
-payload_same means.Unwanted octets s = refl
-payload_same means.Opens octets s = refl
-payload_same (means.Accepts acknowledged) octets s = refl
-payload_same means.RepeatedSyn octets s = refl
-payload_same means.Outside octets s = refl
-payload_same means.Kills octets s = refl
-payload_same means.Challenged octets s = refl
-payload_same means.Unacknowledging octets s = refl
-payload_same means.Ahead octets s = refl
 payload_same (means.Taken pos acknowledged) [] s = refl
 payload_same (means.Taken pos acknowledged) (octet ∷ octets) s = refl
+payload_same _ octets s = refl
 
 pub held_settles : (clock : ℕ) (meaning : Meaning) (octets : List ℕ) (hint : Hint) (now : ℕ) (c : Copy) (s : EndState)
     → Settles clock s.timing (after_arrival meaning hint now c (with_payload meaning octets s)).timing
@@ -167,18 +152,9 @@ mapping_same true e = refl
 mapping_same false e = refl
 
 pub item_same : (s : Side) (item : Option Heard) (e : PathEnd) → (item_passed s item e).tcp ≡ e.tcp
-item_same s None e = refl
-item_same s (Some says.Dss) e = refl
-item_same s (Some (says.DataAck next window)) e = refl
 item_same s (Some (says.Mapping fin)) e = mapping_same (counts e) e
 item_same s (Some (says.DataFin place)) e = either_same (counts e) (with_data_fin place e) e refl
-item_same s (Some (says.InfiniteMapping place position)) e = refl
-item_same s (Some (says.PeerKey key)) e = refl
-item_same s (Some (says.Keys own peer)) e = refl
-item_same s (Some (says.Join form)) e = refl
-item_same s (Some (says.Notice notice)) e = refl
-item_same s (Some says.Fail) e = refl
-item_same s (Some (says.FastClose key)) e = refl
+item_same s _ e = refl
 
 pub keep_same : (s : Side) (e : PathEnd) → (after_keep s e).tcp.timing ≡ e.tcp.timing
 keep_same s e = by (is_dropped s e)

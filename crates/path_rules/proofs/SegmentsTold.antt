@@ -89,45 +89,9 @@ module _ {C : Type 0} where
 
   passed_link : (d : Duty) (p : PathState C) → (passed d p).link ≡ p.link
   passed_link (duties.Ask (ask_duties.Edge s)) p = refl
-  passed_link (duties.Ask ask_duties.JoinAgain) p = refl
-  passed_link (duties.Ask (ask_duties.Window s)) p = refl
-  passed_link (duties.Ask (ask_duties.SynHeard s)) p = refl
-  passed_link (duties.Ask (ask_duties.SynAnswered s)) p = refl
-  passed_link (duties.Ask (ask_duties.PlainHandshake s)) p = refl
-  passed_link (duties.Ask (ask_duties.PeerKey s)) p = refl
-  passed_link (duties.Ask (ask_duties.JoinHeard s)) p = refl
-  passed_link (duties.Ask (ask_duties.Opened s)) p = refl
-  passed_link (duties.Ask (ask_duties.Live s)) p = refl
-  passed_link (duties.Ask (ask_duties.AckHeard s)) p = refl
-  passed_link (duties.Ask (ask_duties.FailHeard s)) p = refl
-  passed_link (duties.Ask (ask_duties.SubflowAck s)) p = refl
-  passed_link (duties.Ask (ask_duties.PlainData s)) p = refl
-  passed_link (duties.Ask (ask_duties.GoIdentity s)) p = refl
-  passed_link (duties.Ask (ask_duties.CheckFailed s)) p = refl
-  passed_link (duties.Ask (ask_duties.HeardFin s index)) p = refl
-  passed_link (duties.Ask (ask_duties.SubflowFin s)) p = refl
-  passed_link (duties.Ask (ask_duties.AckOut s)) p = refl
-  passed_link (duties.Ask (ask_duties.Rate s)) p = refl
-  passed_link (duties.Ask (ask_duties.Return s)) p = refl
-  passed_link (duties.Ask (ask_duties.AbortSend s)) p = refl
-  passed_link (duties.Ask (ask_duties.AbortReceive s)) p = refl
-  passed_link (duties.Ask (ask_duties.Announce s id)) p = refl
-  passed_link (duties.Ask (ask_duties.Withdraw s id)) p = refl
-  passed_link (duties.Ask (ask_duties.LeaveNoted s)) p = refl
-  passed_link (duties.Ask (ask_duties.BreakAck s reason)) p = refl
-  passed_link (duties.Ask (ask_duties.Leave s)) p = refl
-  passed_link (duties.Ask (ask_duties.Dead s)) p = refl
   passed_link (duties.Step (step_duties.Heard s index)) p = refl
-  passed_link (duties.Step (step_duties.PlainAck s)) p = refl
-  passed_link (duties.Step (step_duties.Unmapped s)) p = refl
-  passed_link (duties.Step (step_duties.Look s)) p = refl
-  passed_link (duties.Step (step_duties.Data s)) p = refl
-  passed_link (duties.Step step_duties.Events) p = refl
-  passed_link (duties.Send d) p = refl
   passed_link (duties.Silent (silent_duties.Timer s)) p = refl
-  passed_link (duties.Silent (silent_duties.Keep s)) p = refl
-  passed_link (duties.Silent (silent_duties.PassFin s)) p = refl
-  passed_link duties.End p = refl
+  passed_link _ p = refl
 
   either_link : (b : Bool) (p q r : PathState C) → q.link ≡ p.link → r.link ≡ p.link → (if b then q else r).link ≡ p.link
   either_link true p q r same other = same
@@ -192,50 +156,19 @@ module _ {C : Type 0} where
     told_ack s false p = refl
 
     told_item : (s : Side) (item : Option Heard) (p : PathState C) → Told (heard_sends s item p) (item_ask k s item p) (λ r. answered_item k s item r p) p
-    told_item s None p = refl
-    told_item s (Some says.Dss) p = refl
-    told_item s (Some (says.DataAck next window)) p = refl
     told_item s (Some (says.Mapping fin)) p = told_mapping s (is_clash (end_at s p)) p
-    told_item s (Some (says.DataFin place)) p = refl
-    told_item s (Some (says.InfiniteMapping place position)) p = refl
-    told_item s (Some (says.PeerKey key)) p = refl
-    told_item s (Some (says.Keys own peer)) p = refl
-    told_item s (Some (says.Join form)) p = refl
-    told_item s (Some (says.Notice notice)) p = refl
     told_item s (Some says.Fail) p = quiet_fail s (may_go_infinite (end_at s p)) p
-    told_item s (Some (says.FastClose key)) p = refl
+    told_item s _ p = refl
 
     told_so : (d : Duty) (p : PathState C) → Told (duty_sends d p) (ask_for k d p) (λ r. answered k d r p) p
-    told_so (duties.Ask ask_duties.JoinAgain) p = refl
-    told_so (duties.Ask (ask_duties.Window s)) p = refl
-    told_so (duties.Ask (ask_duties.SynHeard s)) p = refl
-    told_so (duties.Ask (ask_duties.SynAnswered s)) p = refl
-    told_so (duties.Ask (ask_duties.PlainHandshake s)) p = refl
     told_so (duties.Ask (ask_duties.PeerKey s)) p = quiet_peer_key s (key_heard (end_at s p).treated.items) p
     told_so (duties.Ask (ask_duties.JoinHeard s)) p = quiet_join s (asked_at s p) p
     told_so (duties.Ask (ask_duties.Opened s)) p = quiet_opened s (keys_heard (end_at s p).treated.items) p
-    told_so (duties.Ask (ask_duties.Live s)) p = refl
-    told_so (duties.Ask (ask_duties.AckHeard s)) p = refl
-    told_so (duties.Ask (ask_duties.FailHeard s)) p = refl
     told_so (duties.Ask (ask_duties.SubflowAck s)) p = quiet_ack s (plain_next (end_at s p)) (end_at s p).treated.window
-    told_so (duties.Ask (ask_duties.PlainData s)) p = refl
-    told_so (duties.Ask (ask_duties.GoIdentity s)) p = refl
     told_so (duties.Ask (ask_duties.Edge s)) p = quiet_piece s (piece_of s p)
-    told_so (duties.Ask (ask_duties.CheckFailed s)) p = refl
     told_so (duties.Ask (ask_duties.HeardFin s index)) p = quiet_fin s (data_fin_of index (end_at s p))
     told_so (duties.Ask (ask_duties.SubflowFin s)) p = quiet_fin s (plain_fin (end_at s p))
-    told_so (duties.Ask (ask_duties.AckOut s)) p = refl
     told_so (duties.Ask (ask_duties.Rate s)) p = quiet_rate s (end_at s p).tcp.congestion.pending p
-    told_so (duties.Ask (ask_duties.Return s)) p = refl
-    told_so (duties.Ask (ask_duties.AbortSend s)) p = refl
-    told_so (duties.Ask (ask_duties.AbortReceive s)) p = refl
-    told_so (duties.Ask (ask_duties.Announce s id)) p = refl
-    told_so (duties.Ask (ask_duties.Withdraw s id)) p = refl
-    told_so (duties.Ask (ask_duties.LeaveNoted s)) p = refl
-    told_so (duties.Ask (ask_duties.BreakAck s reason)) p = refl
-    told_so (duties.Ask (ask_duties.Leave s)) p = refl
-    told_so (duties.Ask (ask_duties.Dead s)) p = refl
-    told_so (duties.Step (step_duties.Look s)) p = refl
     told_so (duties.Step (step_duties.Data s)) p = told_data s (first_unsent (end_at s p)) p
     told_so (duties.Step step_duties.Events) p = quiet_event (path_of p) (next_event p)
     told_so (duties.Step (step_duties.Heard s index)) p = told_item s (item_of index (end_at s p)) p
@@ -257,8 +190,7 @@ module _ {C : Type 0} where
     told_so (duties.Send (send_duties.BreakReset s reason)) p = (refl, λ r. refl)
     told_so (duties.Send (send_duties.Reset s)) p = (refl, λ r. refl)
     told_so (duties.Send (send_duties.ResetNoted s)) p = (refl, λ r. refl)
-    told_so (duties.Silent d) p = refl
-    told_so duties.End p = refl
+    told_so _ p = refl
 
     -- the step of a duty that sends a segment
     pub step_sent : (d : SendDuty) (t : ToSend) (p : PathState C) → Some t ≡ send_of d

@@ -71,15 +71,8 @@ mapping_back_if None = refl
 mapping_back_if (Some m) = ap (λ n. Some n) (mapping_back m)
 
 option_back : (o : PlainOption) → back_option (meant_option o) ≡ o
-option_back (Capable flag_a flag_c keys) = refl
-option_back (Join form) = refl
 option_back (Dss next mapping) = rw (number_back_if next, mapping_back_if mapping) refl
-option_back (AddAddr echo id address port hmac) = refl
-option_back (Remove ids) = refl
-option_back (Prio backup) = refl
-option_back (Fail place) = refl
-option_back (FastClose key) = refl
-option_back (Reset transient reason) = refl
+option_back _ = refl
 
 options_back : (options : List PlainOption) → map back_option (map meant_option options) ≡ options
 options_back [] = refl

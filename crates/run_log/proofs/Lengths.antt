@@ -101,25 +101,11 @@ counted most words h =
 
 few_fell : (path : ℕ) (event : Event) → IsCount 5 (control_call_words (control_calls.Fell path event))
 few_fell path events.PlainHandshake = refl
-few_fell path events.PlainData = refl
-few_fell path events.PlainAck = refl
-few_fell path events.KeysHeard = refl
-few_fell path events.MappingHeard = refl
-few_fell path events.AckHeard = refl
-few_fell path events.InfiniteHeard = refl
-few_fell path events.CheckFailed = refl
-few_fell path (events.FailHeard contiguous) = refl
-few_fell path events.Stop = refl
+few_fell path _ = refl
 
 few_send_call : (call : SendCall) → IsCount 5 (send_call_words call)
 few_send_call (send_calls.Write bytes) = refl
-few_send_call send_calls.Close = refl
-few_send_call (send_calls.Grant path max standby) = refl
-few_send_call (send_calls.AckIn next window) = refl
-few_send_call (send_calls.Return path) = refl
-few_send_call send_calls.GoIdentity = refl
-few_send_call (send_calls.GoInfinite path) = refl
-few_send_call send_calls.Abort = refl
+few_send_call _ = refl
 
 few_reassembly_call : (call : ReassemblyCall) → IsCount 5 (reassembly_call_words call)
 few_reassembly_call (reassembly_calls.Place at bytes) = refl
@@ -137,28 +123,11 @@ few_local steps.End = refl
 
 pub few_send_reply : (reply : SendReply) → IsCount 6 (send_reply_words reply)
 few_send_reply (send_replies.Taken count) = refl
-few_send_reply send_replies.Closed = refl
-few_send_reply send_replies.Shut = refl
-few_send_reply (send_replies.Granted span piece) = refl
-few_send_reply (send_replies.NoGrant why known_end) = refl
-few_send_reply (send_replies.Acked bytes fin) = refl
-few_send_reply (send_replies.AckFuture written) = refl
-few_send_reply (send_replies.Returned count) = refl
-few_send_reply send_replies.Noted = refl
-few_send_reply (send_replies.Infinite from) = refl
-few_send_reply send_replies.Scattered = refl
+few_send_reply _ = refl
 
 pub few_reassembly_reply : (reply : ReassemblyReply) → IsCount 6 (reassembly_reply_words reply)
 few_reassembly_reply (reassembly_replies.Placed count) = refl
-few_reassembly_reply (reassembly_replies.Beyond edge) = refl
-few_reassembly_reply reassembly_replies.FinSet = refl
-few_reassembly_reply (reassembly_replies.FinClash fin at) = refl
-few_reassembly_reply (reassembly_replies.Bytes bytes) = refl
-few_reassembly_reply reassembly_replies.End = refl
-few_reassembly_reply reassembly_replies.NoneYet = refl
-few_reassembly_reply (reassembly_replies.Aborted by_peer) = refl
-few_reassembly_reply (reassembly_replies.Ack next window) = refl
-few_reassembly_reply reassembly_replies.Noted = refl
+few_reassembly_reply _ = refl
 
 few_notices : (notice : Notice) → nat_le (length (notice_words notice)) 2 ≡ true
 few_notices notices.Nothing = refl

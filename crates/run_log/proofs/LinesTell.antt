@@ -137,21 +137,7 @@ some_ask ask h = some_words (ask_words ask) (ask_within ask h).0
 
 some_control_reply : (reply : ControlReply) → 0 < length (control_reply_words reply)
 some_control_reply (control_replies.Standing mode standby sole notice) = omega arith
-some_control_reply control_replies.Noted = omega arith
-some_control_reply (control_replies.KeysDiffer own) = omega arith
-some_control_reply (control_replies.Verdict verdict) = omega arith
-some_control_reply (control_replies.Begin own peer) = omega arith
-some_control_reply control_replies.NotYet = omega arith
-some_control_reply (control_replies.Never mode) = omega arith
-some_control_reply (control_replies.UnknownToken own) = omega arith
-some_control_reply control_replies.NotConfirmed = omega arith
-some_control_reply (control_replies.Fallen mode) = omega arith
-some_control_reply (control_replies.Rows rows) = omega arith
-some_control_reply control_replies.Echo = omega arith
-some_control_reply control_replies.BadHmac = omega arith
-some_control_reply control_replies.Known = omega arith
-some_control_reply control_replies.Stopped = omega arith
-some_control_reply (control_replies.OtherKey own) = omega arith
+some_control_reply _ = omega arith
 
 -- the words of an ask and of a reply
 both_parts : (asked answered : List (List ℕ)) → ArePlain asked → 0 < length asked → ArePlain answered → 0 < length answered

@@ -101,16 +101,8 @@ plain_mode modes.InfiniteBoth = refl
 plain_mode modes.Aborted = refl
 
 plain_event : (event : Event) → ArePlain (event_words event)
-plain_event events.PlainHandshake = (refl, tt)
-plain_event events.PlainData = (refl, tt)
-plain_event events.PlainAck = (refl, tt)
-plain_event events.KeysHeard = (refl, tt)
-plain_event events.MappingHeard = (refl, tt)
-plain_event events.AckHeard = (refl, tt)
-plain_event events.InfiniteHeard = (refl, tt)
-plain_event events.CheckFailed = (refl, tt)
 plain_event (events.FailHeard contiguous) = (refl, (plain_flag contiguous, tt))
-plain_event events.Stop = (refl, tt)
+plain_event _ = (refl, tt)
 
 plain_verdict : (verdict : Verdict) → VerdictFits verdict → ArePlain (verdict_words verdict)
 plain_verdict verdicts.Stay h = (refl, tt)

@@ -119,16 +119,8 @@ event_of (word ∷ []) =
 event_of [] = events.Stop
 
 event_again : (event : Event) → event_of (event_words event) ≡ event
-event_again events.PlainHandshake = refl
-event_again events.PlainData = refl
-event_again events.PlainAck = refl
-event_again events.KeysHeard = refl
-event_again events.MappingHeard = refl
-event_again events.AckHeard = refl
-event_again events.InfiniteHeard = refl
-event_again events.CheckFailed = refl
 event_again (events.FailHeard contiguous) = ap (λ (on : Bool). events.FailHeard on) (flag_again contiguous)
-event_again events.Stop = refl
+event_again _ = refl
 
 abbrev verdict_of : List (List ℕ) → Verdict
 verdict_of (word ∷ other ∷ words) = cond (bytes_eq word (codes "went")) (verdicts.Went (mode_of other)) (verdicts.BreakPath (value other))

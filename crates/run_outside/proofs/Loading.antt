@@ -34,13 +34,7 @@ module _ (line : Line) (named : Named) (name : List ℕ) (is : name_of named lin
   load_cut plan more content old new Memory plan_is fault = subst (λ xs. AddsCut xs Memory a c) (sym plan_is)
       (cut_then (loads_before named line) (call.Load name ∷ more) Memory a b c before (cut_first (call.Load name) more Memory b c tt one))
   load_cut plan more content old new Delivered plan_is fault = absurd fault
-  load_cut plan more content old new Rounds plan_is fault = absurd fault
-  load_cut plan more content old new NoPath plan_is fault = absurd fault
-  load_cut plan more content old new (Aborted reader) plan_is fault = absurd fault
-  load_cut plan more content old new Usage plan_is fault = absurd fault
-  load_cut plan more content old new (Script at kind) plan_is fault = absurd fault
-  load_cut plan more content old new (Put p) plan_is fault = absurd fault
-  load_cut plan more content old new (Log at) plan_is fault = absurd fault
+  load_cut plan more content old new _ plan_is fault = absurd fault
 
 -- such a load, behind others, ends a run
 pub load_fault : (now content : List ℕ → Option (List ℕ)) (line : Line) (named : Named) (name : List ℕ) (a b c : ℕ) (status : Status) → name_of named line ≡ Some name
@@ -59,68 +53,33 @@ load_fault now content line named name a b c (TooLong other) is before same few 
       ),
     )
 load_fault now content line named name a b c Memory is before same few fault = tt
-load_fault now content line named name a b c Delivered is before same few fault = absurd fault
-load_fault now content line named name a b c Rounds is before same few fault = absurd fault
-load_fault now content line named name a b c NoPath is before same few fault = absurd fault
-load_fault now content line named name a b c (Aborted reader) is before same few fault = absurd fault
-load_fault now content line named name a b c Usage is before same few fault = absurd fault
-load_fault now content line named name a b c (Script at kind) is before same few fault = absurd fault
-load_fault now content line named name a b c (Put p) is before same few fault = absurd fault
-load_fault now content line named name a b c (Log at) is before same few fault = absurd fault
+load_fault now content line named name a b c _ is before same few fault = absurd fault
 
 -- among what a run reads
 pub input_fault : (content : List ℕ → Option (List ℕ)) (line : Line) (a b : ℕ) (status : Status) → IsLoadsFault content line a b status → IsInputFault content line a b status
 input_fault content line a b (Load named) fault = fault
 input_fault content line a b (TooLong named) fault = fault
 input_fault content line a b Memory fault = tt
-input_fault content line a b Delivered fault = absurd fault
-input_fault content line a b Rounds fault = absurd fault
-input_fault content line a b NoPath fault = absurd fault
-input_fault content line a b (Aborted reader) fault = absurd fault
-input_fault content line a b Usage fault = absurd fault
-input_fault content line a b (Script at kind) fault = absurd fault
-input_fault content line a b (Put p) fault = absurd fault
-input_fault content line a b (Log at) fault = absurd fault
+input_fault content line a b _ fault = absurd fault
 
 pub replay_fault : (content : List ℕ → Option (List ℕ)) (line : Line) (a b : ℕ) (status : Status) → IsLoadsFault content line a b status → IsReplayInputFault content line a b status
 replay_fault content line a b (Load named) fault = fault
 replay_fault content line a b (TooLong named) fault = fault
 replay_fault content line a b Memory fault = tt
-replay_fault content line a b Delivered fault = absurd fault
-replay_fault content line a b Rounds fault = absurd fault
-replay_fault content line a b NoPath fault = absurd fault
-replay_fault content line a b (Aborted reader) fault = absurd fault
-replay_fault content line a b Usage fault = absurd fault
-replay_fault content line a b (Script at kind) fault = absurd fault
-replay_fault content line a b (Put p) fault = absurd fault
-replay_fault content line a b (Log at) fault = absurd fault
+replay_fault content line a b _ fault = absurd fault
 
 -- in a longer plan
 pub loads_longer : (line : Line) (plan more : List Call) (a b : Told) (status : Status) → LoadsAdd line plan a b status → LoadsAdd line (plan ++ more) a b status
 loads_longer line plan more a b Memory h = cut_longer plan more Memory a b h
 loads_longer line plan more a b (Load named) h = h
 loads_longer line plan more a b (TooLong named) h = h
-loads_longer line plan more a b Delivered h = absurd h
-loads_longer line plan more a b Rounds h = absurd h
-loads_longer line plan more a b NoPath h = absurd h
-loads_longer line plan more a b (Aborted reader) h = absurd h
-loads_longer line plan more a b Usage h = absurd h
-loads_longer line plan more a b (Script at kind) h = absurd h
-loads_longer line plan more a b (Put p) h = absurd h
-loads_longer line plan more a b (Log at) h = absurd h
+loads_longer line plan more a b _ h = absurd h
 
 pub input_adds : (line : Line) (plan : List Call) (a b : Told) (status : Status) → LoadsAdd line plan a b status → InputAdds line plan a b status
 input_adds line plan a b Memory h = h
 input_adds line plan a b (Load named) h = h
 input_adds line plan a b (TooLong named) h = h
-input_adds line plan a b Delivered h = absurd h
-input_adds line plan a b Rounds h = absurd h
-input_adds line plan a b NoPath h = absurd h
-input_adds line plan a b (Aborted reader) h = absurd h
-input_adds line plan a b Usage h = absurd h
-input_adds line plan a b (Script at kind) h = absurd h
-input_adds line plan a b (Put p) h = absurd h
-input_adds line plan a b (Log at) h = absurd h
+input_adds line plan a b _ h = absurd h
 
 -- ---- what the loads gave
 
@@ -128,29 +87,13 @@ input_adds line plan a b (Log at) h = absurd h
 pub script_adds : (line : Line) (plan : List Call) (a b : Told) (script : List ℕ) (status : Status) → AddsAll plan a b → IsScriptFault script status → InputAdds line plan a b status
 script_adds line plan a b script (Script at kind) h fault = h
 script_adds line plan a b script Memory h fault = cut_over plan a b h
-script_adds line plan a b script Delivered h fault = absurd fault
-script_adds line plan a b script Rounds h fault = absurd fault
-script_adds line plan a b script NoPath h fault = absurd fault
-script_adds line plan a b script (Aborted reader) h fault = absurd fault
-script_adds line plan a b script Usage h fault = absurd fault
-script_adds line plan a b script (Load named) h fault = absurd fault
-script_adds line plan a b script (Put p) h fault = absurd fault
-script_adds line plan a b script (TooLong named) h fault = absurd fault
-script_adds line plan a b script (Log at) h fault = absurd fault
+script_adds line plan a b script _ h fault = absurd fault
 
 -- a log that is
 pub form_adds : (line : Line) (plan : List Call) (a b : Told) (script : link.Script) (log : List ℕ) (status : Status) → AddsAll plan a b → IsFormFault script log status → InputAdds line plan a b status
 form_adds line plan a b script log (Log at) h fault = h
 form_adds line plan a b script log Memory h fault = cut_over plan a b h
-form_adds line plan a b script log Delivered h fault = absurd fault
-form_adds line plan a b script log Rounds h fault = absurd fault
-form_adds line plan a b script log NoPath h fault = absurd fault
-form_adds line plan a b script log (Aborted reader) h fault = absurd fault
-form_adds line plan a b script log Usage h fault = absurd fault
-form_adds line plan a b script log (Script at kind) h fault = absurd fault
-form_adds line plan a b script log (Load named) h fault = absurd fault
-form_adds line plan a b script log (Put p) h fault = absurd fault
-form_adds line plan a b script log (TooLong named) h fault = absurd fault
+form_adds line plan a b script log _ h fault = absurd fault
 
 -- ---- all loads
 

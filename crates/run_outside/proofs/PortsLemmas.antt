@@ -173,15 +173,7 @@ risen_later old middle new few (inr most) = by (cases_lt old new)
 pub fault_after : (old middle new : Port → ℕ) (status : Status) → NeverFall old middle → IsPortsFault middle new status → IsPortsFault old new status
 fault_after old middle new (Put p) few fault = risen_later (old p) (middle p) (new p) (few p) fault
 fault_after old middle new Memory few fault = tt
-fault_after old middle new Delivered few fault = absurd fault
-fault_after old middle new Rounds few fault = absurd fault
-fault_after old middle new NoPath few fault = absurd fault
-fault_after old middle new (Aborted reader) few fault = absurd fault
-fault_after old middle new Usage few fault = absurd fault
-fault_after old middle new (Script at kind) few fault = absurd fault
-fault_after old middle new (Load named) few fault = absurd fault
-fault_after old middle new (TooLong named) few fault = absurd fault
-fault_after old middle new (Log at) few fault = absurd fault
+fault_after old middle new _ few fault = absurd fault
 
 -- ---- ports are distinct
 

@@ -22,19 +22,7 @@ all-written (suc written) (byte ∷ file) within = eqb-suc-suc written (length f
 -- no more is taken than is left
 taken-offered : (ds : List AppDuty) (reply : Reply) (a : AppState) → AnswersTo (app_asks_first (Write ∷ ds) a) reply → taken_in reply ≤ length a.rest
 taken-offered ds (replies.Send (send_replies.Taken count)) a kind = omega (arith, kind, length-take a.buffer a.rest)
-taken-offered ds (replies.Send send_replies.Shut) a kind = omega arith
-taken-offered ds (replies.Send send_replies.Closed) a kind = omega arith
-taken-offered ds (replies.Send (send_replies.Granted span piece)) a kind = omega arith
-taken-offered ds (replies.Send (send_replies.NoGrant why known_end)) a kind = omega arith
-taken-offered ds (replies.Send (send_replies.Acked bytes fin)) a kind = omega arith
-taken-offered ds (replies.Send (send_replies.AckFuture written)) a kind = omega arith
-taken-offered ds (replies.Send (send_replies.Returned count)) a kind = omega arith
-taken-offered ds (replies.Send send_replies.Noted) a kind = omega arith
-taken-offered ds (replies.Send (send_replies.Infinite from)) a kind = omega arith
-taken-offered ds (replies.Send send_replies.Scattered) a kind = omega arith
-taken-offered ds (replies.Reassembly reply) a kind = omega arith
-taken-offered ds (replies.Control reply) a kind = omega arith
-taken-offered ds replies.Done a kind = omega arith
+taken-offered ds _ a kind = omega arith
 
 pub taken-within : (ds : List AppDuty) (reply : Reply) (a : AppState) → a.agenda ≡ Write ∷ ds → AnswersTo (app_asks_of a) reply → taken_in reply ≤ length a.rest
 taken-within ds reply a is kind = taken-offered ds reply a (subst (λ xs. AnswersTo (app_asks_first xs a) reply) is kind)

@@ -140,14 +140,7 @@ done_ab (event ∷ events) w done =
   where
     at : (event : Event) → (after_event event w).ab.reader ≡ w.ab.reader
     at (ToB event) = after_done (flags_ab w.modes) event w.ab done
-    at (ToA event) = refl
-    at FallA = refl
-    at FallB = refl
-    at LoosenA = refl
-    at LoosenB = refl
-    at BeginJoin = refl
-    at SendJoin = refl
-    at HearJoin = refl
+    at _ = refl
 
 pub done_ba : (events : List Event) (w : Duo) → is_done w.ba.reader ≡ true → (after_events events w).ba.reader ≡ w.ba.reader
 done_ba [] w done = refl
@@ -156,15 +149,8 @@ done_ba (event ∷ events) w done =
     done_ba events (after_event event w) (ap is_done one ∙ done) ∙ one
   where
     at : (event : Event) → (after_event event w).ba.reader ≡ w.ba.reader
-    at (ToB event) = refl
     at (ToA event) = after_done (flags_ba w.modes) event w.ba done
-    at FallA = refl
-    at FallB = refl
-    at LoosenA = refl
-    at LoosenB = refl
-    at BeginJoin = refl
-    at SendJoin = refl
-    at HearJoin = refl
+    at _ = refl
 
 pub shut_ab : (events : List Event) (w : Duo) → w.ab.send.closed ≡ true → (after_events events w).ab.send.written ≡ w.ab.send.written
 shut_ab [] w closed = refl
@@ -172,26 +158,12 @@ shut_ab (event ∷ events) w closed = let one = at event in shut_ab events (afte
   where
     at : (event : Event) → IsShut w.ab.send (after_event event w).ab.send
     at (ToB event) = after_shut (flags_ab w.modes) event w.ab closed
-    at (ToA event) = record { closed = closed; written = refl }
-    at FallA = record { closed = closed; written = refl }
-    at FallB = record { closed = closed; written = refl }
-    at LoosenA = record { closed = closed; written = refl }
-    at LoosenB = record { closed = closed; written = refl }
-    at BeginJoin = record { closed = closed; written = refl }
-    at SendJoin = record { closed = closed; written = refl }
-    at HearJoin = record { closed = closed; written = refl }
+    at _ = record { closed = closed; written = refl }
 
 pub shut_ba : (events : List Event) (w : Duo) → w.ba.send.closed ≡ true → (after_events events w).ba.send.written ≡ w.ba.send.written
 shut_ba [] w closed = refl
 shut_ba (event ∷ events) w closed = let one = at event in shut_ba events (after_event event w) one.closed ∙ one.written
   where
     at : (event : Event) → IsShut w.ba.send (after_event event w).ba.send
-    at (ToB event) = record { closed = closed; written = refl }
     at (ToA event) = after_shut (flags_ba w.modes) event w.ba closed
-    at FallA = record { closed = closed; written = refl }
-    at FallB = record { closed = closed; written = refl }
-    at LoosenA = record { closed = closed; written = refl }
-    at LoosenB = record { closed = closed; written = refl }
-    at BeginJoin = record { closed = closed; written = refl }
-    at SendJoin = record { closed = closed; written = refl }
-    at HearJoin = record { closed = closed; written = refl }
+    at _ = record { closed = closed; written = refl }

@@ -250,25 +250,11 @@ stays_ab (event ∷ events) w place byte h is placed =
   where
     writes : (event : Event) → Written (after_event event w).ab.send place byte
     writes (ToB event) = after_writes (flags_ab w.modes) w.ab place byte is event
-    writes (ToA event) = is
-    writes FallA = is
-    writes FallB = is
-    writes LoosenA = is
-    writes LoosenB = is
-    writes BeginJoin = is
-    writes SendJoin = is
-    writes HearJoin = is
+    writes _ = is
 
     places : (event : Event) → PlacedIn (after_event event w).ab place byte
     places (ToB event) = after_places (flags_ab w.modes) w.ab place byte h.ab.reader.size placed event
-    places (ToA event) = placed
-    places FallA = placed
-    places FallB = placed
-    places LoosenA = placed
-    places LoosenB = placed
-    places BeginJoin = placed
-    places SendJoin = placed
-    places HearJoin = placed
+    places _ = placed
 
 stays_ba : (events : List Event) (w : Duo) (place byte : ℕ) → Holds w → Written w.ba.send place byte → PlacedIn w.ba place byte
     → (slice_get (after_events events w).ba.send.written place ≡ Some byte) × (content (after_events events w).ba place ≡ Some byte)
@@ -277,26 +263,12 @@ stays_ba (event ∷ events) w place byte h is placed =
     stays_ba events (after_event event w) place byte (after_event_held event w h) (writes event) (places event)
   where
     writes : (event : Event) → Written (after_event event w).ba.send place byte
-    writes (ToB event) = is
     writes (ToA event) = after_writes (flags_ba w.modes) w.ba place byte is event
-    writes FallA = is
-    writes FallB = is
-    writes LoosenA = is
-    writes LoosenB = is
-    writes BeginJoin = is
-    writes SendJoin = is
-    writes HearJoin = is
+    writes _ = is
 
     places : (event : Event) → PlacedIn (after_event event w).ba place byte
-    places (ToB event) = placed
     places (ToA event) = after_places (flags_ba w.modes) w.ba place byte h.ba.reader.size placed event
-    places FallA = placed
-    places FallB = placed
-    places LoosenA = placed
-    places LoosenB = placed
-    places BeginJoin = placed
-    places SendJoin = placed
-    places HearJoin = placed
+    places _ = placed
 
 -- what an exact receiver placed is right, and stays it
 pub right_ab : (events : List Event) (w : Duo) → Holds w → is_exact (flags_ab w.modes) ≡ true → PlacedIsRight w.ab (after_events events w).ab

@@ -81,10 +81,4 @@ growths_keep growth s within calm = growth_keeps growth s.congestion.pending s.c
 
 pub sendings_keep : SendingsKeepTheWindow
 sendings_keep to_send.Reset now s = refl
-sendings_keep to_send.Answer now s = refl
-sendings_keep to_send.SynAck now s = refl
-sendings_keep to_send.Ack now s = refl
-sendings_keep to_send.Probe now s = refl
-sendings_keep to_send.First now s = refl
-sendings_keep to_send.Unsent now s = refl
-sendings_keep to_send.Fin now s = refl
+sendings_keep _ now s = refl

@@ -139,14 +139,7 @@ below-meant state c s e = subst (λ state. IsBelow (meaning_at state c s)) (sym 
     at states.Waiting = tt
     at states.Listen = at-listening IsBelow each-below tt c
     at states.SynSent = at-opening IsBelow each-below (λ _. tt) c s
-    at states.SynReceived = at-connected IsBelow each-below c s
-    at states.Established = at-connected IsBelow each-below c s
-    at states.FinWait1 = at-connected IsBelow each-below c s
-    at states.FinWait2 = at-connected IsBelow each-below c s
-    at states.CloseWait = at-connected IsBelow each-below c s
-    at states.Closing = at-connected IsBelow each-below c s
-    at states.LastAck = at-connected IsBelow each-below c s
-    at states.TimeWait = at-connected IsBelow each-below c s
+    at _ = at-connected IsBelow each-below c s
 
 -- ---- no end behind its FIN opens
 abbrev pub OpensNothing : Meaning → Type 0
@@ -239,28 +232,14 @@ module _ (places : List (Option ℕ)) (incoming : Option (List (Option ℕ))) (c
   at-beside states.Waiting = refl
   at-beside states.Listen = refl
   at-beside states.SynSent = opening-beside
-  at-beside states.SynReceived = connected-beside
-  at-beside states.Established = connected-beside
-  at-beside states.FinWait1 = connected-beside
-  at-beside states.FinWait2 = connected-beside
-  at-beside states.CloseWait = connected-beside
-  at-beside states.Closing = connected-beside
-  at-beside states.LastAck = connected-beside
-  at-beside states.TimeWait = connected-beside
+  at-beside _ = connected-beside
 
   meant-beside : (b : Bool) → meaning_of c (record s { recv = (if b then record s.recv { places = places; incoming = incoming } else s.recv) }) ≡ meaning_of c s
   meant-beside true = at-beside s.state
   meant-beside false = refl
 
 pub meant-kept : (meaning : Meaning) (keep : Bool) (payload : List ℕ) (c : Copy) (s : EndState) → meaning_of c (after_keeping_for meaning keep payload s) ≡ meaning_of c s
-meant-kept means.Ignored keep payload c s = refl
-meant-kept means.Unwanted keep payload c s = refl
 meant-kept means.Opens keep payload c s = meant-beside _ _ c s (is_kept keep s)
 meant-kept (means.Accepts acknowledged) keep payload c s = meant-beside _ _ c s (is_kept keep s)
-meant-kept means.RepeatedSyn keep payload c s = refl
-meant-kept means.Outside keep payload c s = refl
-meant-kept means.Kills keep payload c s = refl
-meant-kept means.Challenged keep payload c s = refl
-meant-kept means.Unacknowledging keep payload c s = refl
-meant-kept means.Ahead keep payload c s = refl
 meant-kept (means.Taken pos acknowledged) keep payload c s = meant-beside _ _ c s (is_kept keep s)
+meant-kept _ keep payload c s = refl
