@@ -541,33 +541,7 @@ module _ {C : Type 0} where
         at B is = absurd (calm_by d h B none_b (g.calms.b is))
 
     pub answered_shielded : (d : Duty) → Shielded (with_agenda (d ∷ ds) p) → Shielded (answered k d r (with_agenda (d ∷ ds) p))
-    answered_shielded (duties.Ask ask_duties.JoinAgain) h = other_shielded (duties.Ask ask_duties.JoinAgain) tt refl refl h
-    answered_shielded (duties.Step step_duties.Events) h = other_shielded (duties.Step step_duties.Events) tt refl refl h
-    answered_shielded duties.End h = other_shielded duties.End tt refl refl h
-    answered_shielded (duties.Step (step_duties.Look s)) h = other_shielded (duties.Step (step_duties.Look s)) tt refl refl h
-    answered_shielded (duties.Ask (ask_duties.Window s)) h = other_shielded (duties.Ask (ask_duties.Window s)) tt refl refl h
     answered_shielded (duties.Send (send_duties.Update s)) h = other_shielded (duties.Send (send_duties.Update s)) tt refl refl h
-    answered_shielded (duties.Send (send_duties.FastClose s)) h = other_shielded (duties.Send (send_duties.FastClose s)) tt refl refl h
-    answered_shielded (duties.Send (send_duties.Notice s)) h = other_shielded (duties.Send (send_duties.Notice s)) tt refl refl h
-    answered_shielded (duties.Send (send_duties.Syn s)) h = other_shielded (duties.Send (send_duties.Syn s)) tt refl refl h
-    answered_shielded (duties.Step (step_duties.Data s)) h = other_shielded (duties.Step (step_duties.Data s)) tt refl refl h
-    answered_shielded (duties.Send (send_duties.DataFin s)) h = other_shielded (duties.Send (send_duties.DataFin s)) tt refl refl h
-    answered_shielded (duties.Send (send_duties.Fin s)) h = other_shielded (duties.Send (send_duties.Fin s)) tt refl refl h
-    answered_shielded (duties.Silent (silent_duties.Timer s)) h = other_shielded (duties.Silent (silent_duties.Timer s)) tt refl refl h
-    answered_shielded (duties.Ask (ask_duties.SynHeard s)) h = other_shielded (duties.Ask (ask_duties.SynHeard s)) tt refl refl h
-    answered_shielded (duties.Ask (ask_duties.SynAnswered s)) h = other_shielded (duties.Ask (ask_duties.SynAnswered s)) tt refl refl h
-    answered_shielded (duties.Ask (ask_duties.PlainHandshake s)) h = other_shielded (duties.Ask (ask_duties.PlainHandshake s)) tt refl refl h
-    answered_shielded (duties.Ask (ask_duties.PeerKey s)) h = other_shielded (duties.Ask (ask_duties.PeerKey s)) tt refl refl h
-    answered_shielded (duties.Send (send_duties.SynAck s)) h = other_shielded (duties.Send (send_duties.SynAck s)) tt refl refl h
-    answered_shielded (duties.Ask (ask_duties.JoinHeard s)) h = other_shielded (duties.Ask (ask_duties.JoinHeard s)) tt refl refl h
-    answered_shielded (duties.Send (send_duties.Refuse s)) h = other_shielded (duties.Send (send_duties.Refuse s)) tt refl refl h
-    answered_shielded (duties.Ask (ask_duties.Opened s)) h = other_shielded (duties.Ask (ask_duties.Opened s)) tt refl refl h
-    answered_shielded (duties.Ask (ask_duties.Live s)) h = other_shielded (duties.Ask (ask_duties.Live s)) tt refl refl h
-    answered_shielded (duties.Ask (ask_duties.AckHeard s)) h = other_shielded (duties.Ask (ask_duties.AckHeard s)) tt refl refl h
-    answered_shielded (duties.Ask (ask_duties.FailHeard s)) h = other_shielded (duties.Ask (ask_duties.FailHeard s)) tt refl refl h
-    answered_shielded (duties.Step (step_duties.PlainAck s)) h = other_shielded (duties.Step (step_duties.PlainAck s)) tt refl refl h
-    answered_shielded (duties.Ask (ask_duties.SubflowAck s)) h = other_shielded (duties.Ask (ask_duties.SubflowAck s)) tt refl refl h
-    answered_shielded (duties.Ask (ask_duties.PlainData s)) h = other_shielded (duties.Ask (ask_duties.PlainData s)) tt refl refl h
     answered_shielded (duties.Ask (ask_duties.GoIdentity s)) h = record { shape = h.shape; asked = at }
       where
         at : (t : Side) → (end_at t (answered_identity s (with_agenda (duties.Ask (ask_duties.GoIdentity s) ∷ ds) p))).treated.asked ≡ true → guarded t ds ≡ true
@@ -583,25 +557,6 @@ module _ {C : Type 0} where
 
         m : PathState C
         m = with_agenda (d ∷ ds) p
-    answered_shielded (duties.Silent (silent_duties.Keep s)) h = other_shielded (duties.Silent (silent_duties.Keep s)) tt refl refl h
-    answered_shielded (duties.Ask (ask_duties.Rate s)) h = other_shielded (duties.Ask (ask_duties.Rate s)) tt refl refl h
-    answered_shielded (duties.Send (send_duties.Acknowledge s)) h = other_shielded (duties.Send (send_duties.Acknowledge s)) tt refl refl h
-    answered_shielded (duties.Send (send_duties.Again s)) h = other_shielded (duties.Send (send_duties.Again s)) tt refl refl h
-    answered_shielded (duties.Send (send_duties.Answer s)) h = other_shielded (duties.Send (send_duties.Answer s)) tt refl refl h
-    answered_shielded (duties.Send (send_duties.ResetAnswer s)) h = other_shielded (duties.Send (send_duties.ResetAnswer s)) tt refl refl h
-    answered_shielded (duties.Ask (ask_duties.Return s)) h = other_shielded (duties.Ask (ask_duties.Return s)) tt refl refl h
-    answered_shielded (duties.Ask (ask_duties.AbortSend s)) h = other_shielded (duties.Ask (ask_duties.AbortSend s)) tt refl refl h
-    answered_shielded (duties.Ask (ask_duties.AbortReceive s)) h = other_shielded (duties.Ask (ask_duties.AbortReceive s)) tt refl refl h
-    answered_shielded (duties.Ask (ask_duties.Announce s id)) h = other_shielded (duties.Ask (ask_duties.Announce s id)) tt refl refl h
-    answered_shielded (duties.Ask (ask_duties.Withdraw s id)) h = other_shielded (duties.Ask (ask_duties.Withdraw s id)) tt refl refl h
-    answered_shielded (duties.Send (send_duties.Resend s)) h = other_shielded (duties.Send (send_duties.Resend s)) tt refl refl h
-    answered_shielded (duties.Send (send_duties.Reset s)) h = other_shielded (duties.Send (send_duties.Reset s)) tt refl refl h
-    answered_shielded (duties.Send (send_duties.ResetNoted s)) h = other_shielded (duties.Send (send_duties.ResetNoted s)) tt refl refl h
-    answered_shielded (duties.Ask (ask_duties.Leave s)) h = other_shielded (duties.Ask (ask_duties.Leave s)) tt refl refl h
-    answered_shielded (duties.Ask (ask_duties.LeaveNoted s)) h = other_shielded (duties.Ask (ask_duties.LeaveNoted s)) tt refl refl h
-    answered_shielded (duties.Ask (ask_duties.Dead s)) h = other_shielded (duties.Ask (ask_duties.Dead s)) tt refl refl h
-    answered_shielded (duties.Step (step_duties.Heard s index)) h = other_shielded (duties.Step (step_duties.Heard s index)) tt refl refl h
-    answered_shielded (duties.Send (send_duties.BreakReset s reason)) h = other_shielded (duties.Send (send_duties.BreakReset s reason)) tt refl refl h
     answered_shielded (duties.Ask (ask_duties.Edge s)) h = piece_shielded s (piece_of s p) (is_placed r) ds p h.shape (λ t is asked. calm_by (duties.Ask (ask_duties.Edge s)) h t (neither t s is) asked)
     answered_shielded (duties.Step (step_duties.Unmapped s)) h = broken_shielded k s 6 r (with_agenda (duties.Step (step_duties.Unmapped s) ∷ ds) p) (λ t is asked. calm_by (duties.Step (step_duties.Unmapped s)) h t (neither t s is) asked)
     answered_shielded (duties.Ask (ask_duties.HeardFin s index)) h = fin_shielded s index (is_fin_set r) ds p h.shape (λ t is asked. calm_by (duties.Ask (ask_duties.HeardFin s index)) h t (neither t s is) asked)
@@ -612,6 +567,7 @@ module _ {C : Type 0} where
       where
         at : (t : Side) → (end_at t p).treated.asked ≡ true → guarded t ds ≡ true
         at t asked = passes t s ds (h.asked t asked)
+    answered_shielded d h = other_shielded d tt refl refl h
 
   pub takes_shielded : (k : Codec C) (r : Reply) (p : PathState C) → Shielded p → Shielded (takes k r p)
   takes_shielded k r p h = by p.agenda h.shape h.asked
