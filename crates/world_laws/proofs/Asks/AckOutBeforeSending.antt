@@ -438,8 +438,6 @@ module _ {C : Type 0} where
         (fail_heard_so (λ f. EndCalms (end_at s p) f) r (end_at s p) (λ own owes h. h)) refl refl (fell_shape s (duties.Ask (ask_duties.FailHeard s)) p)
     answered_goes (duties.Ask (ask_duties.PlainHandshake s)) other p = event_told s (duties.Ask (ask_duties.PlainHandshake s)) events.PlainHandshake p
     answered_goes (duties.Ask (ask_duties.PlainData s)) other p = event_told s (duties.Ask (ask_duties.PlainData s)) events.PlainData p
-    answered_goes (duties.Step (step_duties.Unmapped s)) other p = absurd other
-    answered_goes (duties.Silent (silent_duties.PassFin s)) other p = absurd other
     answered_goes _ other p = absurd other
 
   -- ---- the duties by which a book is told, or asked

@@ -252,7 +252,6 @@ passed_roles (duties.Step (step_duties.PlainAck s)) p h = with_roles s (with_pla
 passed_roles (duties.Step (step_duties.Unmapped s)) p h = with_roles s (after_pieces (end_at s p)) p (same_goes s (after_pieces (end_at s p)) p refl refl h) h
 passed_roles (duties.Ask (ask_duties.CheckFailed s)) p h = with_roles s (after_check p.profile (end_at s p)) p (edge_goes s p.profile.spelling.checksums (mapping_here (end_at s p)) p h) h
 passed_roles (duties.Silent (silent_duties.PassFin s)) p h = with_roles s (after_pass_fin (end_at s p)) p (fin_goes s (is_fin_next (end_at s p).tcp) p h) h
-passed_roles (duties.Ask ask_duties.JoinAgain) p h = h
 passed_roles _ p h = h
 
 -- ---- events

@@ -515,33 +515,10 @@ module _ {C : Type 0} where
   passed_pays (duties.Ask (ask_duties.BreakAck s reason)) ds p refused none f each = absurd (true≢false none)
   passed_pays (duties.Send (send_duties.BreakReset s reason)) ds p refused none f each = absurd (true≢false none)
   passed_pays (duties.Send (send_duties.Reset s)) ds p refused none f each = absurd (true≢false none)
-  passed_pays (duties.Send (send_duties.ResetNoted s)) ds p refused none f each = each
-  passed_pays (duties.Ask ask_duties.JoinAgain) ds p refused none f each = each
-  passed_pays (duties.Step (step_duties.Look s)) ds p refused none f each = each
-  passed_pays (duties.Ask (ask_duties.Window s)) ds p refused none f each = each
-  passed_pays (duties.Send (send_duties.Update s)) ds p refused none f each = each
-  passed_pays (duties.Send (send_duties.FastClose s)) ds p refused none f each = each
-  passed_pays (duties.Send (send_duties.Notice s)) ds p refused none f each = each
-  passed_pays (duties.Send (send_duties.Syn s)) ds p refused none f each = each
-  passed_pays (duties.Send (send_duties.DataFin s)) ds p refused none f each = each
-  passed_pays (duties.Send (send_duties.Fin s)) ds p refused none f each = each
-  passed_pays (duties.Step step_duties.Events) ds p refused none f each = each
-  passed_pays (duties.Ask (ask_duties.SynHeard s)) ds p refused none f each = each
-  passed_pays (duties.Ask (ask_duties.SynAnswered s)) ds p refused none f each = each
-  passed_pays (duties.Ask (ask_duties.PeerKey s)) ds p refused none f each = each
-  passed_pays (duties.Send (send_duties.SynAck s)) ds p refused none f each = each
-  passed_pays (duties.Ask (ask_duties.JoinHeard s)) ds p refused none f each = each
-  passed_pays (duties.Ask (ask_duties.Opened s)) ds p refused none f each = each
-  passed_pays (duties.Ask (ask_duties.Live s)) ds p refused none f each = each
-  passed_pays (duties.Ask (ask_duties.AckHeard s)) ds p refused none f each = each
-  passed_pays (duties.Ask (ask_duties.FailHeard s)) ds p refused none f each = each
-  passed_pays (duties.Ask (ask_duties.Edge s)) ds p refused none f each = each
   passed_pays (duties.Step (step_duties.PlainAck s)) ds p refused none f each =
       own_passed s _ ds p refused (inl (and_parts (is_owed s ds) (not (is_owed (peer s) ds)) (first_need (duties.Step (step_duties.PlainAck s)) ds f)).0) (each (peer s))
   passed_pays (duties.Step (step_duties.Unmapped s)) ds p refused none f each =
       own_passed s _ ds p refused (inl (and_parts (is_owed s ds) (not (is_owed (peer s) ds)) (first_need (duties.Step (step_duties.Unmapped s)) ds f)).0) (each (peer s))
-  passed_pays (duties.Ask (ask_duties.PlainHandshake s)) ds p refused none f each = each
-  passed_pays (duties.Send (send_duties.Refuse s)) ds p refused none f each = each
   passed_pays _ ds p refused none f each = each
 
   pub settled_done : (ds : List Duty) (p : PathState C) (refused : Side → Bool) → is_followed ds ≡ true → ((t : Side) → Pays p ds refused t) → Granting (settled ds p) refused
