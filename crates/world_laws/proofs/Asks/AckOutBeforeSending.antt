@@ -273,8 +273,8 @@ module _ {C : Type 0} where
   kept_by : (s : Side) (w : Writes) (p q : PathState C) → w.own.asked ≡ false → w.other.asked ≡ false → OnlyAt s w p q → Calms p q
   kept_by s w p q own other x =
       let both = both_ends (λ e f. f.treated.asked ≡ e.treated.asked) s w p q
-          (λ e f y. unwritten w.own.asked e.treated.asked f.treated.asked own (ap (λ (v : EndView). v.asked) y.same))
-          (λ e f y. unwritten w.other.asked e.treated.asked f.treated.asked other (ap (λ (v : EndView). v.asked) y.same)) x in
+      (λ e f y. unwritten w.own.asked e.treated.asked f.treated.asked own (ap (λ (v : EndView). v.asked) y.same))
+      (λ e f y. unwritten w.other.asked e.treated.asked f.treated.asked other (ap (λ (v : EndView). v.asked) y.same)) x in
       record { a = λ h. sym both.0 ∙ h; b = λ h. sym both.1 ∙ h }
 
   rests : (p q : PathState C) → q.a ≡ p.a → q.b ≡ p.b → is_sheltered q.agenda ≡ true → Goes p q

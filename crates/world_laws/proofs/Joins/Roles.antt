@@ -473,7 +473,7 @@ kept_by s w p q own_phase own_copy other_phase other_copy link x h =
     let profile : q.profile ≡ p.profile = ap (λ (v : PathView Carried). v.profile) x.same in
     let linked : q.link ≡ p.link = unwritten w.link p.link q.link link (ap (λ (v : PathView Carried). v.link) x.same) in
     let both = both_ends (λ e f. (f.tcp.state ≡ e.tcp.state) × (f.treated.answer ≡ e.treated.answer)) s w p q
-        (λ e f y. end_kept w.own e f own_phase own_copy y) (λ e f y. end_kept w.other e f other_phase other_copy y) x in
+    (λ e f y. end_kept w.own e f own_phase own_copy y) (λ e f y. end_kept w.other e f other_phase other_copy y) x in
     record {
       copies = subst (λ (l : LinkState Carried). Every (CopyTells (is_joined q.profile)) l.under_way) (sym linked)
           (subst (λ (c : Profile). Every (CopyTells (is_joined c)) p.link.under_way) (sym profile) h.copies);
