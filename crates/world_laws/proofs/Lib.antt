@@ -1,3 +1,4 @@
+pub mod Writes
 pub mod Rounds
 pub mod Weaving
 pub mod Lanes

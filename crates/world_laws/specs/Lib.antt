@@ -1,3 +1,5 @@
+pub mod Asking
+pub mod Writes
 pub mod Members
 pub mod Actors
 pub mod StampedBooks

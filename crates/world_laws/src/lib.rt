@@ -7,7 +7,7 @@
 //! `Promises` has the laws on what is read, acknowledged and told, `Places` those on mappings and grants, `Falls` those on sides
 //! that fall back. `Keys` and `Joins` have those on keys, tokens and HMACs, `Announcements` those on addresses, `Standby` that on
 //! backups, `Numbers` those over octets, `Rounds` those on serial turns and on what is done by a round's end, `Weaving` that on
-//! woven rounds. `Asks` and `Worlds` serve all of them.
+//! woven rounds. `Asks`, `Worlds` and `Writes`, which has what a duty of a path may write and ask, serve all of them.
 #![tactic(auto)]
 
 mod laws;

@@ -7,7 +7,6 @@ use Rattle.path_segments.specs.Heard.{HeardSegment}
 use Rattle.sides.specs.declared.side.Side.{Side}
 use Rattle.sides.specs.declared.side.Side.TheVariants.{A, B}
 use Rattle.dss_mapping.specs.declared.kept.KeptMapping.{KeptMapping}
-use Rattle.join_handshake.specs.declared.hearing.JoinSyn.{JoinSyn}
 use Rattle.link_model.specs.Steps.{arriving, after_delivery}
 use Rattle.subflow_send.specs.Records.{Record}
 use Rattle.subflow_tcp.specs.States.{is_dead}
@@ -16,7 +15,6 @@ use Rattle.subflow_tcp.specs.declared.handshake.State.TheVariants as phase
 use Rattle.actor_desk.specs.declared.ask.Reply.{Reply}
 use Rattle.actor_desk.specs.Words.{tail_of}
 use Rattle.path_agenda.specs.Agenda.{leaves, emission}
-use Rattle.path_agenda.specs.Items.{keys_heard, key_heard}
 use Rattle.path_agenda.specs.Words.{replaced}
 use Rattle.path_agenda.specs.declared.duty.Duty.{Duty}
 use Rattle.path_agenda.specs.declared.duty.Duty.TheVariants as duties
@@ -45,16 +43,17 @@ use Rattle.path_rules.specs.Ends.{PathEnd}
 use Rattle.path_rules.specs.Events.{with_priority, next_event, after_line, at_tick, died, join_begun, copy_heard, heard_in, happens_if, told_at, never_joined}
 use Rattle.path_store.specs.declared.lines.LineAction.{LineAction}
 use Rattle.path_store.specs.declared.lines.LineAction.TheVariants as actions
-use Rattle.path_rules.specs.Joining.{keys_begun, is_never, opened_by, join_taken, asked_at}
+use Rattle.path_rules.specs.Joining.{keys_begun, is_never, opened_by}
 use Rattle.path_rules.specs.Joins.{is_joined}
-use Rattle.path_rules.specs.Opening.{answered_peer_key, answered_opened}
-use Rattle.path_rules.specs.Passing.{answered_piece, is_placed, is_fin_set, piece_of}
-use Rattle.path_rules.specs.Deliver.{Piece, is_wrong, forgotten_by, mapping_here}
+use Rattle.path_rules.specs.Deliver.{is_wrong, forgotten_by, mapping_here}
 use Rattle.path_rules.specs.State.{PathState, end_at, goes_on, left, with_agenda}
 use Rattle.path_rules.specs.Steps.{settled}
 use Rattle.path_rules.specs.Treating.{counts, is_clash, heard_passed, item_passed, answered_heard, answered_item, item_of, breaks_by_ack}
-use Rattle.world_laws.proofs.Falls.FailedChecks.{check_failed_so, fail_heard_so, infinite_came_so, fail_answered_so}
+use Rattle.world_laws.proofs.Falls.FailedChecks.{infinite_came_so, fail_answered_so}
 use Rattle.world_laws.proofs.Standby.OneDutyLooks.{MayNotLook}
+use Rattle.world_laws.specs.Writes.{EndView, Writes, OnlyAt, writes, side_of}
+use Rattle.world_laws.proofs.Writes.Paths.{writes_no_more}
+use Rattle.world_laws.proofs.Writes.Steps.{both_ends, unwritten}
 
 -- ---- an end
 
@@ -238,24 +237,8 @@ module _ {C : Type 0} where
 
   -- ---- replies
 
-  grant_sheds : (s : Side) (grant : Option Grant) (r : Reply) (p : PathState C) → Sheds p (answered_grant s grant r p)
-  grant_sheds s None r p = side_sheds s _ p _ refl refl (λ id h. h)
-  grant_sheds s (Some grant) r p = side_sheds s _ p _ refl refl (λ id h. h)
-
-  data_sheds : (k : Codec C) (s : Side) (first : Option Record) (r : Reply) (p : PathState C) → Sheds p (answered_data k s first r p)
-  data_sheds k s (Some record_of) r p = side_sheds s _ p _ refl refl (λ id h. h)
-  data_sheds k s None r p = grant_sheds s (grant_in r) r p
-
   break_sheds : (k : Codec C) (s : Side) (reason : ℕ) (r : Reply) (p : PathState C) → Sheds p (answered_break k s reason r p)
   break_sheds k s reason r p = either_sheds (end_at s p).treated.asked _ _ p (side_sheds s _ p _ refl refl (λ id h. h)) (side_sheds s _ p _ refl refl (λ id h. absurd (false≢true h)))
-
-  key_sheds : (s : Side) (key : Option ℕ) (r : Reply) (p : PathState C) → Sheds p (answered_peer_key s key r p)
-  key_sheds s None r p = side_sheds s _ p _ refl refl (λ id h. h)
-  key_sheds s (Some key) r p = side_sheds s _ p _ refl refl (λ id h. h)
-
-  opened_sheds : (s : Side) (keys : Option KeyPair) (r : Reply) (p : PathState C) → Sheds p (answered_opened s keys r p)
-  opened_sheds s None r p = side_sheds s _ p _ refl refl (λ id h. h)
-  opened_sheds s (Some keys) r p = side_sheds s _ p _ refl refl (λ id h. h)
 
   heard_item_sheds : (k : Codec C) (s : Side) (item : Heard) (r : Reply) (p : PathState C) → Sheds p (answered_heard k s item r p)
   heard_item_sheds k s (says.DataAck next window) r p = side_sheds s _ p _ refl refl (λ id h. h)
@@ -275,66 +258,30 @@ module _ {C : Type 0} where
   item_sheds k s None r p = record { a = λ id h. h; b = λ id h. h }
   item_sheds k s (Some item) r p = heard_item_sheds k s item r p
 
-  piece_sheds : (s : Side) (piece : Option Piece) (taken : Bool) (p : PathState C) → Sheds p (answered_piece s piece taken p)
-  piece_sheds s None taken p = side_sheds s _ p _ refl refl (λ id h. h)
-  piece_sheds s (Some piece) taken p = either_sheds taken _ _ p (side_sheds s _ p _ refl refl (λ id h. h)) (side_sheds s _ p _ refl refl (λ id h. h))
-
-  joined_sheds : (s : Side) (keys : Option KeyPair) (asked : Option JoinSyn) (r : Reply) (p : PathState C) → Sheds p (join_taken s keys asked r p)
-  joined_sheds s (Some keys) (Some asked) r p = side_sheds s _ p _ refl refl (λ id h. h)
-  joined_sheds s (Some keys) None r p = record { a = λ id h. h; b = λ id h. h }
-  joined_sheds s None (Some asked) r p = side_sheds s _ p _ refl refl (λ id h. h)
-  joined_sheds s None None r p = record { a = λ id h. h; b = λ id h. h }
+  -- where the queue may be written at neither end
+  kept_by : (s : Side) (w : Writes) (p q : PathState C) → w.own.queue ≡ false → w.other.queue ≡ false → OnlyAt s w p q → Sheds p q
+  kept_by s w p q own other x =
+      let both = both_ends EndSheds s w p q
+      (λ e f y id h. ap (is_queued id) (sym (unwritten w.own.queue e.notices.queue f.notices.queue own (ap (λ (v : EndView). v.queue) y.same))) ∙ h)
+      (λ e f y id h. ap (is_queued id) (sym (unwritten w.other.queue e.notices.queue f.notices.queue other (ap (λ (v : EndView). v.queue) y.same))) ∙ h) x in
+      record { a = both.0; b = both.1 }
 
   -- but for a Look
   pub answered_sheds : (k : Codec C) (d : Duty) → MayNotLook d → (r : Reply) (p : PathState C) → Sheds p (answered k d r p)
   answered_sheds k (duties.Ask ask_duties.JoinAgain) other r p = begun_sheds r (replaced (duties.Ask (ask_duties.Leave A)) p.agenda) (left p) p
   answered_sheds k (duties.Step (step_duties.Look s)) other r p = absurd other
-  answered_sheds k (duties.Ask (ask_duties.Window s)) other r p = side_sheds s _ p _ refl refl (λ id h. h)
-  answered_sheds k (duties.Send (send_duties.Update s)) other r p = side_sheds s _ p _ refl refl (λ id h. h)
-  answered_sheds k (duties.Send (send_duties.FastClose s)) other r p = side_sheds s _ p _ refl refl (λ id h. h)
   answered_sheds k (duties.Send (send_duties.Notice s)) other r p = side_sheds s (having_noted s p) p _ refl refl (noted_end (end_at s p).notices.queue)
-  answered_sheds k (duties.Send (send_duties.Syn s)) other r p = side_sheds s _ p _ refl refl (λ id h. h)
-  answered_sheds k (duties.Step (step_duties.Data s)) other r p = data_sheds k s (first_unsent (end_at s p)) r p
-  answered_sheds k (duties.Send (send_duties.DataFin s)) other r p = side_sheds s _ p _ refl refl (λ id h. h)
-  answered_sheds k (duties.Send (send_duties.Fin s)) other r p = side_sheds s _ p _ refl refl (λ id h. h)
   answered_sheds k (duties.Step step_duties.Events) other r p = happens_sheds k (next_event p) r p
-  answered_sheds k (duties.Ask (ask_duties.PeerKey s)) other r p = key_sheds s (key_heard (end_at s p).treated.items) r p
-  answered_sheds k (duties.Send (send_duties.SynAck s)) other r p = side_sheds s _ p _ refl refl (λ id h. h)
-  answered_sheds k (duties.Ask (ask_duties.JoinHeard s)) other r p = joined_sheds s (keys_begun r) (asked_at s p) r p
-  answered_sheds k (duties.Send (send_duties.Refuse s)) other r p = side_sheds s _ p _ refl refl (λ id h. h)
-  answered_sheds k (duties.Ask (ask_duties.Opened s)) other r p = opened_sheds s (keys_heard (end_at s p).treated.items) r p
   answered_sheds k (duties.Step (step_duties.Heard s index)) other r p = item_sheds k s (item_of index (end_at s p)) r p
-  answered_sheds k (duties.Ask (ask_duties.AckHeard s)) other r p = side_sheds s _ p _ refl refl (λ id h. h)
-  answered_sheds k (duties.Ask (ask_duties.FailHeard s)) other r p =
-      side_sheds s _ p _ refl refl (fail_heard_so (EndSheds (end_at s p)) r (end_at s p) (λ own owes id h. h))
   answered_sheds k (duties.Step (step_duties.PlainAck s)) other r p =
       either_sheds (breaks_by_ack p.profile (end_at s p)) _ _ p (break_sheds k s 6 r p) (side_sheds s _ p _ refl refl (λ id h. h))
-  answered_sheds k (duties.Ask (ask_duties.PlainHandshake s)) other r p = side_sheds s _ p _ refl refl (λ id h. h)
-  answered_sheds k (duties.Ask (ask_duties.PlainData s)) other r p = side_sheds s _ p _ refl refl (λ id h. h)
-  answered_sheds k (duties.Ask (ask_duties.SubflowAck s)) other r p = side_sheds s _ p _ refl refl (λ id h. h)
-  answered_sheds k (duties.Ask (ask_duties.GoIdentity s)) other r p = side_sheds s _ p _ refl refl (λ id h. h)
   answered_sheds k (duties.Step (step_duties.Unmapped s)) other r p = break_sheds k s 6 r p
-  answered_sheds k (duties.Ask (ask_duties.SubflowFin s)) other r p = either_sheds (is_fin_set r) _ _ p (side_sheds s _ p _ refl refl (λ id h. h)) (side_sheds s _ p _ refl refl (λ id h. h))
-  answered_sheds k (duties.Ask (ask_duties.Edge s)) other r p = piece_sheds s (piece_of s p) (is_placed r) p
-  answered_sheds k (duties.Ask (ask_duties.CheckFailed s)) other r p =
-      side_sheds s _ p _ refl refl
-      (check_failed_so (EndSheds (end_at s p)) p.profile.spelling.checksums r (end_at s p) (λ told broken recv forgets id h. h))
-  answered_sheds k (duties.Ask (ask_duties.HeardFin s index)) other r p = either_sheds (is_fin_set r) _ _ p (side_sheds s _ p _ refl refl (λ id h. h)) (side_sheds s _ p _ refl refl (λ id h. h))
-  answered_sheds k (duties.Ask (ask_duties.AckOut s)) other r p = side_sheds s _ p _ refl refl (λ id h. h)
-  answered_sheds k (duties.Ask (ask_duties.Rate s)) other r p = side_sheds s _ p _ refl refl (λ id h. h)
-  answered_sheds k (duties.Send (send_duties.Acknowledge s)) other r p = side_sheds s _ p _ refl refl (λ id h. h)
-  answered_sheds k (duties.Send (send_duties.Again s)) other r p = side_sheds s _ p _ refl refl (λ id h. h)
-  answered_sheds k (duties.Send (send_duties.Answer s)) other r p = side_sheds s _ p _ refl refl (λ id h. h)
-  answered_sheds k (duties.Send (send_duties.ResetAnswer s)) other r p = side_sheds s _ p _ refl refl (λ id h. h)
-  answered_sheds k (duties.Send (send_duties.Resend s)) other r p = side_sheds s _ p _ refl refl (λ id h. h)
-  answered_sheds k (duties.Ask (ask_duties.BreakAck s reason)) other r p = side_sheds s _ p _ refl refl (λ id h. h)
   answered_sheds k (duties.Send (send_duties.BreakReset s reason)) other r p = side_sheds s _ p _ refl refl (λ id h. absurd (false≢true h))
   answered_sheds k (duties.Send (send_duties.Reset s)) other r p = side_sheds s _ p _ refl refl (λ id h. absurd (false≢true h))
   answered_sheds k (duties.Send (send_duties.ResetNoted s)) other r p = side_sheds s _ p _ refl refl (λ id h. absurd (false≢true h))
-  answered_sheds k (duties.Ask (ask_duties.Leave s)) other r p = record { a = λ id h. h; b = λ id h. h }
   answered_sheds k (duties.Ask (ask_duties.LeaveNoted s)) other r p = side_sheds s _ p _ refl refl (λ id h. absurd (false≢true h))
-  answered_sheds k duties.End other r p = record { a = λ id h. h; b = λ id h. h }
-  answered_sheds k _ other r p = record { a = λ id h. h; b = λ id h. h }
+  answered_sheds k (duties.Silent d) other r p = record { a = λ id h. h; b = λ id h. h }
+  answered_sheds k d other r p = kept_by (side_of d) (writes d) p _ refl refl (writes_no_more k d r p)
 
   -- ---- what comes before the announcement in a turn
 

@@ -1,6 +1,6 @@
 -- Each step of a path asks its reassembly book what is to be acknowledged before the end sends anything, where bytes or an end were
 -- told to the book. So what an end sends shows all that it told.
-use Rattle.std.proofs.Common.{◌≡◌, refl, ℕ, ◌+◌, Bool, true, false, if◌then◌else◌, Option, Some, None, List, [], ◌∷◌, subst, ⊎_elim, ◌||◌, ◌&&◌, ◌++◌, length, zero, suc, sym}
+use Rattle.std.proofs.Common.{◌≡◌, refl, ap, ◌∙◌, ℕ, ◌+◌, Bool, true, false, if◌then◌else◌, Option, Some, None, List, [], ◌∷◌, subst, ⊎_elim, ◌||◌, ◌&&◌, ◌++◌, length, zero, suc, sym}
 use Rattle.std.proofs.lemmas.Bool.{both_ways, and_parts, or_cases, true≢false, false≢true}
 use Rattle.path_segments.specs.Heard.{HeardSegment}
 use Rattle.sides.specs.declared.side.Side.TheVariants.{A, B}
@@ -71,6 +71,9 @@ use Rattle.path_rules.specs.FailedChecks.{after_check_failed}
 use Rattle.path_rules.specs.InfiniteSending.{with_infinite, after_fail_heard}
 use Rattle.path_rules.specs.InfiniteReceiving.{after_infinite}
 use Rattle.path_rules.specs.Fallback.{breaks_by, in_identity, answered_identity}
+use Rattle.world_laws.specs.Writes.{EndView, Writes, OnlyAt, writes, side_of}
+use Rattle.world_laws.proofs.Writes.Paths.{writes_no_more}
+use Rattle.world_laws.proofs.Writes.Steps.{both_ends, unwritten}
 
 -- ---- tests
 
@@ -266,6 +269,14 @@ module _ {C : Type 0} where
   side_goes : (s : Side) (e : PathEnd) (p q : PathState C) → EndCalms (end_at s p) e → q.a ≡ (goes_on s e [] p).a → q.b ≡ (goes_on s e [] p).b → is_sheltered q.agenda ≡ true → Goes p q
   side_goes s e p q x same_a same_b shape = record { calms = side_calms s e p q x same_a same_b; shape = shape }
 
+  -- where it may be written at neither end that something was told
+  kept_by : (s : Side) (w : Writes) (p q : PathState C) → w.own.asked ≡ false → w.other.asked ≡ false → OnlyAt s w p q → Calms p q
+  kept_by s w p q own other x =
+      let both = both_ends (λ e f. f.treated.asked ≡ e.treated.asked) s w p q
+      (λ e f y. unwritten w.own.asked e.treated.asked f.treated.asked own (ap (λ (v : EndView). v.asked) y.same))
+      (λ e f y. unwritten w.other.asked e.treated.asked f.treated.asked other (ap (λ (v : EndView). v.asked) y.same)) x in
+      record { a = λ h. sym both.0 ∙ h; b = λ h. sym both.1 ∙ h }
+
   rests : (p q : PathState C) → q.a ≡ p.a → q.b ≡ p.b → is_sheltered q.agenda ≡ true → Goes p q
   rests p q same_a same_b shape = record {
     calms = record { a = λ h. subst (λ (f : PathEnd). f.treated.asked ≡ true) same_a h; b = λ h. subst (λ (f : PathEnd). f.treated.asked ≡ true) same_b h };
@@ -390,36 +401,8 @@ module _ {C : Type 0} where
 
     -- whatever is replied to a duty by which no reassembly book is told or asked
     answered_goes : (d : Duty) → IsOther d → (p : PathState C) → Goes (first d p) (answered k d r (first d p))
-    answered_goes (duties.Step (step_duties.Look s)) other p = side_goes s _ (first (duties.Step (step_duties.Look s)) p) _ (λ h. h) refl refl shape
     answered_goes (duties.Ask (ask_duties.Window s)) other p = side_goes s _ (first (duties.Ask (ask_duties.Window s)) p) _ (λ h. absurd (false≢true h)) refl refl shape
-    answered_goes (duties.Send (send_duties.Update s)) other p = side_goes s _ (first (duties.Send (send_duties.Update s)) p) _ (λ h. h) refl refl shape
-    answered_goes (duties.Send (send_duties.FastClose s)) other p = side_goes s _ (first (duties.Send (send_duties.FastClose s)) p) _ (λ h. h) refl refl shape
-    answered_goes (duties.Send (send_duties.Notice s)) other p = side_goes s _ (first (duties.Send (send_duties.Notice s)) p) _ (λ h. h) refl refl shape
-    answered_goes (duties.Send (send_duties.Syn s)) other p = side_goes s _ (first (duties.Send (send_duties.Syn s)) p) _ (λ h. h) refl refl shape
-    answered_goes (duties.Send (send_duties.DataFin s)) other p = side_goes s _ (first (duties.Send (send_duties.DataFin s)) p) _ (λ h. h) refl refl shape
-    answered_goes (duties.Send (send_duties.Fin s)) other p = side_goes s _ (first (duties.Send (send_duties.Fin s)) p) _ (λ h. h) refl refl shape
-    answered_goes (duties.Send (send_duties.SynAck s)) other p = side_goes s _ (first (duties.Send (send_duties.SynAck s)) p) _ (λ h. h) refl refl shape
-    answered_goes (duties.Send (send_duties.Refuse s)) other p = side_goes s _ (first (duties.Send (send_duties.Refuse s)) p) _ (λ h. h) refl refl shape
-    answered_goes (duties.Ask (ask_duties.SubflowAck s)) other p = side_goes s _ (first (duties.Ask (ask_duties.SubflowAck s)) p) _ (λ h. h) refl refl shape
-    answered_goes (duties.Ask (ask_duties.Rate s)) other p = side_goes s _ (first (duties.Ask (ask_duties.Rate s)) p) _ (λ h. h) refl refl shape
-    answered_goes (duties.Send (send_duties.Acknowledge s)) other p = side_goes s _ (first (duties.Send (send_duties.Acknowledge s)) p) _ (λ h. h) refl refl shape
-    answered_goes (duties.Send (send_duties.Again s)) other p = side_goes s _ (first (duties.Send (send_duties.Again s)) p) _ (λ h. h) refl refl shape
-    answered_goes (duties.Send (send_duties.Answer s)) other p = side_goes s _ (first (duties.Send (send_duties.Answer s)) p) _ (λ h. h) refl refl shape
-    answered_goes (duties.Send (send_duties.ResetAnswer s)) other p = side_goes s _ (first (duties.Send (send_duties.ResetAnswer s)) p) _ (λ h. h) refl refl shape
-    answered_goes (duties.Send (send_duties.Resend s)) other p = side_goes s _ (first (duties.Send (send_duties.Resend s)) p) _ (λ h. h) refl refl shape
-    answered_goes (duties.Silent (silent_duties.Timer s)) other p = rests (first (duties.Silent (silent_duties.Timer s)) p) _ refl refl shape
-    answered_goes (duties.Ask (ask_duties.SynHeard s)) other p = rests (first (duties.Ask (ask_duties.SynHeard s)) p) _ refl refl shape
-    answered_goes (duties.Ask (ask_duties.SynAnswered s)) other p = rests (first (duties.Ask (ask_duties.SynAnswered s)) p) _ refl refl shape
-    answered_goes (duties.Ask (ask_duties.Live s)) other p = rests (first (duties.Ask (ask_duties.Live s)) p) _ refl refl shape
-    answered_goes (duties.Silent (silent_duties.Keep s)) other p = rests (first (duties.Silent (silent_duties.Keep s)) p) _ refl refl shape
-    answered_goes (duties.Ask (ask_duties.Return s)) other p = rests (first (duties.Ask (ask_duties.Return s)) p) _ refl refl shape
-    answered_goes (duties.Ask (ask_duties.AbortSend s)) other p = rests (first (duties.Ask (ask_duties.AbortSend s)) p) _ refl refl shape
-    answered_goes (duties.Ask (ask_duties.AbortReceive s)) other p = rests (first (duties.Ask (ask_duties.AbortReceive s)) p) _ refl refl shape
-    answered_goes (duties.Ask (ask_duties.Announce s id)) other p = rests (first (duties.Ask (ask_duties.Announce s id)) p) _ refl refl shape
-    answered_goes (duties.Ask (ask_duties.Withdraw s id)) other p = rests (first (duties.Ask (ask_duties.Withdraw s id)) p) _ refl refl shape
-    answered_goes (duties.Ask (ask_duties.Leave s)) other p = rests (first (duties.Ask (ask_duties.Leave s)) p) _ refl refl shape
     answered_goes (duties.Ask (ask_duties.LeaveNoted s)) other p = side_goes s (died (end_at s p)) (first (duties.Ask (ask_duties.LeaveNoted s)) p) _ (λ h. absurd (false≢true h)) refl refl shape
-    answered_goes (duties.Ask (ask_duties.Dead s)) other p = rests (first (duties.Ask (ask_duties.Dead s)) p) _ refl refl shape
     answered_goes duties.End other p = rests (first duties.End p) _ refl refl refl
     answered_goes (duties.Send (send_duties.BreakReset s reason)) other p = side_goes s (died (end_at s p)) (first (duties.Send (send_duties.BreakReset s reason)) p) _ (λ h. absurd (false≢true h)) refl refl refl
     answered_goes (duties.Send (send_duties.Reset s)) other p = side_goes s (died (end_at s p)) (first (duties.Send (send_duties.Reset s)) p) _ (λ h. absurd (false≢true h)) refl refl shape
@@ -438,9 +421,16 @@ module _ {C : Type 0} where
         (fail_heard_so (λ f. EndCalms (end_at s p) f) r (end_at s p) (λ own owes h. h)) refl refl (fell_shape s (duties.Ask (ask_duties.FailHeard s)) p)
     answered_goes (duties.Ask (ask_duties.PlainHandshake s)) other p = event_told s (duties.Ask (ask_duties.PlainHandshake s)) events.PlainHandshake p
     answered_goes (duties.Ask (ask_duties.PlainData s)) other p = event_told s (duties.Ask (ask_duties.PlainData s)) events.PlainData p
+    answered_goes (duties.Ask (ask_duties.Edge s)) other p = absurd other
+    answered_goes (duties.Ask (ask_duties.CheckFailed s)) other p = absurd other
+    answered_goes (duties.Ask (ask_duties.GoIdentity s)) other p = absurd other
     answered_goes (duties.Step (step_duties.Unmapped s)) other p = absurd other
+    answered_goes (duties.Ask (ask_duties.HeardFin s index)) other p = absurd other
+    answered_goes (duties.Ask (ask_duties.SubflowFin s)) other p = absurd other
+    answered_goes (duties.Ask (ask_duties.AckOut s)) other p = absurd other
+    answered_goes (duties.Ask (ask_duties.BreakAck s reason)) other p = absurd other
     answered_goes (duties.Silent (silent_duties.PassFin s)) other p = absurd other
-    answered_goes _ other p = absurd other
+    answered_goes d other p = record { calms = kept_by (side_of d) (writes d) (first d p) _ refl refl (writes_no_more k d r (first d p)); shape = shape }
 
   -- ---- the duties by which a book is told, or asked
 
@@ -541,33 +531,7 @@ module _ {C : Type 0} where
         at B is = absurd (calm_by d h B none_b (g.calms.b is))
 
     pub answered_shielded : (d : Duty) → Shielded (with_agenda (d ∷ ds) p) → Shielded (answered k d r (with_agenda (d ∷ ds) p))
-    answered_shielded (duties.Ask ask_duties.JoinAgain) h = other_shielded (duties.Ask ask_duties.JoinAgain) tt refl refl h
-    answered_shielded (duties.Step step_duties.Events) h = other_shielded (duties.Step step_duties.Events) tt refl refl h
-    answered_shielded duties.End h = other_shielded duties.End tt refl refl h
-    answered_shielded (duties.Step (step_duties.Look s)) h = other_shielded (duties.Step (step_duties.Look s)) tt refl refl h
-    answered_shielded (duties.Ask (ask_duties.Window s)) h = other_shielded (duties.Ask (ask_duties.Window s)) tt refl refl h
     answered_shielded (duties.Send (send_duties.Update s)) h = other_shielded (duties.Send (send_duties.Update s)) tt refl refl h
-    answered_shielded (duties.Send (send_duties.FastClose s)) h = other_shielded (duties.Send (send_duties.FastClose s)) tt refl refl h
-    answered_shielded (duties.Send (send_duties.Notice s)) h = other_shielded (duties.Send (send_duties.Notice s)) tt refl refl h
-    answered_shielded (duties.Send (send_duties.Syn s)) h = other_shielded (duties.Send (send_duties.Syn s)) tt refl refl h
-    answered_shielded (duties.Step (step_duties.Data s)) h = other_shielded (duties.Step (step_duties.Data s)) tt refl refl h
-    answered_shielded (duties.Send (send_duties.DataFin s)) h = other_shielded (duties.Send (send_duties.DataFin s)) tt refl refl h
-    answered_shielded (duties.Send (send_duties.Fin s)) h = other_shielded (duties.Send (send_duties.Fin s)) tt refl refl h
-    answered_shielded (duties.Silent (silent_duties.Timer s)) h = other_shielded (duties.Silent (silent_duties.Timer s)) tt refl refl h
-    answered_shielded (duties.Ask (ask_duties.SynHeard s)) h = other_shielded (duties.Ask (ask_duties.SynHeard s)) tt refl refl h
-    answered_shielded (duties.Ask (ask_duties.SynAnswered s)) h = other_shielded (duties.Ask (ask_duties.SynAnswered s)) tt refl refl h
-    answered_shielded (duties.Ask (ask_duties.PlainHandshake s)) h = other_shielded (duties.Ask (ask_duties.PlainHandshake s)) tt refl refl h
-    answered_shielded (duties.Ask (ask_duties.PeerKey s)) h = other_shielded (duties.Ask (ask_duties.PeerKey s)) tt refl refl h
-    answered_shielded (duties.Send (send_duties.SynAck s)) h = other_shielded (duties.Send (send_duties.SynAck s)) tt refl refl h
-    answered_shielded (duties.Ask (ask_duties.JoinHeard s)) h = other_shielded (duties.Ask (ask_duties.JoinHeard s)) tt refl refl h
-    answered_shielded (duties.Send (send_duties.Refuse s)) h = other_shielded (duties.Send (send_duties.Refuse s)) tt refl refl h
-    answered_shielded (duties.Ask (ask_duties.Opened s)) h = other_shielded (duties.Ask (ask_duties.Opened s)) tt refl refl h
-    answered_shielded (duties.Ask (ask_duties.Live s)) h = other_shielded (duties.Ask (ask_duties.Live s)) tt refl refl h
-    answered_shielded (duties.Ask (ask_duties.AckHeard s)) h = other_shielded (duties.Ask (ask_duties.AckHeard s)) tt refl refl h
-    answered_shielded (duties.Ask (ask_duties.FailHeard s)) h = other_shielded (duties.Ask (ask_duties.FailHeard s)) tt refl refl h
-    answered_shielded (duties.Step (step_duties.PlainAck s)) h = other_shielded (duties.Step (step_duties.PlainAck s)) tt refl refl h
-    answered_shielded (duties.Ask (ask_duties.SubflowAck s)) h = other_shielded (duties.Ask (ask_duties.SubflowAck s)) tt refl refl h
-    answered_shielded (duties.Ask (ask_duties.PlainData s)) h = other_shielded (duties.Ask (ask_duties.PlainData s)) tt refl refl h
     answered_shielded (duties.Ask (ask_duties.GoIdentity s)) h = record { shape = h.shape; asked = at }
       where
         at : (t : Side) → (end_at t (answered_identity s (with_agenda (duties.Ask (ask_duties.GoIdentity s) ∷ ds) p))).treated.asked ≡ true → guarded t ds ≡ true
@@ -583,25 +547,6 @@ module _ {C : Type 0} where
 
         m : PathState C
         m = with_agenda (d ∷ ds) p
-    answered_shielded (duties.Silent (silent_duties.Keep s)) h = other_shielded (duties.Silent (silent_duties.Keep s)) tt refl refl h
-    answered_shielded (duties.Ask (ask_duties.Rate s)) h = other_shielded (duties.Ask (ask_duties.Rate s)) tt refl refl h
-    answered_shielded (duties.Send (send_duties.Acknowledge s)) h = other_shielded (duties.Send (send_duties.Acknowledge s)) tt refl refl h
-    answered_shielded (duties.Send (send_duties.Again s)) h = other_shielded (duties.Send (send_duties.Again s)) tt refl refl h
-    answered_shielded (duties.Send (send_duties.Answer s)) h = other_shielded (duties.Send (send_duties.Answer s)) tt refl refl h
-    answered_shielded (duties.Send (send_duties.ResetAnswer s)) h = other_shielded (duties.Send (send_duties.ResetAnswer s)) tt refl refl h
-    answered_shielded (duties.Ask (ask_duties.Return s)) h = other_shielded (duties.Ask (ask_duties.Return s)) tt refl refl h
-    answered_shielded (duties.Ask (ask_duties.AbortSend s)) h = other_shielded (duties.Ask (ask_duties.AbortSend s)) tt refl refl h
-    answered_shielded (duties.Ask (ask_duties.AbortReceive s)) h = other_shielded (duties.Ask (ask_duties.AbortReceive s)) tt refl refl h
-    answered_shielded (duties.Ask (ask_duties.Announce s id)) h = other_shielded (duties.Ask (ask_duties.Announce s id)) tt refl refl h
-    answered_shielded (duties.Ask (ask_duties.Withdraw s id)) h = other_shielded (duties.Ask (ask_duties.Withdraw s id)) tt refl refl h
-    answered_shielded (duties.Send (send_duties.Resend s)) h = other_shielded (duties.Send (send_duties.Resend s)) tt refl refl h
-    answered_shielded (duties.Send (send_duties.Reset s)) h = other_shielded (duties.Send (send_duties.Reset s)) tt refl refl h
-    answered_shielded (duties.Send (send_duties.ResetNoted s)) h = other_shielded (duties.Send (send_duties.ResetNoted s)) tt refl refl h
-    answered_shielded (duties.Ask (ask_duties.Leave s)) h = other_shielded (duties.Ask (ask_duties.Leave s)) tt refl refl h
-    answered_shielded (duties.Ask (ask_duties.LeaveNoted s)) h = other_shielded (duties.Ask (ask_duties.LeaveNoted s)) tt refl refl h
-    answered_shielded (duties.Ask (ask_duties.Dead s)) h = other_shielded (duties.Ask (ask_duties.Dead s)) tt refl refl h
-    answered_shielded (duties.Step (step_duties.Heard s index)) h = other_shielded (duties.Step (step_duties.Heard s index)) tt refl refl h
-    answered_shielded (duties.Send (send_duties.BreakReset s reason)) h = other_shielded (duties.Send (send_duties.BreakReset s reason)) tt refl refl h
     answered_shielded (duties.Ask (ask_duties.Edge s)) h = piece_shielded s (piece_of s p) (is_placed r) ds p h.shape (λ t is asked. calm_by (duties.Ask (ask_duties.Edge s)) h t (neither t s is) asked)
     answered_shielded (duties.Step (step_duties.Unmapped s)) h = broken_shielded k s 6 r (with_agenda (duties.Step (step_duties.Unmapped s) ∷ ds) p) (λ t is asked. calm_by (duties.Step (step_duties.Unmapped s)) h t (neither t s is) asked)
     answered_shielded (duties.Ask (ask_duties.HeardFin s index)) h = fin_shielded s index (is_fin_set r) ds p h.shape (λ t is asked. calm_by (duties.Ask (ask_duties.HeardFin s index)) h t (neither t s is) asked)
@@ -612,6 +557,7 @@ module _ {C : Type 0} where
       where
         at : (t : Side) → (end_at t p).treated.asked ≡ true → guarded t ds ≡ true
         at t asked = passes t s ds (h.asked t asked)
+    answered_shielded d h = other_shielded d tt refl refl h
 
   pub takes_shielded : (k : Codec C) (r : Reply) (p : PathState C) → Shielded p → Shielded (takes k r p)
   takes_shielded k r p h = by p.agenda h.shape h.asked

@@ -1,18 +1,14 @@
 -- An end that may send a DSS may always send one: it stays clear. And one that fell back to plain TCP stays so.
-use Rattle.std.proofs.Common.{◌≡◌, refl, ℕ, ◌+◌, Bool, true, false, if◌then◌else◌, Option, Some, None, List, [], ◌∷◌}
+use Rattle.std.proofs.Common.{◌≡◌, refl, ap, ◌∙◌, ℕ, ◌+◌, Bool, true, false, if◌then◌else◌, Option, Some, None, List, []}
 use Rattle.std.proofs.lemmas.Bool.{or_left, both_ways}
 use Rattle.path_segments.specs.Heard.{HeardSegment}
 use Rattle.sides.specs.declared.side.Side.{Side}
 use Rattle.sides.specs.declared.side.Side.TheVariants.{A, B}
 use Rattle.control_book.specs.declared.call.ControlReply.TheVariants as control_replies
-use Rattle.dss_mapping.specs.declared.kept.KeptMapping.{KeptMapping}
-use Rattle.fallback_state.specs.declared.fall.Verdict.TheVariants as verdicts
 use Rattle.fallback_state.specs.declared.fall.Event.{Event as FallEvent}
 use Rattle.fallback_state.specs.declared.fall.Event.TheVariants as events
 use Rattle.join_handshake.specs.declared.hearing.JoinAnswer.{JoinAnswer}
-use Rattle.join_handshake.specs.declared.hearing.JoinSyn.{JoinSyn}
 use Rattle.link_model.specs.Steps.{arriving, after_delivery}
-use Rattle.subflow_send.specs.Records.{Record}
 use Rattle.subflow_tcp.specs.States.{is_dead, is_half_open}
 use Rattle.subflow_tcp.specs.declared.handshake.State.{State as EndPhase}
 use Rattle.subflow_tcp.specs.declared.verdicts.Meaning.{Meaning}
@@ -20,9 +16,8 @@ use Rattle.subflow_tcp.specs.declared.verdicts.Meaning.TheVariants as means
 use Rattle.actor_desk.specs.declared.ask.Reply.{Reply}
 use Rattle.actor_desk.specs.declared.ask.Reply.TheVariants as replies
 use Rattle.actor_desk.specs.Words.{tail_of}
-use Rattle.path_agenda.specs.Agenda.{start_of_turn, leaves, emission}
-use Rattle.path_agenda.specs.Items.{keys_heard, key_heard}
-use Rattle.path_agenda.specs.Words.{replaced}
+use Rattle.path_agenda.specs.Agenda.{leaves, emission}
+use Rattle.path_agenda.specs.Items.{keys_heard}
 use Rattle.path_agenda.specs.declared.duty.Duty.{Duty}
 use Rattle.path_agenda.specs.declared.duty.Duty.TheVariants as duties
 use Rattle.path_agenda.specs.declared.duty.AskDuty.TheVariants as ask_duties
@@ -38,24 +33,24 @@ use Rattle.path_rules.specs.Codec.{Codec}
 use Rattle.path_rules.specs.declared.event.Event.{Event}
 use Rattle.path_rules.specs.declared.event.Event.TheVariants as happenings
 use Rattle.path_rules.specs.declared.modes.Modes.{Modes}
-use Rattle.path_rules.specs.Duties.{stands, passed, answered}
-use Rattle.path_rules.specs.Emission.{Grant, grant_in, answered_grant, answered_data, first_unsent}
+use Rattle.path_rules.specs.Duties.{passed, answered}
 use Rattle.path_rules.specs.Ends.{PathEnd}
 use Rattle.path_rules.specs.Events.{next_event, after_line, at_tick, died, join_begun, copy_heard, heard_in, happens_if, told_at, never_joined}
 use Rattle.path_store.specs.declared.lines.LineAction.{LineAction}
 use Rattle.path_store.specs.declared.lines.LineAction.TheVariants as actions
-use Rattle.path_rules.specs.Joining.{keys_begun, is_never, opened_by, join_taken, asked_at}
+use Rattle.path_rules.specs.Joining.{keys_begun, is_never, opened_by}
 use Rattle.path_rules.specs.Joins.{is_joined, join_answer}
-use Rattle.path_rules.specs.Opening.{keys_in, answered_peer_key, answered_opened}
-use Rattle.path_rules.specs.Passing.{answered_piece, is_placed, is_fin_set, piece_of}
-use Rattle.path_rules.specs.Deliver.{Piece, is_wrong, forgotten_by, mapping_here}
-use Rattle.path_rules.specs.Standing.{modes_told}
-use Rattle.path_rules.specs.State.{PathState, end_at, goes_on, left, with_agenda}
-use Rattle.path_rules.specs.Steps.{settled, settles_down, answers, takes, begins_turn, next_round}
-use Rattle.path_rules.specs.Treating.{counts, is_clash, mode_in, heard_passed, item_passed, answered_heard, answered_item, item_of, breaks_by_ack, after_fell}
+use Rattle.path_rules.specs.Opening.{keys_in, answered_opened}
+use Rattle.path_rules.specs.State.{PathState, end_at, goes_on}
+use Rattle.path_rules.specs.Steps.{takes, begins_turn, next_round}
+use Rattle.path_rules.specs.Treating.{counts, is_clash, heard_passed, item_passed, answered_heard, answered_item, item_of, after_fell}
 use Rattle.path_rules.specs.Words.{is_side_a}
 use Rattle.path_rules.specs.Fallback.{fell_in}
-use Rattle.world_laws.proofs.Falls.FailedChecks.{check_failed_so, fail_heard_so, infinite_came_so, fail_answered_so}
+use Rattle.world_laws.proofs.Falls.FailedChecks.{infinite_came_so, fail_answered_so}
+use Rattle.world_laws.specs.Writes.{EndWrites, EndView, Only, Writes, OnlyAt, writes, side_of}
+use Rattle.world_laws.proofs.Writes.Ends.{fell_so}
+use Rattle.world_laws.proofs.Writes.Paths.{writes_no_more, passes_no_more}
+use Rattle.world_laws.proofs.Writes.Steps.{both_ends, Lasts, unwritten, takes_lasts, begins_lasts}
 
 -- what is clear was clear, or became so
 pub unclear_before : (b c : Bool) → (b ≡ true → c ≡ true) → c ≡ false → b ≡ false
@@ -70,18 +65,8 @@ Stays m n = (m.clear ≡ true → n.clear ≡ true) × (m.identity ≡ true → 
 then_stays : (m n o : Modes) → Stays m n → Stays n o → Stays m o
 then_stays m n o x y = (λ h. y.0 (x.0 h), λ h. y.1 (x.1 h))
 
-told_clear : (r : Reply) (m : Modes) → Stays m (modes_told r m)
-told_clear (replies.Control (control_replies.Standing mode standby sole notice)) m = (λ h. h, λ h. h)
-told_clear _ m = (λ h. h, λ h. h)
-
-went_clear : (r : Reply) (m : Modes) → Stays m (mode_in r m)
-went_clear (replies.Control (control_replies.Verdict (verdicts.Went mode))) m = (λ h. h, λ h. h)
-went_clear _ m = (λ h. h, λ h. h)
-
 fell_clear : (event : FallEvent) (r : Reply) (m : Modes) → Stays m (fell_in event r m)
-fell_clear events.PlainData r m = went_clear r m
-fell_clear events.PlainAck r m = went_clear r m
-fell_clear _ r m = went_clear r m
+fell_clear event r m = fell_so (Stays m) event r m (λ mode owes. (λ h. h, λ h. h))
 
 keyed_clear : (r : Reply) (keys : Option KeyPair) (m : Modes) → Stays m (keys_in r keys m)
 keyed_clear (replies.Control control_replies.Noted) (Some keys) m = (λ h. refl, λ h. h)
@@ -131,9 +116,11 @@ pub maybe_end : (s : Side) (o : Option Heard) (e : PathEnd) → EndStays e (item
 maybe_end s None e = (λ h. h, λ h. h)
 maybe_end s (Some item) e = item_end s item e
 
-pub checked_end : (checksums : Bool) (o : Option KeptMapping) (e : PathEnd) → EndStays e (forgotten_by checksums o e)
-checked_end checksums None e = (λ h. h, λ h. h)
-checked_end checksums (Some kept) e = either_end (is_wrong checksums kept e.tcp) e _ _ (λ h. h, λ h. h) (λ h. h, λ h. h)
+end_kept : (w : EndWrites) (e f : PathEnd) → w.clear ≡ false → w.identity ≡ false → Only w e f → EndStays e f
+end_kept w e f clear identity x = (
+  λ h. unwritten w.clear e.modes.clear f.modes.clear clear (ap (λ (v : EndView). v.clear) x.same) ∙ h,
+  λ h. unwritten w.identity e.modes.identity f.modes.identity identity (ap (λ (v : EndView). v.identity) x.same) ∙ h,
+)
 
 -- ---- a path
 
@@ -157,21 +144,22 @@ module _ {C : Type 0} where
   side_clear A e p q x same_a same_b = record { a = (λ h. rw same_a (x.0 h), λ h. rw same_a (x.1 h)); b = (λ h. rw same_b h, λ h. rw same_b h) }
   side_clear B e p q x same_a same_b = record { a = (λ h. rw same_a h, λ h. rw same_a h); b = (λ h. rw same_b (x.0 h), λ h. rw same_b (x.1 h)) }
 
-  pub passed_clear : (d : Duty) (p : PathState C) → Clears p (passed d p)
-  passed_clear (duties.Silent (silent_duties.Timer s)) p = side_clear s _ p _ (λ h. h, λ h. h) refl refl
-  passed_clear (duties.Step (step_duties.Heard s index)) p = side_clear s _ p _ (maybe_end s (item_of index (end_at s p)) (end_at s p)) refl refl
-  passed_clear (duties.Silent (silent_duties.Keep s)) p = side_clear s _ p _ (λ h. h, λ h. h) refl refl
-  passed_clear (duties.Ask (ask_duties.CheckFailed s)) p = side_clear s _ p _ (checked_end p.profile.spelling.checksums (mapping_here (end_at s p)) (end_at s p)) refl refl
-  passed_clear (duties.Step (step_duties.PlainAck s)) p = side_clear s _ p _ (λ h. h, λ h. h) refl refl
-  passed_clear (duties.Step (step_duties.Unmapped s)) p = side_clear s _ p _ (λ h. h, λ h. h) refl refl
-  passed_clear (duties.Silent (silent_duties.PassFin s)) p = side_clear s _ p _ (λ h. h, λ h. h) refl refl
-  passed_clear _ p = stays_clear p
+  -- where both may be written at neither end
+  kept_by : (s : Side) (w : Writes) (p q : PathState C) → w.own.clear ≡ false → w.own.identity ≡ false → w.other.clear ≡ false → w.other.identity ≡ false
+      → OnlyAt s w p q → Clears p q
+  kept_by s w p q own_clear own_identity other_clear other_identity x =
+      let both = both_ends EndStays s w p q (λ e f y. end_kept w.own e f own_clear own_identity y) (λ e f y. end_kept w.other e f other_clear other_identity y) x in
+      record { a = both.0; b = both.1 }
 
-  settled_clear : (ds : List Duty) (p : PathState C) → Clears p (settled ds p)
-  settled_clear [] p = record { a = (λ h. h, λ h. h); b = (λ h. h, λ h. h) }
-  settled_clear (d ∷ ds) p =
-      either_clear (stands d p) (with_agenda (d ∷ ds) p) (settled ds (passed d p)) p (record { a = (λ h. h, λ h. h); b = (λ h. h, λ h. h) })
-      (then_clear p (passed d p) (settled ds (passed d p)) (passed_clear d p) (settled_clear ds (passed d p)))
+  pub passed_clear : (d : Duty) (p : PathState C) → Clears p (passed d p)
+  passed_clear (duties.Step (step_duties.Heard s index)) p = side_clear s _ p _ (maybe_end s (item_of index (end_at s p)) (end_at s p)) refl refl
+  passed_clear (duties.Step step_duties.Events) p = stays_clear p
+  passed_clear (duties.Ask (ask_duties.Opened s)) p = stays_clear p
+  passed_clear (duties.Ask (ask_duties.GoIdentity s)) p = stays_clear p
+  passed_clear (duties.Send (send_duties.Update s)) p = stays_clear p
+  passed_clear (duties.Silent (silent_duties.Timer s)) p =
+      kept_by s (writes (duties.Silent (silent_duties.Timer s))) p _ refl refl refl refl (passes_no_more (duties.Silent (silent_duties.Timer s)) p)
+  passed_clear d p = kept_by (side_of d) (writes d) p _ refl refl refl refl (passes_no_more d p)
 
   -- ---- what happens by itself
 
@@ -217,24 +205,12 @@ module _ {C : Type 0} where
 
   -- ---- replies
 
-  grant_clear : (s : Side) (grant : Option Grant) (r : Reply) (p : PathState C) → Clears p (answered_grant s grant r p)
-  grant_clear s None r p = side_clear s _ p _ (λ h. h, λ h. h) refl refl
-  grant_clear s (Some grant) r p = side_clear s _ p _ (λ h. h, λ h. h) refl refl
-
-  data_clear : (k : Codec C) (s : Side) (first : Option Record) (r : Reply) (p : PathState C) → Clears p (answered_data k s first r p)
-  data_clear k s (Some record_of) r p = side_clear s _ p _ (λ h. h, λ h. h) refl refl
-  data_clear k s None r p = grant_clear s (grant_in r) r p
-
   break_clear : (k : Codec C) (s : Side) (reason : ℕ) (r : Reply) (p : PathState C) → Clears p (answered_break k s reason r p)
   break_clear k s reason r p = either_clear (end_at s p).treated.asked _ _ p (side_clear s _ p _ (λ h. h, λ h. h) refl refl) (side_clear s _ p _ (λ h. h, λ h. h) refl refl)
 
   -- what was told of the mode leaves the end clear, and so does what is done then
   fell_path : (s : Side) (event : FallEvent) (r : Reply) (e : PathEnd) (q p : PathState C) → EndStays (after_fell event r (end_at s p)) e → q.a ≡ (goes_on s e [] p).a → q.b ≡ (goes_on s e [] p).b → Clears p q
   fell_path s event r e q p rest same_a same_b = side_clear s e p q (then_stays (end_at s p).modes (fell_in event r (end_at s p).modes) e.modes (fell_clear event r (end_at s p).modes) rest) same_a same_b
-
-  key_clear : (s : Side) (key : Option ℕ) (r : Reply) (p : PathState C) → Clears p (answered_peer_key s key r p)
-  key_clear s None r p = fell_path s events.PlainHandshake r _ _ p (λ h. h, λ h. h) refl refl
-  key_clear s (Some key) r p = side_clear s _ p _ (λ h. h, λ h. h) refl refl
 
   opened_clear : (s : Side) (keys : Option KeyPair) (r : Reply) (p : PathState C) → Clears p (answered_opened s keys r p)
   opened_clear s None r p = fell_path s events.PlainHandshake r _ _ p (λ h. h, λ h. h) refl refl
@@ -259,79 +235,29 @@ module _ {C : Type 0} where
   item_clear k s None r p = record { a = (λ h. h, λ h. h); b = (λ h. h, λ h. h) }
   item_clear k s (Some item) r p = heard_item_clear k s item r p
 
-  piece_clear : (s : Side) (piece : Option Piece) (taken : Bool) (p : PathState C) → Clears p (answered_piece s piece taken p)
-  piece_clear s None taken p = side_clear s _ p _ (λ h. h, λ h. h) refl refl
-  piece_clear s (Some piece) taken p = either_clear taken _ _ p (side_clear s _ p _ (λ h. h, λ h. h) refl refl) (side_clear s _ p _ (λ h. h, λ h. h) refl refl)
-
-  joined_clear : (s : Side) (keys : Option KeyPair) (asked : Option JoinSyn) (r : Reply) (p : PathState C) → Clears p (join_taken s keys asked r p)
-  joined_clear s (Some keys) (Some asked) r p = side_clear s _ p _ (λ h. h, λ h. h) refl refl
-  joined_clear s (Some keys) None r p = record { a = (λ h. h, λ h. h); b = (λ h. h, λ h. h) }
-  joined_clear s None (Some asked) r p = side_clear s _ p _ (λ h. h, λ h. h) refl refl
-  joined_clear s None None r p = record { a = (λ h. h, λ h. h); b = (λ h. h, λ h. h) }
-
   pub answered_clear : (k : Codec C) (d : Duty) (r : Reply) (p : PathState C) → Clears p (answered k d r p)
-  answered_clear k (duties.Ask ask_duties.JoinAgain) r p = begun_clear r (replaced (duties.Ask (ask_duties.Leave A)) p.agenda) (left p) p
-  answered_clear k (duties.Step (step_duties.Look s)) r p = side_clear s _ p _ (told_clear r (end_at s p).modes) refl refl
-  answered_clear k (duties.Ask (ask_duties.Window s)) r p = side_clear s _ p _ (λ h. h, λ h. h) refl refl
-  answered_clear k (duties.Send (send_duties.Update s)) r p = side_clear s _ p _ (λ h. h, λ h. h) refl refl
-  answered_clear k (duties.Send (send_duties.FastClose s)) r p = side_clear s _ p _ (λ h. h, λ h. h) refl refl
-  answered_clear k (duties.Send (send_duties.Notice s)) r p = side_clear s _ p _ (λ h. h, λ h. h) refl refl
-  answered_clear k (duties.Send (send_duties.Syn s)) r p = side_clear s _ p _ (λ h. h, λ h. h) refl refl
-  answered_clear k (duties.Step (step_duties.Data s)) r p = data_clear k s (first_unsent (end_at s p)) r p
-  answered_clear k (duties.Send (send_duties.DataFin s)) r p = side_clear s _ p _ (λ h. h, λ h. h) refl refl
-  answered_clear k (duties.Send (send_duties.Fin s)) r p = side_clear s _ p _ (λ h. h, λ h. h) refl refl
   answered_clear k (duties.Step step_duties.Events) r p = happens_clear k (next_event p) r p
-  answered_clear k (duties.Ask (ask_duties.PeerKey s)) r p = key_clear s (key_heard (end_at s p).treated.items) r p
-  answered_clear k (duties.Send (send_duties.SynAck s)) r p = side_clear s _ p _ (λ h. h, λ h. h) refl refl
-  answered_clear k (duties.Ask (ask_duties.JoinHeard s)) r p = joined_clear s (keys_begun r) (asked_at s p) r p
-  answered_clear k (duties.Send (send_duties.Refuse s)) r p = side_clear s _ p _ (λ h. h, λ h. h) refl refl
-  answered_clear k (duties.Ask (ask_duties.Opened s)) r p = opened_clear s (keys_heard (end_at s p).treated.items) r p
   answered_clear k (duties.Step (step_duties.Heard s index)) r p = item_clear k s (item_of index (end_at s p)) r p
-  answered_clear k (duties.Ask (ask_duties.AckHeard s)) r p = fell_path s events.AckHeard r _ _ p (λ h. h, λ h. h) refl refl
-  answered_clear k (duties.Ask (ask_duties.FailHeard s)) r p =
-      fell_path s (events.FailHeard true) r _ _ p
-      (fail_heard_so (EndStays (after_fell (events.FailHeard true) r (end_at s p))) r (end_at s p) (λ own owes. (λ h. h, λ h. h))) refl refl
-  answered_clear k (duties.Step (step_duties.PlainAck s)) r p =
-      either_clear (breaks_by_ack p.profile (end_at s p)) _ _ p (break_clear k s 6 r p) (fell_path s events.PlainAck r _ _ p (λ h. h, λ h. h) refl refl)
-  answered_clear k (duties.Ask (ask_duties.PlainHandshake s)) r p = fell_path s events.PlainHandshake r _ _ p (λ h. h, λ h. h) refl refl
-  answered_clear k (duties.Ask (ask_duties.PlainData s)) r p = fell_path s events.PlainData r _ _ p (λ h. h, λ h. h) refl refl
-  answered_clear k (duties.Ask (ask_duties.SubflowAck s)) r p = side_clear s _ p _ (λ h. h, λ h. h) refl refl
+  answered_clear k (duties.Ask (ask_duties.Opened s)) r p = opened_clear s (keys_heard (end_at s p).treated.items) r p
   answered_clear k (duties.Ask (ask_duties.GoIdentity s)) r p = side_clear s _ p _ (λ h. h, λ h. refl) refl refl
-  answered_clear k (duties.Step (step_duties.Unmapped s)) r p = break_clear k s 6 r p
-  answered_clear k (duties.Ask (ask_duties.SubflowFin s)) r p = either_clear (is_fin_set r) _ _ p (side_clear s _ p _ (λ h. h, λ h. h) refl refl) (side_clear s _ p _ (λ h. h, λ h. h) refl refl)
-  answered_clear k (duties.Ask (ask_duties.Edge s)) r p = piece_clear s (piece_of s p) (is_placed r) p
-  answered_clear k (duties.Ask (ask_duties.CheckFailed s)) r p =
-      fell_path s events.CheckFailed r _ _ p
-      (check_failed_so (EndStays (after_fell events.CheckFailed r (end_at s p))) p.profile.spelling.checksums r (end_at s p) (λ told broken recv forgets. (λ h. h, λ h. h))) refl refl
-  answered_clear k (duties.Ask (ask_duties.HeardFin s index)) r p = either_clear (is_fin_set r) _ _ p (side_clear s _ p _ (λ h. h, λ h. h) refl refl) (side_clear s _ p _ (λ h. h, λ h. h) refl refl)
-  answered_clear k (duties.Ask (ask_duties.AckOut s)) r p = side_clear s _ p _ (λ h. h, λ h. h) refl refl
-  answered_clear k (duties.Ask (ask_duties.Rate s)) r p = side_clear s _ p _ (λ h. h, λ h. h) refl refl
-  answered_clear k (duties.Send (send_duties.Acknowledge s)) r p = side_clear s _ p _ (λ h. h, λ h. h) refl refl
-  answered_clear k (duties.Send (send_duties.Again s)) r p = side_clear s _ p _ (λ h. h, λ h. h) refl refl
-  answered_clear k (duties.Send (send_duties.Answer s)) r p = side_clear s _ p _ (λ h. h, λ h. h) refl refl
-  answered_clear k (duties.Send (send_duties.ResetAnswer s)) r p = side_clear s _ p _ (λ h. h, λ h. h) refl refl
-  answered_clear k (duties.Send (send_duties.Resend s)) r p = side_clear s _ p _ (λ h. h, λ h. h) refl refl
-  answered_clear k (duties.Ask (ask_duties.BreakAck s reason)) r p = side_clear s _ p _ (λ h. h, λ h. h) refl refl
-  answered_clear k (duties.Send (send_duties.BreakReset s reason)) r p = side_clear s _ p _ (λ h. h, λ h. h) refl refl
-  answered_clear k (duties.Send (send_duties.Reset s)) r p = side_clear s _ p _ (λ h. h, λ h. h) refl refl
-  answered_clear k (duties.Send (send_duties.ResetNoted s)) r p = side_clear s _ p _ (λ h. h, λ h. h) refl refl
-  answered_clear k (duties.Ask (ask_duties.Leave s)) r p = record { a = (λ h. h, λ h. h); b = (λ h. h, λ h. h) }
-  answered_clear k (duties.Ask (ask_duties.LeaveNoted s)) r p = side_clear s _ p _ (λ h. h, λ h. h) refl refl
-  answered_clear k duties.End r p = record { a = (λ h. h, λ h. h); b = (λ h. h, λ h. h) }
-  answered_clear k _ r p = record { a = (λ h. h, λ h. h); b = (λ h. h, λ h. h) }
+  answered_clear k (duties.Send (send_duties.Update s)) r p =
+      kept_by s (writes (duties.Send (send_duties.Update s))) p _ refl refl refl refl (writes_no_more k (duties.Send (send_duties.Update s)) r p)
+  answered_clear k (duties.Silent d) r p = record { a = (λ h. h, λ h. h); b = (λ h. h, λ h. h) }
+  answered_clear k d r p = kept_by (side_of d) (writes d) p _ refl refl refl refl (writes_no_more k d r p)
 
-  answers_clear : (k : Codec C) (ds : List Duty) (r : Reply) (p : PathState C) → Clears p (answers k ds r p)
-  answers_clear k [] r p = stays_clear p
-  answers_clear k (d ∷ ds) r p = answered_clear k d r p
+  clears_last : Lasts (λ (p q : PathState C). Clears p q)
+  clears_last = record {
+    agenda = λ ds p. record { a = (λ h. h, λ h. h); b = (λ h. h, λ h. h) };
+    chains = λ p q r x y. then_clear p q r x y;
+    passes = λ d p. passed_clear d p;
+  }
 
   -- so both ends stay clear, whatever is replied
   pub takes_clear : (k : Codec C) (r : Reply) (p : PathState C) → Clears p (takes k r p)
-  takes_clear k r p =
-      let q : PathState C = answers k p.agenda r p in
-      then_clear p q (settles_down q) (answers_clear k p.agenda r p) (settled_clear q.agenda q)
+  takes_clear k r p = takes_lasts (λ p q. Clears p q) clears_last k r p (λ d. answered_clear k d r p)
 
   pub begins_clear : (p : PathState C) → Clears p (begins_turn p)
-  begins_clear p = then_clear p (with_agenda start_of_turn p) (begins_turn p) (record { a = (λ h. h, λ h. h); b = (λ h. h, λ h. h) }) (settled_clear start_of_turn (with_agenda start_of_turn p))
+  begins_clear p = begins_lasts (λ p q. Clears p q) clears_last p
 
   pub next_clear : (p : PathState C) → Clears p (next_round p)
   next_clear p =

@@ -284,17 +284,12 @@ module _ {C : Type 0} (k : Codec C) (W F : Side → Type 0) where
   passed_awake (duties.Step (step_duties.Unmapped s)) p h = put s (after_pieces (end_at s p)) p (same_goes s (after_pieces (end_at s p)) p refl refl refl) h
   passed_awake (duties.Ask (ask_duties.CheckFailed s)) p h = put s (after_check p.profile (end_at s p)) p (edge_goes s p.profile.spelling.checksums (mapping_here (end_at s p)) p) h
   passed_awake (duties.Silent (silent_duties.PassFin s)) p h = put s (after_pass_fin (end_at s p)) p (up_goes s (after_pass_fin (end_at s p)) p (passing_up (end_at s p).tcp) refl) h
-  passed_awake (duties.Ask ask_duties.JoinAgain) p h = h
   passed_awake _ p h = h
 
   passed_profile : (d : Duty) (p : PathState C) → (passed d p).profile ≡ p.profile
   passed_profile (duties.Silent (silent_duties.Timer s)) p = refl
   passed_profile (duties.Step (step_duties.Heard s index)) p = refl
-  passed_profile (duties.Silent (silent_duties.Keep s)) p = refl
-  passed_profile (duties.Step (step_duties.PlainAck s)) p = refl
-  passed_profile (duties.Step (step_duties.Unmapped s)) p = refl
   passed_profile (duties.Ask (ask_duties.CheckFailed s)) p = refl
-  passed_profile (duties.Silent (silent_duties.PassFin s)) p = refl
   passed_profile _ p = refl
 
   -- of a list of duties in place of the path's own

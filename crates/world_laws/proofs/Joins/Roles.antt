@@ -1,6 +1,6 @@
 -- What the ends of a path that joins are, and its copies: A's end never has the peer's SYN before its own was answered, and B's never
 -- opens; a SYN that shows options shows an MP_JOIN.
-use Rattle.std.proofs.Common.{◌≡◌, refl, sym, ◌∙◌, ap, subst, ℕ, ◌+◌, ◌-◌, Bool, true, false, if◌then◌else◌, Option, Some, None, List, [], ◌∷◌, position}
+use Rattle.std.proofs.Common.{◌≡◌, refl, sym, ◌∙◌, ap, subst, ℕ, ◌+◌, ◌-◌, Bool, true, false, if◌then◌else◌, Option, Some, None, List, [], position}
 use Rattle.std.proofs.lemmas.Bool.{both_ways, false≢true}
 use Rattle.sides.specs.declared.side.Side.{Side}
 use Rattle.sides.specs.declared.side.Side.TheVariants.{A, B}
@@ -32,8 +32,7 @@ use Rattle.stream_lanes.specs.Words.{Every}
 use Rattle.stream_lanes.proofs.Lists.{Every-nil}
 use Rattle.actor_desk.specs.declared.ask.Reply.{Reply}
 use Rattle.actor_desk.specs.Words.{tail_of}
-use Rattle.path_agenda.specs.Agenda.{breaks, emission, leaves, resets, rest_of_turn, start_of_turn, stops, announces, withdraws}
-use Rattle.path_agenda.specs.Items.{key_heard, keys_heard}
+use Rattle.path_agenda.specs.Agenda.{emission, leaves, resets, rest_of_turn, stops, announces, withdraws}
 use Rattle.path_agenda.specs.Words.{replaced}
 use Rattle.path_agenda.specs.declared.duty.Duty.{Duty}
 use Rattle.path_agenda.specs.declared.duty.Duty.TheVariants as duties
@@ -51,23 +50,23 @@ use Rattle.path_rules.specs.declared.judged.Judged.{Judged}
 use Rattle.path_rules.specs.Arriving.{after_judged, copy_judged, copy_of, held_of, hint_of, items_of, judged_in, options_heard, owes_by, reset_for, taken_as, template_of}
 use Rattle.path_rules.specs.Breaking.{reset_of, reset_on, answered_break}
 use Rattle.path_rules.specs.StreamEnds.{is_data_fin_owed}
-use Rattle.path_rules.specs.Duties.{stands, passed, answered}
+use Rattle.path_rules.specs.Duties.{passed, answered}
 use Rattle.path_rules.specs.Emission.{Grant, after_timer, fin_segment_of, grant_in, answered_grant, answered_data, first_unsent, having_sent_fin}
-use Rattle.path_rules.specs.Ends.{PathEnd}
+use Rattle.path_rules.specs.Ends.{PathEnd, Treated}
 use Rattle.path_rules.specs.Events.{next_event, heard_at, heard_in, at_tick, died, died_unless_dead, after_line, copy_heard, happens_if, join_begun, timer_fired, template_fired, never_joined, with_priority}
 use Rattle.path_store.specs.declared.lines.LineAction.{LineAction}
 use Rattle.path_store.specs.declared.lines.LineAction.TheVariants as actions
 use Rattle.path_rules.specs.Fallback.{after_fell, fell_duties, answered_fell}
 use Rattle.path_rules.specs.Joining.{asked_at, is_listening, is_never, join_taken, joined_by, keys_begun, opened_by, refusal_of, syn_alone, with_mode_refused}
 use Rattle.path_rules.specs.Joins.{is_joined}
-use Rattle.path_rules.specs.Opening.{after_keys, answered_opened, answered_peer_key, with_peer_key}
-use Rattle.path_rules.specs.Passing.{after_pass_fin, answer_occasion, answer_of, resend_occasion, answered_fin_heard, answered_plain_fin, answered_piece, dead_answer, first_record, is_fin_set, is_placed, piece_of, resend_of}
-use Rattle.path_rules.specs.Deliver.{Piece, after_check, after_pieces, mapping_here, is_wrong, with_learned, with_skipped, forgotten_by}
+use Rattle.path_rules.specs.Opening.{after_keys}
+use Rattle.path_rules.specs.Passing.{after_pass_fin, answer_occasion, answer_of, resend_occasion, dead_answer, first_record, resend_of}
+use Rattle.path_rules.specs.Deliver.{after_check, after_pieces, mapping_here, is_wrong, with_learned, with_skipped, forgotten_by}
 use Rattle.path_rules.specs.OptionsOut.{ack_said, carried_said, reset_options, record_or_ack, syn_ack_said}
 use Rattle.path_rules.specs.Handover.{having_sent, sent_on}
 use Rattle.path_rules.specs.Standing.{after_ack_out, answered_ack_out}
-use Rattle.path_rules.specs.State.{PathState, end_at, goes_on, left, with_agenda, with_end}
-use Rattle.path_rules.specs.Steps.{settled, answers, takes, begins_turn}
+use Rattle.path_rules.specs.State.{PathState, Profile, end_at, goes_on, left, with_agenda, with_end}
+use Rattle.path_rules.specs.Steps.{answers, takes, begins_turn}
 use Rattle.path_rules.specs.Treating.{after_keep, answered_heard, answered_item, answered_plain_ack, breaks_by_ack, counts, is_clash, is_dropped, item_of, item_passed, with_acked, with_data_fin, with_plain_ack, with_data_ack}
 use Rattle.path_rules.specs.Values.{Carried, as_arrived, carried_by, stripped, altered, values}
 use Rattle.path_rules.specs.OptionsOut.{noted_said}
@@ -78,8 +77,12 @@ use Rattle.world_laws.proofs.Keys.Held.{in_removed}
 use Rattle.world_laws.proofs.Keys.WhatWakes.{WakesNone, joined_wakes_none}
 use Rattle.world_laws.proofs.Keys.AnswerHeardFirst.{is_apart, finish_apart, passed_apart, apart_stays, arrived_state, TellsKey, no_syn, record_or_ack_tells, syn_ack_tells, IsNoSyn, reset_answers, outgoing_tells}
 use Rattle.world_laws.proofs.Lanes.Saying.{flights_kept}
-use Rattle.world_laws.proofs.Falls.FailedChecks.{check_failed_so, fail_heard_so, infinite_came_so, fail_answered_so}
+use Rattle.world_laws.proofs.Falls.FailedChecks.{infinite_came_so, fail_answered_so}
 use Rattle.path_rules.specs.InfiniteSending.{with_infinite}
+use Rattle.link_model.specs.State.{LinkState}
+use Rattle.world_laws.specs.Writes.{EndWrites, EndView, Only, Writes, OnlyAt, PathView, copy_said, writes, side_of}
+use Rattle.world_laws.proofs.Writes.Paths.{writes_no_more}
+use Rattle.world_laws.proofs.Writes.Steps.{Lasts, both_ends, unwritten, takes_lasts, begins_lasts}
 
 abbrev pub CopyTells : Bool → Flight Carried → Type 0
 CopyTells joined f = TellsKey joined f.to f.carried.segment
@@ -249,16 +252,7 @@ passed_roles (duties.Step (step_duties.PlainAck s)) p h = with_roles s (with_pla
 passed_roles (duties.Step (step_duties.Unmapped s)) p h = with_roles s (after_pieces (end_at s p)) p (same_goes s (after_pieces (end_at s p)) p refl refl h) h
 passed_roles (duties.Ask (ask_duties.CheckFailed s)) p h = with_roles s (after_check p.profile (end_at s p)) p (edge_goes s p.profile.spelling.checksums (mapping_here (end_at s p)) p h) h
 passed_roles (duties.Silent (silent_duties.PassFin s)) p h = with_roles s (after_pass_fin (end_at s p)) p (fin_goes s (is_fin_next (end_at s p).tcp) p h) h
-passed_roles (duties.Ask ask_duties.JoinAgain) p h = h
 passed_roles _ p h = h
-
-settled_roles : (ds : List Duty) (p : PathState Carried) → HasRoles p → HasRoles (settled ds p)
-settled_roles [] p h = agenda_roles [] p h
-settled_roles (d ∷ ds) p h = by (stands d p) (settled_roles ds (passed d p) (passed_roles d p h))
-  where
-    by : (b : Bool) → HasRoles (settled ds (passed d p)) → HasRoles (if b then with_agenda (d ∷ ds) p else settled ds (passed d p))
-    by true rest = agenda_roles (d ∷ ds) p h
-    by false rest = rest
 
 -- ---- events
 
@@ -413,27 +407,6 @@ plain_ack_roles s r p h = by (breaks_by_ack p.profile (end_at s p))
     by true = break_roles s 6 r p h
     by false = same_roles s (with_plain_ack (after_fell fall.PlainAck r (end_at s p))) (fell_duties s r p) p refl refl h
 
-key_roles : (s : Side) (o : Option ℕ) (r : Reply) (p : PathState Carried) → HasRoles p → HasRoles (answered_peer_key s o r p)
-key_roles s None r p h = told_roles s fall.PlainHandshake r p h
-key_roles s (Some key) r p h = same_roles s (with_peer_key (Some key) (end_at s p)) (left p) p refl refl h
-
-opened_roles : (s : Side) (o : Option KeyPair) (r : Reply) (p : PathState Carried) → HasRoles p → HasRoles (answered_opened s o r p)
-opened_roles s None r p h = told_roles s fall.PlainHandshake r p h
-opened_roles s (Some keys) r p h = keys_roles s r (Some keys) p h
-
-piece_roles : (s : Side) (o : Option Piece) (taken : Bool) (p : PathState Carried) → HasRoles p → HasRoles (answered_piece s o taken p)
-piece_roles s None taken p h = same_roles s _ (breaks s 1) p refl refl h
-piece_roles s (Some piece) true p h = same_roles s _ p.agenda p refl refl h
-piece_roles s (Some piece) false p h = same_roles s _ (breaks s 1) p refl refl h
-
-fin_set_roles : (s : Side) (set : Bool) (p : PathState Carried) → HasRoles p → HasRoles (answered_fin_heard s set p)
-fin_set_roles s true p h = same_roles s _ (left p) p refl refl h
-fin_set_roles s false p h = same_roles s _ (breaks s 1) p refl refl h
-
-plain_fin_roles : (s : Side) (set : Bool) (p : PathState Carried) → HasRoles p → HasRoles (answered_plain_fin s set p)
-plain_fin_roles s true p h = same_roles s _ (left p) p refl refl h
-plain_fin_roles s false p h = same_roles s _ (breaks s 1) p refl refl h
-
 answer_tells : (s : Side) (p : PathState Carried) → TellsKey (is_joined p.profile) (peer s) (answer_of s p)
 answer_tells s p = by (end_at s p).tcp.due.syn_ack
   where
@@ -487,10 +460,31 @@ occasion_goes s o sg p h = same_goes s (having_sent o p.clock sg (end_at s p)) p
     same to_send.Reset = refl
     same _ = refl
 
+-- where neither the phase nor what the copy said may be written, and no segment is sent
+end_kept : (w : EndWrites) (e f : PathEnd) → w.phase ≡ false → w.copy ≡ false → Only w e f → (f.tcp.state ≡ e.tcp.state) × (f.treated.answer ≡ e.treated.answer)
+end_kept w e f phase said x = (
+  unwritten w.phase e.tcp.state f.tcp.state phase (ap (λ (v : EndView). v.phase) x.same),
+  ap (λ (t : Treated). t.answer) (unwritten w.copy (copy_said e.treated) (copy_said f.treated) said (ap (λ (v : EndView). v.copy) x.same)),
+)
+
+kept_by : (s : Side) (w : Writes) (p q : PathState Carried) → w.own.phase ≡ false → w.own.copy ≡ false → w.other.phase ≡ false → w.other.copy ≡ false → w.link ≡ false
+    → OnlyAt s w p q → HasRoles p → HasRoles q
+kept_by s w p q own_phase own_copy other_phase other_copy link x h =
+    let profile : q.profile ≡ p.profile = ap (λ (v : PathView Carried). v.profile) x.same in
+    let linked : q.link ≡ p.link = unwritten w.link p.link q.link link (ap (λ (v : PathView Carried). v.link) x.same) in
+    let both = both_ends (λ e f. (f.tcp.state ≡ e.tcp.state) × (f.treated.answer ≡ e.treated.answer)) s w p q
+    (λ e f y. end_kept w.own e f own_phase own_copy y) (λ e f y. end_kept w.other e f other_phase other_copy y) x in
+    record {
+      copies = subst (λ (l : LinkState Carried). Every (CopyTells (is_joined q.profile)) l.under_way) (sym linked)
+          (subst (λ (c : Profile). Every (CopyTells (is_joined c)) p.link.under_way) (sym profile) h.copies);
+      role_a = λ joins. ap (is_apart A) both.0.0 ∙ h.role_a (ap is_joined (sym profile) ∙ joins);
+      role_b = λ joins. ap (is_apart B) both.1.0 ∙ h.role_b (ap is_joined (sym profile) ∙ joins);
+      answer_a = subst IsNoSyn (sym both.0.1) h.answer_a;
+      answer_b = subst IsNoSyn (sym both.1.1) h.answer_b;
+    }
+
 answered_roles : (d : Duty) (r : Reply) (p : PathState Carried) → HasRoles p → HasRoles (answered values d r p)
 answered_roles (duties.Ask ask_duties.JoinAgain) r p h = begun_roles r (replaced (duties.Ask (ask_duties.Leave A)) p.agenda) (left p) p h
-answered_roles (duties.Step (step_duties.Look s)) r p h = same_roles s _ (left p) p refl refl h
-answered_roles (duties.Ask (ask_duties.Window s)) r p h = same_roles s (after_ack_out r (end_at s p)) (left p) p refl refl h
 answered_roles (duties.Send (send_duties.Update s)) r p h = same_sent s _ _ (left p) p (ack_tells s (end_at s p).tcp.send.nxt None p) refl refl h
 answered_roles (duties.Send (send_duties.FastClose s)) r p h = same_sent s _ _ (left p) p (carried_tells s (end_at s p).notices.carrier p) refl refl h
 answered_roles (duties.Send (send_duties.Notice s)) r p h = same_sent s _ _ p.agenda p (noted_tells s (first_of (end_at s p).notices.queue) p) refl refl h
@@ -501,51 +495,35 @@ answered_roles (duties.Send (send_duties.Fin s)) r p h =
     sent_roles s (fin_segment_of s p) (having_sent_fin s p) (left p) p (no_syn (is_joined p.profile) s (fin_segment_of s p) refl)
     (record { role = λ joins apart. sym (finish_apart s (end_at s p).tcp.state) ∙ apart; answer = answer_at s p h }) h
 answered_roles (duties.Step step_duties.Events) r p h = event_roles (next_event p) r p h
-answered_roles (duties.Ask (ask_duties.PlainHandshake s)) r p h = told_roles s fall.PlainHandshake r p h
-answered_roles (duties.Ask (ask_duties.PeerKey s)) r p h = key_roles s (key_heard (end_at s p).treated.items) r p h
 answered_roles (duties.Send (send_duties.SynAck s)) r p h = same_sent s _ _ (left p) p (syn_ack_tells p.profile s (end_at s p)) refl refl h
 answered_roles (duties.Ask (ask_duties.JoinHeard s)) r p h = joined_roles s (keys_begun r) (asked_at s p) r p h
 answered_roles (duties.Send (send_duties.Refuse s)) r p h =
     same_sent s (refusal_of s p) (end_at s p) (left p) p (outgoing_tells p.profile s (end_at s p) (end_at s p).treated.answer (reset_options (Some 1)) (answer_at s p h)) refl refl h
-answered_roles (duties.Ask (ask_duties.Opened s)) r p h = opened_roles s (keys_heard (end_at s p).treated.items) r p h
 answered_roles (duties.Step (step_duties.Heard s index)) r p h = item_answered_roles s (item_of index (end_at s p)) r p h
-answered_roles (duties.Ask (ask_duties.AckHeard s)) r p h = told_roles s fall.AckHeard r p h
-answered_roles (duties.Ask (ask_duties.FailHeard s)) r p h =
-    fail_heard_so (λ e. HasRoles (goes_on s e (fell_duties s r p) p)) r (end_at s p) (λ own owes. same_roles s _ (fell_duties s r p) p refl refl h)
 answered_roles (duties.Step (step_duties.PlainAck s)) r p h = plain_ack_roles s r p h
-answered_roles (duties.Ask (ask_duties.SubflowAck s)) r p h = same_roles s _ (left p) p refl refl h
-answered_roles (duties.Ask (ask_duties.PlainData s)) r p h = told_roles s fall.PlainData r p h
-answered_roles (duties.Ask (ask_duties.GoIdentity s)) r p h = same_roles s _ (left p) p refl refl h
 answered_roles (duties.Step (step_duties.Unmapped s)) r p h = break_roles s 6 r p h
-answered_roles (duties.Ask (ask_duties.SubflowFin s)) r p h = plain_fin_roles s (is_fin_set r) p h
-answered_roles (duties.Ask (ask_duties.Edge s)) r p h = piece_roles s (piece_of s p) (is_placed r) p h
-answered_roles (duties.Ask (ask_duties.CheckFailed s)) r p h =
-    check_failed_so (λ e. HasRoles (goes_on s e (fell_duties s r p) p)) p.profile.spelling.checksums r (end_at s p)
-    (λ sent broken recv forgotten. same_roles s _ (fell_duties s r p) p refl refl h)
-answered_roles (duties.Ask (ask_duties.HeardFin s index)) r p h = fin_set_roles s (is_fin_set r) p h
-answered_roles (duties.Ask (ask_duties.AckOut s)) r p h = same_roles s (after_ack_out r (end_at s p)) (left p) p refl refl h
-answered_roles (duties.Ask (ask_duties.Rate s)) r p h = same_roles s _ (left p) p refl refl h
 answered_roles (duties.Send (send_duties.Acknowledge s)) r p h = same_sent s _ _ (left p) p (ack_tells s (end_at s p).tcp.send.nxt None p) refl refl h
 answered_roles (duties.Send (send_duties.Again s)) r p h = same_sent s _ _ (left p) p (record_or_ack_tells p.profile s (end_at s p) (first_record (end_at s p))) refl refl h
 answered_roles (duties.Send (send_duties.Answer s)) r p h = sent_roles s (answer_of s p) _ (left p) p (answer_tells s p) (occasion_goes s (answer_occasion (end_at s p)) (answer_of s p) p h) h
 answered_roles (duties.Send (send_duties.ResetAnswer s)) r p h =
     same_sent s (dead_answer s p) (end_at s p) (left p) p (outgoing_tells p.profile s (end_at s p) (end_at s p).treated.answer [] (answer_at s p h)) refl refl h
 answered_roles (duties.Send (send_duties.Resend s)) r p h = sent_roles s (resend_of s p) _ (left p) p (resend_tells s p) (occasion_goes s (resend_occasion (end_at s p)) (resend_of s p) p h) h
-answered_roles (duties.Ask (ask_duties.BreakAck s reason)) r p h = same_roles s (after_ack_out r (end_at s p)) (resets s reason) p refl refl h
 answered_roles (duties.Send (send_duties.BreakReset s reason)) r p h = reset_roles s (Some reason) (leaves s) p h
 answered_roles (duties.Send (send_duties.Reset s)) r p h = reset_roles s None (replaced (duties.Ask (ask_duties.Leave s)) p.agenda) p h
 answered_roles (duties.Send (send_duties.ResetNoted s)) r p h = reset_roles s None (replaced (duties.Ask (ask_duties.Leave s)) p.agenda) p h
-answered_roles (duties.Ask (ask_duties.Leave s)) r p h = agenda_roles _ p h
 answered_roles (duties.Ask (ask_duties.LeaveNoted s)) r p h = goes_roles s (died (end_at s p)) _ p (record { role = λ joins is. absurd (false≢true is); answer = tt }) h
-answered_roles duties.End r p h = agenda_roles [] p h
-answered_roles _ r p h = agenda_roles (left p) p h
+answered_roles (duties.Silent d) r p h = agenda_roles (left p) p h
+answered_roles d r p h = kept_by (side_of d) (writes d) p _ refl refl refl refl refl (writes_no_more values d r p) h
+
+roles_last : Lasts (λ (p q : PathState Carried). HasRoles p → HasRoles q)
+roles_last = record {
+  agenda = λ ds p h. agenda_roles ds p h;
+  chains = λ p q r x y h. y (x h);
+  passes = λ d p h. passed_roles d p h;
+}
 
 pub takes_roles : (r : Reply) (p : PathState Carried) → HasRoles p → HasRoles (takes values r p)
-takes_roles r p h = by p.agenda
-  where
-    by : (ds : List Duty) → HasRoles (settled (answers values ds r p).agenda (answers values ds r p))
-    by [] = settled_roles p.agenda p h
-    by (d ∷ ds) = settled_roles (answered values d r p).agenda (answered values d r p) (answered_roles d r p h)
+takes_roles r p h = takes_lasts (λ p q. HasRoles p → HasRoles q) roles_last values r p (λ d h. answered_roles d r p h) h
 
 pub begins_roles : (p : PathState Carried) → HasRoles p → HasRoles (begins_turn p)
-begins_roles p h = settled_roles start_of_turn (with_agenda start_of_turn p) (agenda_roles start_of_turn p h)
+begins_roles p h = begins_lasts (λ p q. HasRoles p → HasRoles q) roles_last p h

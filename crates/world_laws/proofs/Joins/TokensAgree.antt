@@ -7,9 +7,6 @@ use Rattle.std.specs.List.{slice_get}
 use Rattle.std.specs.Option.{IfSome}
 use Rattle.sides.specs.declared.side.Side.{Side}
 use Rattle.sides.specs.declared.side.Side.TheVariants.{A, B}
-use Rattle.subflow_send.specs.Records.{Record}
-use Rattle.loss_recovery.specs.declared.windows.Pending.{Pending}
-use Rattle.join_handshake.specs.declared.hearing.JoinSyn.{JoinSyn}
 use Rattle.key_material.specs.declared.address.Address.{Address}
 use Rattle.address_manager.specs.declared.manager.Heard.{Heard as AddressHeard}
 use Rattle.address_manager.specs.declared.manager.Heard.TheVariants as address_said
@@ -41,23 +38,14 @@ use Rattle.path_agenda.specs.Items.{key_heard, keys_heard}
 use Rattle.path_agenda.specs.declared.duty.Duty.{Duty}
 use Rattle.path_agenda.specs.declared.duty.Duty.TheVariants as duties
 use Rattle.path_agenda.specs.declared.duty.AskDuty.TheVariants as ask_duties
-use Rattle.path_agenda.specs.declared.duty.SendDuty.TheVariants as send_duties
-use Rattle.path_agenda.specs.declared.duty.SilentDuty.TheVariants as silent_duties
 use Rattle.path_agenda.specs.declared.duty.StepDuty.TheVariants as step_duties
 use Rattle.path_agenda.specs.declared.heard.Heard.{Heard}
 use Rattle.path_agenda.specs.declared.heard.Heard.TheVariants as says
 use Rattle.path_agenda.specs.declared.keys.KeyPair.{KeyPair}
-use Rattle.path_rules.specs.declared.event.Event.{Event}
-use Rattle.path_rules.specs.declared.event.Event.TheVariants as happening
 use Rattle.path_rules.specs.Breaking.{break_ask, reset_of}
 use Rattle.path_rules.specs.Duties.{ask_for}
-use Rattle.path_rules.specs.Emission.{first_unsent, data_ask}
-use Rattle.path_rules.specs.Events.{next_event, step_for}
-use Rattle.path_rules.specs.Joining.{asked_at, join_heard_ask}
 use Rattle.path_rules.specs.Joins.{is_joined}
 use Rattle.path_rules.specs.Opening.{peer_key_ask, opened_ask}
-use Rattle.path_rules.specs.Passing.{piece_of, piece_ask, data_fin_of, fin_ask, plain_fin, rate_ask}
-use Rattle.path_rules.specs.Deliver.{Piece}
 use Rattle.path_rules.specs.Handover.{sends}
 use Rattle.path_rules.specs.Standing.{ack_out_ask}
 use Rattle.path_rules.specs.Starts.{waiting_path}
@@ -86,12 +74,14 @@ use Rattle.world_laws.proofs.Keys.AnswerHeardFirst.{is_sign_duty, signs}
 use Rattle.world_laws.proofs.Keys.LearnedByA.{mode_told, ModeGains, FellGains, CallGains, Gains, PathMet, more_met}
 use Rattle.world_laws.proofs.Keys.RepliesKeep.{takes_met, begun_turn}
 use Rattle.world_laws.proofs.Keys.WhatWakes.{Voice, is_said_by, speaks}
-use Rattle.world_laws.proofs.Falls.FailedChecks.{fail_asks_so, subflow_acks_so}
+use Rattle.world_laws.proofs.Falls.FailedChecks.{fail_asks_so}
 use Rattle.world_laws.proofs.Keys.Held.{IsSign}
 use Rattle.world_laws.proofs.Rounds.Frame.{takes_keeps, first_keeps}
 use Rattle.world_laws.proofs.Keys.ToldAreOwn.{MemberIs, WorldIs, KeysAsk, member_asks_are, turn_keys, opened_keys, joins_untold}
 use Rattle.world_laws.proofs.Worlds.Opened.{opened_actors}
 use Rattle.world_laws.proofs.Promises.NoSuchNote.{NoneTold, from_each, turn_none, opened_none}
+use Rattle.world_laws.specs.Asking.{May, may, asking}
+use Rattle.world_laws.proofs.Writes.Asks.{asks_no_more}
 
 -- ---- who tells a sign
 
@@ -106,21 +96,16 @@ abbrev is_fell : Ask → Bool
 is_fell (asks.Control A (control_calls.Fell path event)) = is_sign event
 is_fell _ = false
 
+none_told : (m : May) → m.fell ≡ false → (x : Ask) → may m x ≡ true → is_fell x ≡ false
+none_told m off (asks.Control A (control_calls.Fell path event)) is = absurd (false≢true (sym off ∙ is))
+none_told m off (asks.Control A _) is = refl
+none_told m off (asks.Control B call) is = refl
+none_told m off _ is = refl
+
 module _ (p : PathState Carried) where
   no_fell : (s : Side) (event : FallEvent) → is_sign event ≡ false → is_fell (fell_ask s event p) ≡ false
   no_fell A event none = none
   no_fell B event none = refl
-
-  no_data : (s : Side) (o : Option Record) → is_fell (data_ask values s o p) ≡ false
-  no_data s None = refl
-  no_data s (Some r) = refl
-
-  no_step : (o : Option Event) → is_fell (step_for p.link.path o) ≡ false
-  no_step None = refl
-  no_step (Some (happening.Joins tick)) = refl
-  no_step (Some (happening.Takes line)) = refl
-  no_step (Some (happening.Arrives due)) = refl
-  no_step (Some (happening.Fires s tick)) = refl
 
   no_key : (s : Side) (o : Option ℕ) → is_fell (peer_key_ask s o p) ≡ false
   no_key A None = refl
@@ -133,12 +118,6 @@ module _ (p : PathState Carried) where
   no_keys A (Some keys) = refl
   no_keys B None = refl
   no_keys B (Some keys) = refl
-
-  no_join : (s : Side) (o : Option JoinSyn) → is_fell (join_heard_ask s o p) ≡ false
-  no_join A None = refl
-  no_join A (Some asked) = refl
-  no_join B None = refl
-  no_join B (Some asked) = refl
 
   no_break : (s : Side) (reason : ℕ) → is_fell (break_ask values s reason p) ≡ false
   no_break s reason = by (end_at s p).treated.asked
@@ -166,55 +145,19 @@ module _ (p : PathState Carried) where
   no_item (Some says.Fail) = fail_asks_so (λ x. is_fell x ≡ false) B p refl refl
   no_item _ = refl
 
-  no_piece : (s : Side) (o : Option Piece) → is_fell (piece_ask s o) ≡ false
-  no_piece s None = refl
-  no_piece s (Some piece) = refl
-
-  no_fin : (s : Side) (o : Option ℕ) → is_fell (fin_ask s o) ≡ false
-  no_fin s None = refl
-  no_fin s (Some place) = refl
-
-  no_rate : (s : Side) (o : Option Pending) → is_fell (rate_ask s o p) ≡ false
-  no_rate A None = refl
-  no_rate A (Some pending) = refl
-  no_rate B None = refl
-  no_rate B (Some pending) = refl
-
-  -- what isn't a sign's duty tells none
   fell_signs : (d : Duty) → is_sign_duty d ≡ false → is_fell (ask_for values d p) ≡ false
-  fell_signs (duties.Step (step_duties.Look A)) none = refl
-  fell_signs (duties.Step (step_duties.Look B)) none = refl
-  fell_signs (duties.Send (send_duties.Update s)) none = refl
-  fell_signs (duties.Step (step_duties.Data s)) none = no_data s (first_unsent (end_at s p))
-  fell_signs (duties.Silent (silent_duties.Timer s)) none = refl
-  fell_signs (duties.Step step_duties.Events) none = no_step (next_event p)
   fell_signs (duties.Ask (ask_duties.PlainHandshake s)) none = no_fell s events.PlainHandshake refl
   fell_signs (duties.Ask (ask_duties.PeerKey s)) none = no_key s (key_heard (end_at s p).treated.items)
-  fell_signs (duties.Ask (ask_duties.JoinHeard s)) none = no_join s (asked_at s p)
   fell_signs (duties.Ask (ask_duties.Opened s)) none = no_keys s (keys_heard (end_at s p).treated.items)
-  fell_signs (duties.Ask (ask_duties.Live A)) none = refl
-  fell_signs (duties.Ask (ask_duties.Live B)) none = refl
   fell_signs (duties.Step (step_duties.Heard A index)) none = absurd (false≢true (sym none))
   fell_signs (duties.Step (step_duties.Heard B index)) none = no_item (item_of index (end_at B p))
   fell_signs (duties.Ask (ask_duties.AckHeard A)) none = absurd (false≢true (sym none))
   fell_signs (duties.Ask (ask_duties.AckHeard B)) none = refl
   fell_signs (duties.Ask (ask_duties.FailHeard s)) none = no_fell s (events.FailHeard (is_some (end_at s p).treated.infinite_mapping)) refl
   fell_signs (duties.Step (step_duties.PlainAck s)) none = no_plain_ack s
-  fell_signs (duties.Ask (ask_duties.SubflowAck s)) none = subflow_acks_so (λ x. is_fell x ≡ false) s (end_at s p) refl (λ next. refl)
   fell_signs (duties.Ask (ask_duties.PlainData s)) none = no_fell s events.PlainData refl
-  fell_signs (duties.Step (step_duties.Unmapped s)) none = no_break s 6
-  fell_signs (duties.Ask (ask_duties.SubflowFin s)) none = no_fin s (plain_fin (end_at s p))
-  fell_signs (duties.Ask (ask_duties.Edge s)) none = no_piece s (piece_of s p)
   fell_signs (duties.Ask (ask_duties.CheckFailed s)) none = no_fell s events.CheckFailed refl
-  fell_signs (duties.Ask (ask_duties.HeardFin s index)) none = no_fin s (data_fin_of index (end_at s p))
-  fell_signs (duties.Ask (ask_duties.Rate s)) none = no_rate s (end_at s p).tcp.congestion.pending
-  fell_signs (duties.Ask (ask_duties.Announce A id)) none = refl
-  fell_signs (duties.Ask (ask_duties.Announce B id)) none = refl
-  fell_signs (duties.Ask (ask_duties.Withdraw A id)) none = refl
-  fell_signs (duties.Ask (ask_duties.Withdraw B id)) none = refl
-  fell_signs (duties.Ask (ask_duties.Dead A)) none = refl
-  fell_signs (duties.Ask (ask_duties.Dead B)) none = refl
-  fell_signs _ none = refl
+  fell_signs d none = none_told (asking d) refl (ask_for values d p) (asks_no_more values p d).kind
 
   -- so the path has a sign's duty where it tells one
   asked_sign : (T : Type 0) (x : Ask) → asks_of values p ≡ Some x → is_fell x ≡ true → (signs p.agenda ≡ true → T) → T

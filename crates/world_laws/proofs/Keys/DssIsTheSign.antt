@@ -393,55 +393,10 @@ module _ {C : Type 0} where
       }) h
   passed_leads (duties.Ask (ask_duties.AckHeard A)) ds p h none = goes_led (duties.Ask (ask_duties.AckHeard A)) ds p p ds (λ is. is, λ is. is) (record { recalls = recalls_all _ _ refl; follows = λ n f. absurd f }) h
   passed_leads (duties.Ask (ask_duties.AckHeard B)) ds p h none = goes_led (duties.Ask (ask_duties.AckHeard B)) ds p p ds (λ is. is, λ is. is) (record { recalls = recalls_all _ _ refl; follows = λ n f. f }) h
-  passed_leads (duties.Ask ask_duties.JoinAgain) ds p h none = goes_led (duties.Ask ask_duties.JoinAgain) ds p p ds (λ is. is, λ is. is) (record { recalls = recalls_all _ _ refl; follows = λ n f. f }) h
-  passed_leads (duties.Step (step_duties.Look s)) ds p h none = goes_led (duties.Step (step_duties.Look s)) ds p p ds (λ is. is, λ is. is) (record { recalls = recalls_all _ _ refl; follows = λ n f. f }) h
-  passed_leads (duties.Ask (ask_duties.Window s)) ds p h none = goes_led (duties.Ask (ask_duties.Window s)) ds p p ds (λ is. is, λ is. is) (record { recalls = recalls_all _ _ refl; follows = λ n f. f }) h
   passed_leads (duties.Send (send_duties.Update s)) ds p h none = goes_led (duties.Send (send_duties.Update s)) ds p p ds (λ is. is, λ is. is) (record { recalls = recalls_all _ _ refl; follows = λ n f. f }) h
-  passed_leads (duties.Send (send_duties.FastClose s)) ds p h none = goes_led (duties.Send (send_duties.FastClose s)) ds p p ds (λ is. is, λ is. is) (record { recalls = recalls_all _ _ refl; follows = λ n f. f }) h
-  passed_leads (duties.Send (send_duties.Notice s)) ds p h none = goes_led (duties.Send (send_duties.Notice s)) ds p p ds (λ is. is, λ is. is) (record { recalls = recalls_all _ _ refl; follows = λ n f. f }) h
-  passed_leads (duties.Send (send_duties.Syn s)) ds p h none = goes_led (duties.Send (send_duties.Syn s)) ds p p ds (λ is. is, λ is. is) (record { recalls = recalls_all _ _ refl; follows = λ n f. f }) h
-  passed_leads (duties.Step (step_duties.Data s)) ds p h none = goes_led (duties.Step (step_duties.Data s)) ds p p ds (λ is. is, λ is. is) (record { recalls = recalls_all _ _ refl; follows = λ n f. f }) h
-  passed_leads (duties.Send (send_duties.DataFin s)) ds p h none = goes_led (duties.Send (send_duties.DataFin s)) ds p p ds (λ is. is, λ is. is) (record { recalls = recalls_all _ _ refl; follows = λ n f. f }) h
-  passed_leads (duties.Send (send_duties.Fin s)) ds p h none = goes_led (duties.Send (send_duties.Fin s)) ds p p ds (λ is. is, λ is. is) (record { recalls = recalls_all _ _ refl; follows = λ n f. f }) h
-  passed_leads (duties.Step step_duties.Events) ds p h none = goes_led (duties.Step step_duties.Events) ds p p ds (λ is. is, λ is. is) (record { recalls = recalls_all _ _ refl; follows = λ n f. f }) h
-  passed_leads (duties.Ask (ask_duties.SynHeard s)) ds p h none = goes_led (duties.Ask (ask_duties.SynHeard s)) ds p p ds (λ is. is, λ is. is) (record { recalls = recalls_all _ _ refl; follows = λ n f. f }) h
-  passed_leads (duties.Ask (ask_duties.SynAnswered s)) ds p h none = goes_led (duties.Ask (ask_duties.SynAnswered s)) ds p p ds (λ is. is, λ is. is) (record { recalls = recalls_all _ _ refl; follows = λ n f. f }) h
-  passed_leads (duties.Ask (ask_duties.PeerKey s)) ds p h none = goes_led (duties.Ask (ask_duties.PeerKey s)) ds p p ds (λ is. is, λ is. is) (record { recalls = recalls_all _ _ refl; follows = λ n f. f }) h
-  passed_leads (duties.Send (send_duties.SynAck s)) ds p h none = goes_led (duties.Send (send_duties.SynAck s)) ds p p ds (λ is. is, λ is. is) (record { recalls = recalls_all _ _ refl; follows = λ n f. f }) h
-  passed_leads (duties.Ask (ask_duties.JoinHeard s)) ds p h none = goes_led (duties.Ask (ask_duties.JoinHeard s)) ds p p ds (λ is. is, λ is. is) (record { recalls = recalls_all _ _ refl; follows = λ n f. f }) h
-  passed_leads (duties.Send (send_duties.Refuse s)) ds p h none = goes_led (duties.Send (send_duties.Refuse s)) ds p p ds (λ is. is, λ is. is) (record { recalls = recalls_all _ _ refl; follows = λ n f. f }) h
-  passed_leads (duties.Ask (ask_duties.Opened s)) ds p h none = goes_led (duties.Ask (ask_duties.Opened s)) ds p p ds (λ is. is, λ is. is) (record { recalls = recalls_all _ _ refl; follows = λ n f. f }) h
-  passed_leads (duties.Ask (ask_duties.Live s)) ds p h none = goes_led (duties.Ask (ask_duties.Live s)) ds p p ds (λ is. is, λ is. is) (record { recalls = recalls_all _ _ refl; follows = λ n f. f }) h
   passed_leads (duties.Step (step_duties.PlainAck s)) ds p h none = goes_led (duties.Step (step_duties.PlainAck s)) ds p _ ds (passed_clear (duties.Step (step_duties.PlainAck s)) p).a (record { recalls = side_recalls s _ p _ (recalls_all _ _ refl) refl; follows = λ n f. f }) h
   passed_leads (duties.Step (step_duties.Unmapped s)) ds p h none = goes_led (duties.Step (step_duties.Unmapped s)) ds p _ ds (passed_clear (duties.Step (step_duties.Unmapped s)) p).a (record { recalls = side_recalls s _ p _ (recalls_all _ _ refl) refl; follows = λ n f. f }) h
-  passed_leads (duties.Ask (ask_duties.PlainHandshake s)) ds p h none = goes_led (duties.Ask (ask_duties.PlainHandshake s)) ds p p ds (λ is. is, λ is. is) (record { recalls = recalls_all _ _ refl; follows = λ n f. f }) h
-  passed_leads (duties.Ask (ask_duties.FailHeard s)) ds p h none = goes_led (duties.Ask (ask_duties.FailHeard s)) ds p p ds (λ is. is, λ is. is) (record { recalls = recalls_all _ _ refl; follows = λ n f. f }) h
-  passed_leads (duties.Ask (ask_duties.Edge s)) ds p h none = goes_led (duties.Ask (ask_duties.Edge s)) ds p p ds (λ is. is, λ is. is) (record { recalls = recalls_all _ _ refl; follows = λ n f. f }) h
-  passed_leads (duties.Ask (ask_duties.SubflowAck s)) ds p h none = goes_led (duties.Ask (ask_duties.SubflowAck s)) ds p p ds (λ is. is, λ is. is) (record { recalls = recalls_all _ _ refl; follows = λ n f. f }) h
-  passed_leads (duties.Ask (ask_duties.PlainData s)) ds p h none = goes_led (duties.Ask (ask_duties.PlainData s)) ds p p ds (λ is. is, λ is. is) (record { recalls = recalls_all _ _ refl; follows = λ n f. f }) h
-  passed_leads (duties.Ask (ask_duties.GoIdentity s)) ds p h none = goes_led (duties.Ask (ask_duties.GoIdentity s)) ds p p ds (λ is. is, λ is. is) (record { recalls = recalls_all _ _ refl; follows = λ n f. f }) h
-  passed_leads (duties.Ask (ask_duties.SubflowFin s)) ds p h none = goes_led (duties.Ask (ask_duties.SubflowFin s)) ds p p ds (λ is. is, λ is. is) (record { recalls = recalls_all _ _ refl; follows = λ n f. f }) h
-  passed_leads (duties.Ask (ask_duties.HeardFin s index)) ds p h none = goes_led (duties.Ask (ask_duties.HeardFin s index)) ds p p ds (λ is. is, λ is. is) (record { recalls = recalls_all _ _ refl; follows = λ n f. f }) h
-  passed_leads (duties.Ask (ask_duties.AckOut s)) ds p h none = goes_led (duties.Ask (ask_duties.AckOut s)) ds p p ds (λ is. is, λ is. is) (record { recalls = recalls_all _ _ refl; follows = λ n f. f }) h
-  passed_leads (duties.Ask (ask_duties.Rate s)) ds p h none = goes_led (duties.Ask (ask_duties.Rate s)) ds p p ds (λ is. is, λ is. is) (record { recalls = recalls_all _ _ refl; follows = λ n f. f }) h
-  passed_leads (duties.Send (send_duties.Acknowledge s)) ds p h none = goes_led (duties.Send (send_duties.Acknowledge s)) ds p p ds (λ is. is, λ is. is) (record { recalls = recalls_all _ _ refl; follows = λ n f. f }) h
-  passed_leads (duties.Send (send_duties.Again s)) ds p h none = goes_led (duties.Send (send_duties.Again s)) ds p p ds (λ is. is, λ is. is) (record { recalls = recalls_all _ _ refl; follows = λ n f. f }) h
-  passed_leads (duties.Send (send_duties.Answer s)) ds p h none = goes_led (duties.Send (send_duties.Answer s)) ds p p ds (λ is. is, λ is. is) (record { recalls = recalls_all _ _ refl; follows = λ n f. f }) h
-  passed_leads (duties.Send (send_duties.ResetAnswer s)) ds p h none = goes_led (duties.Send (send_duties.ResetAnswer s)) ds p p ds (λ is. is, λ is. is) (record { recalls = recalls_all _ _ refl; follows = λ n f. f }) h
-  passed_leads (duties.Ask (ask_duties.Return s)) ds p h none = goes_led (duties.Ask (ask_duties.Return s)) ds p p ds (λ is. is, λ is. is) (record { recalls = recalls_all _ _ refl; follows = λ n f. f }) h
-  passed_leads (duties.Ask (ask_duties.AbortSend s)) ds p h none = goes_led (duties.Ask (ask_duties.AbortSend s)) ds p p ds (λ is. is, λ is. is) (record { recalls = recalls_all _ _ refl; follows = λ n f. f }) h
-  passed_leads (duties.Ask (ask_duties.AbortReceive s)) ds p h none = goes_led (duties.Ask (ask_duties.AbortReceive s)) ds p p ds (λ is. is, λ is. is) (record { recalls = recalls_all _ _ refl; follows = λ n f. f }) h
-  passed_leads (duties.Ask (ask_duties.Announce s id)) ds p h none = goes_led (duties.Ask (ask_duties.Announce s id)) ds p p ds (λ is. is, λ is. is) (record { recalls = recalls_all _ _ refl; follows = λ n f. f }) h
-  passed_leads (duties.Ask (ask_duties.Withdraw s id)) ds p h none = goes_led (duties.Ask (ask_duties.Withdraw s id)) ds p p ds (λ is. is, λ is. is) (record { recalls = recalls_all _ _ refl; follows = λ n f. f }) h
-  passed_leads (duties.Send (send_duties.Resend s)) ds p h none = goes_led (duties.Send (send_duties.Resend s)) ds p p ds (λ is. is, λ is. is) (record { recalls = recalls_all _ _ refl; follows = λ n f. f }) h
-  passed_leads (duties.Ask (ask_duties.BreakAck s reason)) ds p h none = goes_led (duties.Ask (ask_duties.BreakAck s reason)) ds p p ds (λ is. is, λ is. is) (record { recalls = recalls_all _ _ refl; follows = λ n f. f }) h
-  passed_leads (duties.Send (send_duties.BreakReset s reason)) ds p h none = goes_led (duties.Send (send_duties.BreakReset s reason)) ds p p ds (λ is. is, λ is. is) (record { recalls = recalls_all _ _ refl; follows = λ n f. f }) h
-  passed_leads (duties.Send (send_duties.Reset s)) ds p h none = goes_led (duties.Send (send_duties.Reset s)) ds p p ds (λ is. is, λ is. is) (record { recalls = recalls_all _ _ refl; follows = λ n f. f }) h
-  passed_leads (duties.Send (send_duties.ResetNoted s)) ds p h none = goes_led (duties.Send (send_duties.ResetNoted s)) ds p p ds (λ is. is, λ is. is) (record { recalls = recalls_all _ _ refl; follows = λ n f. f }) h
-  passed_leads (duties.Ask (ask_duties.Leave s)) ds p h none = goes_led (duties.Ask (ask_duties.Leave s)) ds p p ds (λ is. is, λ is. is) (record { recalls = recalls_all _ _ refl; follows = λ n f. f }) h
-  passed_leads (duties.Ask (ask_duties.LeaveNoted s)) ds p h none = goes_led (duties.Ask (ask_duties.LeaveNoted s)) ds p p ds (λ is. is, λ is. is) (record { recalls = recalls_all _ _ refl; follows = λ n f. f }) h
-  passed_leads (duties.Ask (ask_duties.Dead s)) ds p h none = goes_led (duties.Ask (ask_duties.Dead s)) ds p p ds (λ is. is, λ is. is) (record { recalls = recalls_all _ _ refl; follows = λ n f. f }) h
-  passed_leads duties.End ds p h none = goes_led duties.End ds p p ds (λ is. is, λ is. is) (record { recalls = recalls_all _ _ refl; follows = λ n f. f }) h
+  passed_leads d ds p h none = goes_led d ds p p ds (λ is. is, λ is. is) (record { recalls = recalls_all _ _ refl; follows = λ n f. f }) h
 
   agenda_leads : (ds : List Duty) (p : PathState C) → Leads ds p → Leads ds (with_agenda ds p)
   agenda_leads ds p h = record {
@@ -635,19 +590,7 @@ module _ {C : Type 0} where
   answered_goes k (duties.Send (send_duties.ResetAnswer s)) other ds r p = record { recalls = side_recalls s _ (with_agenda (duties.Send (send_duties.ResetAnswer s) ∷ ds) p) _ (recalls_all _ _ refl) refl; follows = λ n f. f }
   answered_goes k (duties.Send (send_duties.Resend s)) other ds r p = record { recalls = side_recalls s _ (with_agenda (duties.Send (send_duties.Resend s) ∷ ds) p) _ (recalls_all _ _ refl) refl; follows = λ n f. f }
   answered_goes k (duties.Silent (silent_duties.Timer s)) other ds r p = record { recalls = recalls_all _ _ refl; follows = λ n f. f }
-  answered_goes k (duties.Ask (ask_duties.SynHeard s)) other ds r p = record { recalls = recalls_all _ _ refl; follows = λ n f. f }
-  answered_goes k (duties.Ask (ask_duties.SynAnswered s)) other ds r p = record { recalls = recalls_all _ _ refl; follows = λ n f. f }
-  answered_goes k (duties.Ask (ask_duties.Live s)) other ds r p = record { recalls = recalls_all _ _ refl; follows = λ n f. f }
-  answered_goes k (duties.Silent (silent_duties.Keep s)) other ds r p = record { recalls = recalls_all _ _ refl; follows = λ n f. f }
-  answered_goes k (duties.Silent (silent_duties.PassFin s)) other ds r p = record { recalls = recalls_all _ _ refl; follows = λ n f. f }
-  answered_goes k (duties.Ask (ask_duties.Return s)) other ds r p = record { recalls = recalls_all _ _ refl; follows = λ n f. f }
-  answered_goes k (duties.Ask (ask_duties.AbortSend s)) other ds r p = record { recalls = recalls_all _ _ refl; follows = λ n f. f }
-  answered_goes k (duties.Ask (ask_duties.AbortReceive s)) other ds r p = record { recalls = recalls_all _ _ refl; follows = λ n f. f }
-  answered_goes k (duties.Ask (ask_duties.Announce s id)) other ds r p = record { recalls = recalls_all _ _ refl; follows = λ n f. f }
-  answered_goes k (duties.Ask (ask_duties.Withdraw s id)) other ds r p = record { recalls = recalls_all _ _ refl; follows = λ n f. f }
-  answered_goes k (duties.Ask (ask_duties.Leave s)) other ds r p = record { recalls = recalls_all _ _ refl; follows = λ n f. f }
   answered_goes k (duties.Ask (ask_duties.LeaveNoted s)) other ds r p = record { recalls = side_recalls s _ (with_agenda (duties.Ask (ask_duties.LeaveNoted s) ∷ ds) p) _ (forgets _ _ refl) refl; follows = λ n f. f }
-  answered_goes k (duties.Ask (ask_duties.Dead s)) other ds r p = record { recalls = recalls_all _ _ refl; follows = λ n f. f }
   answered_goes k duties.End other ds r p = record { recalls = recalls_all _ _ refl; follows = λ n f. tt }
   answered_goes k (duties.Ask (ask_duties.BreakAck s reason)) other ds r p = record { recalls = side_recalls s _ (with_agenda (duties.Ask (ask_duties.BreakAck s reason) ∷ ds) p) _ (recalls_all _ _ refl) refl; follows = λ n f. tt }
   answered_goes k (duties.Send (send_duties.BreakReset s reason)) other ds r p = record { recalls = side_recalls s _ (with_agenda (duties.Send (send_duties.BreakReset s reason) ∷ ds) p) _ (forgets _ _ refl) refl; follows = λ n f. tt }
@@ -680,6 +623,7 @@ module _ {C : Type 0} where
   answered_goes k (duties.Ask (ask_duties.AckHeard B)) other ds r p = event_goes B (duties.Ask (ask_duties.AckHeard B)) events.AckHeard ds r p (λ n f. f)
   answered_goes k (duties.Step (step_duties.Heard A index)) other ds r p = absurd other
   answered_goes k (duties.Step (step_duties.Heard B index)) other ds r p = heard_goes k index ds r p (item_of index p.b)
+  answered_goes k _ other ds r p = record { recalls = recalls_all _ _ refl; follows = λ n f. f }
 
   -- a thing that was said to A
   heard_recalls : (k : Codec C) (index : ℕ) (ds : List Duty) (r : Reply) (p : PathState C) (o : Option Heard)
@@ -760,61 +704,12 @@ module _ {C : Type 0} where
           → let m = with_agenda (duties.Step (step_duties.Heard A index) ∷ ds) p in let q = answered_item k A (if b then None else item_at index p.a.treated.items) r m in (q.a.modes.clear ≡ true) ⊎ IsUnclear q.agenda q
       by true plain stands_so u = absurd (false≢true stands_so)
       by false above stands_so u = heard_unclear k index ds r p above (item_at index p.a.treated.items) refl stands_so h.led u
-  answered_leads k (duties.Ask ask_duties.JoinAgain) ds r p is h = other_leads k (duties.Ask ask_duties.JoinAgain) tt ds r p h
-  answered_leads k (duties.Step (step_duties.Look s)) ds r p is h = other_leads k (duties.Step (step_duties.Look s)) tt ds r p h
-  answered_leads k (duties.Ask (ask_duties.Window s)) ds r p is h = other_leads k (duties.Ask (ask_duties.Window s)) tt ds r p h
   answered_leads k (duties.Send (send_duties.Update s)) ds r p is h = other_leads k (duties.Send (send_duties.Update s)) tt ds r p h
-  answered_leads k (duties.Send (send_duties.FastClose s)) ds r p is h = other_leads k (duties.Send (send_duties.FastClose s)) tt ds r p h
-  answered_leads k (duties.Send (send_duties.Notice s)) ds r p is h = other_leads k (duties.Send (send_duties.Notice s)) tt ds r p h
-  answered_leads k (duties.Send (send_duties.Syn s)) ds r p is h = other_leads k (duties.Send (send_duties.Syn s)) tt ds r p h
-  answered_leads k (duties.Step (step_duties.Data s)) ds r p is h = other_leads k (duties.Step (step_duties.Data s)) tt ds r p h
-  answered_leads k (duties.Send (send_duties.DataFin s)) ds r p is h = other_leads k (duties.Send (send_duties.DataFin s)) tt ds r p h
-  answered_leads k (duties.Send (send_duties.Fin s)) ds r p is h = other_leads k (duties.Send (send_duties.Fin s)) tt ds r p h
   answered_leads k (duties.Silent (silent_duties.Timer s)) ds r p is h = other_leads k (duties.Silent (silent_duties.Timer s)) tt ds r p h
-  answered_leads k (duties.Ask (ask_duties.SynHeard s)) ds r p is h = other_leads k (duties.Ask (ask_duties.SynHeard s)) tt ds r p h
-  answered_leads k (duties.Ask (ask_duties.SynAnswered s)) ds r p is h = other_leads k (duties.Ask (ask_duties.SynAnswered s)) tt ds r p h
-  answered_leads k (duties.Ask (ask_duties.PeerKey s)) ds r p is h = other_leads k (duties.Ask (ask_duties.PeerKey s)) tt ds r p h
-  answered_leads k (duties.Send (send_duties.SynAck s)) ds r p is h = other_leads k (duties.Send (send_duties.SynAck s)) tt ds r p h
-  answered_leads k (duties.Ask (ask_duties.JoinHeard s)) ds r p is h = other_leads k (duties.Ask (ask_duties.JoinHeard s)) tt ds r p h
-  answered_leads k (duties.Send (send_duties.Refuse s)) ds r p is h = other_leads k (duties.Send (send_duties.Refuse s)) tt ds r p h
-  answered_leads k (duties.Ask (ask_duties.Opened s)) ds r p is h = other_leads k (duties.Ask (ask_duties.Opened s)) tt ds r p h
-  answered_leads k (duties.Ask (ask_duties.Live s)) ds r p is h = other_leads k (duties.Ask (ask_duties.Live s)) tt ds r p h
   answered_leads k (duties.Ask (ask_duties.AckHeard A)) ds r p is h = other_leads k (duties.Ask (ask_duties.AckHeard A)) tt ds r p h
   answered_leads k (duties.Ask (ask_duties.AckHeard B)) ds r p is h = other_leads k (duties.Ask (ask_duties.AckHeard B)) tt ds r p h
-  answered_leads k (duties.Step (step_duties.PlainAck s)) ds r p is h = other_leads k (duties.Step (step_duties.PlainAck s)) tt ds r p h
-  answered_leads k (duties.Ask (ask_duties.PlainHandshake s)) ds r p is h = other_leads k (duties.Ask (ask_duties.PlainHandshake s)) tt ds r p h
-  answered_leads k (duties.Ask (ask_duties.SubflowAck s)) ds r p is h = other_leads k (duties.Ask (ask_duties.SubflowAck s)) tt ds r p h
-  answered_leads k (duties.Ask (ask_duties.FailHeard s)) ds r p is h = other_leads k (duties.Ask (ask_duties.FailHeard s)) tt ds r p h
-  answered_leads k (duties.Ask (ask_duties.PlainData s)) ds r p is h = other_leads k (duties.Ask (ask_duties.PlainData s)) tt ds r p h
-  answered_leads k (duties.Ask (ask_duties.GoIdentity s)) ds r p is h = other_leads k (duties.Ask (ask_duties.GoIdentity s)) tt ds r p h
-  answered_leads k (duties.Step (step_duties.Unmapped s)) ds r p is h = other_leads k (duties.Step (step_duties.Unmapped s)) tt ds r p h
-  answered_leads k (duties.Ask (ask_duties.SubflowFin s)) ds r p is h = other_leads k (duties.Ask (ask_duties.SubflowFin s)) tt ds r p h
-  answered_leads k (duties.Silent (silent_duties.Keep s)) ds r p is h = other_leads k (duties.Silent (silent_duties.Keep s)) tt ds r p h
-  answered_leads k (duties.Ask (ask_duties.Edge s)) ds r p is h = other_leads k (duties.Ask (ask_duties.Edge s)) tt ds r p h
-  answered_leads k (duties.Ask (ask_duties.CheckFailed s)) ds r p is h = other_leads k (duties.Ask (ask_duties.CheckFailed s)) tt ds r p h
-  answered_leads k (duties.Ask (ask_duties.HeardFin s index)) ds r p is h = other_leads k (duties.Ask (ask_duties.HeardFin s index)) tt ds r p h
-  answered_leads k (duties.Silent (silent_duties.PassFin s)) ds r p is h = other_leads k (duties.Silent (silent_duties.PassFin s)) tt ds r p h
-  answered_leads k (duties.Ask (ask_duties.AckOut s)) ds r p is h = other_leads k (duties.Ask (ask_duties.AckOut s)) tt ds r p h
-  answered_leads k (duties.Ask (ask_duties.Rate s)) ds r p is h = other_leads k (duties.Ask (ask_duties.Rate s)) tt ds r p h
-  answered_leads k (duties.Send (send_duties.Acknowledge s)) ds r p is h = other_leads k (duties.Send (send_duties.Acknowledge s)) tt ds r p h
-  answered_leads k (duties.Send (send_duties.Again s)) ds r p is h = other_leads k (duties.Send (send_duties.Again s)) tt ds r p h
-  answered_leads k (duties.Send (send_duties.Answer s)) ds r p is h = other_leads k (duties.Send (send_duties.Answer s)) tt ds r p h
-  answered_leads k (duties.Send (send_duties.ResetAnswer s)) ds r p is h = other_leads k (duties.Send (send_duties.ResetAnswer s)) tt ds r p h
-  answered_leads k (duties.Ask (ask_duties.Return s)) ds r p is h = other_leads k (duties.Ask (ask_duties.Return s)) tt ds r p h
-  answered_leads k (duties.Ask (ask_duties.AbortSend s)) ds r p is h = other_leads k (duties.Ask (ask_duties.AbortSend s)) tt ds r p h
-  answered_leads k (duties.Ask (ask_duties.AbortReceive s)) ds r p is h = other_leads k (duties.Ask (ask_duties.AbortReceive s)) tt ds r p h
-  answered_leads k (duties.Ask (ask_duties.Announce s id)) ds r p is h = other_leads k (duties.Ask (ask_duties.Announce s id)) tt ds r p h
-  answered_leads k (duties.Ask (ask_duties.Withdraw s id)) ds r p is h = other_leads k (duties.Ask (ask_duties.Withdraw s id)) tt ds r p h
-  answered_leads k (duties.Send (send_duties.Resend s)) ds r p is h = other_leads k (duties.Send (send_duties.Resend s)) tt ds r p h
-  answered_leads k (duties.Ask (ask_duties.BreakAck s reason)) ds r p is h = other_leads k (duties.Ask (ask_duties.BreakAck s reason)) tt ds r p h
-  answered_leads k (duties.Send (send_duties.BreakReset s reason)) ds r p is h = other_leads k (duties.Send (send_duties.BreakReset s reason)) tt ds r p h
-  answered_leads k (duties.Send (send_duties.Reset s)) ds r p is h = other_leads k (duties.Send (send_duties.Reset s)) tt ds r p h
-  answered_leads k (duties.Send (send_duties.ResetNoted s)) ds r p is h = other_leads k (duties.Send (send_duties.ResetNoted s)) tt ds r p h
-  answered_leads k (duties.Ask (ask_duties.Leave s)) ds r p is h = other_leads k (duties.Ask (ask_duties.Leave s)) tt ds r p h
-  answered_leads k (duties.Ask (ask_duties.LeaveNoted s)) ds r p is h = other_leads k (duties.Ask (ask_duties.LeaveNoted s)) tt ds r p h
-  answered_leads k (duties.Ask (ask_duties.Dead s)) ds r p is h = other_leads k (duties.Ask (ask_duties.Dead s)) tt ds r p h
-  answered_leads k duties.End ds r p is h = other_leads k duties.End tt ds r p h
   answered_leads k (duties.Step (step_duties.Heard B index)) ds r p is h = other_leads k (duties.Step (step_duties.Heard B index)) tt ds r p h
+  answered_leads k d ds r p is h = other_leads k d tt ds r p h
 
   -- a path on which each sign of Multipath TCP that A hears comes behind a DSS
   abbrev pub LeadsWell : PathState C → Type 0

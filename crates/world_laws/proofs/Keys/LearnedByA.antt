@@ -259,7 +259,6 @@ module _ (T : Type 0) where
   passed_met (duties.Step (step_duties.Unmapped s)) ds p h = put_met s (after_pieces (end_at s p)) ds p (same_goes s (after_pieces (end_at s p)) p refl refl) h
   passed_met (duties.Ask (ask_duties.CheckFailed s)) ds p h = put_met s (after_check p.profile (end_at s p)) ds p (edge_goes s p.profile.spelling.checksums (mapping_here (end_at s p)) p) h
   passed_met (duties.Silent (silent_duties.PassFin s)) ds p h = put_met s (after_pass_fin (end_at s p)) ds p (fin_goes s (is_fin_next (end_at s p).tcp) p) h
-  passed_met (duties.Ask ask_duties.JoinAgain) ds p h = h
   passed_met _ ds p h = h
 
   -- the first duty of a list is passed

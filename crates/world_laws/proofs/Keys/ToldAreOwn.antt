@@ -162,39 +162,24 @@ module _ (k : Secrets) (right : Bool) (w : Side → Type 0) (did : Deed → Side
 
   pub asks_are : (d : Duty) → ((x : Voice) → is_said_by x d ≡ true → VoiceIs k right w did p x) → AskIs k right w did (ask_for values d p)
   asks_are (duties.Ask ask_duties.JoinAgain) said = refl
-  asks_are (duties.Step (step_duties.Look s)) said = tt
-  asks_are (duties.Ask (ask_duties.Window s)) said = tt
   asks_are (duties.Send (send_duties.Update s)) said = tt
-  asks_are (duties.Send (send_duties.FastClose s)) said = tt
-  asks_are (duties.Send (send_duties.Notice s)) said = tt
-  asks_are (duties.Send (send_duties.Syn s)) said = tt
   asks_are (duties.Step (step_duties.Data s)) said = data_is s (first_unsent (end_at s p))
-  asks_are (duties.Send (send_duties.DataFin s)) said = tt
-  asks_are (duties.Send (send_duties.Fin s)) said = tt
   asks_are (duties.Silent (silent_duties.Timer s)) said = tt
   asks_are (duties.Step step_duties.Events) said = step_is (next_event p)
-  asks_are (duties.Ask (ask_duties.SynHeard s)) said = tt
-  asks_are (duties.Ask (ask_duties.SynAnswered s)) said = tt
-  asks_are (duties.Ask (ask_duties.PlainHandshake s)) said = tt
   asks_are (duties.Ask (ask_duties.PeerKey s)) said =
       key_is s (key_heard (end_at s p).treated.items) (key_found k right w did (is_joined p.profile) s (end_at s p).treated.items (end_is k right w did s p h).items)
-  asks_are (duties.Send (send_duties.SynAck s)) said = tt
   asks_are (duties.Ask (ask_duties.JoinHeard s)) said = join_asks s (asked_at s p) (asked_is k right w did (is_joined p.profile) s (end_at s p).treated.items (end_is k right w did s p h).items)
-  asks_are (duties.Send (send_duties.Refuse s)) said = tt
   asks_are (duties.Ask (ask_duties.Opened s)) said =
       keys_are s (keys_heard (end_at s p).treated.items) (pair_found k right w did (is_joined p.profile) s (end_at s p).treated.items (end_is k right w did s p h).items)
-  asks_are (duties.Ask (ask_duties.Live s)) said = tt
   asks_are (duties.Step (step_duties.Heard s index)) said =
       item_is s (item_of index (end_at s p)) (item_found k right w did (is_joined p.profile) s index (end_at s p) (end_is k right w did s p h).items)
   asks_are (duties.Step (step_duties.PlainAck s)) said = plain_ack_is s
   asks_are (duties.Ask (ask_duties.SubflowAck s)) said = subflow_acks_so (AskIs k right w did) s (end_at s p) tt (λ next. tt)
   asks_are (duties.Step (step_duties.Unmapped s)) said = break_is s 6
   asks_are (duties.Ask (ask_duties.SubflowFin s)) said = fin_is s (plain_fin (end_at s p))
-  asks_are (duties.Silent (silent_duties.Keep s)) said = tt
   asks_are (duties.Ask (ask_duties.Edge s)) said = piece_is s (piece_of s p)
   asks_are (duties.Ask (ask_duties.HeardFin s index)) said = fin_is s (data_fin_of index (end_at s p))
   asks_are (duties.Ask (ask_duties.Rate s)) said = rate_is s (end_at s p).tcp.congestion.pending
-  asks_are (duties.Send (send_duties.Acknowledge s)) said = tt
   asks_are (duties.Ask (ask_duties.AbortReceive s)) said = λ by_peer. said (Voice.Aborts s) (itself s)
   asks_are _ said = tt
 

@@ -127,7 +127,6 @@ module _ (six : SixBooks) (others : Others) (c : Profile) where
         (check_did c s (pick s ab ba) (pick s ba ab) p.profile.spelling.checksums (mapping_here (end_at s p)) (end_at s p) (side_shows c s p ab ba h))
     passes (duties.Silent (silent_duties.PassFin s)) =
         end_strolled s (after_pass_fin (end_at s p)) (passed_fin c s (pick s ab ba) (pick s ba ab) _ _ (end_at s p) (back_holds six others s ab ba holds) (side_shows c s p ab ba h))
-    passes (duties.Ask ask_duties.JoinAgain) = stays_so c p ab ba h
     passes (duties.Send (send_duties.Update s)) = stays_so c p ab ba h
     passes (duties.Step (step_duties.PlainAck s)) = same_lanes s (with_plain_ack (end_at s p)) (plain_ack_shows c s (pick s ab ba) (pick s ba ab) (end_at s p) (side_shows c s p ab ba h))
     passes (duties.Step (step_duties.Unmapped s)) = same_lanes s (after_pieces (end_at s p)) (unmapped_shows c s (pick s ab ba) (pick s ba ab) (end_at s p) (side_shows c s p ab ba h))

@@ -147,7 +147,6 @@ module _ (six : SixBooks) (others : Others) (p : PathState Carried) (ab ba : Lan
   duty_step (duties.Ask (ask_duties.JoinHeard s)) is calm may firm opens = answering.join_heard_step six others p ab ba h ready s (reply_of six (join_heard_ask s (asked_at s p) p)) may
   duty_step (duties.Send (send_duties.Refuse s)) is calm may firm opens = answering.refuse_step six others p ab ba h ready s
   duty_step (duties.Ask (ask_duties.Opened s)) is calm may firm opens = replying.opened_step six others p ab ba h holds ready s (keys_heard (end_at s p).treated.items)
-  duty_step (duties.Ask (ask_duties.Live s)) is calm may firm opens = answering.agenda_step six others p ab ba h ready _ (left p) tt
   duty_step (duties.Step (step_duties.Heard s index)) is calm may firm opens = replying.item_step six others p ab ba h holds ready s index (λ fail. (opens fail, numbered, short s)) firm is
   duty_step (duties.Ask (ask_duties.AckHeard s)) is calm may firm opens = replying.told_fell six others p ab ba h holds ready s events.AckHeard tt
   duty_step (duties.Ask (ask_duties.CheckFailed s)) is calm may firm opens = replying.check_failed_step six others p ab ba h holds ready s
@@ -158,10 +157,8 @@ module _ (six : SixBooks) (others : Others) (p : PathState Carried) (ab ba : Lan
   duty_step (duties.Ask (ask_duties.GoIdentity s)) is calm may firm opens = replying.identity_step six others p ab ba h holds ready s (plain_unless others.links s six firm may)
   duty_step (duties.Step (step_duties.Unmapped s)) is calm may firm opens = answering.break_step six others p ab ba h ready s 6
   duty_step (duties.Ask (ask_duties.SubflowFin s)) is calm may firm opens = replying.plain_fin_step six others p ab ba h holds ready s (plain_fin (end_at s p)) refl
-  duty_step (duties.Silent (silent_duties.Keep s)) is calm may firm opens = answering.agenda_step six others p ab ba h ready _ (left p) tt
   duty_step (duties.Ask (ask_duties.Edge s)) is calm may firm opens = replying.piece_step six others p ab ba h holds ready s (piece_of s p) refl
   duty_step (duties.Ask (ask_duties.HeardFin s index)) is calm may firm opens = replying.fin_heard_step six others p ab ba h holds ready s index
-  duty_step (duties.Silent (silent_duties.PassFin s)) is calm may firm opens = answering.agenda_step six others p ab ba h ready _ (left p) tt
   duty_step (duties.Ask (ask_duties.AckOut s)) is calm may firm opens = answering.told_step six others p ab ba h ready s (left p)
   duty_step (duties.Ask (ask_duties.Rate s)) is calm may firm opens = replying.rate_step six others p ab ba h holds ready s
   duty_step (duties.Send (send_duties.Acknowledge s)) is calm may firm opens = answering.acknowledges_step six others p ab ba h ready s (calm s refl) (left p)
@@ -171,8 +168,6 @@ module _ (six : SixBooks) (others : Others) (p : PathState Carried) (ab ba : Lan
   duty_step (duties.Ask (ask_duties.Return s)) is calm may firm opens = returns s (left p)
   duty_step (duties.Ask (ask_duties.AbortSend s)) is calm may firm opens = abort_send_side p.profile six others s p (with_agenda (left p) p) ab ba h (done_side s)
   duty_step (duties.Ask (ask_duties.AbortReceive s)) is calm may firm opens = abort_receive_side p.profile six others s p (with_agenda (left p) p) ab ba h (done_side s)
-  duty_step (duties.Ask (ask_duties.Announce s id)) is calm may firm opens = answering.agenda_step six others p ab ba h ready _ (left p) tt
-  duty_step (duties.Ask (ask_duties.Withdraw s id)) is calm may firm opens = answering.agenda_step six others p ab ba h ready _ (left p) tt
   duty_step (duties.Send (send_duties.Resend s)) is calm may firm opens = answering.resend_step six others p ab ba h ready s (calm s refl)
   duty_step (duties.Ask (ask_duties.BreakAck s reason)) is calm may firm opens = answering.told_step six others p ab ba h ready s (resets s reason)
   duty_step (duties.Send (send_duties.BreakReset s reason)) is calm may firm opens = answering.reset_step six others p ab ba h ready s (calm s refl) (Some reason) (leaves s)
@@ -180,5 +175,5 @@ module _ (six : SixBooks) (others : Others) (p : PathState Carried) (ab ba : Lan
   duty_step (duties.Send (send_duties.ResetNoted s)) is calm may firm opens = answering.reset_step six others p ab ba h ready s (calm s refl) None (replaced (duties.Ask (ask_duties.Leave s)) p.agenda)
   duty_step (duties.Ask (ask_duties.Leave s)) is calm may firm opens = returns s (replaced (duties.Ask (ask_duties.Dead s)) p.agenda)
   duty_step (duties.Ask (ask_duties.LeaveNoted s)) is calm may firm opens = leaves_noted s (calm s refl)
-  duty_step (duties.Ask (ask_duties.Dead s)) is calm may firm opens = answering.agenda_step six others p ab ba h ready _ (left p) tt
   duty_step duties.End is calm may firm opens = answering.agenda_step six others p ab ba h ready _ [] tt
+  duty_step _ is calm may firm opens = answering.agenda_step six others p ab ba h ready _ (left p) tt

@@ -694,15 +694,12 @@ module _ (six : SixBooks) (others : Others) (p : PathState Carried) (ab ba : Lan
   duty_tells (duties.Send (send_duties.Fin s)) is fair = fin_due s is
   duty_tells (duties.Silent (silent_duties.Timer s)) is fair = done_tells
   duty_tells (duties.Step step_duties.Events) is fair = events_tell p t (next_event p) (reply_of six (step_for (path_of p) (next_event p))) (step_keys six short.control (path_of p) (next_event p))
-  duty_tells (duties.Ask (ask_duties.SynHeard s)) is fair = done_tells
-  duty_tells (duties.Ask (ask_duties.SynAnswered s)) is fair = done_tells
   duty_tells (duties.Ask (ask_duties.PlainHandshake s)) is fair = fell_told s events.PlainHandshake
   duty_tells (duties.Ask (ask_duties.PeerKey s)) is fair = peer_key_told s (key_heard (end_at s p).treated.items) (heard_key (end_at s p).treated.items (tells s).treated.items)
   duty_tells (duties.Send (send_duties.SynAck s)) is fair = syn_ack_told s (left p) left_fair
   duty_tells (duties.Ask (ask_duties.JoinHeard s)) is fair = join_told s
   duty_tells (duties.Send (send_duties.Refuse s)) is fair = refused_told s
   duty_tells (duties.Ask (ask_duties.Opened s)) is fair = opened_told s (keys_heard (end_at s p).treated.items) (heard_keys (end_at s p).treated.items (tells s).treated.items)
-  duty_tells (duties.Ask (ask_duties.Live s)) is fair = done_tells
   duty_tells (duties.Step (step_duties.Heard s index)) is fair = item_told s index
   duty_tells (duties.Ask (ask_duties.AckHeard s)) is fair = fell_told s events.AckHeard
   duty_tells (duties.Ask (ask_duties.FailHeard s)) is fair = fail_heard_told s
@@ -712,11 +709,9 @@ module _ (six : SixBooks) (others : Others) (p : PathState Carried) (ab ba : Lan
   duty_tells (duties.Ask (ask_duties.GoIdentity s)) is fair = on s (in_identity (end_at s p)) (left p) (rules.identity_tells p.profile s (end_at s p) (tells s)) left_fair
   duty_tells (duties.Step (step_duties.Unmapped s)) is fair = break_told s 6 refl (omega arith)
   duty_tells (duties.Ask (ask_duties.SubflowFin s)) is fair = plain_fin_told s (is_fin_set (reply_of six (fin_ask s (plain_fin (end_at s p)))))
-  duty_tells (duties.Silent (silent_duties.Keep s)) is fair = done_tells
   duty_tells (duties.Ask (ask_duties.Edge s)) is fair = piece_by s (piece_of s p) refl (is_placed (reply_of six (piece_ask s (piece_of s p))))
   duty_tells (duties.Ask (ask_duties.CheckFailed s)) is fair = check_failed_told s
   duty_tells (duties.Ask (ask_duties.HeardFin s index)) is fair = fin_told s (is_fin_set (reply_of six (fin_ask s (data_fin_of index (end_at s p)))))
-  duty_tells (duties.Silent (silent_duties.PassFin s)) is fair = done_tells
   duty_tells (duties.Ask (ask_duties.AckOut s)) is fair = ack_out_told s (left p) left_fair
   duty_tells (duties.Ask (ask_duties.Rate s)) is fair =
       let r : Reply = reply_of six (rate_ask s (end_at s p).tcp.congestion.pending p) in
@@ -725,11 +720,6 @@ module _ (six : SixBooks) (others : Others) (p : PathState Carried) (ab ba : Lan
   duty_tells (duties.Send (send_duties.Again s)) is fair = on_occasion s (first_segment s p) to_send.First (left p) (first_told s) left_fair
   duty_tells (duties.Send (send_duties.Answer s)) is fair = on_occasion s (answer_of s p) (answer_occasion (end_at s p)) (left p) (answer_told s) left_fair
   duty_tells (duties.Send (send_duties.ResetAnswer s)) is fair = dead_told s
-  duty_tells (duties.Ask (ask_duties.Return s)) is fair = done_tells
-  duty_tells (duties.Ask (ask_duties.AbortSend s)) is fair = done_tells
-  duty_tells (duties.Ask (ask_duties.AbortReceive s)) is fair = done_tells
-  duty_tells (duties.Ask (ask_duties.Announce s id)) is fair = done_tells
-  duty_tells (duties.Ask (ask_duties.Withdraw s id)) is fair = done_tells
   duty_tells (duties.Send (send_duties.Resend s)) is fair = on_occasion s (resend_of s p) (resend_occasion (end_at s p)) (left p) (resend_told s) left_fair
   duty_tells (duties.Ask (ask_duties.BreakAck s reason)) is fair = ack_out_told s (resets s reason) (and_from (nat_lt reason 256) true fair refl)
   duty_tells (duties.Send (send_duties.BreakReset s reason)) is fair = reset_told s (Some reason) (leaves s) (ltb-true reason 256 fair) refl
@@ -738,5 +728,5 @@ module _ (six : SixBooks) (others : Others) (p : PathState Carried) (ab ba : Lan
   duty_tells (duties.Ask (ask_duties.Leave s)) is fair = tells_agenda p.profile p t (replaced (duties.Ask (ask_duties.Dead s)) p.agenda) (replaced_fair (duties.Ask (ask_duties.Dead s)) p.agenda refl t.agenda)
   duty_tells (duties.Ask (ask_duties.LeaveNoted s)) is fair =
       on s (died (end_at s p)) (replaced (duties.Ask (ask_duties.Dead s)) p.agenda) (rules.died_tells p.profile s (end_at s p) (tells s)) (replaced_fair (duties.Ask (ask_duties.Dead s)) p.agenda refl t.agenda)
-  duty_tells (duties.Ask (ask_duties.Dead s)) is fair = done_tells
   duty_tells duties.End is fair = tells_agenda p.profile p t [] refl
+  duty_tells _ is fair = done_tells

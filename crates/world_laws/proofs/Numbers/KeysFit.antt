@@ -1,10 +1,9 @@
 -- The keys that control books have, and those that they answer, have 64 bits: each key that a path tells one was heard or drawn.
-use Rattle.std.proofs.Common.{ℕ, ◌<◌, ◌==◌, ◌||◌, not, Bool, true, false, if◌then◌else◌, Option, Some, None, List, arith}
+use Rattle.std.proofs.Common.{◌≡◌, refl, sym, ◌∙◌, ℕ, ◌<◌, ◌==◌, ◌||◌, not, Bool, true, false, if◌then◌else◌, Option, Some, None, List, arith}
 use Rattle.std.specs.Option.{IfSome}
 use Rattle.sides.specs.declared.side.Side.{Side}
 use Rattle.sides.specs.declared.side.Side.TheVariants.{A, B}
 use Rattle.key_material.specs.KeyDigest.{token_of}
-use Rattle.loss_recovery.specs.declared.windows.Pending.{Pending}
 use Rattle.reassembly_book.specs.declared.call.ReassemblyCall.TheVariants as reassembly_calls
 use Rattle.fallback_state.specs.declared.fall.Event.TheVariants as events
 use Rattle.control_book.specs.declared.call.ControlCall.{ControlCall}
@@ -17,7 +16,6 @@ use Rattle.control_book.specs.Registry.{sole, standby}
 use Rattle.control_book.specs.Replies as control
 use Rattle.control_book.specs.Steps as controlling
 use Rattle.control_book.specs.Replies.{address_notice, announcement, carries, look_reply, resets}
-use Rattle.subflow_send.specs.Records.{Record}
 use Rattle.stream_lanes.specs.Words.{Every}
 use Rattle.actor_desk.specs.declared.ask.Ask.{Ask}
 use Rattle.actor_desk.specs.declared.ask.Ask.TheVariants as asks
@@ -27,8 +25,6 @@ use Rattle.join_handshake.specs.declared.hearing.JoinSyn.{JoinSyn}
 use Rattle.path_agenda.specs.declared.duty.Duty.{Duty}
 use Rattle.path_agenda.specs.declared.duty.Duty.TheVariants as duties
 use Rattle.path_agenda.specs.declared.duty.AskDuty.TheVariants as ask_duties
-use Rattle.path_agenda.specs.declared.duty.SendDuty.TheVariants as send_duties
-use Rattle.path_agenda.specs.declared.duty.SilentDuty.TheVariants as silent_duties
 use Rattle.path_agenda.specs.declared.duty.StepDuty.TheVariants as step_duties
 use Rattle.path_agenda.specs.declared.heard.Heard.{Heard}
 use Rattle.path_agenda.specs.declared.heard.Heard.TheVariants as says
@@ -38,15 +34,12 @@ use Rattle.path_rules.specs.declared.event.Event.{Event}
 use Rattle.path_rules.specs.declared.event.Event.TheVariants as happening
 use Rattle.path_rules.specs.Breaking.{break_ask, reset_of}
 use Rattle.path_rules.specs.Duties.{ask_for}
-use Rattle.path_rules.specs.Emission.{first_unsent, data_ask}
-use Rattle.path_rules.specs.Events.{next_event, step_for}
-use Rattle.path_rules.specs.Joining.{keys_begun, asked_at, join_begin_ask, join_heard_ask}
+use Rattle.path_rules.specs.Events.{step_for}
+use Rattle.path_rules.specs.Joining.{keys_begun, join_begin_ask, join_heard_ask}
 use Rattle.path_rules.specs.Opening.{peer_key_ask, opened_ask}
-use Rattle.path_rules.specs.Passing.{piece_of, piece_ask, data_fin_of, fin_ask, plain_fin, rate_ask}
-use Rattle.path_rules.specs.Deliver.{Piece}
 use Rattle.path_rules.specs.Handover.{sends}
 use Rattle.path_rules.specs.State.{PathState, Profile, end_at, path_of}
-use Rattle.path_rules.specs.Treating.{is_clash, fell_ask, mapping_ask, breaks_by_ack, plain_ack_ask, item_ask, item_of}
+use Rattle.path_rules.specs.Treating.{is_clash, fell_ask, mapping_ask, item_ask, item_of}
 use Rattle.path_rules.specs.Values.{Carried, values}
 use Rattle.path_rules.specs.Standing.{look_ask}
 use Rattle.path_agenda.specs.declared.notice.PeerNotice.TheVariants as peer_notes
@@ -56,7 +49,10 @@ use Rattle.world_laws.proofs.Numbers.EndRules.{AreKeys, heard_key, heard_keys, N
 use Rattle.world_laws.proofs.Numbers.PathSteps.{KeysAreShort, ControlIsShort, PathTells, tells_at}
 use Rattle.world_laws.proofs.Numbers.IdsFit.{AreIds, lowest_fits, on_fits, call_fits}
 use Rattle.address_manager.specs.IdSet.{lowest}
-use Rattle.world_laws.proofs.Falls.FailedChecks.{fail_asks_so, subflow_acks_so}
+use Rattle.world_laws.proofs.Falls.FailedChecks.{fail_asks_so}
+use Rattle.std.proofs.lemmas.Bool.{false≢true}
+use Rattle.world_laws.specs.Asking.{May, may, may_tell, asking}
+use Rattle.world_laws.proofs.Writes.Asks.{asks_no_more}
 
 -- ---- what a control book answers
 
@@ -180,18 +176,16 @@ ask_short six (asks.Local step) told h = h
 
 -- ---- what a path tells one
 
+none_called : (m : May) → m.keys ≡ false → (call : ControlCall) → may_tell m call ≡ true → CallTells call
+none_called m off (calls.PeerKey key) is = absurd (false≢true (sym off ∙ is))
+none_called m off (calls.Keys own peer) is = absurd (false≢true (sym off ∙ is))
+none_called m off _ is = tt
+
+none_told : (m : May) → m.keys ≡ false → (x : Ask) → may m x ≡ true → AskTells x
+none_told m off (asks.Control s call) is = none_called m off call is
+none_told m off _ is = tt
+
 module _ (c : Profile) (p : PathState Carried) (h : PathTells c p) where
-  data_tells : (s : Side) (o : Option Record) → AskTells (data_ask values s o p)
-  data_tells s None = tt
-  data_tells s (Some r) = tt
-
-  step_tells : (o : Option Event) → AskTells (step_for (path_of p) o)
-  step_tells None = tt
-  step_tells (Some (happening.Joins tick)) = tt
-  step_tells (Some (happening.Takes line)) = tt
-  step_tells (Some (happening.Arrives due)) = tt
-  step_tells (Some (happening.Fires s tick)) = tt
-
   key_tells : (s : Side) (o : Option ℕ) → IfSome o IsKey → AskTells (peer_key_ask s o p)
   key_tells s None key = tt
   key_tells s (Some key) is = is
@@ -200,22 +194,11 @@ module _ (c : Profile) (p : PathState Carried) (h : PathTells c p) where
   opened_tells s None keys = tt
   opened_tells s (Some keys) is = is
 
-  join_tells : (s : Side) (o : Option JoinSyn) → AskTells (join_heard_ask s o p)
-  join_tells s None = tt
-  join_tells s (Some asked) = tt
-
   break_tells : (s : Side) (reason : ℕ) → AskTells (break_ask values s reason p)
   break_tells s reason = by (end_at s p).treated.asked
     where
       by : (b : Bool) → AskTells (if b then asks.Reassembly s reassembly_calls.AckOut else sends values s (reset_of s (Some reason) p) p)
       by true = tt
-      by false = tt
-
-  plain_ack_tells : (s : Side) → AskTells (plain_ack_ask values s p)
-  plain_ack_tells s = by (breaks_by_ack p.profile (end_at s p))
-    where
-      by : (b : Bool) → AskTells (if b then break_ask values s 6 p else fell_ask s events.PlainAck p)
-      by true = break_tells s 6
       by false = tt
 
   mapping_tells : (s : Side) → AskTells (mapping_ask values s p)
@@ -232,35 +215,11 @@ module _ (c : Profile) (p : PathState Carried) (h : PathTells c p) where
   item_tells s (Some says.Fail) said = fail_asks_so AskTells s p tt tt
   item_tells s _ said = tt
 
-  piece_tells : (s : Side) (o : Option Piece) → AskTells (piece_ask s o)
-  piece_tells s None = tt
-  piece_tells s (Some piece) = tt
-
-  fin_tells : (s : Side) (o : Option ℕ) → AskTells (fin_ask s o)
-  fin_tells s None = tt
-  fin_tells s (Some place) = tt
-
-  rate_tells : (s : Side) (o : Option Pending) → AskTells (rate_ask s o p)
-  rate_tells s None = tt
-  rate_tells s (Some pending) = tt
-
   items_at : (s : Side) → Every ItemTells (end_at s p).treated.items
   items_at s = (tells_at c p h s).treated.items
 
   pub asks_tell : (d : Duty) → AskTells (ask_for values d p)
-  asks_tell (duties.Send (send_duties.Update s)) = tt
-  asks_tell (duties.Step (step_duties.Data s)) = data_tells s (first_unsent (end_at s p))
-  asks_tell (duties.Silent (silent_duties.Timer s)) = tt
-  asks_tell (duties.Step step_duties.Events) = step_tells (next_event p)
   asks_tell (duties.Ask (ask_duties.PeerKey s)) = key_tells s (key_heard (end_at s p).treated.items) (heard_key (end_at s p).treated.items (items_at s))
-  asks_tell (duties.Ask (ask_duties.JoinHeard s)) = join_tells s (asked_at s p)
   asks_tell (duties.Ask (ask_duties.Opened s)) = opened_tells s (keys_heard (end_at s p).treated.items) (heard_keys (end_at s p).treated.items (items_at s))
   asks_tell (duties.Step (step_duties.Heard s index)) = item_tells s (item_of index (end_at s p)) (known_item (end_at s p).modes.identity _ (every_item index (end_at s p).treated.items (items_at s)))
-  asks_tell (duties.Step (step_duties.PlainAck s)) = plain_ack_tells s
-  asks_tell (duties.Ask (ask_duties.SubflowAck s)) = subflow_acks_so AskTells s (end_at s p) tt (λ next. tt)
-  asks_tell (duties.Step (step_duties.Unmapped s)) = break_tells s 6
-  asks_tell (duties.Ask (ask_duties.SubflowFin s)) = fin_tells s (plain_fin (end_at s p))
-  asks_tell (duties.Ask (ask_duties.Edge s)) = piece_tells s (piece_of s p)
-  asks_tell (duties.Ask (ask_duties.HeardFin s index)) = fin_tells s (data_fin_of index (end_at s p))
-  asks_tell (duties.Ask (ask_duties.Rate s)) = rate_tells s (end_at s p).tcp.congestion.pending
-  asks_tell _ = tt
+  asks_tell d = none_told (asking d) refl (ask_for values d p) (asks_no_more values p d).kind

@@ -92,8 +92,6 @@ module _ (six : SixBooks) (others : Others) (c : Profile) (short : BooksAreShort
       end_tells c p t s (after_pass_fin e) (rules.pass_fin_tells c s e (tells_at c p t s)
       (λ is. fin_short (length (send_of (peer s) six).written) e.tcp.recv.edge (pick s ba ab) e.tcp.fin_at (back_short six others ab ba holds short s) (short.written (peer s))
       (side_shows c s p ab ba h).receiver.fin (and_parts (is_at e.tcp.recv.edge e.tcp.fin_at) _ is).0))
-  passed_tells p ab ba h holds t (duties.Ask ask_duties.JoinAgain) = t
-  passed_tells p ab ba h holds t (duties.Step (step_duties.Look s)) = t
   passed_tells p ab ba h holds t (duties.Send (send_duties.Update s)) = t
   passed_tells p ab ba h holds t _ = t
 

@@ -1,6 +1,6 @@
 -- The places that the ends of a path learned are those of a record, and so are those of the mappings that they heard: every step
 -- of the path keeps it, where the mappings of the copies under way tell the record's places.
-use Rattle.std.proofs.Common.{◌≡◌, refl, sym, subst, ℕ, suc, ◌<◌, ◌≤◌, ◌&&◌, ◌==◌, nat_le, nat_lt, Bool, true, false, cond, if◌then◌else◌, Option, Some, None, List, [], ◌∷◌}
+use Rattle.std.proofs.Common.{◌≡◌, refl, sym, subst, ap, ℕ, suc, ◌<◌, ◌≤◌, ◌&&◌, ◌==◌, nat_le, nat_lt, Bool, true, false, cond, if◌then◌else◌, Option, Some, None, List, [], ◌∷◌}
 use Rattle.std.proofs.lemmas.Bool.{and_parts, leb-true, ltb-true}
 use Rattle.std.specs.Option.{IfSome}
 use Rattle.sides.specs.declared.side.Side.{Side}
@@ -21,8 +21,6 @@ use Rattle.path_segments.specs.Spelled.{PlainSegment}
 use Rattle.fallback_state.specs.declared.fall.Event.TheVariants as events
 use Rattle.reassembly_book.specs.declared.call.ReassemblyReply.{ReassemblyReply}
 use Rattle.reassembly_book.specs.declared.call.ReassemblyReply.TheVariants as reassembly_replies
-use Rattle.subflow_recv.specs.Receiving.{after_forget_from}
-use Rattle.subflow_send.specs.Records.{Record}
 use Rattle.subflow_tcp.specs.States.{is_dead}
 use Rattle.stream_lanes.specs.Words.{Every}
 use Rattle.stream_lanes.proofs.Lists.{Every-nil}
@@ -37,35 +35,33 @@ use Rattle.path_agenda.specs.declared.duty.SilentDuty.TheVariants as silent_duti
 use Rattle.path_agenda.specs.declared.duty.StepDuty.TheVariants as step_duties
 use Rattle.path_agenda.specs.declared.heard.Heard.{Heard}
 use Rattle.path_agenda.specs.declared.heard.Heard.TheVariants as says
-use Rattle.path_agenda.specs.Agenda.{emission, leaves, resets, start_of_turn}
-use Rattle.path_agenda.specs.Words.{replaced}
+use Rattle.path_agenda.specs.Agenda.{emission, leaves, resets}
 use Rattle.path_agenda.specs.declared.keys.KeyPair.{KeyPair}
-use Rattle.path_agenda.specs.Items.{key_heard, keys_heard}
-use Rattle.join_handshake.specs.declared.hearing.JoinSyn.{JoinSyn}
 use Rattle.path_rules.specs.declared.event.Event.{Event}
 use Rattle.path_rules.specs.declared.event.Event.TheVariants as happenings
 use Rattle.path_rules.specs.Arriving.{held_of}
 use Rattle.path_rules.specs.Breaking.{reset_of, reset_on, answered_break}
-use Rattle.path_rules.specs.Duties.{stands, passed, answered}
-use Rattle.path_rules.specs.Emission.{Grant, grant_in, answered_grant, answered_data, first_unsent}
+use Rattle.path_rules.specs.Duties.{passed, answered}
 use Rattle.path_rules.specs.Ends.{PathEnd}
 use Rattle.path_store.specs.Receiving.{Receiving}
 use Rattle.path_rules.specs.Events.{next_event, heard_in, at_tick, died, died_unless_dead, after_line, copy_heard, happens_if, join_begun, told_at, never_joined}
 use Rattle.path_store.specs.declared.lines.LineAction.{LineAction}
 use Rattle.path_store.specs.declared.lines.LineAction.TheVariants as actions
-use Rattle.path_rules.specs.Joining.{asked_at, is_never, join_taken, keys_begun, opened_by}
-use Rattle.path_rules.specs.Passing.{is_placed, piece_of, answered_piece, is_fin_set, answered_fin_heard, answered_plain_fin}
-use Rattle.path_rules.specs.Deliver.{Piece, with_learned, with_skipped, is_wrong, forgotten_by, mapping_here}
+use Rattle.path_rules.specs.Joining.{is_never, keys_begun, opened_by}
+use Rattle.path_rules.specs.Passing.{is_placed, piece_of, answered_piece}
+use Rattle.path_rules.specs.Deliver.{Piece, with_learned, with_skipped}
 use Rattle.path_rules.specs.Handover.{sent_on}
 use Rattle.path_rules.specs.Standing.{window_in, answered_ack_out}
-use Rattle.path_rules.specs.State.{PathState, end_at, with_end, with_agenda, goes_on, left}
-use Rattle.path_rules.specs.Steps.{settled, answers, takes, begins_turn}
-use Rattle.path_rules.specs.Treating.{counts, is_clash, with_data_fin, answered_heard, answered_item, item_of, item_passed, breaks_by_ack, with_plain_ack}
+use Rattle.path_rules.specs.State.{PathState, end_at, with_end, with_agenda, goes_on}
+use Rattle.path_rules.specs.Steps.{takes, begins_turn}
+use Rattle.path_rules.specs.Treating.{counts, is_clash, with_data_fin, answered_heard, answered_item, item_of, item_passed}
 use Rattle.path_rules.specs.Values.{Carried, values}
-use Rattle.path_rules.specs.Opening.{answered_opened, answered_peer_key}
 use Rattle.path_rules.specs.Fallback.{after_fell, fell_duties}
 use Rattle.world_laws.proofs.Worlds.Finding.{find_every, one_side}
-use Rattle.world_laws.proofs.Falls.FailedChecks.{check_failed_so, fail_heard_so, infinite_came_so, fail_answered_so}
+use Rattle.world_laws.proofs.Falls.FailedChecks.{infinite_came_so, fail_answered_so}
+use Rattle.world_laws.specs.Writes.{EndView, Writes, OnlyAt, writes, side_of}
+use Rattle.world_laws.proofs.Writes.Paths.{writes_no_more, passes_no_more}
+use Rattle.world_laws.proofs.Writes.Steps.{both_ends, Lasts, unwritten, takes_lasts, begins_lasts}
 
 -- ---- mappings
 
@@ -193,32 +189,21 @@ module _ (R : Side → ℕ → ℕ → Type 0) where
   item_knows s (Some says.Fail) e h = h
   item_knows s (Some (says.FastClose key)) e h = h
 
-  check_knows : (s : Side) (checksums : Bool) (o : Option KeptMapping) (e : PathEnd) → EndKnows s e → EndKnows s (forgotten_by checksums o e)
-  check_knows s checksums None e h = h
-  check_knows s checksums (Some kept) e h = by (is_wrong checksums kept e.tcp)
-    where
-      by : (b : Bool) → EndKnows s (if b then record e { tcp = record e.tcp { recv = after_forget_from kept.pos e.tcp.recv } } else e)
-      by true = h
-      by false = h
+  -- where the mappings may be written at neither end
+  kept_by : (s : Side) (w : Writes) (p q : PathState Carried) → w.own.mappings ≡ false → w.other.mappings ≡ false → OnlyAt s w p q → PathKnows p → PathKnows q
+  kept_by s w p q own other x h =
+      let both = both_ends (λ e f. f.receiving.mappings ≡ e.receiving.mappings) s w p q
+      (λ e f y. unwritten w.own.mappings e.receiving.mappings f.receiving.mappings own (ap (λ (v : EndView). v.mappings) y.same))
+      (λ e f y. unwritten w.other.mappings e.receiving.mappings f.receiving.mappings other (ap (λ (v : EndView). v.mappings) y.same)) x in
+      record { a = subst (Knows (R A)) (sym both.0) h.a; b = subst (Knows (R B)) (sym both.1) h.b }
 
   passed_knows : (d : Duty) (p : PathState Carried) → PathKnows p → PathKnows (passed d p)
-  passed_knows (duties.Silent (silent_duties.Timer s)) p h = with_own s _ p (end_knows s p h) h
   passed_knows (duties.Step (step_duties.Heard s index)) p h = with_own s _ p (item_knows s (item_of index (end_at s p)) (end_at s p) (end_knows s p h)) h
-  passed_knows (duties.Silent (silent_duties.Keep s)) p h = with_own s _ p (end_knows s p h) h
-  passed_knows (duties.Ask (ask_duties.CheckFailed s)) p h =
-      let e = end_at s p in with_own s _ p (check_knows s p.profile.spelling.checksums (mapping_here e) e (end_knows s p h)) h
-  passed_knows (duties.Silent (silent_duties.PassFin s)) p h = with_own s _ p (end_knows s p h) h
-  passed_knows (duties.Step (step_duties.PlainAck s)) p h = with_own s _ p (end_knows s p h) h
-  passed_knows (duties.Step (step_duties.Unmapped s)) p h = with_own s _ p (end_knows s p h) h
-  passed_knows _ p h = h
-
-  settled_knows : (ds : List Duty) (p : PathState Carried) → PathKnows p → PathKnows (settled ds p)
-  settled_knows [] p h = agenda [] p h
-  settled_knows (d ∷ ds) p h = by (stands d p) (settled_knows ds (passed d p) (passed_knows d p h))
-    where
-      by : (b : Bool) → PathKnows (settled ds (passed d p)) → PathKnows (if b then with_agenda (d ∷ ds) p else settled ds (passed d p))
-      by true rest = agenda (d ∷ ds) p h
-      by false rest = rest
+  passed_knows (duties.Step step_duties.Events) p h = h
+  passed_knows (duties.Ask (ask_duties.Edge s)) p h = h
+  passed_knows (duties.Send d) p h = h
+  passed_knows (duties.Silent (silent_duties.Timer s)) p h = with_own s _ p (end_knows s p h) h
+  passed_knows d p h = kept_by (side_of d) (writes d) p _ refl refl (passes_no_more d p) h
 
   -- ---- events
 
@@ -289,14 +274,6 @@ module _ (R : Side → ℕ → ℕ → Type 0) where
       by true = ack_out_knows s r (resets s reason) p h
       by false = reset_knows s (Some reason) (leaves s) p h
 
-  grant_knows : (s : Side) (o : Option Grant) (r : Reply) (p : PathState Carried) → PathKnows p → PathKnows (answered_grant s o r p)
-  grant_knows s None r p h = same_goes s _ _ p refl h
-  grant_knows s (Some grant) r p h = same_goes s _ _ p refl h
-
-  data_knows : (s : Side) (o : Option Record) (r : Reply) (p : PathState Carried) → PathKnows p → PathKnows (answered_data values s o r p)
-  data_knows s (Some unsent) r p h = same_sent s _ _ _ p refl h
-  data_knows s None r p h = grant_knows s (grant_in r) r p h
-
   heard_knows : (s : Side) (item : Heard) (r : Reply) (p : PathState Carried) → PathKnows p → PathKnows (answered_heard values s item r p)
   heard_knows s (says.DataAck next window) r p h = same_goes s _ _ p refl h
   heard_knows s (says.Mapping fin) r p h = by (is_clash (end_at s p))
@@ -324,91 +301,26 @@ module _ (R : Side → ℕ → ℕ → Type 0) where
   piece_knows s (Some piece) true p h = goes s _ _ p (forgotten_knows (R s) _ (end_at s p).receiving.mappings (end_knows s p h)) h
   piece_knows s (Some piece) false p h = same_goes s _ _ p refl h
 
-  fin_knows : (s : Side) (set : Bool) (p : PathState Carried) → PathKnows p → PathKnows (answered_fin_heard s set p)
-  fin_knows s true p h = same_goes s _ _ p refl h
-  fin_knows s false p h = same_goes s _ _ p refl h
-
-  plain_fin_knows : (s : Side) (set : Bool) (p : PathState Carried) → PathKnows p → PathKnows (answered_plain_fin s set p)
-  plain_fin_knows s true p h = same_goes s _ _ p refl h
-  plain_fin_knows s false p h = same_goes s _ _ p refl h
-
-  peer_key_knows : (s : Side) (o : Option ℕ) (r : Reply) (p : PathState Carried) → PathKnows p → PathKnows (answered_peer_key s o r p)
-  peer_key_knows s None r p h = same_goes s _ _ p refl h
-  peer_key_knows s (Some key) r p h = same_goes s _ _ p refl h
-
-  opened_knows : (s : Side) (o : Option KeyPair) (r : Reply) (p : PathState Carried) → PathKnows p → PathKnows (answered_opened s o r p)
-  opened_knows s None r p h = same_goes s _ _ p refl h
-  opened_knows s (Some keys) r p h = same_goes s _ _ p refl h
-
-  -- B hears of a join
-  joined_knows : (s : Side) (o : Option KeyPair) (asked : Option JoinSyn) (r : Reply) (p : PathState Carried) → PathKnows p → PathKnows (join_taken s o asked r p)
-  joined_knows s None None r p h = agenda _ p h
-  joined_knows s None (Some asked) r p h = same_goes s _ _ p refl h
-  joined_knows s (Some keys) None r p h = agenda _ p h
-  joined_knows s (Some keys) (Some asked) r p h = same_goes s _ _ p refl h
-
   answered_knows : (d : Duty) (r : Reply) (p : PathState Carried) → CopiesTell p → PathKnows p → PathKnows (answered values d r p)
-  answered_knows (duties.Ask ask_duties.JoinAgain) r p tell h = begun_knows r (replaced (duties.Ask (ask_duties.Leave A)) p.agenda) (left p) p h
-  answered_knows (duties.Ask (ask_duties.JoinHeard s)) r p tell h = joined_knows s (keys_begun r) (asked_at s p) r p h
-  answered_knows (duties.Send (send_duties.Refuse s)) r p tell h = same_sent s _ _ _ p refl h
-  answered_knows (duties.Ask (ask_duties.PlainHandshake s)) r p tell h = same_goes s _ _ p refl h
-  answered_knows (duties.Step (step_duties.PlainAck s)) r p tell h = by (breaks_by_ack p.profile (end_at s p))
-    where
-      by : (b : Bool) → PathKnows (if b then answered_break values s 6 r p else goes_on s (with_plain_ack (after_fell events.PlainAck r (end_at s p))) (fell_duties s r p) p)
-      by true = break_knows s 6 r p h
-      by false = same_goes s _ _ p refl h
-  answered_knows (duties.Ask (ask_duties.SubflowAck s)) r p tell h = same_goes s _ _ p refl h
-  answered_knows (duties.Ask (ask_duties.PlainData s)) r p tell h = same_goes s _ _ p refl h
-  answered_knows (duties.Ask (ask_duties.GoIdentity s)) r p tell h = same_goes s _ _ p refl h
-  answered_knows (duties.Step (step_duties.Unmapped s)) r p tell h = break_knows s 6 r p h
-  answered_knows (duties.Ask (ask_duties.SubflowFin s)) r p tell h = plain_fin_knows s (is_fin_set r) p h
-  answered_knows (duties.Step (step_duties.Look s)) r p tell h = same_goes s _ _ p refl h
-  answered_knows (duties.Ask (ask_duties.Window s)) r p tell h = ack_out_knows s r _ p h
-  answered_knows (duties.Send (send_duties.Update s)) r p tell h = same_sent s _ _ _ p refl h
-  answered_knows (duties.Send (send_duties.FastClose s)) r p tell h = same_sent s _ _ _ p refl h
-  answered_knows (duties.Send (send_duties.Notice s)) r p tell h = same_sent s _ _ _ p refl h
-  answered_knows (duties.Send (send_duties.Syn s)) r p tell h = same_sent s _ _ _ p refl h
-  answered_knows (duties.Step (step_duties.Data s)) r p tell h = data_knows s (first_unsent (end_at s p)) r p h
-  answered_knows (duties.Send (send_duties.DataFin s)) r p tell h = same_sent s _ _ _ p refl h
-  answered_knows (duties.Send (send_duties.Fin s)) r p tell h = same_sent s _ _ _ p refl h
   answered_knows (duties.Step step_duties.Events) r p tell h = event_knows (next_event p) r p tell h
-  answered_knows (duties.Ask (ask_duties.PeerKey s)) r p tell h = peer_key_knows s (key_heard (end_at s p).treated.items) r p h
-  answered_knows (duties.Send (send_duties.SynAck s)) r p tell h = same_sent s _ _ _ p refl h
-  answered_knows (duties.Ask (ask_duties.Opened s)) r p tell h = opened_knows s (keys_heard (end_at s p).treated.items) r p h
   answered_knows (duties.Step (step_duties.Heard s index)) r p tell h = answered_item_knows s (item_of index (end_at s p)) r p h
-  answered_knows (duties.Ask (ask_duties.AckHeard s)) r p tell h = same_goes s _ _ p refl h
-  answered_knows (duties.Ask (ask_duties.FailHeard s)) r p tell h =
-      fail_heard_so (λ e. PathKnows (goes_on s e (fell_duties s r p) p)) r (end_at s p) (λ own owes. same_goes s _ _ p refl h)
   answered_knows (duties.Ask (ask_duties.Edge s)) r p tell h = piece_knows s (piece_of s p) (is_placed r) p h
-  answered_knows (duties.Ask (ask_duties.CheckFailed s)) r p tell h =
-      check_failed_so (λ e. PathKnows (goes_on s e (fell_duties s r p) p)) p.profile.spelling.checksums r (end_at s p)
-      (λ sent broken recv forgotten. same_goes s _ _ p refl h)
-  answered_knows (duties.Ask (ask_duties.HeardFin s index)) r p tell h = fin_knows s (is_fin_set r) p h
-  answered_knows (duties.Ask (ask_duties.AckOut s)) r p tell h = ack_out_knows s r _ p h
-  answered_knows (duties.Ask (ask_duties.Rate s)) r p tell h = same_goes s _ _ p refl h
-  answered_knows (duties.Send (send_duties.Acknowledge s)) r p tell h = same_sent s _ _ _ p refl h
-  answered_knows (duties.Send (send_duties.Again s)) r p tell h = same_sent s _ _ _ p refl h
-  answered_knows (duties.Send (send_duties.Answer s)) r p tell h = same_sent s _ _ _ p refl h
-  answered_knows (duties.Send (send_duties.ResetAnswer s)) r p tell h = same_sent s _ _ _ p refl h
-  answered_knows (duties.Send (send_duties.Resend s)) r p tell h = same_sent s _ _ _ p refl h
-  answered_knows (duties.Ask (ask_duties.BreakAck s reason)) r p tell h = ack_out_knows s r _ p h
-  answered_knows (duties.Send (send_duties.BreakReset s reason)) r p tell h = reset_knows s (Some reason) (leaves s) p h
-  answered_knows (duties.Send (send_duties.Reset s)) r p tell h = reset_knows s None (replaced (duties.Ask (ask_duties.Leave s)) p.agenda) p h
-  answered_knows (duties.Send (send_duties.ResetNoted s)) r p tell h = reset_knows s None (replaced (duties.Ask (ask_duties.Leave s)) p.agenda) p h
-  answered_knows (duties.Ask (ask_duties.Leave s)) r p tell h = agenda _ p h
-  answered_knows (duties.Ask (ask_duties.LeaveNoted s)) r p tell h = same_goes s _ _ p refl h
-  answered_knows duties.End r p tell h = agenda _ p h
-  answered_knows _ r p tell h = agenda _ p h
+  answered_knows (duties.Send (send_duties.Update s)) r p tell h = same_sent s _ _ _ p refl h
+  answered_knows (duties.Silent d) r p tell h = agenda _ p h
+  answered_knows d r p tell h = kept_by (side_of d) (writes d) p _ refl refl (writes_no_more values d r p) h
 
-  answers_know : (ds : List Duty) (r : Reply) (p : PathState Carried) → CopiesTell p → PathKnows p → PathKnows (answers values ds r p)
-  answers_know [] r p tell h = h
-  answers_know (d ∷ ds) r p tell h = answered_knows d r p tell h
+  knows_lasts : Lasts (λ (p q : PathState Carried). PathKnows p → PathKnows q)
+  knows_lasts = record {
+    agenda = λ ds p h. agenda ds p h;
+    chains = λ p q r x y h. y (x h);
+    passes = λ d p h. passed_knows d p h;
+  }
 
   pub takes_knows : (r : Reply) (p : PathState Carried) → CopiesTell p → PathKnows p → PathKnows (takes values r p)
-  takes_knows r p tell h = let q : PathState Carried = answers values p.agenda r p in settled_knows q.agenda q (answers_know p.agenda r p tell h)
+  takes_knows r p tell h = takes_lasts (λ p q. PathKnows p → PathKnows q) knows_lasts values r p (λ d h. answered_knows d r p tell h) h
 
   pub begins_knows : (p : PathState Carried) → PathKnows p → PathKnows (begins_turn p)
-  begins_knows p h = settled_knows start_of_turn (with_agenda start_of_turn p) (agenda start_of_turn p h)
+  begins_knows p h = begins_lasts (λ p q. PathKnows p → PathKnows q) knows_lasts p h
 
 -- a record that has more
 pub more_known : (R S : ℕ → ℕ → Type 0) → ((p place : ℕ) → R p place → S p place) → (v : Mappings) → Knows R v → Knows S v

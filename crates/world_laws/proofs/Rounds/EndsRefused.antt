@@ -515,33 +515,10 @@ module _ {C : Type 0} where
   passed_pays (duties.Ask (ask_duties.BreakAck s reason)) ds p refused none f each = absurd (true≢false none)
   passed_pays (duties.Send (send_duties.BreakReset s reason)) ds p refused none f each = absurd (true≢false none)
   passed_pays (duties.Send (send_duties.Reset s)) ds p refused none f each = absurd (true≢false none)
-  passed_pays (duties.Send (send_duties.ResetNoted s)) ds p refused none f each = each
-  passed_pays (duties.Ask ask_duties.JoinAgain) ds p refused none f each = each
-  passed_pays (duties.Step (step_duties.Look s)) ds p refused none f each = each
-  passed_pays (duties.Ask (ask_duties.Window s)) ds p refused none f each = each
-  passed_pays (duties.Send (send_duties.Update s)) ds p refused none f each = each
-  passed_pays (duties.Send (send_duties.FastClose s)) ds p refused none f each = each
-  passed_pays (duties.Send (send_duties.Notice s)) ds p refused none f each = each
-  passed_pays (duties.Send (send_duties.Syn s)) ds p refused none f each = each
-  passed_pays (duties.Send (send_duties.DataFin s)) ds p refused none f each = each
-  passed_pays (duties.Send (send_duties.Fin s)) ds p refused none f each = each
-  passed_pays (duties.Step step_duties.Events) ds p refused none f each = each
-  passed_pays (duties.Ask (ask_duties.SynHeard s)) ds p refused none f each = each
-  passed_pays (duties.Ask (ask_duties.SynAnswered s)) ds p refused none f each = each
-  passed_pays (duties.Ask (ask_duties.PeerKey s)) ds p refused none f each = each
-  passed_pays (duties.Send (send_duties.SynAck s)) ds p refused none f each = each
-  passed_pays (duties.Ask (ask_duties.JoinHeard s)) ds p refused none f each = each
-  passed_pays (duties.Ask (ask_duties.Opened s)) ds p refused none f each = each
-  passed_pays (duties.Ask (ask_duties.Live s)) ds p refused none f each = each
-  passed_pays (duties.Ask (ask_duties.AckHeard s)) ds p refused none f each = each
-  passed_pays (duties.Ask (ask_duties.FailHeard s)) ds p refused none f each = each
-  passed_pays (duties.Ask (ask_duties.Edge s)) ds p refused none f each = each
   passed_pays (duties.Step (step_duties.PlainAck s)) ds p refused none f each =
       own_passed s _ ds p refused (inl (and_parts (is_owed s ds) (not (is_owed (peer s) ds)) (first_need (duties.Step (step_duties.PlainAck s)) ds f)).0) (each (peer s))
   passed_pays (duties.Step (step_duties.Unmapped s)) ds p refused none f each =
       own_passed s _ ds p refused (inl (and_parts (is_owed s ds) (not (is_owed (peer s) ds)) (first_need (duties.Step (step_duties.Unmapped s)) ds f)).0) (each (peer s))
-  passed_pays (duties.Ask (ask_duties.PlainHandshake s)) ds p refused none f each = each
-  passed_pays (duties.Send (send_duties.Refuse s)) ds p refused none f each = each
   passed_pays _ ds p refused none f each = each
 
   pub settled_done : (ds : List Duty) (p : PathState C) (refused : Side → Bool) → is_followed ds ≡ true → ((t : Side) → Pays p ds refused t) → Granting (settled ds p) refused
@@ -786,8 +763,6 @@ module _ {C : Type 0} where
     answered_done (duties.Step step_duties.Events) ds other f each =
         event_done k (next_event p) r (at ((duties.Step step_duties.Events) ∷ ds)) refused
         (λ s. is_paid (at ((duties.Step step_duties.Events) ∷ ds)) ((duties.Step step_duties.Events) ∷ ds) refused s (none_for s ds (first_need (duties.Step step_duties.Events) ds f)) (each s))
-    answered_done (duties.Ask (ask_duties.SynHeard s)) ds other f each = done_on ds (duties.Ask (ask_duties.SynHeard s) ∷ ds) (rest_followed (duties.Ask (ask_duties.SynHeard s)) ds f) (λ t. each t)
-    answered_done (duties.Ask (ask_duties.SynAnswered s)) ds other f each = done_on ds (duties.Ask (ask_duties.SynAnswered s) ∷ ds) (rest_followed (duties.Ask (ask_duties.SynAnswered s)) ds f) (λ t. each t)
     answered_done (duties.Ask (ask_duties.PeerKey s)) ds other f each =
         key_done s (key_heard (end_at s p).treated.items) (duties.Ask (ask_duties.PeerKey s)) ds (rest_followed (duties.Ask (ask_duties.PeerKey s)) ds f) (first_need (duties.Ask (ask_duties.PeerKey s)) ds f)
         (is_paid (at (duties.Ask (ask_duties.PeerKey s) ∷ ds)) (duties.Ask (ask_duties.PeerKey s) ∷ ds) refused (peer s) (none_other s ds (first_need (duties.Ask (ask_duties.PeerKey s)) ds f)) (each (peer s)))
@@ -798,7 +773,6 @@ module _ {C : Type 0} where
     answered_done (duties.Ask (ask_duties.Opened s)) ds other f each =
         opened_done s (keys_heard (end_at s p).treated.items) (duties.Ask (ask_duties.Opened s)) ds (rest_followed (duties.Ask (ask_duties.Opened s)) ds f) (first_need (duties.Ask (ask_duties.Opened s)) ds f)
         (is_paid (at (duties.Ask (ask_duties.Opened s) ∷ ds)) (duties.Ask (ask_duties.Opened s) ∷ ds) refused (peer s) (none_other s ds (first_need (duties.Ask (ask_duties.Opened s)) ds f)) (each (peer s)))
-    answered_done (duties.Ask (ask_duties.Live s)) ds other f each = done_on ds (duties.Ask (ask_duties.Live s) ∷ ds) (rest_followed (duties.Ask (ask_duties.Live s)) ds f) (λ t. each t)
     answered_done (duties.Step (step_duties.Heard s index)) ds other f each = item_done s index ds f each (item_of index (end_at s p))
     answered_done (duties.Ask (ask_duties.AckHeard s)) ds other f each =
         event_told s events.AckHeard (duties.Ask (ask_duties.AckHeard s)) ds (rest_followed (duties.Ask (ask_duties.AckHeard s)) ds f) (first_need (duties.Ask (ask_duties.AckHeard s)) ds f)
@@ -816,7 +790,6 @@ module _ {C : Type 0} where
     answered_done (duties.Ask (ask_duties.GoIdentity s)) ds other f each = touched s _ ds (rest_followed (duties.Ask (ask_duties.GoIdentity s)) ds f) (first_need (duties.Ask (ask_duties.GoIdentity s)) ds f) (duties.Ask (ask_duties.GoIdentity s) ∷ ds) (each (peer s))
     answered_done (duties.Step (step_duties.Unmapped s)) ds other f each = break_done (at (duties.Step (step_duties.Unmapped s) ∷ ds)) refused k s 6 r (is_paid (at (duties.Step (step_duties.Unmapped s) ∷ ds)) (duties.Step (step_duties.Unmapped s) ∷ ds) refused (peer s) (none_other s ds (first_need (duties.Step (step_duties.Unmapped s)) ds f)) (each (peer s)))
     answered_done (duties.Ask (ask_duties.SubflowFin s)) ds other f each = plain_fin_done s ds f each (is_fin_set r)
-    answered_done (duties.Silent (silent_duties.Keep s)) ds other f each = done_on ds (duties.Silent (silent_duties.Keep s) ∷ ds) (rest_followed (duties.Silent (silent_duties.Keep s)) ds f) (λ t. each t)
     answered_done (duties.Ask (ask_duties.Edge s)) ds other f each = piece_done s ds f each (piece_of s p) (is_placed r)
     answered_done (duties.Ask (ask_duties.CheckFailed s)) ds other f each =
         let need = first_need (duties.Ask (ask_duties.CheckFailed s)) ds f in
@@ -827,7 +800,6 @@ module _ {C : Type 0} where
         fell_done s (after_fail_heard r (end_at s p)) (duties.Ask (ask_duties.FailHeard s)) ds (rest_followed (duties.Ask (ask_duties.FailHeard s)) ds f) (own_owed s ds need)
         (is_paid (at (duties.Ask (ask_duties.FailHeard s) ∷ ds)) (duties.Ask (ask_duties.FailHeard s) ∷ ds) refused (peer s) (none_other s ds need) (each (peer s)))
     answered_done (duties.Ask (ask_duties.HeardFin s index)) ds other f each = fin_done s index ds f each (is_fin_set r)
-    answered_done (duties.Silent (silent_duties.PassFin s)) ds other f each = done_on ds (duties.Silent (silent_duties.PassFin s) ∷ ds) (rest_followed (duties.Silent (silent_duties.PassFin s)) ds f) (λ t. each t)
     answered_done (duties.Ask (ask_duties.AckOut s)) ds other f each =
         on (at (duties.Ask (ask_duties.AckOut s) ∷ ds)) refused s _ ds (rest_followed (duties.Ask (ask_duties.AckOut s)) ds f) (⊎_elim (λ owed. inl owed) (λ h. inr (record { paid = h.paid; waits = h.waits })) (each s)) (each (peer s))
     answered_done (duties.Ask (ask_duties.Rate s)) ds other f each = touched s _ ds (rest_followed (duties.Ask (ask_duties.Rate s)) ds f) (first_need (duties.Ask (ask_duties.Rate s)) ds f) (duties.Ask (ask_duties.Rate s) ∷ ds) (each (peer s))
@@ -836,11 +808,6 @@ module _ {C : Type 0} where
     answered_done (duties.Send (send_duties.Answer s)) ds other f each = touched_sent s _ _ ds (rest_followed (duties.Send (send_duties.Answer s)) ds f) (first_need (duties.Send (send_duties.Answer s)) ds f) (duties.Send (send_duties.Answer s) ∷ ds) (each (peer s))
     answered_done (duties.Send (send_duties.ResetAnswer s)) ds other f each =
         sent (at (duties.Send (send_duties.ResetAnswer s) ∷ ds)) refused k s _ _ ds (rest_followed (duties.Send (send_duties.ResetAnswer s)) ds f) (each s) (each (peer s))
-    answered_done (duties.Ask (ask_duties.Return s)) ds other f each = done_on ds (duties.Ask (ask_duties.Return s) ∷ ds) (rest_followed (duties.Ask (ask_duties.Return s)) ds f) (λ t. each t)
-    answered_done (duties.Ask (ask_duties.AbortSend s)) ds other f each = done_on ds (duties.Ask (ask_duties.AbortSend s) ∷ ds) (rest_followed (duties.Ask (ask_duties.AbortSend s)) ds f) (λ t. each t)
-    answered_done (duties.Ask (ask_duties.AbortReceive s)) ds other f each = done_on ds (duties.Ask (ask_duties.AbortReceive s) ∷ ds) (rest_followed (duties.Ask (ask_duties.AbortReceive s)) ds f) (λ t. each t)
-    answered_done (duties.Ask (ask_duties.Announce s id)) ds other f each = done_on ds (duties.Ask (ask_duties.Announce s id) ∷ ds) (rest_followed (duties.Ask (ask_duties.Announce s id)) ds f) (λ t. each t)
-    answered_done (duties.Ask (ask_duties.Withdraw s id)) ds other f each = done_on ds (duties.Ask (ask_duties.Withdraw s id) ∷ ds) (rest_followed (duties.Ask (ask_duties.Withdraw s id)) ds f) (λ t. each t)
     answered_done (duties.Send (send_duties.Resend s)) ds other f each = touched_sent s _ _ ds (rest_followed (duties.Send (send_duties.Resend s)) ds f) (first_need (duties.Send (send_duties.Resend s)) ds f) (duties.Send (send_duties.Resend s) ∷ ds) (each (peer s))
     answered_done (duties.Ask (ask_duties.BreakAck s reason)) ds other f each =
         resets_done (at (duties.Ask (ask_duties.BreakAck s reason) ∷ ds)) refused s reason r
@@ -855,6 +822,6 @@ module _ {C : Type 0} where
     answered_done (duties.Ask (ask_duties.Leave s)) ds other f each = done_on (duties.Ask (ask_duties.Dead s) ∷ ds) (duties.Ask (ask_duties.Leave s) ∷ ds) (rest_followed (duties.Ask (ask_duties.Leave s)) ds f) (λ t. each t)
     answered_done (duties.Ask (ask_duties.LeaveNoted s)) ds other f each =
         touched s _ (duties.Ask (ask_duties.Dead s) ∷ ds) (rest_followed (duties.Ask (ask_duties.LeaveNoted s)) ds f) (first_need (duties.Ask (ask_duties.LeaveNoted s)) ds f) (duties.Ask (ask_duties.LeaveNoted s) ∷ ds) (each (peer s))
-    answered_done (duties.Ask (ask_duties.Dead s)) ds other f each = done_on ds (duties.Ask (ask_duties.Dead s) ∷ ds) (rest_followed (duties.Ask (ask_duties.Dead s)) ds f) (λ t. each t)
     answered_done duties.End ds other f each =
         done_on [] (duties.End ∷ ds) refl (λ t. inr (is_paid (at (duties.End ∷ ds)) (duties.End ∷ ds) refused t (none_for t ds (first_need duties.End ds f)) (each t)))
+    answered_done d ds other f each = done_on ds (d ∷ ds) (rest_followed d ds f) (λ t. each t)

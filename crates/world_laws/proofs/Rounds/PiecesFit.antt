@@ -1,6 +1,6 @@
 -- An end that may ask for bytes, with room for a full segment, has room for each record that is to be sent: no piece is longer than the
 -- payload of a full segment, and its SYN is acknowledged.
-use Rattle.std.proofs.Common.{◌≡◌, refl, sym, subst, ℕ, zero, suc, ◌+◌, ◌-◌, ◌≤◌, ◌&&◌, ◌==◌, min, not, nat_lt, nat_le, Bool, true, false, if◌then◌else◌, Option, Some, None, List, [], ◌∷◌, length, drop, Result, Ok, Err, arith}
+use Rattle.std.proofs.Common.{◌≡◌, refl, sym, subst, ap, ℕ, zero, suc, ◌+◌, ◌-◌, ◌≤◌, ◌&&◌, ◌==◌, min, not, nat_lt, nat_le, Bool, true, false, if◌then◌else◌, Option, Some, None, List, [], ◌∷◌, length, drop, Result, Ok, Err, arith}
 use Rattle.std.proofs.lemmas.Bool.{and_parts, and_from, both_ways, false≢true, true≢false, leb-true, le-leb, ltb-true, ltb-false}
 use Rattle.std.proofs.lemmas.List.{length-take, length-drop}
 use Rattle.std.proofs.lemmas.Option.{same_Some}
@@ -45,7 +45,6 @@ use Rattle.actor_desk.specs.declared.ask.Reply.TheVariants as replies
 use Rattle.actor_desk.specs.Books.{StampedBooks, books_in}
 use Rattle.actor_desk.specs.Words.{is_nil, tail_of}
 use Rattle.path_agenda.specs.Agenda.{start_of_turn, leaves, emission}
-use Rattle.path_agenda.specs.Items.{keys_heard, key_heard}
 use Rattle.path_agenda.specs.Words.{replaced}
 use Rattle.path_agenda.specs.declared.duty.Duty.{Duty}
 use Rattle.path_agenda.specs.declared.duty.Duty.TheVariants as duties
@@ -61,7 +60,7 @@ use Rattle.path_rules.specs.Breaking.{answered_break}
 use Rattle.path_rules.specs.Codec.{Codec}
 use Rattle.path_rules.specs.declared.event.Event.{Event}
 use Rattle.path_rules.specs.declared.event.Event.TheVariants as happenings
-use Rattle.path_rules.specs.Deliver.{Piece, is_wrong, forgotten_by, mapping_here, with_learned, with_skipped}
+use Rattle.path_rules.specs.Deliver.{is_wrong, forgotten_by, mapping_here, with_learned, with_skipped}
 use Rattle.path_rules.specs.Duties.{stands, passed, answered, ask_for}
 use Rattle.path_rules.specs.Emission.{Grant, grant_in, grant_ask, data_ask, answered_grant, answered_data, first_unsent, payload_size, may_ask, may_send_data, fits}
 use Rattle.path_rules.specs.Ends.{PathEnd}
@@ -70,8 +69,7 @@ use Rattle.path_store.specs.declared.lines.LineAction.{LineAction}
 use Rattle.path_store.specs.declared.lines.LineAction.TheVariants as actions
 use Rattle.path_rules.specs.Joining.{keys_begun, is_never, opened_by, join_taken, asked_at, syn_alone, after_joining_syn, is_listening}
 use Rattle.path_rules.specs.Joins.{is_joined}
-use Rattle.path_rules.specs.Opening.{answered_peer_key, answered_opened}
-use Rattle.path_rules.specs.Passing.{answered_piece, is_placed, is_fin_set, piece_of, answer_occasion, resend_occasion}
+use Rattle.path_rules.specs.Passing.{answer_occasion, resend_occasion}
 use Rattle.path_rules.specs.Starts.{PathStart, first_state, waiting_path}
 use Rattle.path_rules.specs.State.{PathState, Profile, end_at, goes_on, left, path_of, with_agenda}
 use Rattle.path_rules.specs.Steps.{settled, answers, takes, begins_turn, asks_first}
@@ -83,12 +81,15 @@ use Rattle.world_laws.specs.Openings.{Start, path_begins, opened_world}
 use Rattle.world_laws.specs.RoundNumbers.{BeginsRound, after_steps}
 use Rattle.world_laws.specs.StampedBooks.{answer_to}
 use Rattle.world_laws.specs.Worlds.{WorldState, Turn, crew_after, begins, world_step, world_run}
-use Rattle.world_laws.proofs.Falls.FailedChecks.{check_failed_so, fail_heard_so, infinite_came_so, fail_answered_so}
+use Rattle.world_laws.proofs.Falls.FailedChecks.{infinite_came_so, fail_answered_so}
 use Rattle.world_laws.proofs.Lanes.Records.{unsent_sent_kept, first_sent_kept, fin_sent_kept, expired_kept, uncovered_kept}
 use Rattle.world_laws.proofs.Lanes.Saying.{every_one}
 use Rattle.world_laws.proofs.Rounds.EndsRefused.{IsPaid}
 use Rattle.world_laws.proofs.Rounds.Lifting.{step_lifted, round_lifted, run_lifted, opened_lifted}
 use Rattle.world_laws.proofs.Worlds.Finding.{find_every}
+use Rattle.world_laws.specs.Writes.{EndWrites, EndView, Only, Writes, OnlyAt, PathView, writes, side_of}
+use Rattle.world_laws.proofs.Writes.Paths.{writes_no_more}
+use Rattle.world_laws.proofs.Writes.Steps.{both_ends, unwritten}
 
 -- ---- a sending side
 
@@ -451,6 +452,15 @@ sized path max standby b (Ok span) is grant found =
     let small : length (booking.part_of span b.written) ≤ max = omega (arith, len, may.whole, may.most) in
     subst (λ (g : Grant). length g.piece ≤ max) (same_Some _ grant found) small
 
+end_kept : (w : EndWrites) (e f : PathEnd) → w.phase ≡ false → w.send ≡ false → Only w e f → (f.tcp.state ≡ e.tcp.state) × (f.tcp.send ≡ e.tcp.send)
+end_kept w e f phase send x =
+    (unwritten w.phase e.tcp.state f.tcp.state phase (ap (λ (v : EndView). v.phase) x.same), unwritten w.send e.tcp.send f.tcp.send send (ap (λ (v : EndView). v.send) x.same))
+
+end_fits : (c d : Profile) (e f : PathEnd) → d ≡ c → (f.tcp.state ≡ e.tcp.state) × (f.tcp.send ≡ e.tcp.send) → EndFits (payload_size c) e → EndFits (payload_size d) f
+end_fits c d e f profile same h =
+    subst (λ x. SendFits (payload_size x) f.tcp.state f.tcp.send) (sym profile)
+    (subst (λ x. SendFits (payload_size c) x f.tcp.send) (sym same.0) (subst (λ x. SendFits (payload_size c) e.tcp.state x) (sym same.1) h))
+
 module _ {C : Type 0} where
   pub record PathFits (p : PathState C) : Type 0 where
     pub a : EndFits (payload_size p.profile) p.a
@@ -537,13 +547,14 @@ module _ {C : Type 0} where
       either_fits (end_at s p).treated.asked _ _ (side_fits s p _ _ refl refl refl h (fits_at s p h))
       (side_fits s p _ _ refl refl refl h (dead_fits (payload_size p.profile) false (end_at s p).tcp (fits_at s p h)))
 
-  key_fits : (s : Side) (key : Option ℕ) (r : Reply) (p : PathState C) → PathFits p → PathFits (answered_peer_key s key r p)
-  key_fits s None r p h = side_fits s p _ _ refl refl refl h (fits_at s p h)
-  key_fits s (Some key) r p h = side_fits s p _ _ refl refl refl h (fits_at s p h)
-
-  keys_fit : (s : Side) (keys : Option KeyPair) (r : Reply) (p : PathState C) → PathFits p → PathFits (answered_opened s keys r p)
-  keys_fit s None r p h = side_fits s p _ _ refl refl refl h (fits_at s p h)
-  keys_fit s (Some keys) r p h = side_fits s p _ _ refl refl refl h (fits_at s p h)
+  -- where neither the phase nor what was sent may be written
+  kept_by : (s : Side) (w : Writes) (p q : PathState C) → w.own.phase ≡ false → w.own.send ≡ false → w.other.phase ≡ false → w.other.send ≡ false
+      → OnlyAt s w p q → PathFits p → PathFits q
+  kept_by s w p q own_phase own_send other_phase other_send x h =
+      let profile : q.profile ≡ p.profile = ap (λ (v : PathView C). v.profile) x.same in
+      let both = both_ends (λ e f. (f.tcp.state ≡ e.tcp.state) × (f.tcp.send ≡ e.tcp.send)) s w p q
+      (λ e f y. end_kept w.own e f own_phase own_send y) (λ e f y. end_kept w.other e f other_phase other_send y) x in
+      record { a = end_fits p.profile q.profile p.a q.a profile both.0 h.a; b = end_fits p.profile q.profile p.b q.b profile both.1 h.b }
 
   heard_fits : (k : Codec C) (s : Side) (item : Heard) (r : Reply) (p : PathState C) → PathFits p → PathFits (answered_heard k s item r p)
   heard_fits k s (says.DataAck next window) r p h = side_fits s p _ _ refl refl refl h (fits_at s p h)
@@ -560,10 +571,6 @@ module _ {C : Type 0} where
   items_fit k s None r p h = record { a = h.a; b = h.b }
   items_fit k s (Some item) r p h = heard_fits k s item r p h
 
-  piece_fits : (s : Side) (piece : Option Piece) (placed : Bool) (p : PathState C) → PathFits p → PathFits (answered_piece s piece placed p)
-  piece_fits s None placed p h = side_fits s p _ _ refl refl refl h (fits_at s p h)
-  piece_fits s (Some piece) placed p h = either_fits placed _ _ (side_fits s p _ _ refl refl refl h (fits_at s p h)) (side_fits s p _ _ refl refl refl h (fits_at s p h))
-
   joined_fits : (s : Side) (keys : Option KeyPair) (asked : Option JoinSyn) (r : Reply) (p : PathState C) → PathFits p → PathFits (join_taken s keys asked r p)
   joined_fits s (Some keys) (Some asked) r p h =
       side_fits s p _ _ refl refl refl h (joining_fits (payload_size p.profile) (end_at s p).treated.window (end_at s p).tcp (fits_at s p h))
@@ -577,24 +584,12 @@ module _ {C : Type 0} where
   answered_fits k (duties.Send (send_duties.Syn s)) r p x asks small h = side_fits s p _ _ refl refl refl h (sent_fits (payload_size p.profile) to_send.Unsent p.clock (end_at s p).tcp (fits_at s p h))
   answered_fits k (duties.Send (send_duties.Fin s)) r p x asks small h = side_fits s p _ _ refl refl refl h (fin_fits (payload_size p.profile) p.clock (end_at s p).tcp (fits_at s p h))
   answered_fits k (duties.Step step_duties.Events) r p x asks small h = happens_fits k (next_event p) r p h
-  answered_fits k (duties.Ask (ask_duties.PeerKey s)) r p x asks small h = key_fits s (key_heard (end_at s p).treated.items) r p h
   answered_fits k (duties.Send (send_duties.SynAck s)) r p x asks small h = side_fits s p _ _ refl refl refl h (sent_fits (payload_size p.profile) to_send.SynAck p.clock (end_at s p).tcp (fits_at s p h))
   answered_fits k (duties.Ask (ask_duties.JoinHeard s)) r p x asks small h = joined_fits s (keys_begun r) (asked_at s p) r p h
-  answered_fits k (duties.Ask (ask_duties.Opened s)) r p x asks small h = keys_fit s (keys_heard (end_at s p).treated.items) r p h
   answered_fits k (duties.Step (step_duties.Heard s index)) r p x asks small h = items_fit k s (item_of index (end_at s p)) r p h
-  answered_fits k (duties.Ask (ask_duties.FailHeard s)) r p x asks small h =
-      side_fits s p _ _ refl refl refl h (fail_heard_so (EndFits (payload_size p.profile)) r (end_at s p) (λ own owes. fits_at s p h))
   answered_fits k (duties.Step (step_duties.PlainAck s)) r p x asks small h =
       either_fits (breaks_by_ack p.profile (end_at s p)) _ _ (break_fits k s 6 r p h) (side_fits s p _ _ refl refl refl h (fits_at s p h))
   answered_fits k (duties.Step (step_duties.Unmapped s)) r p x asks small h = break_fits k s 6 r p h
-  answered_fits k (duties.Ask (ask_duties.SubflowFin s)) r p x asks small h =
-      either_fits (is_fin_set r) _ _ (side_fits s p _ _ refl refl refl h (fits_at s p h)) (side_fits s p _ _ refl refl refl h (fits_at s p h))
-  answered_fits k (duties.Ask (ask_duties.Edge s)) r p x asks small h = piece_fits s (piece_of s p) (is_placed r) p h
-  answered_fits k (duties.Ask (ask_duties.CheckFailed s)) r p x asks small h =
-      side_fits s p _ _ refl refl refl h
-      (check_failed_so (EndFits (payload_size p.profile)) p.profile.spelling.checksums r (end_at s p) (λ told broken recv forgets. fits_at s p h))
-  answered_fits k (duties.Ask (ask_duties.HeardFin s index)) r p x asks small h =
-      either_fits (is_fin_set r) _ _ (side_fits s p _ _ refl refl refl h (fits_at s p h)) (side_fits s p _ _ refl refl refl h (fits_at s p h))
   answered_fits k (duties.Send (send_duties.Again s)) r p x asks small h = side_fits s p _ _ refl refl refl h (sent_fits (payload_size p.profile) to_send.First p.clock (end_at s p).tcp (fits_at s p h))
   answered_fits k (duties.Send (send_duties.Answer s)) r p x asks small h =
       side_fits s p _ _ refl refl refl h (sent_fits (payload_size p.profile) (answer_occasion (end_at s p)) p.clock (end_at s p).tcp (fits_at s p h))
@@ -604,26 +599,8 @@ module _ {C : Type 0} where
   answered_fits k (duties.Send (send_duties.Reset s)) r p x asks small h = side_fits s p _ _ refl refl refl h (dead_fits (payload_size p.profile) false (end_at s p).tcp (fits_at s p h))
   answered_fits k (duties.Send (send_duties.ResetNoted s)) r p x asks small h = side_fits s p _ _ refl refl refl h (dead_fits (payload_size p.profile) false (end_at s p).tcp (fits_at s p h))
   answered_fits k (duties.Ask (ask_duties.LeaveNoted s)) r p x asks small h = side_fits s p _ _ refl refl refl h (dead_fits (payload_size p.profile) false (end_at s p).tcp (fits_at s p h))
-  answered_fits k (duties.Step (step_duties.Look s)) r p x asks small h = side_fits s p _ _ refl refl refl h (fits_at s p h)
-  answered_fits k (duties.Ask (ask_duties.Window s)) r p x asks small h = side_fits s p _ _ refl refl refl h (fits_at s p h)
-  answered_fits k (duties.Send (send_duties.Update s)) r p x asks small h = side_fits s p _ _ refl refl refl h (fits_at s p h)
-  answered_fits k (duties.Send (send_duties.FastClose s)) r p x asks small h = side_fits s p _ _ refl refl refl h (fits_at s p h)
-  answered_fits k (duties.Send (send_duties.Notice s)) r p x asks small h = side_fits s p _ _ refl refl refl h (fits_at s p h)
-  answered_fits k (duties.Send (send_duties.DataFin s)) r p x asks small h = side_fits s p _ _ refl refl refl h (fits_at s p h)
-  answered_fits k (duties.Send (send_duties.Refuse s)) r p x asks small h = side_fits s p _ _ refl refl refl h (fits_at s p h)
-  answered_fits k (duties.Send (send_duties.Acknowledge s)) r p x asks small h = side_fits s p _ _ refl refl refl h (fits_at s p h)
-  answered_fits k (duties.Send (send_duties.ResetAnswer s)) r p x asks small h = side_fits s p _ _ refl refl refl h (fits_at s p h)
-  answered_fits k (duties.Ask (ask_duties.AckHeard s)) r p x asks small h = side_fits s p _ _ refl refl refl h (fits_at s p h)
-  answered_fits k (duties.Ask (ask_duties.PlainHandshake s)) r p x asks small h = side_fits s p _ _ refl refl refl h (fits_at s p h)
-  answered_fits k (duties.Ask (ask_duties.PlainData s)) r p x asks small h = side_fits s p _ _ refl refl refl h (fits_at s p h)
-  answered_fits k (duties.Ask (ask_duties.SubflowAck s)) r p x asks small h = side_fits s p _ _ refl refl refl h (fits_at s p h)
-  answered_fits k (duties.Ask (ask_duties.GoIdentity s)) r p x asks small h = side_fits s p _ _ refl refl refl h (fits_at s p h)
-  answered_fits k (duties.Ask (ask_duties.AckOut s)) r p x asks small h = side_fits s p _ _ refl refl refl h (fits_at s p h)
-  answered_fits k (duties.Ask (ask_duties.Rate s)) r p x asks small h = side_fits s p _ _ refl refl refl h (fits_at s p h)
-  answered_fits k (duties.Ask (ask_duties.BreakAck s reason)) r p x asks small h = side_fits s p _ _ refl refl refl h (fits_at s p h)
-  answered_fits k (duties.Ask (ask_duties.Leave s)) r p x asks small h = record { a = h.a; b = h.b }
-  answered_fits k duties.End r p x asks small h = record { a = h.a; b = h.b }
-  answered_fits k _ r p x asks small h = record { a = h.a; b = h.b }
+  answered_fits k (duties.Silent d) r p x asks small h = record { a = h.a; b = h.b }
+  answered_fits k d r p x asks small h = kept_by (side_of d) (writes d) p _ refl refl refl refl (writes_no_more k d r p) h
 
   answers_fit : (k : Codec C) (ds : List Duty) (r : Reply) (p : PathState C) (x : Ask) → asks_first k ds p ≡ Some x → GrantsSmall x r p → PathFits p → PathFits (answers k ds r p)
   answers_fit k [] r p x asks small h = h

@@ -494,31 +494,11 @@ module _ {C : Type 0} (k : Codec C) (p : PathState C) (written_a written_b : ℕ
   duty_asks (duties.Step (step_duties.Heard s index)) ds falls is f each =
       heard_duty (duties.Step (step_duties.Heard s index)) s ds (heard_asks k (Here (duties.Step (step_duties.Heard s index) ∷ ds)) s (item_of index (end_at s p))) tt
       (and_parts (is_owed s ds) (not (is_owed (peer s) ds)) (first_needs (duties.Step (step_duties.Heard s index)) ds f)).0 is f each
-  duty_asks (duties.Ask ask_duties.JoinAgain) ds falls is f each = quiet_duty (duties.Ask ask_duties.JoinAgain) ds tt tt is f each
-  duty_asks (duties.Step (step_duties.Look s)) ds falls is f each = quiet_duty (duties.Step (step_duties.Look s)) ds tt tt is f each
-  duty_asks (duties.Ask (ask_duties.Window s)) ds falls is f each = quiet_duty (duties.Ask (ask_duties.Window s)) ds tt tt is f each
   duty_asks (duties.Send (send_duties.Update s)) ds falls is f each = quiet_duty (duties.Send (send_duties.Update s)) ds tt tt is f each
-  duty_asks (duties.Send (send_duties.FastClose s)) ds falls is f each = quiet_duty (duties.Send (send_duties.FastClose s)) ds tt tt is f each
-  duty_asks (duties.Send (send_duties.Notice s)) ds falls is f each = quiet_duty (duties.Send (send_duties.Notice s)) ds tt tt is f each
-  duty_asks (duties.Send (send_duties.Syn s)) ds falls is f each = quiet_duty (duties.Send (send_duties.Syn s)) ds tt tt is f each
-  duty_asks (duties.Send (send_duties.DataFin s)) ds falls is f each = quiet_duty (duties.Send (send_duties.DataFin s)) ds tt tt is f each
-  duty_asks (duties.Send (send_duties.Fin s)) ds falls is f each = quiet_duty (duties.Send (send_duties.Fin s)) ds tt tt is f each
   duty_asks (duties.Silent (silent_duties.Timer s)) ds falls is f each = quiet_duty (duties.Silent (silent_duties.Timer s)) ds tt tt is f each
-  duty_asks (duties.Step step_duties.Events) ds falls is f each = quiet_duty (duties.Step step_duties.Events) ds tt tt is f each
   duty_asks (duties.Ask (ask_duties.SynHeard s)) ds falls is f each = heard_duty (duties.Ask (ask_duties.SynHeard s)) s ds refl tt (first_needs (duties.Ask (ask_duties.SynHeard s)) ds f) is f each
   duty_asks (duties.Ask (ask_duties.SynAnswered s)) ds falls is f each = heard_duty (duties.Ask (ask_duties.SynAnswered s)) s ds refl tt (first_needs (duties.Ask (ask_duties.SynAnswered s)) ds f) is f each
-  duty_asks (duties.Ask (ask_duties.PlainHandshake s)) ds falls is f each = quiet_duty (duties.Ask (ask_duties.PlainHandshake s)) ds tt tt is f each
-  duty_asks (duties.Ask (ask_duties.PeerKey s)) ds falls is f each = quiet_duty (duties.Ask (ask_duties.PeerKey s)) ds tt tt is f each
-  duty_asks (duties.Send (send_duties.SynAck s)) ds falls is f each = quiet_duty (duties.Send (send_duties.SynAck s)) ds tt tt is f each
-  duty_asks (duties.Ask (ask_duties.JoinHeard s)) ds falls is f each = quiet_duty (duties.Ask (ask_duties.JoinHeard s)) ds tt tt is f each
-  duty_asks (duties.Send (send_duties.Refuse s)) ds falls is f each = quiet_duty (duties.Send (send_duties.Refuse s)) ds tt tt is f each
-  duty_asks (duties.Ask (ask_duties.Opened s)) ds falls is f each = quiet_duty (duties.Ask (ask_duties.Opened s)) ds tt tt is f each
-  duty_asks (duties.Ask (ask_duties.Live s)) ds falls is f each = quiet_duty (duties.Ask (ask_duties.Live s)) ds tt tt is f each
-  duty_asks (duties.Ask (ask_duties.AckHeard s)) ds falls is f each = quiet_duty (duties.Ask (ask_duties.AckHeard s)) ds tt tt is f each
-  duty_asks (duties.Ask (ask_duties.FailHeard s)) ds falls is f each = quiet_duty (duties.Ask (ask_duties.FailHeard s)) ds tt tt is f each
-  duty_asks (duties.Step (step_duties.PlainAck s)) ds falls is f each = quiet_duty (duties.Step (step_duties.PlainAck s)) ds tt tt is f each
   duty_asks (duties.Ask (ask_duties.SubflowAck s)) ds falls is f each = heard_duty (duties.Ask (ask_duties.SubflowAck s)) s ds (subflow_asks k (Here (duties.Ask (ask_duties.SubflowAck s) ∷ ds)) s) tt (first_needs (duties.Ask (ask_duties.SubflowAck s)) ds f) is f each
-  duty_asks (duties.Ask (ask_duties.PlainData s)) ds falls is f each = quiet_duty (duties.Ask (ask_duties.PlainData s)) ds tt tt is f each
   duty_asks (duties.Ask (ask_duties.GoIdentity s)) ds falls is f each = record {
     flags = refused;
     others = freed;
@@ -527,33 +507,7 @@ module _ {C : Type 0} (k : Codec C) (p : PathState C) (written_a written_b : ℕ
     both = asked_is (identity_ask s) refused freed is
         (identity_both (path_of p) written_a written_b steps n refused freed six h (asks_nothing (duties.Ask (ask_duties.GoIdentity s)) ds tt is) s falls);
   }
-  duty_asks (duties.Step (step_duties.Unmapped s)) ds falls is f each = quiet_duty (duties.Step (step_duties.Unmapped s)) ds tt tt is f each
-  duty_asks (duties.Ask (ask_duties.SubflowFin s)) ds falls is f each = quiet_duty (duties.Ask (ask_duties.SubflowFin s)) ds tt tt is f each
-  duty_asks (duties.Silent (silent_duties.Keep s)) ds falls is f each = quiet_duty (duties.Silent (silent_duties.Keep s)) ds tt tt is f each
-  duty_asks (duties.Ask (ask_duties.Edge s)) ds falls is f each = quiet_duty (duties.Ask (ask_duties.Edge s)) ds tt tt is f each
-  duty_asks (duties.Ask (ask_duties.CheckFailed s)) ds falls is f each = quiet_duty (duties.Ask (ask_duties.CheckFailed s)) ds tt tt is f each
-  duty_asks (duties.Ask (ask_duties.HeardFin s index)) ds falls is f each = quiet_duty (duties.Ask (ask_duties.HeardFin s index)) ds tt tt is f each
-  duty_asks (duties.Silent (silent_duties.PassFin s)) ds falls is f each = quiet_duty (duties.Silent (silent_duties.PassFin s)) ds tt tt is f each
-  duty_asks (duties.Ask (ask_duties.AckOut s)) ds falls is f each = quiet_duty (duties.Ask (ask_duties.AckOut s)) ds tt tt is f each
-  duty_asks (duties.Ask (ask_duties.Rate s)) ds falls is f each = quiet_duty (duties.Ask (ask_duties.Rate s)) ds tt tt is f each
-  duty_asks (duties.Send (send_duties.Acknowledge s)) ds falls is f each = quiet_duty (duties.Send (send_duties.Acknowledge s)) ds tt tt is f each
-  duty_asks (duties.Send (send_duties.Again s)) ds falls is f each = quiet_duty (duties.Send (send_duties.Again s)) ds tt tt is f each
-  duty_asks (duties.Send (send_duties.Answer s)) ds falls is f each = quiet_duty (duties.Send (send_duties.Answer s)) ds tt tt is f each
-  duty_asks (duties.Send (send_duties.ResetAnswer s)) ds falls is f each = quiet_duty (duties.Send (send_duties.ResetAnswer s)) ds tt tt is f each
-  duty_asks (duties.Ask (ask_duties.Return s)) ds falls is f each = quiet_duty (duties.Ask (ask_duties.Return s)) ds tt tt is f each
-  duty_asks (duties.Ask (ask_duties.AbortSend s)) ds falls is f each = quiet_duty (duties.Ask (ask_duties.AbortSend s)) ds tt tt is f each
-  duty_asks (duties.Ask (ask_duties.AbortReceive s)) ds falls is f each = quiet_duty (duties.Ask (ask_duties.AbortReceive s)) ds tt tt is f each
-  duty_asks (duties.Ask (ask_duties.Announce s id)) ds falls is f each = quiet_duty (duties.Ask (ask_duties.Announce s id)) ds tt tt is f each
-  duty_asks (duties.Ask (ask_duties.Withdraw s id)) ds falls is f each = quiet_duty (duties.Ask (ask_duties.Withdraw s id)) ds tt tt is f each
-  duty_asks (duties.Send (send_duties.Resend s)) ds falls is f each = quiet_duty (duties.Send (send_duties.Resend s)) ds tt tt is f each
-  duty_asks (duties.Ask (ask_duties.BreakAck s reason)) ds falls is f each = quiet_duty (duties.Ask (ask_duties.BreakAck s reason)) ds tt tt is f each
-  duty_asks (duties.Send (send_duties.BreakReset s reason)) ds falls is f each = quiet_duty (duties.Send (send_duties.BreakReset s reason)) ds tt tt is f each
-  duty_asks (duties.Send (send_duties.Reset s)) ds falls is f each = quiet_duty (duties.Send (send_duties.Reset s)) ds tt tt is f each
-  duty_asks (duties.Send (send_duties.ResetNoted s)) ds falls is f each = quiet_duty (duties.Send (send_duties.ResetNoted s)) ds tt tt is f each
-  duty_asks (duties.Ask (ask_duties.Leave s)) ds falls is f each = quiet_duty (duties.Ask (ask_duties.Leave s)) ds tt tt is f each
-  duty_asks (duties.Ask (ask_duties.LeaveNoted s)) ds falls is f each = quiet_duty (duties.Ask (ask_duties.LeaveNoted s)) ds tt tt is f each
-  duty_asks (duties.Ask (ask_duties.Dead s)) ds falls is f each = quiet_duty (duties.Ask (ask_duties.Dead s)) ds tt tt is f each
-  duty_asks duties.End ds falls is f each = quiet_duty duties.End ds tt tt is f each
+  duty_asks d ds falls is f each = quiet_duty d ds tt tt is f each
 
   here_asks : (d : Duty) (ds : List Duty) → FallsAsk six (ask_for k d (Here (d ∷ ds))) → n.ask ≡ ask_for k d (Here (d ∷ ds)) → Granting (Here (d ∷ ds)) refused → AskThen (takes k (reply_of six (ask_for k d (Here (d ∷ ds)))) (Here (d ∷ ds)))
   here_asks d ds falls is g =

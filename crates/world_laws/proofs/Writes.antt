@@ -1,0 +1,4 @@
+pub mod Ends
+pub mod Paths
+pub mod Steps
+pub mod Asks
