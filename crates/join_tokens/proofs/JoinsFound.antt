@@ -19,7 +19,6 @@ use Rattle.mptcp_options.specs.Text.{Fits}
 use Rattle.mptcp_options.specs.Value as wire
 use Rattle.join_handshake.specs.declared.hearing.JoinSyn.{JoinSyn}
 use Rattle.path_segments.specs.declared.expected.Expected.{Expected}
-use Rattle.path_segments.specs.declared.position.HeardPosition.{HeardPosition}
 use Rattle.path_segments.specs.declared.position.HeardPosition.TheVariants.{At}
 use Rattle.path_segments.specs.declared.segment.PathOption.TheVariants.{Join}
 use Rattle.path_segments.specs.declared.spelling.Spelling.{Spelling}
@@ -82,13 +81,15 @@ asks_so _ is = cc
 abbrev said_to_b : ℕ → List PlainOption → Option JoinSyn
 said_to_b window options = join_asked (flat_map (items_in true B window) (map meant_option options))
 
+abbrev asked_by : (options : List PlainOption) → AsksSo options → JoinSyn
+asked_by options so = record { backup = so.backup; id = so.id; token = so.token; nonce = so.nonce }
+
 -- B's end takes the first one
 asked_so : (window : ℕ) (options : List PlainOption) (asked : JoinSyn) (so : AsksSo options) → said_to_b window options ≡ Some asked → so.token ≡ asked.token
 asked_so window options asked so is =
-    ap (λ (x : JoinSyn). x.token)
-    (same_Some (record { backup = so.backup; id = so.id; token = so.token; nonce = so.nonce }) asked (ap (said_to_b window) (sym so.is) ∙ is))
+    ap (λ (x : JoinSyn). x.token) (same_Some (asked_by options so) asked (ap (said_to_b window) (sym so.is) ∙ is))
 
-not_acknowledging : (o : Option ℕ) → option_map {ℕ} {HeardPosition} (λ n. At n) o ≡ None → o ≡ None
+not_acknowledging : (o : Option ℕ) → option_map (λ n. At n) o ≡ None → o ≡ None
 not_acknowledging None is = refl
 not_acknowledging (Some n) is = cc
 
