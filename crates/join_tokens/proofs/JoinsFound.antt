@@ -1,6 +1,6 @@
 -- The copy that B's end takes as a join is found by the token by which it asks.
 use Rattle.std.proofs.Common.{◌≡◌, refl, sym, ◌∙◌, ap, subst, ⊎_elim, ℕ, Bool, true, false, ◌&&◌, ◌==◌, if◌then◌else◌, Option, Some, None, option_map, List, [], ◌∷◌, map}
-use Rattle.std.proofs.lemmas.Bool.{and_parts}
+use Rattle.std.proofs.lemmas.Bool.{and_parts, false≢true}
 use Rattle.std.proofs.lemmas.List.Elements.{All-head}
 use Rattle.std.proofs.lemmas.Option.{same_Some}
 use Rattle.std.specs.List.{All, flat_map, slice_get}
@@ -158,7 +158,7 @@ module _ (p : PathState Carried) (fresh : NextIsFresh p) (roles : HasRoles p) (n
         let same : unplaced (subflow_number spelling A carried.segment.position) (meant (as_arrived carried)) ≡ h.heard =
         same_Some (unplaced (subflow_number spelling A carried.segment.position) (meant (as_arrived carried))) h.heard
         (sym (far_read spelling A expected carried is.from is.sayable is.expected far) ∙ reads) in
-        absurd (subst IsSome (not_acknowledging carried.segment.acknowledged (ap (λ (x : HeardSegment). x.acknowledged) same ∙ h.alone)) far.acknowledging)
+        absurd (false≢true (subst IsSome (not_acknowledging carried.segment.acknowledged (ap (λ (x : HeardSegment). x.acknowledged) same ∙ h.alone)) far.acknowledging))
 
     carried_found : join_token (addresses_from spelling.path A) (octets_of spelling carried) ≡ Some asked.token
     carried_found = ⊎_elim (λ near. by_near near) (λ far. by_far far) is.fresh
