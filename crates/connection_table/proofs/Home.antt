@@ -2,6 +2,7 @@
 use Rattle.std.proofs.Common.{◌≡◌, refl, sym, ◌∙◌, ap, subst, ℕ, Bool, true, false, if◌then◌else◌, Option, Some, None, option_and_then, List}
 use Rattle.std.specs.Prelude.{IsSomeAnd}
 use Rattle.std.specs.List.{slice_get}
+use Rattle.std.proofs.lemmas.Option.{same_Some}
 use Rattle.sides.specs.declared.side.Side.{Side}
 use Rattle.sides.specs.declared.side.Side.TheVariants.{A, B}
 use Rattle.path_rules.specs.Looking.{Arrived, next_arrival}
@@ -12,10 +13,13 @@ use Rattle.world_laws.specs.Actors.{Actor, ActorCrew}
 use Rattle.world_laws.specs.Openings.{start_of}
 use Rattle.world_laws.proofs.Promises.OfScripts.{scripts_fit}
 use Rattle.join_route.specs.Routing.{join_token}
+use Rattle.join_tokens.specs.FoundJoins.{FindsJoinNext, FindsJoins, IsHeardAsJoin}
 use Rattle.join_tokens.specs.JoinTokens.{AsksByTokenNext, JoinsAskByToken}
 use Rattle.join_tokens.proofs.JoinsAsked.{joins_ask}
-use Rattle.connection_table.specs.Routes.{EachIsRoutedHome, arriving_at_b, arriving_in, home_by, home_of, if_at_b, only_at_b, route_by, routed, to_holder}
-use Rattle.connection_table.specs.Tables.{Entry, IsShortEntry, IsTable, StandsAlone, entry_at, holder_of, key_token}
+use Rattle.join_tokens.proofs.JoinsFound.{joins_are_found}
+use Rattle.connection_table.specs.Routes.{EachIsRoutedHome, EachJoinIsRouted, IsJoinNext, arriving_at_b, arriving_in, home_by, home_of, if_at_b, only_at_b, route_by, routed, to_holder}
+use Rattle.connection_table.specs.declared.route.Route.TheVariants.{To}
+use Rattle.connection_table.specs.Tables.{Entry, IsShortEntry, IsTable, Stands, StandsAlone, entry_at, holder_of, key_token}
 
 -- what comes to B arrives there
 at_b : (o : Option Arrived) (a : Arrived) → option_and_then only_at_b o ≡ Some a → (o ≡ Some a) × (a.to ≡ B)
@@ -68,6 +72,34 @@ each_is_routed_home table connection actor e sound there alone short =
     by : (b : Bool) → e.world.failed ≡ b → home_by connection (routed (if b then None else arriving_at_b actor e.world.state.crew) table) ≡ connection
     by true stands = refl
     by false stands = arriving_is (arriving_at_b actor e.world.state.crew) refl stands
+
+-- ---- what B's end takes as a join
+
+module _ (key actor : ℕ) (e : Entry) (copy : Arrived) (h : IsJoinNext actor e copy) where
+  member_found : (m : Actor (List ℕ)) → FindsJoinNext m → AsksByTokenNext key m → member_path m ≡ Some h.path → join_token copy.addresses copy.octets ≡ Some key
+  member_found (App app) finds asks is = cc
+  member_found (Path p) finds asks is =
+      let same = same_Some p h.path is in
+      let next = subst (λ q. next_arrival q ≡ Some copy) (sym same) h.next in
+      let found = finds copy h.asked next (subst (λ q. IsHeardAsJoin q copy h.asked) (sym same) h.heard) in
+      found ∙ ap (λ n. Some n) (asks copy h.asked.token next h.heard.to found)
+
+  join_found : FindsJoins e.world.state → JoinsAskByToken key e.world.state → join_token copy.addresses copy.octets ≡ Some key
+  join_found finds asks = by (slice_get e.world.state.crew actor) refl h.path_is
+    where
+      by : (o : Option (ActorCrew (List ℕ))) → slice_get e.world.state.crew actor ≡ o → crew_path o ≡ Some h.path → join_token copy.addresses copy.octets ≡ Some key
+      by None there is = cc
+      by (Some c) there is = member_found c.member (finds.each actor c there) (asks.each actor c there) is
+
+pub each_join_is_routed : EachJoinIsRouted
+each_join_is_routed table connection actor e copy sound there stands alone short h =
+    let starts = scripts_fit e.input.script e.input.file_a e.input.file_b short in
+    let start = start_of e.input.script e.input.file_a e.input.file_b in
+    let key : ℕ = key_token e.input.script in
+    let same = alone.is stands in
+    let finds : FindsJoins e.world.state = subst FindsJoins (sym same) (joins_are_found start (all_turns e.turns) starts.0 starts.1) in
+    let asks : JoinsAskByToken key e.world.state = subst (JoinsAskByToken key) (sym same) (joins_ask start (all_turns e.turns) starts.0 starts.1) in
+    ap (λ o. route_by o table) (join_found key actor e copy h finds asks) ∙ ap (λ o. to_holder key o) (sound.named connection e there)
 
 -- of a connection that is there
 pub short_stays_home : (table : List Entry) (connection actor : ℕ) → IsTable table → IsSomeAnd (entry_at connection table) StandsAlone

@@ -2,13 +2,16 @@
 use Rattle.std.specs.Prelude.{ℕ, ◌≡◌, if◌then◌else◌, List, Option, Some, None, option_and_then}
 use Rattle.sides.specs.declared.side.Side.{Side}
 use Rattle.sides.specs.declared.side.Side.TheVariants.{A, B}
-use Rattle.path_rules.specs.Looking.{Arrived}
-use Rattle.world_core.specs.Looking.{arriving_at}
+use Rattle.path_rules.specs.Looking.{Arrived, next_arrival}
+use Rattle.path_rules.specs.State.{PathState}
+use Rattle.world_core.specs.Looking.{arriving_at, path_at}
 use Rattle.world_laws.specs.Actors.{ActorCrew}
+use Rattle.join_handshake.specs.declared.hearing.JoinSyn.{JoinSyn}
 use Rattle.join_route.specs.Routing.{join_token}
+use Rattle.join_tokens.specs.FoundJoins.{IsHeardAsJoin}
 use Rattle.connection_table.specs.declared.route.Route.{Route}
 use Rattle.connection_table.specs.declared.route.Route.TheVariants.{To, Unknown, NotJoin}
-use Rattle.connection_table.specs.Tables.{Entry, IsShortEntry, IsTable, StandsAlone, entry_at, holder_of}
+use Rattle.connection_table.specs.Tables.{Entry, IsShortEntry, IsTable, Stands, StandsAlone, entry_at, holder_of}
 
 -- where a segment goes that asks to join by this token, if it does
 abbrev pub to_holder : ℕ → Option ℕ → Route
@@ -60,3 +63,19 @@ abbrev pub EachIsRoutedHome : Type 0
 EachIsRoutedHome =
     (table : List Entry) (connection actor : ℕ) (e : Entry) → IsTable table → entry_at connection table ≡ Some e → StandsAlone e
     → IsShortEntry e → home_of connection actor table ≡ connection
+
+-- ---- the law: the router finds each join
+
+-- the copy that comes by an actor's next step, in which B's end of a path that joins hears a SYN without ACK that asks to join
+pub record IsJoinNext (actor : ℕ) (e : Entry) (copy : Arrived) : Type 0 where
+  pub path : PathState (List ℕ)
+  pub path_is : path_at actor e.world.state.crew ≡ Some path
+  pub next : next_arrival path ≡ Some copy
+  pub asked : JoinSyn
+  pub heard : IsHeardAsJoin path copy asked
+
+-- Of a connection that stands, and alone, where both files are shorter than 2^31 - 2 octets, it goes to that connection.
+abbrev pub EachJoinIsRouted : Type 0
+EachJoinIsRouted =
+    (table : List Entry) (connection actor : ℕ) (e : Entry) (copy : Arrived) → IsTable table → entry_at connection table ≡ Some e → Stands e
+    → StandsAlone e → IsShortEntry e → IsJoinNext actor e copy → route_by (join_token copy.addresses copy.octets) table ≡ To connection

@@ -2,3 +2,4 @@ mod TokensShown
 mod PathsNamed
 pub mod JoinsAsked
 mod ArrivalsLent
+pub mod JoinsFound

@@ -40,7 +40,8 @@ use Rattle.path_rules.proofs.Showing.{same_event}
 use Rattle.world_laws.specs.declared.member.Member.TheVariants.{App, Path}
 use Rattle.world_laws.specs.Actors.{Actor, ActorCrew}
 use Rattle.world_laws.specs.Fresh.{IsFreshCrew, IsFreshMember, IsFreshTurn, AreFresh, shown_crew, shown_member, shown_world}
-use Rattle.world_laws.specs.Openings.{opened_world}
+use Rattle.world_laws.specs.Openings.{Start, opened_world}
+use Rattle.world_laws.specs.Promises.{HasRoom, NumbersFit}
 use Rattle.world_laws.specs.Worlds.{WorldState, Turn, after_turn, world_run}
 use Rattle.world_laws.proofs.Worlds.Finding.{find_every, one_side}
 use Rattle.world_laws.proofs.Joins.TokensAgree.{WorldMet, run_met, opened_met}
@@ -106,7 +107,7 @@ values_show_the_token start turns = record { each = λ actor c there. by c.membe
 
 -- ---- over octets
 
-same_arriving : (show : Carried → List ℕ) (due : Due) (flights : List (Flight Carried)) → find (is_due due) (map (shown_flight show) flights) ≡ option_map (shown_flight show) (find (is_due due) flights)
+pub same_arriving : (show : Carried → List ℕ) (due : Due) (flights : List (Flight Carried)) → find (is_due due) (map (shown_flight show) flights) ≡ option_map (shown_flight show) (find (is_due due) flights)
 same_arriving show due [] = refl
 same_arriving show due (f ∷ flights) = by (is_due due f) (same_arriving show due flights)
   where
@@ -167,18 +168,20 @@ fresh_last : (turns : List Turn) (turn : Turn) (w : WorldState Carried) → AreF
 fresh_last [] turn w fresh = fresh.0
 fresh_last (first ∷ turns) turn w fresh = fresh_last turns turn (after_turn values first w) fresh.1
 
+-- at every moment each path is fresh
+pub members_fresh : (start : Start) (turns : List Turn) → HasRoom start → NumbersFit start → (actor : ℕ) (c : ActorCrew Carried)
+    → slice_get (world_run values turns (opened_world start)).crew actor ≡ Some c → IsFreshMember c.member
+members_fresh start turns size fit actor c there =
+    subst IsFreshCrew there (fresh_last turns (Turn.Step actor) (opened_world start) (every_list_is_fresh start (turns ++ Turn.Step actor ∷ []) size fit))
+
 pub octets_show_the_token : OctetsShowTheToken
 octets_show_the_token start turns size fit = subst (JoinsShowToken octets (token_of start.key_b)) (sym (run_fresh start turns size fit)) (record { each = at })
   where
     w : WorldState Carried
     w = world_run values turns (opened_world start)
 
-    member_fresh : (actor : ℕ) (c : ActorCrew Carried) → slice_get w.crew actor ≡ Some c → IsFreshMember c.member
-    member_fresh actor c there =
-        subst IsFreshCrew there (fresh_last turns (Turn.Step actor) (opened_world start) (every_list_is_fresh start (turns ++ Turn.Step actor ∷ []) size fit))
-
     at : (actor : ℕ) (c : ActorCrew (List ℕ)) → slice_get (shown_world w).crew actor ≡ Some c → ShowsTokenNext octets (token_of start.key_b) c.member
     at actor c there =
         let found = in_map shown_crew w.crew actor c there in
         subst (λ y. ShowsTokenNext octets (token_of start.key_b) y.member) found.2
-        (member_shows (token_of start.key_b) found.0.member (member_fresh actor found.0 found.1) ((values_show_the_token start turns).each actor found.0 found.1))
+        (member_shows (token_of start.key_b) found.0.member (members_fresh start turns size fit actor found.0 found.1) ((values_show_the_token start turns).each actor found.0 found.1))

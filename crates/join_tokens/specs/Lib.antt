@@ -1,2 +1,3 @@
 pub mod JoinTokens
 pub mod Arrivals
+pub mod FoundJoins

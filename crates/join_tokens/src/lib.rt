@@ -4,4 +4,6 @@
 
 mod laws;
 
-pub use laws::{each_arrival_is_lent, joins_ask_by_the_token, joins_show_the_token};
+pub use laws::{
+    each_arrival_is_lent, joins_are_found, joins_ask_by_the_token, joins_show_the_token,
+};

@@ -2,7 +2,7 @@
 use Rattle.std.proofs.Common.{◌≡◌, refl, sym, ◌∙◌, ap, subst, ⊎_elim, ℕ, zero, suc, ◌+◌, map, ◌&&◌, ◌==◌, not, is_some, is_none, Bool, true, false, if◌then◌else◌, unwrap_or, Option, Some, None, Ok, Err, List, [], ◌∷◌}
 use Rattle.std.proofs.lemmas.Bool.{and_parts, both_ways, eq-eqb, not-true, false≢true}
 use Rattle.std.proofs.lemmas.Option.{same_Some}
-use Rattle.std.specs.List.{slice_get}
+use Rattle.std.specs.List.{flat_map, slice_get}
 use Rattle.std.specs.Cmp.Lexicographic.{pointwise}
 use Rattle.std.specs.Option.{IfSome, option_or}
 use Rattle.std.specs.Result.{result_ok}
@@ -18,7 +18,8 @@ use Rattle.mptcp_options.specs.declared.join.JoinForm.TheVariants.{Syn, Answer, 
 use Rattle.join_handshake.specs.declared.hearing.JoinAnswer.{JoinAnswer}
 use Rattle.join_handshake.specs.declared.fault.JoinFault.TheVariants.{BadHmac}
 use Rattle.join_handshake.specs.Heard.{answer_heard, answer_taken, syn_heard, third_heard}
-use Rattle.path_segments.specs.Laws.{meant}
+use Rattle.path_segments.specs.declared.segment.PathOption.TheVariants.{Join}
+use Rattle.path_segments.specs.Laws.{meant, window_told}
 use Rattle.path_segments.specs.Spelled.{PlainSegment}
 use Rattle.subflow_tcp.specs.declared.handshake.State.{State as EndPhase}
 use Rattle.subflow_tcp.specs.declared.handshake.State.TheVariants as phase
@@ -35,7 +36,7 @@ use Rattle.path_agenda.specs.declared.heard.Heard.TheVariants as says
 use Rattle.path_agenda.specs.declared.heard.JoinStep.{JoinStep}
 use Rattle.path_agenda.specs.declared.heard.JoinStep.TheVariants as step
 use Rattle.path_rules.specs.declared.judged.Judged.TheVariants as judged
-use Rattle.path_rules.specs.Arriving.{copy_of, is_forged, is_passed_over, items_of, join_judged, judged_in}
+use Rattle.path_rules.specs.Arriving.{copy_of, is_forged, is_passed_over, items_in, items_of, join_judged, judged_in}
 use Rattle.path_rules.specs.Ends.{PathEnd}
 use Rattle.path_rules.specs.Events.{heard_in}
 use Rattle.path_rules.specs.Joins.{is_joined, is_hmac_right, is_third_right, join_answer, join_asked, join_value, peer_key_of, third_in}
@@ -65,7 +66,7 @@ use Rattle.world_laws.proofs.Keys.AreDrawn.{Deed, Secrets, drawn_key, drawn_nonc
 use Rattle.world_laws.proofs.Keys.WhatWakes.{is_opens, is_up, open_is_up}
 use Rattle.world_laws.proofs.Keys.Held.{PathIs, FlightIs, arrived_is, end_is, join_found}
 use Rattle.world_laws.proofs.Joins.Roles.{HasRoles, CopyTells, role_at, arrived_tells, takes_roles, begins_roles}
-use Rattle.world_laws.proofs.Keys.AnswerHeardFirst.{TellsKey, connected_meaning, is_accepts, is_apart, is_taken, opening_meaning}
+use Rattle.world_laws.proofs.Keys.AnswerHeardFirst.{TellsKey, asks_first, connected_meaning, is_accepts, is_apart, is_taken, opening_meaning}
 
 -- a list is the same as itself, octet by octet
 same_octets : (xs ys : List ℕ) → xs ≡ ys → pointwise ◌==◌ xs ys ≡ true
@@ -94,9 +95,14 @@ abbrev pub TellsJoin : Side → List Heard → Type 0
 TellsJoin A items = is_some (join_heard step.Answer items) ≡ true
 TellsJoin B items = is_some (join_heard step.Syn items) ≡ true
 
+-- the first option is among what B hears
+first_asked : (window : ℕ) (options : List PlainOption) → asks_first options ≡ true → is_some (join_heard step.Syn (flat_map (items_in true B window) (map meant_option options))) ≡ true
+first_asked window (Join (Syn backup id token nonce) ∷ options) is = refl
+first_asked window _ is = cc
+
 tells_join : (s : Side) (sg : PlainSegment) → TellsKey true s sg → is_nil sg.options ≡ false → (copy_of (meant sg)).syn ≡ true → TellsJoin s (items_of true s (meant sg))
 tells_join A sg tells some syn = tells some syn
-tells_join B sg tells some syn = tells some syn
+tells_join B sg tells some syn = first_asked (window_told sg.syn sg.window) sg.options (tells some syn)
 
 some_meant : (options : List PlainOption) → is_nil (map meant_option options) ≡ false → is_nil options ≡ false
 some_meant [] some = some
@@ -353,11 +359,11 @@ path_welcomes k w did p h roles due heard next is some = by (arriving due p.link
 
 -- ---- worlds
 
-abbrev MemberRoles : Actor Carried → Type 0
+abbrev pub MemberRoles : Actor Carried → Type 0
 MemberRoles (App a) = Unit {0}
 MemberRoles (Path p) = HasRoles p
 
-abbrev AllRoles : WorldState Carried → Type 0
+abbrev pub AllRoles : WorldState Carried → Type 0
 AllRoles w = Every (λ c. MemberRoles c.member) w.crew
 
 takes_member : (r : Reply) (m : Actor Carried) → MemberRoles m → MemberRoles (member_takes values r m)
@@ -414,6 +420,9 @@ opened_roles start = record { each = opened_actors (λ actor c. MemberRoles c.me
         apart zero = refl
         apart (suc n) = refl
 
+pub all_roles : (start : Start) (turns : List Turn) → AllRoles (world_run values turns (opened_world start))
+all_roles start turns = run_roles turns (opened_world start) (opened_roles start)
+
 -- ---- the law
 
 pub each_copy_is_welcome : Always values (λ start w. EachCopyIsWelcome values w)
@@ -425,7 +434,7 @@ each_copy_is_welcome start turns = record {
     met = run_met start.key_a start.key_b turns (opened_world start) (opened_met start)
 
     roles : AllRoles (world_run values turns (opened_world start))
-    roles = run_roles turns (opened_world start) (opened_roles start)
+    roles = all_roles start turns
 
     six : SixBooks
     six = books_in (world_run values turns (opened_world start)).books

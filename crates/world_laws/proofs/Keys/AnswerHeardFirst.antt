@@ -9,6 +9,8 @@ use Rattle.sides.specs.declared.side.Side.TheVariants.{A, B}
 use Rattle.sides.specs.Side.{peer}
 use Rattle.path_segments.specs.Laws.{meant}
 use Rattle.path_segments.specs.Options.{PlainOption}
+use Rattle.path_segments.specs.declared.segment.PathOption.TheVariants.{Join}
+use Rattle.mptcp_options.specs.declared.join.JoinForm.TheVariants.{Syn as JoinSyn}
 use Rattle.subflow_tcp.specs.Emitting.{is_syn, record_segment, reset_segment, syn_ack_segment}
 use Rattle.path_segments.specs.Spelled.{PlainSegment}
 use Rattle.path_segments.specs.Heard.{HeardSegment}
@@ -361,11 +363,16 @@ b_template joined count _ = (refl, refl)
 
 -- ---- what is said, and heard
 
--- on a path that joins a SYN of A that shows any options asks to join, and B's answers
+-- the first of these options is the MP_JOIN of a SYN
+abbrev pub asks_first : List PlainOption → Bool
+asks_first (Join (JoinSyn backup id token nonce) ∷ options) = true
+asks_first _ = false
+
+-- on a path that joins a SYN of A that shows any options asks to join by the first one, and B's answers
 abbrev pub TellsKey : Bool → Side → PlainSegment → Type 0
 TellsKey false s sg = Unit {0}
 TellsKey true A sg = is_nil sg.options ≡ false → sg.syn ≡ true → is_some (join_heard step.Answer (items_of true A (meant sg))) ≡ true
-TellsKey true B sg = is_nil sg.options ≡ false → sg.syn ≡ true → is_some (join_heard step.Syn (items_of true B (meant sg))) ≡ true
+TellsKey true B sg = is_nil sg.options ≡ false → sg.syn ≡ true → asks_first sg.options ≡ true
 
 -- a segment without SYN shows none
 pub no_syn : (joined : Bool) (s : Side) (sg : PlainSegment) → sg.syn ≡ false → TellsKey joined (peer s) sg
