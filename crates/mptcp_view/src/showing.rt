@@ -341,8 +341,8 @@ fn show<O: Outside, P: Progress>(
 /// # Errors
 ///
 /// `Usage` exactly where the words break this form, and then nothing is called; else what a replay of the log is refused by, or `Log` of
-/// the first line that tells another segment than the one that is sent, where OUT isn't touched; and what a write of OUT is refused by, whose port is `ReadByB`: where OUT told what it held, it then holds
-/// that, or the first octets of the view.
+/// the first line that tells another segment than the one that is sent, where OUT isn't touched; and what a write of OUT is refused by,
+/// whose port is `ReadByB`: where OUT told what it held, it then holds that, or the first octets of the view.
 pub fn view_words<O: Outside, P: Progress>(
     alloc: Global,
     words: &[String],
