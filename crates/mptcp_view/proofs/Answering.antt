@@ -1,5 +1,5 @@
 -- What is answered is put together of what its parts answer.
-use Rattle.std.proofs.Common.{◌≡◌, sym, subst, ℕ, List, Option, Result, Ok, Err, IfSome, IfOk, IfErr, OnOk, OnErr}
+use Rattle.std.proofs.Common.{◌≡◌, sym, subst, ℕ, List, Option, None, Result, Ok, Err, IfSome, IfOk, IfErr, OnOk, OnErr}
 use Rattle.std.specs.Prelude.{option_and_then}
 use Rattle.world_core.specs.Logged.{all_turns}
 use Rattle.link_script.specs.declared.script.Script.{Script}
@@ -23,8 +23,10 @@ use Rattle.run_outside.specs.declared.input.Input.{Input}
 use Rattle.run_outside.specs.declared.status.Status.{Status}
 use Rattle.run_trace.specs.Initials.{initials_in}
 use Rattle.run_trace.specs.Rates.{rates_of}
+use Rattle.run_trace.specs.Trace.{trace_of}
 use Rattle.run_words.specs.Lines.{Work, replay}
 use Rattle.world_laws.specs.Worlds.{AreLawful, WorldState}
+use Rattle.mptcp_view.specs.Telling.{untold}
 use Rattle.mptcp_view.specs.Views.{AreInputs, Asking, HoldsCut, IsOutFault, IsViewFault, IsViewFrom, IsViewOf, Shows, base_in, first_world, out_calls}
 use Rattle.mptcp_view.specs.declared.showing.View.{View}
 use Rattle.mptcp_view.specs.declared.showing.View.TheVariants.{Summary}
@@ -37,24 +39,25 @@ pub table_shown : {V E : Type 0} (items : V → List ℕ) (view : View) (script 
 table_shown items view script w trace rates carried is rates_are carried_are (Err e) h = tt
 table_shown items view script w trace rates carried is rates_are carried_are (Ok text) h = rw (is, ← rates_are, ← carried_are) h
 
-module _ (content : List ℕ → Option (List ℕ)) (asked : Asking) (log : List ℕ) (input : Input) (turns : List logged.Turn) (lines : ℕ) where
+module _ (content : List ℕ → Option (List ℕ)) (asked : Asking) (log : List ℕ) (input : Input) (turns : List logged.Turn) (lines : ℕ) (text : List ℕ) where
   pub are_inputs : asked.line.work ≡ replay log → AreWithinLimits content asked.line
       → IfSome (content asked.line.names.script) (λ told. reading told ≡ Ok input.script)
       → IfSome (content asked.line.names.file_a) (λ told. input.file_a ≡ told) → IfSome (content asked.line.names.file_b) (λ told. input.file_b ≡ told)
-      → IfSome (content log) (λ told. log_reading input.script told ≡ Ok turns) → IfSome (content log) (λ told. lines ≡ opening_count told)
-      → AreInputs content asked.line input turns lines
-  are_inputs named within script file_a file_b read opened = record {
+      → IfSome (content log) (λ told. log_reading input.script told ≡ Ok turns) → IfSome (content log) (λ told. lines ≡ opening_count told) → IfSome (content log) (λ told. text ≡ told)
+      → AreInputs content asked.line input turns lines text
+  are_inputs named within script file_a file_b read opened whole = record {
     within = within;
     script = script;
     file_a = file_a;
     file_b = file_b;
     order = subst (λ (work : Work). IfSome (option_and_then content (order_of work)) (λ told. log_reading input.script told ≡ Ok turns)) (sym named) read;
     opening = subst (λ (work : Work). IfSome (option_and_then content (order_of work)) (λ told. lines ≡ opening_count told)) (sym named) opened;
+    text = subst (λ (work : Work). IfSome (option_and_then content (order_of work)) (λ told. text ≡ told)) (sym named) whole;
   }
 
   -- OUT held this before the inputs were read, and holds the view now, or isn't written whole
-  module _ (held middle holds : Ports) (told read tells : Told) (shown : List ℕ) (are : AreInputs content asked.line input turns lines)
-      (lawful : AreLawful octets (all_turns turns) (first_world input)) (is : IsViewOf asked.view input (all_turns turns) shown)
+  module _ (held middle holds : Ports) (told read tells : Told) (shown : List ℕ) (are : AreInputs content asked.line input turns lines text)
+      (lawful : AreLawful octets (all_turns turns) (first_world input)) (all_told : untold text (trace_of (all_turns turns) (first_world input)) ≡ None) (is : IsViewOf asked.view input (all_turns turns) shown)
       (same : middle ReadByB ≡ held ReadByB) (loaded : AddsAll (loads_of asked.line) told read) where
     pub shown_where_ok : {X : Type 0} (r : Result X Status) → OnOk r (HoldsAfter (middle ReadByB) (holds ReadByB) (λ _. shown))
         → OnOk r (AddsAll (out_calls asked.line.names.read_by_b shown) read tells) → OnOk r (Shows content asked held holds told tells)
@@ -62,7 +65,7 @@ module _ (content : List ℕ → Option (List ℕ)) (asked : Asking) (log : List
     shown_where_ok (Ok x) put made =
         let then = subst (λ (o : Option (List ℕ)). HoldsAfter o (holds ReadByB) (λ _. shown)) same put in
         let calls = all_then (loads_of asked.line) (out_calls asked.line.names.read_by_b shown) told read tells loaded made in
-        (input, (turns, (lines, (are, (lawful, (shown, (is, (then, calls))))))))
+        (input, (turns, (lines, (text, (are, (lawful, (all_told, (shown, (is, (then, calls))))))))))
 
     pub refused_where_cut : {X : Type 0} (loads_old loads_new : ℕ) (old new : Port → ℕ) (middle_count : ℕ) → middle_count ≡ old ReadByB → (r : Result X Status)
         → OnErr r (HoldsCut (middle ReadByB) (holds ReadByB) shown) → IfErr r (IsOutFault middle_count (new ReadByB))
@@ -73,4 +76,4 @@ module _ (content : List ℕ → Option (List ℕ)) (asked : Asking) (log : List
         let then = subst (λ (o : Option (List ℕ)). HoldsCut o (holds ReadByB) shown) same put in
         let calls = cut_then (loads_of asked.line) (out_calls asked.line.names.read_by_b shown) s told read tells loaded cut in
         out_refused content asked held holds told tells loads_old loads_new old new middle_count counts s fault
-        (input, (turns, (lines, (are, (lawful, (shown, (is, (then, calls))))))))
+        (input, (turns, (lines, (text, (are, (lawful, (all_told, (shown, (is, (then, calls))))))))))

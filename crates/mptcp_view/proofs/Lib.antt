@@ -1,2 +1,3 @@
 mod Refusing
 mod Answering
+mod LinesTold

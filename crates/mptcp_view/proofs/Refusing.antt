@@ -30,17 +30,17 @@ module _ (content : List ℕ → Option (List ℕ)) (asked : Asking) (held holds
   inputs_refused (status.Log at) h adds untouched = (inl h, adds)
 
   -- by a turn that can't be made
-  pub turns_refused : (s : Status) → WithInputs content asked.line (λ input turns lines. IsTurnsFault turns input lines s)
+  pub turns_refused : (s : Status) → WithInputs content asked.line (λ input turns lines log. IsTurnsFault turns input lines log s)
       → AddsAll (loads_of asked.line) told tells → IsUntouched held holds old new → IsViewFault content asked held holds told tells loads_old loads_new old new s
-  turns_refused status.Delivered (input, (turns, (lines, (are, h)))) made untouched = absurd h
-  turns_refused status.Rounds (input, (turns, (lines, (are, h)))) made untouched = absurd h
-  turns_refused status.NoPath (input, (turns, (lines, (are, h)))) made untouched = absurd h
-  turns_refused (status.Aborted reader) (input, (turns, (lines, (are, h)))) made untouched = absurd h
-  turns_refused status.Usage (input, (turns, (lines, (are, h)))) made untouched = absurd h
-  turns_refused (status.Script at kind) (input, (turns, (lines, (are, h)))) made untouched = absurd h
-  turns_refused (status.Load input) (inputs, (turns, (lines, (are, h)))) made untouched = absurd h
-  turns_refused (status.Put at) (input, (turns, (lines, (are, h)))) made untouched = absurd h
-  turns_refused (status.TooLong input) (inputs, (turns, (lines, (are, h)))) made untouched = absurd h
+  turns_refused status.Delivered (input, (turns, (lines, (log, (are, h))))) made untouched = absurd h
+  turns_refused status.Rounds (input, (turns, (lines, (log, (are, h))))) made untouched = absurd h
+  turns_refused status.NoPath (input, (turns, (lines, (log, (are, h))))) made untouched = absurd h
+  turns_refused (status.Aborted reader) (input, (turns, (lines, (log, (are, h))))) made untouched = absurd h
+  turns_refused status.Usage (input, (turns, (lines, (log, (are, h))))) made untouched = absurd h
+  turns_refused (status.Script at kind) (input, (turns, (lines, (log, (are, h))))) made untouched = absurd h
+  turns_refused (status.Load input) (inputs, (turns, (lines, (log, (are, h))))) made untouched = absurd h
+  turns_refused (status.Put at) (input, (turns, (lines, (log, (are, h))))) made untouched = absurd h
+  turns_refused (status.TooLong input) (inputs, (turns, (lines, (log, (are, h))))) made untouched = absurd h
   turns_refused status.Memory h made untouched = inl (untouched, cut_over (loads_of asked.line) told tells made)
   turns_refused (status.Log at) h made untouched = (inr h, made)
 

@@ -1,5 +1,5 @@
 -- What the words ask for, what OUT then shows, and why it doesn't.
-use Rattle.std.specs.Prelude.{◌≡◌, ◌⊎◌, Ok, ℕ, ◌+◌, ◌^◌, ◌≤◌, if◌then◌else◌, Option, Some, None, option_map, IfSome, List, [], ◌∷◌, ◌++◌, length, take, codes}
+use Rattle.std.specs.Prelude.{◌≡◌, ◌⊎◌, Ok, ℕ, ◌+◌, ◌^◌, ◌≤◌, Bool, not, ◌&&◌, if◌then◌else◌, Option, Some, None, option_map, IfSome, List, [], ◌∷◌, ◌++◌, length, take, codes}
 use Rattle.std.specs.Str.{bytes_eq}
 use Rattle.world_core.specs.Logged.{all_turns}
 use Rattle.outside_kit.specs.Calls.{Call, Made}
@@ -33,9 +33,10 @@ use Rattle.run_trace.specs.Rates.{rates_of}
 use Rattle.run_trace.specs.Trace.{StopsAt, trace_of}
 use Rattle.run_trace.specs.declared.making.TraceFault.{TraceFault}
 use Rattle.run_trace.specs.declared.making.TraceFault.TheVariants as fault
-use Rattle.run_words.specs.Lines.{Line, as_line, replay}
+use Rattle.run_words.specs.Lines.{Line, as_line, is_given, replay}
 use Rattle.world_laws.specs.Openings.{opened_world, start_of}
 use Rattle.world_laws.specs.Worlds.{AreLawful, Turn, WorldState, world_run}
+use Rattle.mptcp_view.specs.Telling.{untold}
 use Rattle.mptcp_view.specs.declared.showing.Asked.{Asked}
 use Rattle.mptcp_view.specs.declared.showing.View.{View}
 use Rattle.mptcp_view.specs.declared.showing.View.TheVariants.{Capture, Summary, Picture, Text}
@@ -64,10 +65,23 @@ line_with script file_a file_b log out = record {
   names = record { script = script; file_a = file_a; file_b = file_b; read_by_b = out; read_by_a = out };
 }
 
--- six words, of which the first names a view
+-- no name is empty
+abbrev pub are_given : List ℕ → List ℕ → List ℕ → List ℕ → List ℕ → Bool
+are_given script file_a file_b log out = is_given script && (is_given file_a && (is_given file_b && (is_given log && is_given out)))
+
+-- OUT has the name of none of these
+abbrev pub is_apart : List ℕ → List ℕ → List ℕ → List ℕ → List ℕ → Bool
+is_apart out script file_a file_b log =
+    not (bytes_eq out script) && (not (bytes_eq out file_a) && (not (bytes_eq out file_b) && not (bytes_eq out log)))
+
+abbrev pub are_names : List ℕ → List ℕ → List ℕ → List ℕ → List ℕ → Bool
+are_names script file_a file_b log out = are_given script file_a file_b log out && is_apart out script file_a file_b log
+
+-- six words, of which the first names a view; none of the names is empty, and OUT is none of the inputs
 abbrev pub asked_in : List (List ℕ) → Option Asking
 asked_in (word ∷ script ∷ file_a ∷ file_b ∷ log ∷ out ∷ []) =
-    option_map (λ view. record { view = view; line = line_with script file_a file_b log out }) (view_named word)
+    if are_names script file_a file_b log out
+    then option_map (λ view. record { view = view; line = line_with script file_a file_b log out }) (view_named word) else None
 asked_in words = None
 
 -- ---- the view
@@ -95,25 +109,28 @@ IsViewOf view input turns shown =
 
 -- ---- the inputs
 
--- these are the inputs of the line, as far as they are told, and each is within its limit: the turns of the log stand behind so
--- many lines
-pub record AreInputs (content : List ℕ → Option (List ℕ)) (line : Line) (input : Input) (turns : List logged.Turn) (lines : ℕ) : Type 0 where
+-- these are the inputs of the line, as far as they are told, and each is within its limit: the turns of the log, whose octets these
+-- are, stand behind so many lines
+pub record AreInputs (content : List ℕ → Option (List ℕ)) (line : Line) (input : Input) (turns : List logged.Turn) (lines : ℕ) (log : List ℕ) : Type 0 where
   pub within : AreWithinLimits content line
   pub script : IfSome (content line.names.script) (λ told. reading told ≡ Ok input.script)
   pub file_a : IfSome (content line.names.file_a) (λ told. input.file_a ≡ told)
   pub file_b : IfSome (content line.names.file_b) (λ told. input.file_b ≡ told)
   pub order : IfSome (content_of content line named.Order) (λ told. log_reading input.script told ≡ Ok turns)
   pub opening : IfSome (content_of content line named.Order) (λ told. lines ≡ opening_count told)
+  pub text : IfSome (content_of content line named.Order) (λ told. log ≡ told)
 
 -- some inputs of this line, of which this holds
-abbrev pub WithInputs : (List ℕ → Option (List ℕ)) → Line → (Input → List Turn → ℕ → Type 0) → Type 0
+abbrev pub WithInputs : (List ℕ → Option (List ℕ)) → Line → (Input → List Turn → ℕ → List ℕ → Type 0) → Type 0
 WithInputs content line P =
-    (input : Input) × ((turns : List logged.Turn) × ((lines : ℕ) × (AreInputs content line input turns lines × P input (all_turns turns) lines)))
+    (input : Input) × ((turns : List logged.Turn) × ((lines : ℕ) × ((log : List ℕ)
+    × (AreInputs content line input turns lines log × P input (all_turns turns) lines log))))
 
--- the turns of the log can be made, and this holds of a view of what they send
+-- The turns of the log can be made, what they send is just what its lines tell, and this holds of a view of it.
 abbrev pub WithView : (List ℕ → Option (List ℕ)) → Asking → (List ℕ → Type 0) → Type 0
-WithView content asked P = WithInputs content asked.line (λ input turns lines.
-    AreLawful octets turns (first_world input) × ((shown : List ℕ) × (IsViewOf asked.view input turns shown × P shown)))
+WithView content asked P = WithInputs content asked.line (λ input turns lines log.
+    AreLawful octets turns (first_world input) × ((untold log (trace_of turns (first_world input)) ≡ None)
+    × ((shown : List ℕ) × (IsViewOf asked.view input turns shown × P shown))))
 
 -- ---- OUT
 
@@ -137,11 +154,20 @@ IsOutFault old new _ = ⊥
 
 -- ---- why nothing is shown
 
--- the turn at this line of the log, of which so many stand before the first turn, can't be made
-abbrev pub IsTurnsFault : List Turn → Input → ℕ → Status → Type 0
-IsTurnsFault turns input lines (status.Log line) = (place : ℕ) × ((line ≡ lines + place + 1) × StopsAt place turns (first_world input))
-IsTurnsFault turns input lines status.Memory = Unit {0}
-IsTurnsFault turns input lines _ = ⊥
+-- this line of the log tells another segment than the one that is sent
+abbrev pub IsUntold : List ℕ → List Sent → Status → Type 0
+IsUntold log trace (status.Log line) = untold log trace ≡ Some line
+IsUntold log trace status.Memory = Unit {0}
+IsUntold log trace _ = ⊥
+
+-- the turn at this line of the log, of which so many stand before the first turn, can't be made; or all can, and this line tells
+-- another segment than the one that is sent
+abbrev pub IsTurnsFault : List Turn → Input → ℕ → List ℕ → Status → Type 0
+IsTurnsFault turns input lines log (status.Log line) =
+    ((place : ℕ) × ((line ≡ lines + place + 1) × StopsAt place turns (first_world input)))
+    ⊎ (untold log (trace_of turns (first_world input)) ≡ Some line)
+IsTurnsFault turns input lines log status.Memory = Unit {0}
+IsTurnsFault turns input lines log _ = ⊥
 
 -- where so many lines stand before the first turn; the first line of the log is line 1
 abbrev pub stopped_at : ℕ → TraceFault → Status
@@ -167,7 +193,8 @@ module _ (content : List ℕ → Option (List ℕ)) (asked : Asking) (held holds
   IsCut s = WithView content asked (λ shown.
       HoldsCut (held port.ReadByB) (holds port.ReadByB) shown × AddsCut (view_calls asked.line shown) s told tells)
 
-  -- what replay refuses, or OUT; what is refused of a log is its form or the first turn that can't be made
+  -- what replay refuses, or OUT; what is refused of a log is its form, the first turn that can't be made, or the first line that tells
+  -- another segment
   abbrev pub IsViewFault : ℕ → ℕ → (Port → ℕ) → (Port → ℕ) → Status → Type 0
   IsViewFault loads_old loads_new old new (status.Put at) =
       IsOutFault (old port.ReadByB) (new port.ReadByB) (status.Put at) × IsCut (status.Put at)
@@ -175,7 +202,7 @@ module _ (content : List ℕ → Option (List ℕ)) (asked : Asking) (held holds
       (IsUntouched held holds old new × AddsCut (loads_of asked.line) status.Memory told tells) ⊎ IsCut status.Memory
   IsViewFault loads_old loads_new old new (status.Log at) =
       (IsReplayInputFault content asked.line loads_old loads_new (status.Log at)
-      ⊎ WithInputs content asked.line (λ input turns lines. IsTurnsFault turns input lines (status.Log at)))
+      ⊎ WithInputs content asked.line (λ input turns lines log. IsTurnsFault turns input lines log (status.Log at)))
       × AddsAll (loads_of asked.line) told tells
   IsViewFault loads_old loads_new old new s =
       IsReplayInputFault content asked.line loads_old loads_new s × InputAdds asked.line (loads_of asked.line) told tells s

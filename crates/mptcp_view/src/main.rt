@@ -3,6 +3,7 @@
 #![tactic(auto)]
 
 mod showing;
+mod telling;
 mod terminal;
 
 use file_outside::FileOutside;

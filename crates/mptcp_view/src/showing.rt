@@ -8,16 +8,18 @@ ghost use Rattle.link_script.specs.Scripts.{HasRanges};
 ghost use Rattle.path_rules.specs.Octets.{octets};
 ghost use Rattle.link_trace.specs.Carrying.{all_carried};
 ghost use Rattle.run_trace.specs.Initials.{initials_in};
-ghost use Rattle.run_trace.specs.Trace.{place_of};
-ghost use Rattle.run_words.specs.Lines.{as_line, replay};
+ghost use Rattle.run_trace.specs.Trace.{place_of, trace_of};
+ghost use Rattle.run_words.specs.Lines.{as_line, is_given, replay};
 ghost use Rattle.run_outside.specs.Plan.{AddsAll, AddsCut};
 ghost use Rattle.run_outside.specs.Ports.{IsUntouched};
 ghost use Rattle.run_outside.specs.declared.status.Status.TheVariants.{Usage};
 ghost use Rattle.world_core.specs.Kept.{standing};
 ghost use Rattle.world_core.specs.Logged.{all_turns};
 ghost use Rattle.world_laws.specs.Worlds.{AreLawful};
-ghost use Rattle.mptcp_view.specs.Views.{HoldsCut, IsBeforeOut, IsOutFault, IsTurnsFault, IsViewFault, IsViewFrom, IsViewOf, Shows, as_asked, asked_in, base_in, first_world, out_calls, stopped_at, view_named};
+ghost use Rattle.mptcp_view.specs.Telling.{untold};
+ghost use Rattle.mptcp_view.specs.Views.{HoldsCut, IsBeforeOut, IsOutFault, IsTurnsFault, IsUntold, IsViewFault, IsViewFrom, IsViewOf, Shows, are_given, are_names, as_asked, asked_in, base_in, first_world, is_apart, out_calls, stopped_at, view_named};
 
+use crate::telling::untold;
 use link_script::Script;
 use link_trace::{Base, Carried, Sent, all_carried, capture, lines, picture, summary};
 use outside_kit::{Outside, Port, PutFault};
@@ -164,6 +166,18 @@ fn write_out<O: Outside>(outside: &mut O, out: &str, shown: &[u8]) -> Result<(),
     }
 }
 
+/// That the lines of a log tell just the segments of a trace.
+fn are_told(alloc: Global, log: &[u8], trace: &[Sent]) -> Result<(), Status>
+    ensures told { OnOk result (untold log.now trace.now ≡ None) }
+    ensures fault { IfErr result (IsUntold log.now trace.now) }
+{
+    match untold(alloc, log, trace) {
+        Ok(None) => Ok(()),
+        Ok(Some(line)) => Err(Status::Log { line }),
+        Err(_) => Err(Status::Memory),
+    }
+}
+
 /// The octets of a view of these turns, made from the connection before its first step.
 fn view_from<P: Progress>(
     alloc: Global,
@@ -178,13 +192,17 @@ fn view_from<P: Progress>(
         (λ shown. IsViewOf view replay.now.input (all_turns replay.now.turns.items) shown.items) }
     ensures lawful { OnOk result
         (AreLawful octets (all_turns replay.now.turns.items) (first_world replay.now.input)) }
+    ensures told { OnOk result (untold replay.now.log.items
+        (trace_of (all_turns replay.now.turns.items) (first_world replay.now.input)) ≡ None) }
     ensures fault { IfErr result
-        (IsTurnsFault (all_turns replay.now.turns.items) replay.now.input replay.now.lines) }
+        (IsTurnsFault (all_turns replay.now.turns.items) replay.now.input replay.now.lines
+        replay.now.log.items) }
 {
     let trace = match gather(alloc, world, &replay.turns, progress) {
         Ok(trace) => trace,
         Err(fault) => return Err(stopped(fault, replay.lines)),
     };
+    are_told(alloc, &replay.log, &trace)?;
     match shown(alloc, view, &replay.input.script, world, &trace) {
         Ok(shown) => Ok(shown),
         Err(_) => Err(Status::Memory),
@@ -204,8 +222,11 @@ fn view_of<P: Progress>(
         (λ shown. IsViewOf view replay.now.input (all_turns replay.now.turns.items) shown.items) }
     ensures lawful { OnOk result
         (AreLawful octets (all_turns replay.now.turns.items) (first_world replay.now.input)) }
+    ensures told { OnOk result (untold replay.now.log.items
+        (trace_of (all_turns replay.now.turns.items) (first_world replay.now.input)) ≡ None) }
     ensures fault { IfErr result
-        (IsTurnsFault (all_turns replay.now.turns.items) replay.now.input replay.now.lines) }
+        (IsTurnsFault (all_turns replay.now.turns.items) replay.now.input replay.now.lines
+        replay.now.log.items) }
 {
     let Ok(mut world) = World::open(alloc, &replay.input) else {
         return Err(Status::Memory);
@@ -216,6 +237,33 @@ fn view_of<P: Progress>(
     shown
 }
 
+fn is_given(word: &str) -> bool
+    ensures { result ≡ is_given word.now }
+{
+    !word.is_empty()
+}
+
+/// Whether no name is empty.
+fn are_given(script: &str, file_a: &str, file_b: &str, log: &str, out: &str) -> bool
+    ensures { result ≡ are_given script.now file_a.now file_b.now log.now out.now }
+{
+    is_given(script) && is_given(file_a) && is_given(file_b) && is_given(log) && is_given(out)
+}
+
+/// Whether OUT has the name of none of the inputs.
+fn is_apart(out: &str, script: &str, file_a: &str, file_b: &str, log: &str) -> bool
+    ensures { result ≡ is_apart out.now script.now file_a.now file_b.now log.now }
+{
+    out != script && out != file_a && out != file_b && out != log
+}
+
+/// Whether these can be the names of the inputs and of OUT.
+fn are_names(script: &str, file_a: &str, file_b: &str, log: &str, out: &str) -> bool
+    ensures { result ≡ are_names script.now file_a.now file_b.now log.now out.now }
+{
+    are_given(script, file_a, file_b, log, out) && is_apart(out, script, file_a, file_b, log)
+}
+
 /// What the words ask for: a view, and the inputs of a replay.
 #[derive(Clone, Copy)]
 struct Asked<'a> {
@@ -224,7 +272,7 @@ struct Asked<'a> {
     log: &'a str,
 }
 
-/// Six words, of which the first names a view.
+/// Six words, of which the first names a view; no name is empty, and OUT is none of the inputs.
 fn asked_by(words: &[String]) -> Option<Asked<'_>>
     ensures asked { option_map as_asked result ≡ asked_in (map string_bytes words.now) }
     ensures log { IfSome result (λ asked. (as_line asked.line).work ≡ replay asked.log.now) }
@@ -232,6 +280,15 @@ fn asked_by(words: &[String]) -> Option<Asked<'_>>
     let [word, script, file_a, file_b, log, out] = words else {
         return None;
     };
+    if !are_names(
+        script.as_str(),
+        file_a.as_str(),
+        file_b.as_str(),
+        log.as_str(),
+        out.as_str(),
+    ) {
+        return None;
+    }
     match view_named(word.as_str()) {
         None => None,
         Some(view) => Some(Asked {
@@ -278,14 +335,14 @@ fn show<O: Outside, P: Progress>(
     write_out(outside, asked.line.read_by_b, &shown)
 }
 
-/// Writes the view that the words ask for: six words, of which the first is `capture`, `summary`, `picture` or `text`. It tells how far
-/// the turns of the log are made. Of the ports only that of OUT, `ReadByB`, is touched.
+/// Writes the view that the words ask for: six words, of which the first is `capture`, `summary`, `picture` or `text`. No name is empty,
+/// and OUT is none of the inputs. It tells how far the turns of the log are made. Of the ports only that of OUT, `ReadByB`, is touched.
 ///
 /// # Errors
 ///
-/// `Usage` exactly where the words break this form, and then nothing is called; else what a replay of the log is refused by, where
-/// OUT isn't touched; and what a write of OUT is refused by, whose port is `ReadByB`: where OUT told what it held, it then holds
-/// that, or the first octets of the view.
+/// `Usage` exactly where the words break this form, and then nothing is called; else what a replay of the log is refused by, or `Log` of
+/// the first line that tells another segment than the one that is sent, where OUT isn't touched; and what a write of OUT is refused by,
+/// whose port is `ReadByB`: where OUT told what it held, it then holds that, or the first octets of the view.
 pub fn view_words<O: Outside, P: Progress>(
     alloc: Global,
     words: &[String],

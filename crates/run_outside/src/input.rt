@@ -184,6 +184,8 @@ pub struct Replay {
     pub turns: Vec<Turn>,
     /// How many lines of the log stand before its first turn.
     pub lines: u64,
+    /// The octets of the log.
+    pub log: Vec<u8>,
 }
 
 /// What a run of the steps of a log reads: the script, both files and the log.
@@ -210,6 +212,8 @@ pub fn load_replay<O: Outside>(
         (λ told. log_reading replay.input.script told ≡ Ok replay.turns.items)) }
     ensures lines { IfOk result (λ replay. IfSome (O.content outside.old order.now)
         (λ told. replay.lines ≡ opening_count told)) }
+    ensures log { IfOk result (λ replay. IfSome (O.content outside.old order.now)
+        (λ told. replay.log.items ≡ told)) }
     ensures few { IfOk result (λ replay. replay.lines ≤ 3) }
     // The last turn of a log is the end of a round.
     ensures ends { IfOk result (λ replay. EndsInRound replay.turns.items) }
@@ -233,5 +237,6 @@ pub fn load_replay<O: Outside>(
         input,
         turns,
         lines: opening_count(&log),
+        log,
     })
 }

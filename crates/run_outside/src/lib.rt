@@ -21,6 +21,7 @@ pub use lines::logged_text;
 pub use link_script::ScriptKind;
 pub use made::made_input;
 pub use order::width_of;
+pub use parting::split_at_first;
 pub use pieces::Piece;
 pub use readers::bind_readers;
 pub use status::{Named, Status, fault_text};
