@@ -1,6 +1,5 @@
 -- Where memory is wanting amid steps in a given order, a turn or a round.
-use Rattle.std.proofs.Common.{◌≡◌, refl, sym, subst, ℕ, suc, ◌+◌, ◌<◌, true, List, [], ◌∷◌, length, drop, take, replicate, get_or, Result, Ok, Err, OnErr, arith}
-use Rattle.std.proofs.lemmas.List.{drop_more}
+use Rattle.std.proofs.Common.{◌≡◌, refl, sym, subst, ℕ, suc, ◌+◌, ◌<◌, true, List, [], ◌∷◌, take, replicate, Result, Ok, Err, OnErr, arith}
 use Rattle.path_rules.specs.Codec.{Codec}
 use Rattle.world_laws.specs.Serial.{TurnTo}
 use Rattle.world_laws.specs.Worlds.{WorldState, is_going, world_step, RunTo}
@@ -19,7 +18,7 @@ module _ {C : Type 0} (k : Codec C) where
   -- ---- steps in a given order
 
   -- at the first step
-  pub run_cut_now : (order : List ℕ) (w v : WorldState C) → ShowsAs w v → RunCut k order w v
+  run_cut_now : (order : List ℕ) (w v : WorldState C) → ShowsAs w v → RunCut k order w v
   run_cut_now order w v shows = record { count = 0; reached = w; made = (refl, refl); shows = shows }
 
   -- a step more in front
@@ -31,11 +30,6 @@ module _ {C : Type 0} (k : Codec C) where
     made = (going, subst (λ y. RunTo k (take h.count order) h.count y h.reached) is h.made);
     shows = h.shows;
   }
-
-  pub run_cut_more : (order : List ℕ) (i d : ℕ) (w x v : WorldState C) → i < length order → is_going (get_or order i d) w ≡ true
-      → x ≡ world_step k (get_or order i d) w → RunCut k (drop (i + 1) order) x v → RunCut k (drop i order) w v
-  run_cut_more order i d w x v within going is h =
-      subst (λ xs. RunCut k xs w v) (sym (drop_more order i d within)) (run_cut_first (get_or order i d) (drop (i + 1) order) w x v going is h)
 
   -- ---- a turn
 

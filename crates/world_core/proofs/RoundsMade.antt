@@ -1,9 +1,8 @@
--- Turns, rounds and steps in a given order, one after the other.
-use Rattle.std.proofs.Common.{◌≡◌, refl, sym, ◌∙◌, ap, subst, ℕ, suc, ◌+◌, ◌<◌, ◌≤◌, true, false, List, [], ◌∷◌, length, drop, get_or}
-use Rattle.std.proofs.lemmas.List.{drop_more, at_drop_all}
+-- Turns and rounds, one after the other.
+use Rattle.std.proofs.Common.{◌≡◌, refl, sym, ◌∙◌, ap, subst, ℕ, suc, true, false, [], ◌∷◌}
 use Rattle.path_rules.specs.Codec.{Codec}
 use Rattle.world_laws.specs.Serial.{TurnTo, AreTurns, after_turns}
-use Rattle.world_laws.specs.Worlds.{WorldState, is_going, world_step, end_round, RunTo}
+use Rattle.world_laws.specs.Worlds.{WorldState, is_going, world_step, end_round}
 use Rattle.world_core.specs.Rounds.{TurnsFrom, TurnsTo, RoundTo}
 
 module _ {C : Type 0} (k : Codec C) where
@@ -35,23 +34,3 @@ module _ {C : Type 0} (k : Codec C) where
 
   pub turns_round : (w v : WorldState C) → TurnsTo k w v → RoundTo k w (end_round v)
   turns_round w v h = (h.0, h.1, ap end_round h.2)
-
-  -- ---- steps in a given order
-
-  run_at : (order : List ℕ) (i d n : ℕ) (w v : WorldState C) → i < length order → RunTo k (get_or order i d ∷ drop (i + 1) order) n w v
-      → RunTo k (drop i order) n w v
-  run_at order i d n w v within h = subst (λ xs. RunTo k xs n w v) (sym (drop_more order i d within)) h
-
-  -- a step more in front
-  pub run_goes : (order : List ℕ) (i d n : ℕ) (w x v : WorldState C) → i < length order → is_going (get_or order i d) w ≡ true
-      → x ≡ world_step k (get_or order i d) w → RunTo k (drop (i + 1) order) n x v → RunTo k (drop i order) (suc n) w v
-  run_goes order i d n w x v within going is h = run_at order i d (suc n) w v within (going, subst (λ y. RunTo k (drop (i + 1) order) n y v) is h)
-
-  -- the first that no actor can make
-  pub run_stops : (order : List ℕ) (i d : ℕ) (w v : WorldState C) → i < length order → is_going (get_or order i d) w ≡ false → v ≡ w
-      → RunTo k (drop i order) 0 w v
-  run_stops order i d w v within over is = run_at order i d 0 w v within (over, is)
-
-  -- the end of the list
-  pub run_ends : (order : List ℕ) (i : ℕ) (w : WorldState C) → length order ≤ i → RunTo k (drop i order) 0 w w
-  run_ends order i w past = subst (λ xs. RunTo k xs 0 w w) (sym (at_drop_all (λ xs. xs) order i past)) (refl, refl)

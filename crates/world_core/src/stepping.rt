@@ -3,13 +3,12 @@
 ghost use Rattle.std.specs.Prelude.{◌≡◌, ◌^◌, ◌<◌, length, true, false, is_some, None, IfOk, OnOk, OnErr, option_map};
 ghost use Rattle.path_rules.specs.Octets.{octets};
 ghost use Rattle.world_core.specs.AsValues.{StepsAsValues};
-ghost use Rattle.world_core.specs.Cuts.{RunCut};
 ghost use Rattle.world_core.specs.Hearing.{ShowsTheSame, heard_by, heard_report};
 ghost use Rattle.world_core.specs.Kept.{IsSound, standing, world};
 ghost use Rattle.world_core.specs.Steps.{StampRises, next_note, stepped_by, is_made};
 ghost use Rattle.world_laws.specs.Fine.{lists_of};
 ghost use Rattle.world_laws.specs.Outcomes.{outcome_of};
-ghost use Rattle.world_laws.specs.Worlds.{RunTo, world_step, is_going};
+ghost use Rattle.world_laws.specs.Worlds.{world_step, is_going};
 ghost use Rattle.world_core.specs.declared.stepped.Stepped.TheVariants.{Ended};
 
 use crate::crew;
@@ -121,33 +120,5 @@ impl World {
                 Err(AllocError)
             }
         }
-    }
-
-    /// Makes the steps of these actors, one after the other, up to the first whose turn has ended or that doesn't exist, and
-    /// answers how many were made.
-    ///
-    /// # Errors
-    ///
-    /// Where there is no memory. The world has failed then, and the outcome and the list of each actor are as after some first
-    /// steps of the order.
-    pub fn run(&mut self, order: &[u8]) -> Result<u64, AllocError>
-        ensures ok { IfOk result (λ count.
-            RunTo octets order.now count self.old.state self.new.state) }
-        ensures was { OnOk result (self.old.failed ≡ false) }
-        ensures stands { OnOk result (self.new.failed ≡ false) }
-        ensures err { OnErr result (self.new.failed ≡ true) }
-        ensures cut { OnErr result (RunCut octets order.now self.old.state self.new.state) }
-    {
-        if self.failed {
-            return Err(AllocError);
-        }
-        let mut count = 0;
-        for actor in order {
-            if !self.go(*actor)? {
-                return Ok(count);
-            }
-            count += 1;
-        }
-        Ok(count)
     }
 }
