@@ -6,7 +6,7 @@ use Rattle.std.proofs.lemmas.Option.{same_Some}
 use Rattle.sides.specs.declared.side.Side.{Side}
 use Rattle.sides.specs.declared.side.Side.TheVariants.{A, B}
 use Rattle.path_rules.specs.Looking.{Arrived, next_arrival}
-use Rattle.world_core.specs.Looking.{crew_path, member_path}
+use Rattle.world_core.specs.Looking.{crew_path, listens_at, member_path}
 use Rattle.world_core.specs.Logged.{all_turns}
 use Rattle.world_laws.specs.declared.member.Member.TheVariants.{App, Path}
 use Rattle.world_laws.specs.Actors.{Actor, ActorCrew}
@@ -17,7 +17,7 @@ use Rattle.join_tokens.specs.FoundJoins.{FindsJoinNext, FindsJoins, IsHeardAsJoi
 use Rattle.join_tokens.specs.JoinTokens.{AsksByTokenNext, JoinsAskByToken}
 use Rattle.join_tokens.proofs.JoinsAsked.{joins_ask}
 use Rattle.join_tokens.proofs.JoinsFound.{joins_are_found}
-use Rattle.connection_table.specs.Routes.{EachIsRoutedHome, EachJoinIsRouted, IsJoinNext, arriving_at_b, arriving_in, home_by, home_of, if_at_b, only_at_b, route_by, routed, to_holder}
+use Rattle.connection_table.specs.Routes.{EachIsRoutedHome, EachJoinIsRouted, IsJoinNext, arriving_at_b, arriving_at_listener, arriving_in, home_by, home_of, if_at_b, only_at_b, route_by, routed, to_holder}
 use Rattle.connection_table.specs.declared.route.Route.TheVariants.{To}
 use Rattle.connection_table.specs.Tables.{Entry, IsShortEntry, IsTable, Stands, StandsAlone, entry_at, holder_of, key_token}
 
@@ -69,9 +69,13 @@ each_is_routed_home table connection actor e sound there alone short =
     arriving_is None is stands = refl
     arriving_is (Some a) is stands = to a (join_token a.addresses a.octets) refl stands is
 
-    by : (b : Bool) → e.world.failed ≡ b → home_by connection (routed (if b then None else arriving_at_b actor e.world.state.crew) table) ≡ connection
+    by_listening : (b : Bool) → e.world.failed ≡ false → home_by connection (routed (if b then arriving_at_b actor e.world.state.crew else None) table) ≡ connection
+    by_listening true stands = arriving_is (arriving_at_b actor e.world.state.crew) refl stands
+    by_listening false stands = refl
+
+    by : (b : Bool) → e.world.failed ≡ b → home_by connection (routed (if b then None else arriving_at_listener actor e.world.state.crew) table) ≡ connection
     by true stands = refl
-    by false stands = arriving_is (arriving_at_b actor e.world.state.crew) refl stands
+    by false stands = by_listening (listens_at actor e.world.state.crew) stands
 
 -- ---- what B's end takes as a join
 

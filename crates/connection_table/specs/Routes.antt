@@ -4,7 +4,7 @@ use Rattle.sides.specs.declared.side.Side.{Side}
 use Rattle.sides.specs.declared.side.Side.TheVariants.{A, B}
 use Rattle.path_rules.specs.Looking.{Arrived, next_arrival}
 use Rattle.path_rules.specs.State.{PathState}
-use Rattle.world_core.specs.Looking.{arriving_at, path_at}
+use Rattle.world_core.specs.Looking.{arriving_at, listens_at, path_at}
 use Rattle.world_laws.specs.Actors.{ActorCrew}
 use Rattle.join_handshake.specs.declared.hearing.JoinSyn.{JoinSyn}
 use Rattle.join_route.specs.Routing.{join_token}
@@ -36,9 +36,13 @@ only_at_b arrived = if_at_b arrived.to arrived
 abbrev pub arriving_at_b : ℕ → List (ActorCrew (List ℕ)) → Option Arrived
 arriving_at_b actor crew = option_and_then only_at_b (arriving_at actor crew)
 
+-- B's listener is asked where B's end of the path listens: one that a SYN has opened takes its segments itself
+abbrev pub arriving_at_listener : ℕ → List (ActorCrew (List ℕ)) → Option Arrived
+arriving_at_listener actor crew = if listens_at actor crew then arriving_at_b actor crew else None
+
 -- none comes where the connection has failed
 abbrev pub arriving_in : ℕ → Entry → Option Arrived
-arriving_in actor e = if e.world.failed then None else arriving_at_b actor e.world.state.crew
+arriving_in actor e = if e.world.failed then None else arriving_at_listener actor e.world.state.crew
 
 -- where it goes
 abbrev pub routed : Option Arrived → List Entry → Route

@@ -100,12 +100,13 @@ impl Slot {
         &self.world
     }
 
-    /// The copy that comes to B by the actor's next step, if one does; none where the connection has failed.
-    pub fn arriving_at_b(&self, actor: u8) -> Option<Arriving<'_>>
+    /// The copy that comes to B's listener by the actor's next step: one that comes to B where its end of that path listens. None
+    /// comes where the connection has failed.
+    pub fn arriving_at_listener(&self, actor: u8) -> Option<Arriving<'_>>
         ensures arriving { option_map shown_arriving result ≡ arriving_in actor self.now }
         ensures alone { StandsAlone self.now }
     {
-        if self.failed {
+        if self.failed || !self.world.listens(actor) {
             return None;
         }
         match self.world.arriving(actor) {

@@ -14,14 +14,15 @@ use std::alloc::AllocError;
 use world_core::Stepped;
 
 impl ConnectionTable {
-    /// The connection at which a step is made: where a segment comes to B that asks to join one, that one, and else the given one.
+    /// The connection at which a step is made: where a segment comes to B's listener that asks to join one, that one, and else the
+    /// given one.
     fn home_of(&self, connection: u8, actor: u8) -> u8
         requires { connection < length self.now }
         ensures home { result ≡ home_of connection actor self.now }
         ensures within { result < length self.now }
         ensures alone { IsSomeAnd (entry_at connection self.now) StandsAlone }
     {
-        let Some(arriving) = self.slots[usize::from(connection)].arriving_at_b(actor) else {
+        let Some(arriving) = self.slots[usize::from(connection)].arriving_at_listener(actor) else {
             return connection;
         };
         match self.route(arriving.octets, &arriving.addresses) {
@@ -30,8 +31,9 @@ impl ConnectionTable {
         }
     }
 
-    /// Makes one step of an actor of a connection, and answers its note, or that its turn has ended. A segment that comes to B and
-    /// asks to join is routed by its token. Where both files are shorter than 2^31 - 2 octets, that names this connection.
+    /// Makes one step of an actor of a connection, and answers its note, or that its turn has ended. A segment that comes to B where
+    /// its end of that path still listens, and asks to join, is routed by its token. Where both files are shorter than 2^31 - 2
+    /// octets, that names this connection.
     ///
     /// # Errors
     ///

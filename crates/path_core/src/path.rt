@@ -6,11 +6,12 @@ ghost use Rattle.actor_desk.specs.Kinds.{CanBeAsked};
 ghost use Rattle.link_model.specs.Octets.{after_octets};
 ghost use Rattle.link_script.specs.Scripts.{HasRanges};
 ghost use Rattle.path_rules.specs.Events.{is_dead_path};
+ghost use Rattle.path_rules.specs.Joining.{is_listening};
 ghost use Rattle.path_rules.specs.Looking.{departing, next_arrival, shown_arriving, smoothed_rtt, congestion_window, IsSegmentOn, IsTold};
 ghost use Rattle.path_rules.specs.Octets.{octets};
 ghost use Rattle.path_rules.specs.Replies.{asks_bytes_first, needs_memory_first};
 ghost use Rattle.path_rules.specs.Starts.{first_turn_of};
-ghost use Rattle.path_rules.specs.State.{path_of, has_ended};
+ghost use Rattle.path_rules.specs.State.{end_at, path_of, has_ended};
 ghost use Rattle.path_rules.specs.Steps.{settles_down, asks_of, takes, next_round};
 ghost use Rattle.path_rules.specs.Turns.{Ends};
 
@@ -21,6 +22,7 @@ use path_rules::{Arriving, Departing};
 use sides::Side;
 use std::alloc::{AllocError, Global};
 use std::marker::Model;
+use subflow_tcp::State;
 
 /// A path of a connection. Its turn is an agenda of duties, the first of which comes to something: to an ask, or to a
 /// segment. A segment is on its way for a tick or longer, and so a timeout is.
@@ -136,6 +138,13 @@ impl Path {
         ensures { option_map shown_arriving result ≡ next_arrival self.now }
     {
         self.machine.arriving()
+    }
+
+    /// Whether a side's end listens: no SYN has come to it, so that what comes goes to its listener.
+    pub fn is_listening(&self, side: Side) -> bool
+        ensures { result ≡ is_listening (end_at side self.now).tcp.state }
+    {
+        matches!(self.machine.end(side).tcp.state(), State::Listen)
     }
 
     /// Whether A's end is dead, and B's end is dead or was never reached.

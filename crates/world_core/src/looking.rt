@@ -2,11 +2,12 @@
 
 ghost use Rattle.std.specs.Prelude.{◌≡◌, option_map};
 ghost use Rattle.path_rules.specs.Looking.{shown_arriving};
-ghost use Rattle.world_core.specs.Looking.{arriving_at, member_path, path_at};
+ghost use Rattle.world_core.specs.Looking.{arriving_at, listens_at, member_path, path_at};
 
 use crate::member::{Crew, Member};
 use crate::world::World;
 use path_core::{Arriving, Path};
+use sides::Side;
 
 // The path, where it is one.
 fn member_path(member: &Member) -> Option<&Path>
@@ -44,6 +45,15 @@ impl World {
         match self.path(actor) {
             Some(path) => path.arriving(),
             None => None,
+        }
+    }
+    /// Whether an actor is a path whose B end listens: no SYN has come to it.
+    pub fn listens(&self, actor: u8) -> bool
+        ensures { result ≡ listens_at actor self.entry.now.state.crew }
+    {
+        match self.path(actor) {
+            Some(path) => path.is_listening(Side::B),
+            None => false,
         }
     }
 }
