@@ -29,7 +29,8 @@ use Rattle.path_rules.specs.Duties.{stands, ask_for, answered}
 use Rattle.path_rules.specs.Emission.{is_syn_due}
 use Rattle.path_store.specs.declared.infinite_mapping.InfiniteMapping.{InfiniteMapping}
 use Rattle.path_rules.specs.Ends.{PathEnd}
-use Rattle.path_rules.specs.Infinite.{fin_place, fin_under}
+use Rattle.path_rules.specs.Infinite.{fin_place}
+use Rattle.path_store.specs.InfiniteMappings.{fin_under}
 use Rattle.path_rules.specs.FastClosing.{is_fast_close_due, is_silent, leaves_silently, resets_noted}
 use Rattle.path_rules.specs.Passing.{place_passed, plain_fin}
 use Rattle.path_rules.specs.Standing.{is_connected, may_note}

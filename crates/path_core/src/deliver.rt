@@ -8,7 +8,8 @@ ghost use Rattle.path_rules.specs.State.{end_at, with_end};
 
 use crate::machine::Machine;
 use actor_desk::{Ask, LocalStep, Reply};
-use path_rules::{InOrder, is_placed};
+use path_rules::is_placed;
+use path_store::InOrder;
 use reassembly_book::ReassemblyCall;
 use sides::Side;
 use std::alloc::AllocError;

@@ -6,7 +6,6 @@ pub mod Passed
 pub mod Fair
 pub mod Meanings
 pub mod Judgements
-pub mod Parts
 pub mod Mapped
 pub mod Filling
 pub mod FewThings

@@ -1,6 +1,5 @@
 -- The mappings that an end learns, and the bytes that its receive edge passes (RFC 8684, section 3.3.1).
 use Rattle.std.specs.Prelude.{ℕ, ◌+◌, ◌-◌, ◌^◌, min, Bool, not, ◌&&◌, ◌==◌, nat_lt, nat_le, is_none, is_some, if◌then◌else◌, Option, Some, None, List, [], ◌∷◌, ◌++◌, length, take}
-use Rattle.dss_checksum.specs.Checksum.{dss_checksum}
 use Rattle.dss_mapping.specs.declared.kept.KeptMapping.{KeptMapping}
 use Rattle.dss_mapping.specs.Learning.{first_held, after_learn_held, after_skip_held}
 use Rattle.dss_mapping.specs.Mappings.{octets_of, mapping_at, after_forget}
@@ -10,7 +9,7 @@ use Rattle.subflow_recv.specs.Receiving.{filled, after_advance, after_forget_fro
 use Rattle.subflow_tcp.specs.State.{EndState}
 use Rattle.subflow_tcp.specs.Judging.{is_at}
 use Rattle.control_book.specs.Replies.{is_sure}
-use Rattle.path_rules.specs.declared.in_order.InOrder.{InOrder}
+use Rattle.path_store.specs.declared.in_order.InOrder.{InOrder}
 use Rattle.path_store.specs.declared.infinite_mapping.InfiniteMapping.{InfiniteMapping}
 use Rattle.path_rules.specs.Ends.{PathEnd}
 use Rattle.path_rules.specs.Infinite.{receives_plainly}
@@ -18,6 +17,8 @@ use Rattle.path_store.specs.InfiniteMappings.{place_under, covers}
 use Rattle.path_rules.specs.State.{Profile}
 use Rattle.path_rules.specs.OptionsOut.{bare_mapping}
 use Rattle.path_store.specs.Counts.{one_more}
+pub use Rattle.path_store.specs.Passing.{Piece, count_in, some_piece}
+use Rattle.path_store.specs.Passing.{has_its_sum, is_there, named_piece, passing_by, piece_of_order}
 use Rattle.path_store.specs.Receiving.{data_fin_behind, data_fin_reached}
 
 -- ---- mappings
@@ -46,45 +47,25 @@ with_skipped e = record e { receiving = record e.receiving { mappings = after_sk
 
 -- ---- what is in order and mapped
 
--- bytes that the edge can pass, and the place of the first one
-pub record Piece : Type 0 where
-  pub place : ℕ
-  pub octets : List ℕ
-
--- without checksums: what is in order up to the mapping's end, with places below 2^62
-abbrev pub count_in : ℕ → KeptMapping → ℕ
-count_in edge kept = min (kept.pos + octets_of kept - edge) (2 ^ 62 - (kept.place + (edge - kept.pos)))
-
--- the bytes in order at the edge that this mapping names
+-- the octets in order at the edge that this mapping names
 abbrev pub piece_in : KeptMapping → EndState → Piece
-piece_in kept s = record {
-  place = kept.place + (s.recv.edge - kept.pos);
-  octets = take (count_in s.recv.edge kept) (filled s.recv.places);
-}
+piece_in kept s = named_piece kept s.recv.edge (filled s.recv.places)
 
 -- so many octets from the edge on, the first of which has this place
 abbrev pub piece_from : InOrder → EndState → Piece
-piece_from found s = record { place = found.place; octets = take found.count (filled s.recv.places) }
+piece_from found s = piece_of_order found (filled s.recv.places)
 
 -- with checksums: the whole mapping is there
 abbrev pub is_whole : KeptMapping → EndState → Bool
-is_whole kept s =
-    kept.pos == s.recv.edge && (nat_lt 0 (octets_of kept) && (nat_le (octets_of kept) (length (filled s.recv.places))
-    && nat_le (kept.place + octets_of kept) (2 ^ 62)))
+is_whole kept s = is_there kept s.recv.edge (length (filled s.recv.places))
 
--- and the checksum is that of its bytes, with its whole length
+-- and the checksum is that of its octets
 abbrev pub is_right : KeptMapping → EndState → Bool
-is_right kept s = dss_checksum kept.mapping (take (octets_of kept) (filled s.recv.places)) == kept.mapping.checksum
+is_right kept s = has_its_sum kept (filled s.recv.places)
 
--- a piece without bytes is none
-abbrev pub some_piece : Piece → Option Piece
-some_piece piece = if nat_lt 0 (length piece.octets) then Some piece else None
-
--- the bytes that this mapping lets pass: with checksums all of its own, once they are there and right, or none
+-- the octets that this mapping lets pass: with checksums all of its own, once they are there and right, or none
 abbrev pub checked_piece : Bool → KeptMapping → EndState → Option Piece
-checked_piece checksums kept s =
-    if checksums then (if is_whole kept s && is_right kept s then some_piece (piece_in kept s) else None)
-    else some_piece (piece_in kept s)
+checked_piece checksums kept s = passing_by checksums kept s.recv.edge (filled s.recv.places)
 
 -- by the mapping that is there, if one is
 abbrev pub piece_by : Bool → Option KeptMapping → EndState → Option Piece

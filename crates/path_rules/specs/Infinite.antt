@@ -6,6 +6,7 @@ use Rattle.fallback_state.specs.declared.fall.Mode.TheVariants.{Starting, Sure, 
 use Rattle.path_store.specs.declared.infinite_mapping.InfiniteMapping.{InfiniteMapping}
 use Rattle.path_rules.specs.declared.modes.Modes.{Modes}
 use Rattle.path_store.specs.InfiniteMappings.{place_under, covers}
+use Rattle.path_store.specs.InfiniteMappings.{fin_place as fin_at}
 
 -- the peer's infinite mapping came
 abbrev pub receives_infinite : Mode → Bool
@@ -44,11 +45,6 @@ bytes_acknowledged m position = if m.identity then Some (position - 1) else ackn
 abbrev pub receives_plainly : Modes → ℕ → Bool
 receives_plainly m position = m.identity || covers m.peer_infinite position
 
--- the end of the peer's stream that a FIN at this position stands for
-abbrev pub fin_under : Option InfiniteMapping → ℕ → Option ℕ
-fin_under None position = None
-fin_under (Some mapping) position = if nat_le mapping.position position then place_under mapping position else None
-
--- by how the side receives: in plain TCP the place of a position is one less, and with mappings of pieces a FIN stands for nothing
+-- the end of the peer's stream for which a FIN at this position stands, by how the side receives
 abbrev pub fin_place : Modes → ℕ → Option ℕ
-fin_place m position = if m.identity then Some (position - 1) else fin_under m.peer_infinite position
+fin_place m position = fin_at m.identity m.peer_infinite position

@@ -2,22 +2,19 @@
 
 ghost use Rattle.std.specs.Prelude.{◌≡◌, ◌≤◌, ◌<◌, ◌+◌, ◌-◌, ◌^◌, length, take, min, option_map, is_some, IfOk, IfSome};
 ghost use Rattle.std.specs.List.{concat};
-ghost use Rattle.dss_checksum.specs.Checksum.{dss_checksum};
 ghost use Rattle.dss_mapping.specs.Mappings.{mapping_at};
 ghost use Rattle.subflow_recv.specs.Receiving.{filled};
-ghost use Rattle.path_rules.specs.Deliver.{count_in, piece_in, piece_from, is_whole, is_right, some_piece, checked_piece, plain_piece, infinite_piece, mapping_here, mapped_piece, next_piece, after_piece, forgotten_by};
+ghost use Rattle.path_rules.specs.Deliver.{piece_from, is_whole, is_right, some_piece, checked_piece, plain_piece, infinite_piece, mapping_here, mapped_piece, next_piece, after_piece, forgotten_by};
 ghost use Rattle.path_rules.specs.Passing.{having_asked, is_placed, placed};
 
 use crate::end::PathEnd;
-use crate::in_order::InOrder;
 use crate::profile::Profile;
 use actor_desk::Reply;
-use dss_checksum::DssSum;
 use dss_mapping::{KeptMapping, Mappings};
 use octet_text::Text;
-use path_store::{PLACE_LIMIT, covers, place_under};
+use path_store::{InOrder, PLACE_LIMIT, covers, has_its_sum, is_there, passing, place_under};
 use reassembly_book::ReassemblyReply;
-use seq_units::{Mapping, Pos};
+use seq_units::Pos;
 use std::alloc::{AllocError, Global};
 use subflow_tcp::Parts;
 
@@ -36,37 +33,12 @@ fn text_of(alloc: Global, parts: Parts<'_>, count: u64) -> Result<Text, AllocErr
     text.share()
 }
 
-/// The checksum of a mapping and so many octets of these parts.
-fn checksum_of(mapping: &Mapping, parts: Parts<'_>, count: u16) -> u16
-    ensures { result ≡ dss_checksum mapping.now (take count (concat parts.entry)) }
-{
-    let mut sum = DssSum::new(mapping);
-    let mut left = u64::from(count);
-    for part in parts {
-        let taken = left.min(part.len() as u64);
-        sum.add(&part[..taken as usize]);
-        left -= taken;
-    }
-    sum.make()
-}
-
 /// The mapping of a position.
 fn mapping_at(mappings: &Mappings, edge: Pos) -> Option<KeptMapping>
     ensures value { result ≡ mapping_at mappings.now.mappings edge }
     ensures begun { IfSome result (λ kept. kept.pos ≤ edge) }
 {
     mappings.mapping_at(edge)
-}
-
-/// How many octets from the edge on the mapping covers, with places below 2^62.
-fn count_in(edge: Pos, kept: KeptMapping) -> u64
-    requires { kept.pos ≤ edge }
-    ensures value { result ≡ count_in edge kept }
-    ensures places { 0 < result → kept.place + (edge - kept.pos) + result ≤ 2 ^ 62 }
-{
-    let offset = edge - kept.pos;
-    let left = u64::from(kept.octets()).saturating_sub(offset);
-    left.min(PLACE_LIMIT.saturating_sub(kept.place.saturating_add(offset)))
 }
 
 /// The bytes were placed.
@@ -101,49 +73,25 @@ impl PathEnd {
     pub(crate) fn is_whole(&self, kept: KeptMapping) -> bool
         ensures { result ≡ is_whole kept self.now.tcp }
     {
-        let octets = u64::from(kept.octets());
-        kept.pos == self.tcp.edge()
-            && 0 < octets
-            && octets <= self.in_order()
-            && kept.place.saturating_add(octets) <= PLACE_LIMIT
+        is_there(kept, self.tcp.edge(), self.in_order())
     }
 
-    /// The checksum is that of its bytes, with its whole length.
+    /// The checksum is that of its octets.
     pub(crate) fn is_right(&self, kept: KeptMapping) -> bool
         ensures { result ≡ is_right kept self.now.tcp }
     {
-        let sum = checksum_of(&kept.mapping, self.tcp.held(), kept.octets());
-        sum == kept.mapping.checksum
+        has_its_sum(kept, self.tcp.held())
     }
 
-    /// The bytes of a mapping that the edge can pass, without a look at the checksum.
-    fn piece_in(&self, kept: KeptMapping) -> Option<InOrder>
-        requires { kept.pos ≤ self.now.tcp.recv.edge }
-        ensures value { option_map (λ found. piece_from found self.now.tcp) result ≡
-            some_piece (piece_in kept self.now.tcp) }
-        ensures places { IfSome result (λ found. found.place + found.count ≤ 2 ^ 62) }
-    {
-        let edge = self.tcp.edge();
-        let count = count_in(edge, kept);
-        if 0 < count.min(self.in_order()) {
-            let place = kept.place + (edge - kept.pos);
-            Some(InOrder { place, count })
-        } else {
-            None
-        }
-    }
-
-    /// The same; where checksums are used only those of a whole mapping that has the right one.
+    /// The octets at the edge that a mapping lets pass.
     fn checked_piece(&self, checksums: bool, kept: KeptMapping) -> Option<InOrder>
         requires { kept.pos ≤ self.now.tcp.recv.edge }
         ensures value { option_map (λ found. piece_from found self.now.tcp) result ≡
             checked_piece checksums kept self.now.tcp }
         ensures places { IfSome result (λ found. found.place + found.count ≤ 2 ^ 62) }
     {
-        if checksums && !(self.is_whole(kept) && self.is_right(kept)) {
-            return None;
-        }
-        self.piece_in(kept)
+        let held = self.in_order();
+        passing(checksums, kept, self.tcp.edge(), held, self.tcp.held())
     }
 
     /// After a fallback: all that is in order, each byte at the place before its position.

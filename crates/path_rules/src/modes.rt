@@ -3,7 +3,7 @@
 ghost use Rattle.std.specs.Prelude.{◌≡◌, ◌<◌, ◌≤◌, ◌^◌, IfSome};
 
 use fallback_state::Mode;
-use path_store::{InfiniteMapping, covers, place_under};
+use path_store::{InfiniteMapping, covers, fin_place, place_under};
 use seq_units::Pos;
 
 /// What an end knows of its side, and of the keys.
@@ -80,15 +80,7 @@ impl Modes {
         ensures value { result ≡ fin_place self.now position }
         ensures bound { IfSome result (λ place. place < 2 ^ 62) }
     {
-        if self.identity {
-            return Some(position.saturating_sub(1));
-        }
-        let mapping = self.peer_infinite?;
-        if mapping.position <= position {
-            place_under(mapping, position)
-        } else {
-            None
-        }
+        fin_place(self.identity, self.peer_infinite, position)
     }
 
     /// What the acknowledgement of a position, at most 2^62, stands for then: so many bytes.

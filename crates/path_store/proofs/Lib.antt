@@ -1,2 +1,3 @@
 mod Rising
 mod Ordered
+pub mod Parts

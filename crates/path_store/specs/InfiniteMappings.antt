@@ -14,3 +14,12 @@ place_under mapping position = below_limit (mapping.place + (position - mapping.
 abbrev pub covers : Option InfiniteMapping → ℕ → Bool
 covers None position = false
 covers (Some mapping) position = nat_le mapping.position position
+
+-- the end of the peer's stream that a FIN at this position stands for, by the peer's infinite mapping
+abbrev pub fin_under : Option InfiniteMapping → ℕ → Option ℕ
+fin_under None position = None
+fin_under (Some mapping) position = if nat_le mapping.position position then place_under mapping position else None
+
+-- in plain TCP the place of a position is one less, and with mappings of pieces a FIN stands for nothing
+abbrev pub fin_place : Bool → Option InfiniteMapping → ℕ → Option ℕ
+fin_place plain infinite position = if plain then Some (position - 1) else fin_under infinite position

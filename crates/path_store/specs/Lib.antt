@@ -4,3 +4,4 @@ pub mod Rising
 pub mod InfiniteMappings
 pub mod Receiving
 pub mod Lines
+pub mod Passing

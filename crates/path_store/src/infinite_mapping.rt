@@ -1,7 +1,7 @@
 //! An infinite mapping.
 
-ghost use Rattle.std.specs.Prelude.{◌≡◌, ◌<◌, ◌^◌, IfSome};
-ghost use Rattle.path_store.specs.InfiniteMappings.{covers, place_under};
+ghost use Rattle.std.specs.Prelude.{◌≡◌, ◌<◌, ◌≤◌, ◌^◌, IfSome};
+ghost use Rattle.path_store.specs.InfiniteMappings.{covers, fin_place, place_under};
 
 use crate::places::PLACE_LIMIT;
 use seq_units::Pos;
@@ -32,6 +32,24 @@ pub fn place_under(mapping: InfiniteMapping, position: Pos) -> Option<u64>
     let place = mapping.place.saturating_add(behind);
     if place < PLACE_LIMIT {
         Some(place)
+    } else {
+        None
+    }
+}
+
+/// The end of the peer's stream for which a FIN at this position, at most 2^62, stands (RFC 8684, section 3.7): in plain TCP the
+/// place of a position is one less, under an infinite mapping that covers it that mapping's, and else a FIN stands for nothing.
+pub fn fin_place(plain: bool, infinite: Option<InfiniteMapping>, position: Pos) -> Option<u64>
+    requires { position ≤ 2 ^ 62 }
+    ensures value { result ≡ fin_place plain infinite position }
+    ensures bound { IfSome result (λ place. place < 2 ^ 62) }
+{
+    if plain {
+        return Some(position.saturating_sub(1));
+    }
+    let mapping = infinite?;
+    if mapping.position <= position {
+        place_under(mapping, position)
     } else {
         None
     }

@@ -32,8 +32,8 @@ use Rattle.stream_lanes.proofs.Bytes.{From-take, From-filled, part_is_honest}
 use Rattle.path_rules.specs.Ends.{PathEnd}
 use Rattle.path_rules.specs.Passing.{having_asked, after_pass_fin, place_passed, plain_fin}
 use Rattle.path_store.specs.declared.infinite_mapping.InfiniteMapping.{InfiniteMapping}
-use Rattle.path_rules.specs.Infinite.{receives_plainly, fin_under, fin_place}
-use Rattle.path_store.specs.InfiniteMappings.{covers as goes_by, place_under}
+use Rattle.path_rules.specs.Infinite.{receives_plainly, fin_place}
+use Rattle.path_store.specs.InfiniteMappings.{covers as goes_by, fin_under, place_under}
 use Rattle.path_rules.specs.Deliver.{Piece, count_in, piece_in, is_whole, is_right, some_piece, checked_piece, piece_by, next_piece, after_piece, with_learned, with_skipped, plain_piece, infinite_piece, piece_at, is_wrong, failing_by, mapping_here}
 use Rattle.path_store.specs.Receiving.{data_fin_behind}
 use Rattle.path_rules.specs.State.{Profile}

@@ -1,6 +1,6 @@
 use Rattle.std.proofs.Common.{◌∙◌, sym, refl, ap, ◌-◌, ◌++◌, List, ℕ, take, arith}
 use Rattle.std.specs.List.{concat}
-use Rattle.path_rules.proofs.Parts.{part-taken}
+use Rattle.path_store.proofs.Parts.{part-taken}
 use Rattle.path_rules.proofs.deliver.text_of.Goals as goal
 
 pub loop-part-preserved : goal.loop-part-preserved

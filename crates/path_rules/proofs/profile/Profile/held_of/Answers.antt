@@ -5,7 +5,7 @@ use Rattle.dss_mapping.specs.Learning.{IsWithin}
 use Rattle.path_segments.specs.HeardSegments.{heard_left}
 use Rattle.path_rules.specs.Arriving.{HeardOption, held_in}
 use Rattle.path_rules.proofs.Mapped.{all_within}
-use Rattle.path_rules.proofs.Parts.{append-nil}
+use Rattle.path_store.proofs.Parts.{append-nil}
 use Rattle.path_rules.proofs.profile.Profile.held_of.Goals as goal
 
 pub returns-clause-within : goal.returns-clause-within

@@ -3,8 +3,8 @@ use Rattle.std.specs.List.{concat}
 use Rattle.std.proofs.lemmas.List.{length-take}
 use Rattle.dss_checksum.specs.Checksum.{dss_checksum}
 use Rattle.dss_checksum.specs.MappingSum.{MappingSum}
-use Rattle.path_rules.proofs.Parts.{part-taken, append-nil, take-nil}
-use Rattle.path_rules.proofs.deliver.checksum_of.Goals as goal
+use Rattle.path_store.proofs.Parts.{part-taken, append-nil, take-nil}
+use Rattle.path_store.proofs.in_order.checksum_of.Goals as goal
 
 pub loop-part-init : goal.loop-part-init
 loop-part-init c = record {
