@@ -1,8 +1,8 @@
 -- The mappings that an end learns, and the bytes that its receive edge passes (RFC 8684, section 3.3.1).
-use Rattle.std.specs.Prelude.{ℕ, ◌+◌, ◌-◌, ◌^◌, min, Bool, not, ◌&&◌, ◌==◌, nat_lt, nat_le, is_none, is_some, if◌then◌else◌, Option, Some, None, List, [], ◌∷◌, ◌++◌, length, take}
+use Rattle.std.specs.Prelude.{ℕ, ◌+◌, ◌-◌, ◌^◌, Bool, not, ◌&&◌, ◌==◌, nat_lt, nat_le, is_none, is_some, if◌then◌else◌, Option, Some, None, List, [], ◌∷◌, ◌++◌, length, take}
 use Rattle.dss_mapping.specs.declared.kept.KeptMapping.{KeptMapping}
 use Rattle.dss_mapping.specs.Learning.{first_held, after_learn_held, after_skip_held}
-use Rattle.dss_mapping.specs.Mappings.{octets_of, mapping_at, after_forget}
+use Rattle.dss_mapping.specs.Mappings.{mapping_at, after_forget}
 use Rattle.sides.specs.declared.side.Side.{Side}
 use Rattle.sides.specs.Side.{peer}
 use Rattle.subflow_recv.specs.Receiving.{filled, after_advance, after_forget_from}

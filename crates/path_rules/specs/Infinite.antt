@@ -1,6 +1,6 @@
 -- Infinite mappings: places rise with positions, and the subflow's acknowledgements and its FIN take the place of Data ACKs and of
 -- DATA_FIN (RFC 8684, section 3.7).
-use Rattle.std.specs.Prelude.{ℕ, ◌-◌, ◌||◌, Bool, true, false, nat_le, is_some, if◌then◌else◌, Option, Some, None}
+use Rattle.std.specs.Prelude.{ℕ, ◌-◌, ◌||◌, Bool, true, false, is_some, if◌then◌else◌, Option, Some, None}
 use Rattle.fallback_state.specs.declared.fall.Mode.{Mode}
 use Rattle.fallback_state.specs.declared.fall.Mode.TheVariants.{Starting, Sure, Identity, InfiniteSend, InfiniteReceive, InfiniteBoth, Aborted}
 use Rattle.path_store.specs.declared.infinite_mapping.InfiniteMapping.{InfiniteMapping}

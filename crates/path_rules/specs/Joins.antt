@@ -1,6 +1,6 @@
 -- How a path that doesn't open the connection joins it: what the MP_JOIN of its segments say, and what they are heard to say
 -- (RFC 8684, section 3.2).
-use Rattle.std.specs.Prelude.{ℕ, ◌==◌, Bool, false, nat_lt, unwrap_or, Option, Some, None, option_map, List, [], ◌∷◌}
+use Rattle.std.specs.Prelude.{ℕ, ◌==◌, Bool, false, nat_lt, unwrap_or, Option, Some, None, option_map, List}
 use Rattle.std.specs.Cmp.Lexicographic.{pointwise}
 use Rattle.std.specs.Result.{result_ok}
 use Rattle.sides.specs.declared.side.Side.{Side}

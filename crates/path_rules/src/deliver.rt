@@ -26,6 +26,9 @@ fn text_of(alloc: Global, parts: Parts<'_>, count: u64) -> Result<Text, AllocErr
     let mut text = Text::new(alloc);
     let mut left = count;
     for part in parts {
+        if left == 0 {
+            return text.share();
+        }
         let taken = left.min(part.len() as u64);
         text.append(&part[..taken as usize])?;
         left -= taken;

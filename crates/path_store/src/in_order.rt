@@ -27,6 +27,9 @@ fn checksum_of(mapping: &Mapping, parts: Parts<'_>, count: u16) -> u16
     let mut sum = DssSum::new(mapping);
     let mut left = u64::from(count);
     for part in parts {
+        if left == 0 {
+            return sum.make();
+        }
         let taken = left.min(part.len() as u64);
         sum.add(&part[..taken as usize]);
         left -= taken;

@@ -45,4 +45,4 @@ returns c =
     ∙ ap (λ rest. so.added ++ rest) (sym (take-nil c.loop-part.left))
     ∙ ap (λ (parts : List (List ℕ)). so.added ++ take c.loop-part.left (concat parts)) (sym c.in-None.ensures.steps.0)
     ∙ so.whole in
-    c.make.ensures c.args.mapping.now so.added so.is ∙ ap (dss_checksum c.args.mapping.now) all
+    c.make-2.ensures c.args.mapping.now so.added so.is ∙ ap (dss_checksum c.args.mapping.now) all
