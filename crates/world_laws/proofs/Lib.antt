@@ -12,3 +12,4 @@ pub mod Standby
 pub mod Keys
 pub mod Numbers
 pub mod Places
+pub mod Whole

@@ -31,3 +31,4 @@ pub mod Altered
 pub mod InfiniteMappings
 pub mod Announcing
 pub mod ChecksPass
+pub mod NeverFalls

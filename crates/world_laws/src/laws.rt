@@ -9,6 +9,7 @@ ghost use Rattle.world_laws.specs.Granted.{GrantedOnce};
 ghost use Rattle.world_laws.specs.InfiniteMappings.{InfiniteMappingsAreHeardRight, InfiniteMappingsAreRight};
 ghost use Rattle.world_laws.specs.JoinsWait.{JoinsWait};
 ghost use Rattle.world_laws.specs.Laws.{AfterFreshTurns, Always, NothingDueIsLeft, SerialExists, SerialIsOne, OctetsDoAsValues, WritesTheFiles};
+ghost use Rattle.world_laws.specs.NeverFalls.{IsPromisedWhole, IsPromisedWholeOfOctets, NeverFalls, WholeScriptsNeverFall};
 ghost use Rattle.world_laws.specs.PlainScripts.{CheckedScriptsKeepOctets, PlainScriptsKeepAllPromises, PlainScriptsStartPlainly, ScriptsAreShownOfValues, ScriptsCanRun, ScriptsFit, ScriptsKeepAnyway};
 ghost use Rattle.world_laws.specs.Promises.{AddressesAreRight, BothKeepTheirWord, EachTurnIsOneStep, EveryListIsFresh, HoldsAnyway, HoldsAnywayOfOctets, IsPromised, IsPromisedOfOctets, JoinsAreRight, KeysNeverDiffer, NothingFollows, NothingWasRefused, OctetsAreValuesShown};
 ghost use Rattle.world_laws.specs.RoundDone.{LawfulRoundsAreDone, RoundsAreDone, RoundsEndOnTime, StaysFine};
@@ -340,4 +341,16 @@ pub fn checked_octets_are_right()
     ensures placed_of_octets { HoldsCheckedOfOctets (PlacedUntilTheFall octets) }
     ensures values { Always values (λ start w. FallsForGood values w) }
     ensures octets { Always octets (λ start w. FallsForGood octets w) }
+{}
+
+/// A law: where no line of the script takes Multipath TCP's options away, and none alters payload, neither side ever falls back, to plain
+/// TCP or to an infinite mapping (RFC 8684, section 3.7).
+///
+/// At no moment is a side in such a mode, nor was it by its control book's journal; its application, or its peer's, may stop it by a fast
+/// close. The maximum segment size of each path is 29 octets or more. The steps are in any order. Over octets the numbers of the start
+/// have to fit, as they do by each script with files shorter than 2^31 - 2 octets.
+pub fn sides_never_fall()
+    ensures values { IsPromisedWhole NeverFalls }
+    ensures octets { IsPromisedWholeOfOctets NeverFalls }
+    ensures scripts { WholeScriptsNeverFall }
 {}

@@ -5,9 +5,10 @@
 //!
 //! The folders of `proofs/` say which law stands where. `Lanes` shows a world on the lanes of its paths, step by step; from that
 //! `Promises` has the laws on what is read, acknowledged and told, `Places` those on mappings and grants, `Falls` those on sides
-//! that fall back. `Keys` and `Joins` have those on keys, tokens and HMACs, `Announcements` those on addresses, `Standby` that on
-//! backups, `Numbers` those over octets, `Rounds` those on serial turns and on what is done by a round's end, `Weaving` that on
-//! woven rounds. `Asks`, `Worlds` and `Writes`, which has what a duty of a path may write and ask, serve all of them.
+//! that fall back, `Whole` that on connections whose options all arrive. `Keys` and `Joins` have those on keys, tokens and HMACs,
+//! `Announcements` those on addresses, `Standby` that on backups, `Numbers` those over octets, `Rounds` those on serial turns and
+//! on what is done by a round's end, `Weaving` that on woven rounds. `Asks`, `Worlds` and `Writes`, which has what a duty of a
+//! path may write and ask, serve all of them.
 #![tactic(auto)]
 
 mod laws;
@@ -24,7 +25,7 @@ pub use laws::{
     octets_do_as_values, paths_ask_for_all, plain_scripts_keep_all_promises, readers_are_done,
     readers_catch_up, rounds_are_done, rounds_end_on_time, scripts_can_run,
     scripts_keep_promises_whatever_is_altered, serial_exists, serial_is_one,
-    short_numbers_are_low_halves, turns_are_fresh, what_is_fine_stays_fine,
+    short_numbers_are_low_halves, sides_never_fall, turns_are_fresh, what_is_fine_stays_fine,
     woven_rounds_do_the_same,
 };
 pub use member::Member;

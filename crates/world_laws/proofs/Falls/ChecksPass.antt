@@ -1,7 +1,7 @@
 -- Where no payload is altered no check fails: the octets of a mapping that are all there are those that were sent. So no control book is
 -- told of a failure, and none knows of one.
 use Rattle.std.proofs.Common.{◌≡◌, refl, sym, ◌∙◌, ap, subst, ℕ, ◌&&◌, ◌==◌, is_some, not, ⊎_elim, Bool, true, false, if◌then◌else◌, Option, Some, None, List, [], ◌∷◌, ◌++◌, map, length, arith}
-use Rattle.std.proofs.lemmas.Bool.{and_parts, both_ways, or_from, or_parts}
+use Rattle.std.proofs.lemmas.Bool.{and_parts, both_ways, false≢true, or_from, or_parts}
 use Rattle.std.proofs.lemmas.Option.{same_Some}
 use Rattle.std.specs.List.{list_any, slice_get}
 use Rattle.std.specs.Option.{IfSome}
@@ -57,6 +57,9 @@ use Rattle.path_agenda.specs.Items.{key_heard, keys_heard}
 use Rattle.path_store.specs.declared.infinite_mapping.InfiniteMapping.{InfiniteMapping}
 use Rattle.join_handshake.specs.declared.hearing.JoinSyn.{JoinSyn}
 use Rattle.subflow_send.specs.Records.{Record}
+use Rattle.subflow_tcp.specs.declared.handshake.State.{State as EndPhase}
+use Rattle.subflow_tcp.specs.declared.handshake.State.TheVariants as phase
+use Rattle.subflow_tcp.specs.States.{may_finish}
 use Rattle.path_rules.specs.declared.event.Event.{Event}
 use Rattle.path_rules.specs.declared.event.Event.TheVariants as happening
 use Rattle.path_rules.specs.Addressing.{notice_call}
@@ -85,7 +88,7 @@ use Rattle.world_laws.proofs.Falls.FailedChecks.{fail_asks_so, subflow_acks_so}
 use Rattle.world_laws.proofs.Lanes.Beginning.{each_run_shows}
 use Rattle.world_laws.proofs.Lanes.OfAWorld.{plainly, plainly_free, free_run, Links, WorldShows, PathThere, duo_of, first_duo}
 use Rattle.world_laws.proofs.Lanes.Placing.{failing_alters}
-use Rattle.world_laws.proofs.Lanes.Showing.{OwnIs, OptionShows, FlightShows, PathShows}
+use Rattle.world_laws.proofs.Lanes.Showing.{OwnIs, OptionShows, FlightShows, PathShows, is_unfinished}
 use Rattle.world_laws.proofs.Promises.Made.{run_fresh}
 use Rattle.world_laws.proofs.Promises.OverOctets.{same_notes_at}
 use Rattle.world_laws.proofs.Weaving.Journals.{books_after}
@@ -133,11 +136,14 @@ app_harmless app_duties.End a = tt
 
 -- what its first duty does comes to something, no mapping at an edge has other octets than its own, no end may send an infinite mapping, and
 -- no copy has an MP_FAIL
-record PathPasses (p : PathState Carried) : Type 0 where
-  settled : IsSettled p
+pub record PathPasses (p : PathState Carried) : Type 0 where
+  pub settled : IsSettled p
   sound : (s : Side) → failing_mapping p.profile (end_at s p) ≡ None
   own : (s : Side) → (end_at s p).treated.infinite_mapping ≡ None
   copies : TellsNoFailure (Path p)
+  -- and each sends with mappings of pieces, or fell back; no FIN is sent where one may be
+  pub mapped : (s : Side) → (end_at s p).modes.own_infinite ≡ None
+  pub unfinished : (s : Side) → may_finish (end_at s p).tcp.state ≡ true → (end_at s p).tcp.send.finished ≡ false
 
 module _ (p : PathState Carried) (h : PathPasses p) where
   step_harmless : (o : Option Event) → IsHarmless (step_for (path_of p) o)
@@ -242,7 +248,7 @@ app_first : (ds : List AppDuty) (a : AppState) (x : Ask) → app_asks_first ds a
 app_first [] a x is = cc
 app_first (d ∷ ds) a x is = subst IsHarmless (same_Some (app_ask d a) x is) (app_harmless d a)
 
-abbrev MemberPasses : Actor Carried → Type 0
+abbrev pub MemberPasses : Actor Carried → Type 0
 MemberPasses (App a) = Unit {0}
 MemberPasses (Path p) = PathPasses p
 
@@ -281,11 +287,25 @@ module _ (v u : View) (number : ℕ) (p : PathState Carried) (ab ba : Lane) (to_
       by B sg shows = Every-map (λ o told. option_passes p.profile A _ ba.acks ab plain_ab o told) shows.options
       by A sg shows = Every-map (λ o told. option_passes p.profile B _ ab.acks ba plain_ba o told) shows.options
 
-  path_passes : IsSettled p → PathPasses p
-  path_passes settled = record { settled = settled; sound = sound; own = own; copies = copies }
+  mapped : (s : Side) → (end_at s p).modes.own_infinite ≡ None
+  mapped A = no_own ab.pair ab.pairs ab.fins ab.alters plain_ab p.a.modes.own_infinite h.a.pairs.0
+  mapped B = no_own ba.pair ba.pairs ba.fins ba.alters plain_ba p.b.modes.own_infinite h.b.pairs.0
 
-record EachPasses (w : WorldState Carried) : Type 0 where
-  each : (actor : ℕ) (c : ActorCrew Carried) → slice_get w.crew actor ≡ Some c → MemberPasses c.member
+  finishing : (state : EndPhase) → may_finish state ≡ true → is_unfinished state ≡ true
+  finishing phase.Established is = refl
+  finishing phase.CloseWait is = refl
+  finishing phase.Waiting is = absurd (false≢true is)
+  finishing _ is = absurd (false≢true is)
+
+  unfinished : (s : Side) → may_finish (end_at s p).tcp.state ≡ true → (end_at s p).tcp.send.finished ≡ false
+  unfinished A is = h.a.sender.unfinished (finishing p.a.tcp.state is)
+  unfinished B is = h.b.sender.unfinished (finishing p.b.tcp.state is)
+
+  path_passes : IsSettled p → PathPasses p
+  path_passes settled = record { settled = settled; sound = sound; own = own; copies = copies; mapped = mapped; unfinished = unfinished }
+
+pub record EachPasses (w : WorldState Carried) : Type 0 where
+  pub each : (actor : ℕ) (c : ActorCrew Carried) → slice_get w.crew actor ≡ Some c → MemberPasses c.member
 
 shown_passes : (links : Links) (start : Start) (d : Duo) (w : WorldState Carried) → links.alters ≡ false → Holds d → WorldShows links start d w → EachPasses w
 shown_passes links start d w plain held h = subst EachPasses (sym h.is) (record {
@@ -302,7 +322,7 @@ shown_passes links start d w plain held h = subst EachPasses (sym h.is) (record 
         path_passes _ _ number p there.ab there.ba out back (subst (λ c. PathShows c p there.ab there.ba) (sym there.shows.profile) there.shows)
         (out.link.alters_is ∙ plain) (back.link.alters_is ∙ plain) settled
 
-each_passes : IsPromised EachPasses
+pub each_passes : IsPromised EachPasses
 each_passes start turns plain =
     let can = plainly start plain in
     let r = each_run_shows start can turns (free_run can.links (plainly_free start plain) turns (opened_world start)) in

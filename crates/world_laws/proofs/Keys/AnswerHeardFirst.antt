@@ -150,12 +150,12 @@ passed_apart s phase.FinWait2 = refl
 passed_apart s phase.Waiting = refl
 passed_apart s _ = refl
 
-handshake_apart : (s : Side) (state : EndPhase) → is_apart s (states.after_handshake state) ≡ true → is_apart s state ≡ true
+pub handshake_apart : (s : Side) (state : EndPhase) → is_apart s (states.after_handshake state) ≡ true → is_apart s state ≡ true
 handshake_apart s phase.SynReceived is = absurd (false≢true is)
 handshake_apart s phase.Waiting is = is
 handshake_apart s _ is = is
 
-ack_apart : (side : Side) (pos now : ℕ) (s : EndState) → is_apart side (after_acknowledgement pos now s).state ≡ is_apart side s.state
+pub ack_apart : (side : Side) (pos now : ℕ) (s : EndState) → is_apart side (after_acknowledgement pos now s).state ≡ is_apart side s.state
 ack_apart side pos now s = by (ack_kind pos s.send)
   where
     t : EndState

@@ -54,7 +54,7 @@ use Rattle.path_rules.specs.Passing.{answered_piece, is_placed, is_fin_set, answ
 use Rattle.path_rules.specs.Deliver.{Piece, is_wrong, forgotten_by, with_learned, with_skipped, mapping_here}
 use Rattle.path_rules.specs.Standing.{answered_ack_out}
 use Rattle.path_rules.specs.State.{PathState, end_at, goes_on, with_end, with_agenda}
-use Rattle.path_rules.specs.Steps.{settled, takes, begins_turn, next_round}
+use Rattle.path_rules.specs.Steps.{settled, answers, takes, begins_turn, next_round}
 use Rattle.path_rules.specs.Turns.{FirstStands, IsSettled}
 use Rattle.path_rules.specs.Treating.{item_stands, counts, is_clash, told_next, with_data_fin, item_passed, answered_item, item_of, after_fell, fell_duties, answered_fell, answered_plain_ack, breaks_by_ack, with_plain_ack}
 use Rattle.path_rules.specs.Words.{item_at}
@@ -373,7 +373,7 @@ module _ {C : Type 0} where
       by (Some (says.FastClose key)) is u =
           inr (record { n = suc u.n; none = inr (one_more u.n p.a.treated.items (says.FastClose key) (unheard p u.n above u.none) (subst (λ n. item_at n p.a.treated.items ≡ Some (says.FastClose key)) u.follows.0 is) refl); follows = u.follows.1 })
 
-  passed_leads : (d : Duty) (ds : List Duty) (p : PathState C) → Leads (d ∷ ds) p → stands d p ≡ false → Leads ds (passed d p)
+  pub passed_leads : (d : Duty) (ds : List Duty) (p : PathState C) → Leads (d ∷ ds) p → stands d p ≡ false → Leads ds (passed d p)
   passed_leads (duties.Step (step_duties.Heard A index)) ds p h none = by p.a.modes.identity refl
     where
       by : (b : Bool) → p.a.modes.identity ≡ b → Leads ds (with_end A (item_passed A (if b then None else item_at index p.a.treated.items) p.a) p)
@@ -715,18 +715,21 @@ module _ {C : Type 0} where
   abbrev pub LeadsWell : PathState C → Type 0
   LeadsWell p = Leads p.agenda p
 
-  pub takes_leads : (k : Codec C) (r : Reply) (p : PathState C) → IsSettled p → LeadsWell p → LeadsWell (takes k r p)
-  takes_leads k r p settled_path h = by p.agenda settled_path h
+  pub answers_lead : (k : Codec C) (r : Reply) (p : PathState C) → IsSettled p → LeadsWell p → LeadsWell (answers k p.agenda r p)
+  answers_lead k r p settled_path h = by p.agenda settled_path h
     where
-      by : (ds : List Duty) → FirstStands ds (with_agenda ds p) → Leads ds (with_agenda ds p) → LeadsWell (takes k r (with_agenda ds p))
-      by [] is h = settled_leads [] (with_agenda [] p) h
-      by (d ∷ ds) is h =
-          let q : PathState C = answered k d r (with_agenda (d ∷ ds) p) in
-          settled_leads q.agenda q (answered_leads k d ds r p is h)
+      by : (ds : List Duty) → FirstStands ds (with_agenda ds p) → Leads ds (with_agenda ds p) → LeadsWell (answers k ds r (with_agenda ds p))
+      by [] is h = h
+      by (d ∷ ds) is h = answered_leads k d ds r p is h
+
+  pub takes_leads : (k : Codec C) (r : Reply) (p : PathState C) → IsSettled p → LeadsWell p → LeadsWell (takes k r p)
+  takes_leads k r p settled_path h = let q : PathState C = answers k p.agenda r p in settled_leads q.agenda q (answers_lead k r p settled_path h)
+
+  pub started_leads : (p : PathState C) → Led false p.a.treated.items → Leads start_of_turn (with_agenda start_of_turn p)
+  started_leads p led = record { led = led; clear = inr (record { n = 0; none = inr tt; follows = tt }) }
 
   pub begins_lead : (p : PathState C) → LeadsWell p → LeadsWell (begins_turn p)
-  begins_lead p h = settled_leads start_of_turn (with_agenda start_of_turn p) (record { led = h.led; clear = inr (record { n = 0; none = inr tt; follows = tt }) })
+  begins_lead p h = settled_leads start_of_turn (with_agenda start_of_turn p) (started_leads p h.led)
 
   pub next_leads : (p : PathState C) → LeadsWell p → LeadsWell (next_round p)
-  next_leads p h =
-      settled_leads start_of_turn (with_agenda start_of_turn (record p { clock = p.until; until = p.until + 100 })) (record { led = h.led; clear = inr (record { n = 0; none = inr tt; follows = tt }) })
+  next_leads p h = let n : PathState C = record p { clock = p.until; until = p.until + 100 } in settled_leads start_of_turn (with_agenda start_of_turn n) (started_leads n h.led)

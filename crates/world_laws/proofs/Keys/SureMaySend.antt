@@ -84,17 +84,17 @@ use Rattle.world_laws.proofs.Falls.FailedChecks.{fail_asks_so, subflow_acks_so}
 
 -- ---- calls by which A's side doesn't become sure
 
-abbrev IsOfB : Side → Type 0
+abbrev pub IsOfB : Side → Type 0
 IsOfB A = ⊥
 IsOfB B = Unit {0}
 
 -- no sign of Multipath TCP that A hears
-abbrev IsMildEvent : FallEvent → Side → Type 0
+abbrev pub IsMildEvent : FallEvent → Side → Type 0
 IsMildEvent events.MappingHeard s = IsOfB s
 IsMildEvent events.AckHeard s = IsOfB s
 IsMildEvent _ s = Unit {0}
 
-abbrev IsMildCall : ControlCall → Side → Type 0
+abbrev pub IsMildCall : ControlCall → Side → Type 0
 IsMildCall (calls.Fell path event) s = IsMildEvent event s
 IsMildCall _ s = Unit {0}
 
@@ -167,13 +167,13 @@ event_sure path sole (events.FailHeard contiguous) f mild =
     row_sure (not (writes_mappings f.mode)) f (stays f) _ (λ is. is) (row_sure (sole && contiguous) f (goes (sending f.mode) f) (breaks 1 f) (λ is. absurd (sending_unsure f.mode is)) (λ is. is))
 event_sure path sole events.Stop f mild = λ is. absurd (false≢true is)
 
-abbrev IsNoEvent : ControlCall → Type 0
+abbrev pub IsNoEvent : ControlCall → Type 0
 IsNoEvent (calls.Fell path event) = ⊥
 IsNoEvent calls.FastClose = ⊥
 IsNoEvent (calls.FastHeard key) = ⊥
 IsNoEvent _ = Unit {0}
 
-call_mode : (c : Control) (call : ControlCall) → IsNoEvent call → IsMildCall call A → (controlling.after c call).fall.mode ≡ c.fall.mode
+pub call_mode : (c : Control) (call : ControlCall) → IsNoEvent call → IsMildCall call A → (controlling.after c call).fall.mode ≡ c.fall.mode
 call_mode c (calls.Look path) none mild = notice_mode (control.notice_on c path) path c
 call_mode c (calls.PeerKey key) none mild = refl
 call_mode c (calls.Keys own other) none mild = either_mode c.fall.mode (own == c.keys.own) _ _ (keys_mode c.fall) refl

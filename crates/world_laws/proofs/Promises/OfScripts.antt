@@ -40,13 +40,13 @@ use Rattle.world_laws.proofs.Promises.Made.{keep_their_word_in_octets, keep_coun
 
 -- ---- lines
 
-module _ (test : ScriptLine → Bool) (among : (line : ScriptLine) → alters_payload line ≡ false → test line ≡ false) where
-  none_passes : (path : ℕ) (lines : List ScriptLine) → list_any alters_payload lines ≡ false → list_any test (lines_of path lines) ≡ false
+module _ (such test : ScriptLine → Bool) (among : (line : ScriptLine) → such line ≡ false → test line ≡ false) where
+  pub none_passes : (path : ℕ) (lines : List ScriptLine) → list_any such lines ≡ false → list_any test (lines_of path lines) ≡ false
   none_passes path [] is = refl
   none_passes path (line ∷ lines) is = by (is_path path (path_named line)) (none_passes path lines parts.1)
     where
-      parts : (alters_payload line ≡ false) × (list_any alters_payload lines ≡ false)
-      parts = or_parts (alters_payload line) (list_any alters_payload lines) is
+      parts : (such line ≡ false) × (list_any such lines ≡ false)
+      parts = or_parts (such line) (list_any such lines) is
 
       by : (b : Bool) → list_any test (lines_of path lines) ≡ false → list_any test (cond b (line ∷ lines_of path lines) (lines_of path lines)) ≡ false
       by true rest = or_from (test line) (list_any test (lines_of path lines)) (among line parts.0) rest
@@ -57,7 +57,7 @@ never_alters from number (Alter path side named) is = cc
 never_alters from number line is = refl
 
 alters_nothing : (path : ℕ) (lines : List ScriptLine) → list_any alters_payload lines ≡ false → AltersNothing (lines_of path lines)
-alters_nothing path lines is = record { alters = λ from number. none_passes (is_altered_by from number) (never_alters from number) path lines is }
+alters_nothing path lines is = record { alters = λ from number. none_passes alters_payload (is_altered_by from number) (never_alters from number) path lines is }
 
 -- ---- numbers
 

@@ -17,7 +17,7 @@ use Rattle.world_laws.specs.Worlds.{WorldState, Turn, crew_after, asked, stepped
 use Rattle.world_laws.proofs.Worlds.Opened.{opened_actors}
 
 module _ {C : Type 0} where
-  all_over_each : (crew : List (ActorCrew C)) (i : ℕ) (c : ActorCrew C) → all_over crew ≡ true → slice_get crew i ≡ Some c → is_over c.member ≡ true
+  pub all_over_each : (crew : List (ActorCrew C)) (i : ℕ) (c : ActorCrew C) → all_over crew ≡ true → slice_get crew i ≡ Some c → is_over c.member ≡ true
   all_over_each [] i c over there = cc
   all_over_each (d ∷ crew) zero c over there =
       let parts = and_parts (is_over d.member) (all_over crew) over in subst (λ x. is_over x.member ≡ true) (same_Some d c there) parts.0

@@ -1,0 +1,9 @@
+pub mod Bytes
+pub mod Copies
+pub mod Ends
+pub mod Paths
+pub mod Passing
+pub mod Doing
+pub mod Happening
+pub mod Answering
+pub mod Falls

@@ -1,0 +1,672 @@
+-- What the ends of path 0 keep as long as no options are taken away: an end that may send no DSS learned no mapping, and no byte of the
+-- other side lies below its edge; no acknowledgement that it heard lacks a Data ACK, and no payload an option.
+use Rattle.std.proofs.Common.{◌≡◌, refl, sym, ◌∙◌, ap, subst, ℕ, ◌+◌, ◌^◌, ◌⊎◌, inl, inr, ⊎_elim, ◌&&◌, ◌||◌, ◌==◌, not, nat_lt, nat_le, is_some, is_none, Bool, true, false, if◌then◌else◌, Option, Some, None, List, [], ◌∷◌, ◌++◌, map, length, arith}
+use Rattle.std.proofs.lemmas.Bool.{and_parts, both_ways, false≢true, leb-true, ltb-true, or_from, or_parts}
+use Rattle.std.specs.List.{list_any, flat_map}
+use Rattle.std.specs.Option.{IfSome}
+use Rattle.sides.specs.declared.side.Side.{Side}
+use Rattle.sides.specs.declared.side.Side.TheVariants.{A, B}
+use Rattle.sides.specs.Side.{peer}
+use Rattle.dss_mapping.specs.Mappings.{Mappings}
+use Rattle.dss_mapping.specs.declared.kept.KeptMapping.{KeptMapping}
+use Rattle.loss_recovery.specs.declared.timers.Timing.{Timing}
+use Rattle.path_segments.specs.Heard.{HeardSegment}
+use Rattle.path_segments.specs.declared.segment.PathOption.TheVariants as options
+use Rattle.path_segments.specs.declared.segment.PathMapping.{PathMapping}
+use Rattle.path_segments.specs.declared.segment.PathMapping.TheVariants as mappings
+use Rattle.mptcp_options.specs.declared.capable.CapableKeys.{CapableKeys}
+use Rattle.mptcp_options.specs.declared.capable.CapableKeys.TheVariants.{NoKey, WithData}
+use Rattle.mptcp_options.specs.declared.join.JoinForm.{JoinForm}
+use Rattle.mptcp_options.specs.declared.join.JoinForm.TheVariants as joins
+use Rattle.subflow_recv.specs.Receiving.{Receiving}
+use Rattle.subflow_send.specs.Records.{SendState}
+use Rattle.subflow_send.specs.Rules.{ack_kind, after_acknowledge, sample_of, newly_acknowledged}
+use Rattle.subflow_send.specs.declared.record.AckKind.{AckKind}
+use Rattle.subflow_send.specs.declared.record.AckKind.TheVariants as kinds
+use Rattle.subflow_tcp.specs.Emitting.{is_syn}
+use Rattle.subflow_tcp.specs.Judging.{is_syn_alone, is_repeated_syn, is_acceptable, meaning_outside, meaning_acknowledging, meaning_within, meaning_placed, meaning_connected, meaning_answer, meaning_answering, meaning_at, meaning_of}
+use Rattle.subflow_tcp.specs.Segments.{Copy}
+use Rattle.subflow_tcp.specs.State.{EndState, is_at_limit}
+use Rattle.subflow_tcp.specs.States.{after_handshake, is_closed_to_segments, is_half_open, is_opening}
+use Rattle.subflow_tcp.specs.Taking.{after_arrival, arrival_of, after_taken, after_acknowledgement, after_ack_kind, after_duplicate, after_interruption, after_established, after_hearing, after_payload, after_holding, is_duplicate, kept_new, told_by, first_fin}
+use Rattle.subflow_tcp.specs.declared.handshake.State.{State as EndPhase}
+use Rattle.subflow_tcp.specs.declared.handshake.State.TheVariants as phase
+use Rattle.subflow_tcp.specs.declared.segments.Hint.{Hint}
+use Rattle.subflow_tcp.specs.declared.segments.Outgoing.{Outgoing}
+use Rattle.subflow_tcp.specs.declared.verdicts.Arrival.TheVariants.{Opened, Took}
+use Rattle.subflow_tcp.specs.declared.verdicts.Meaning.{Meaning}
+use Rattle.subflow_tcp.specs.declared.verdicts.Meaning.TheVariants as means
+use Rattle.stream_lanes.specs.Words.{Every}
+use Rattle.actor_desk.specs.Words.{is_nil}
+use Rattle.path_agenda.specs.Items.{key_heard}
+use Rattle.path_agenda.specs.declared.heard.Heard.{Heard}
+use Rattle.path_agenda.specs.declared.heard.Heard.TheVariants as says
+use Rattle.path_store.specs.declared.infinite_mapping.InfiniteMapping.{InfiniteMapping}
+use Rattle.path_rules.specs.Arriving.{HeardOption, copy_of, hint_of, items_in, items_of, ack_items, map_items, key_items, join_items, item_removed, has_data_ack, octets_acked, is_plain_ack, owing_if, edge_held, with_payload, owes_by, copy_judged, asks_capable, position_in}
+use Rattle.path_rules.specs.Ends.{PathEnd, Treated}
+use Rattle.world_laws.specs.Writes.{EndWrites, EndView, Only, copy_said}
+use Rattle.world_laws.proofs.Keys.AreDrawn.{is_past}
+use Rattle.world_laws.proofs.Keys.AnswerHeardFirst.{is_accepts, is_apart, ack_apart, handshake_apart}
+use Rattle.world_laws.proofs.Whole.Bytes.{EndsWell, Grows, NoneAt, NoneBelow, Remains, acknowledged_remains, at_later, below_later, none_acknowledged, remains_grows, remains_self, remains_well}
+use Rattle.world_laws.proofs.Whole.Copies.{HeardIs, Knows, OptionIs, SynIs, is_infinite_option}
+use Rattle.world_laws.proofs.Writes.Steps.{unwritten}
+
+-- ---- the parts of an end that are spoken of
+
+pub record Parts : Type 0 where
+  pub send : SendState
+  pub recv : Receiving
+  pub fin_at : Option ℕ
+  pub state : EndPhase
+  pub timing : Timing
+  pub mappings : Mappings
+  pub clear : Bool
+  pub peer_key : Option ℕ
+  pub asked : Bool
+  pub peer_infinite : Option InfiniteMapping
+  pub copy : Treated
+  pub held_edge : Option ℕ
+
+abbrev pub parts_of : PathEnd → Parts
+parts_of e = record {
+  send = e.tcp.send;
+  recv = e.tcp.recv;
+  fin_at = e.tcp.fin_at;
+  state = e.tcp.state;
+  timing = e.tcp.timing;
+  mappings = e.receiving.mappings;
+  clear = e.modes.clear;
+  peer_key = e.modes.peer_key;
+  asked = e.modes.capable_asked;
+  peer_infinite = e.modes.peer_infinite;
+  copy = copy_said e.treated;
+  held_edge = e.treated.held_edge;
+}
+
+abbrev the_parts : SendState → Receiving → Option ℕ → EndPhase → Timing → Mappings → Bool → Option ℕ → Bool → Option InfiniteMapping → Treated → Option ℕ → Parts
+the_parts a b c d e f g h i j k l =
+    record { send = a; recv = b; fin_at = c; state = d; timing = e; mappings = f; clear = g; peer_key = h; asked = i; peer_infinite = j; copy = k; held_edge = l }
+
+-- what a duty writes is none of them
+abbrev pub is_spared : EndWrites → Bool
+is_spared w =
+    not w.send && (not w.recv && (not w.fin_at && (not w.phase && (not w.timing && (not w.mappings && (not w.clear && (not w.peer_key && (not w.capable_asked
+    && (not w.peer_infinite && (not w.copy && not w.held_edge))))))))))
+
+un : (b : Bool) → not b ≡ true → b ≡ false
+un false is = refl
+un true is = absurd (false≢true is)
+
+same_parts : (a a2 : SendState) (b b2 : Receiving) (c c2 : Option ℕ) (d d2 : EndPhase) (e e2 : Timing) (f f2 : Mappings) (g g2 : Bool) (h h2 : Option ℕ) (i i2 : Bool) (j j2 : Option InfiniteMapping) (k k2 : Treated) (l l2 : Option ℕ)
+    → a2 ≡ a → b2 ≡ b → c2 ≡ c → d2 ≡ d → e2 ≡ e → f2 ≡ f → g2 ≡ g → h2 ≡ h → i2 ≡ i → j2 ≡ j → k2 ≡ k → l2 ≡ l
+    → the_parts a2 b2 c2 d2 e2 f2 g2 h2 i2 j2 k2 l2 ≡ the_parts a b c d e f g h i j k l
+same_parts a a2 b b2 c c2 d d2 e e2 f f2 g g2 h h2 i i2 j j2 k k2 l l2 o p q r s t u v w x y z = rw (o, p, q, r, s, t, u, v, w, x, y, z) refl
+
+pub parts_spared : (w : EndWrites) → is_spared w ≡ true → (e f : PathEnd) → Only w e f → parts_of f ≡ parts_of e
+parts_spared w is e f x =
+    let a = and_parts (not w.send) _ is in
+    let b = and_parts (not w.recv) _ a.1 in
+    let c = and_parts (not w.fin_at) _ b.1 in
+    let d = and_parts (not w.phase) _ c.1 in
+    let g = and_parts (not w.timing) _ d.1 in
+    let h = and_parts (not w.mappings) _ g.1 in
+    let i = and_parts (not w.clear) _ h.1 in
+    let j = and_parts (not w.peer_key) _ i.1 in
+    let k = and_parts (not w.capable_asked) _ j.1 in
+    let l = and_parts (not w.peer_infinite) _ k.1 in
+    let m = and_parts (not w.copy) (not w.held_edge) l.1 in
+    same_parts e.tcp.send f.tcp.send e.tcp.recv f.tcp.recv e.tcp.fin_at f.tcp.fin_at e.tcp.state f.tcp.state e.tcp.timing f.tcp.timing e.receiving.mappings f.receiving.mappings e.modes.clear f.modes.clear e.modes.peer_key f.modes.peer_key e.modes.capable_asked f.modes.capable_asked e.modes.peer_infinite f.modes.peer_infinite (copy_said e.treated) (copy_said f.treated) e.treated.held_edge f.treated.held_edge
+    (unwritten w.send e.tcp.send f.tcp.send (un w.send a.0) (ap (λ (v : EndView). v.send) x.same))
+    (unwritten w.recv e.tcp.recv f.tcp.recv (un w.recv b.0) (ap (λ (v : EndView). v.recv) x.same))
+    (unwritten w.fin_at e.tcp.fin_at f.tcp.fin_at (un w.fin_at c.0) (ap (λ (v : EndView). v.fin_at) x.same))
+    (unwritten w.phase e.tcp.state f.tcp.state (un w.phase d.0) (ap (λ (v : EndView). v.phase) x.same))
+    (unwritten w.timing e.tcp.timing f.tcp.timing (un w.timing g.0) (ap (λ (v : EndView). v.timing) x.same))
+    (unwritten w.mappings e.receiving.mappings f.receiving.mappings (un w.mappings h.0) (ap (λ (v : EndView). v.mappings) x.same))
+    (unwritten w.clear e.modes.clear f.modes.clear (un w.clear i.0) (ap (λ (v : EndView). v.clear) x.same))
+    (unwritten w.peer_key e.modes.peer_key f.modes.peer_key (un w.peer_key j.0) (ap (λ (v : EndView). v.peer_key) x.same))
+    (unwritten w.capable_asked e.modes.capable_asked f.modes.capable_asked (un w.capable_asked k.0) (ap (λ (v : EndView). v.capable_asked) x.same))
+    (unwritten w.peer_infinite e.modes.peer_infinite f.modes.peer_infinite (un w.peer_infinite l.0) (ap (λ (v : EndView). v.peer_infinite) x.same))
+    (unwritten w.copy (copy_said e.treated) (copy_said f.treated) (un w.copy m.0) (ap (λ (v : EndView). v.copy) x.same))
+    (unwritten w.held_edge e.treated.held_edge f.treated.held_edge (un w.held_edge m.1) (ap (λ (v : EndView). v.held_edge) x.same))
+
+-- ---- what an end keeps
+
+abbrev pub is_infinite_item : Heard → Bool
+is_infinite_item (says.InfiniteMapping place position) = true
+is_infinite_item _ = false
+
+-- A SYN that opened the end, and a payload at the edge, came with an option; no acknowledgement of new bytes lacked a Data ACK.
+pub record TreatedIs (t : Treated) (held : Option ℕ) : Type 0 where
+  pub plain : t.plain_ack ≡ false
+  pub opens : t.opened ≡ true → t.has_option ≡ true
+  pub holds : IfSome held (λ edge. t.has_option ≡ true)
+  pub finite : list_any is_infinite_item t.items ≡ false
+  pub answer : IfSome t.answer (λ o. o.rst ≡ true)
+
+-- the end of a side, where the other side sent this
+pub record Base (s : Side) (vs : SendState) (x : Parts) : Type 0 where
+  pub sends : EndsWell x.send
+  -- as long as it may send no DSS
+  pub low : (x.clear ≡ true) ⊎ (NoneBelow x.recv.edge vs × (x.mappings.live ≡ []))
+  pub fin_at : IfSome x.fin_at (λ n. NoneAt n vs)
+  pub finite : x.peer_infinite ≡ None
+  pub apart : is_apart s x.state ≡ false
+  -- B may send one as soon as it has A's key
+  pub keyed : s ≡ B → is_some x.peer_key ≡ true → x.clear ≡ true
+  pub treated : TreatedIs x.copy x.held_edge
+
+-- an end that opens: its SYN is all that it sent
+pub record Opens (x : Parts) : Type 0 where
+  pub state : is_opening x.state ≡ true
+  pub syns : Every (λ r. is_syn r.kind ≡ true) x.send.records
+  pub some : is_nil x.send.records ≡ false
+
+-- an end before the peer's SYN, or a dead one: it opens, or is closed, and no timer runs
+pub record Unmet (x : Parts) : Type 0 where
+  pub past : is_past x.state ≡ false
+  pub still : (not (is_closed_to_segments x.state) || is_some x.timing.timer ≡ false) ⊎ Opens x
+
+abbrev pub SaysOr : Side → Parts → Type 0
+SaysOr s x = Knows s x.peer_key x.asked ⊎ Unmet x
+
+pub record EndIs (s : Side) (vs : SendState) (x : Parts) : Type 0 where
+  pub base : Base s vs x
+  pub says : SaysOr s x
+
+pub same_unmet : (x y : Parts) → y.state ≡ x.state → y.timing ≡ x.timing → y.send ≡ x.send → Unmet x → Unmet y
+same_unmet x y state timing send h = record {
+  past = ap is_past state ∙ h.past;
+  still = ⊎_elim
+      (λ closed. inl (ap (λ z. not (is_closed_to_segments z) || is_some y.timing.timer) state ∙ ap (λ (z : Timing). not (is_closed_to_segments x.state) || is_some z.timer) timing ∙ closed))
+      (λ (opens : Opens x). inr (record {
+        state = ap is_opening state ∙ opens.state;
+        syns = subst (λ (v : SendState). Every (λ r. is_syn r.kind ≡ true) v.records) (sym send) opens.syns;
+        some = ap (λ (v : SendState). is_nil v.records) send ∙ opens.some;
+      }))
+      h.still;
+}
+
+some_later : (P Q : ℕ → Type 0) (o : Option ℕ) → ((n : ℕ) → P n → Q n) → IfSome o P → IfSome o Q
+some_later P Q None more h = tt
+some_later P Q (Some n) more h = more n h
+
+pub base_later : (s : Side) (vs ws : SendState) (x : Parts) → Grows vs ws → Base s vs x → Base s ws x
+base_later s vs ws x g h = record {
+  sends = h.sends;
+  low = ⊎_elim (λ clear. inl clear) (λ (both : NoneBelow x.recv.edge vs × (x.mappings.live ≡ [])). inr (below_later x.recv.edge vs ws g both.0, both.1)) h.low;
+  fin_at = some_later _ _ x.fin_at (λ n at. at_later n vs ws g at) h.fin_at;
+  finite = h.finite;
+  apart = h.apart;
+  keyed = h.keyed;
+  treated = h.treated;
+}
+
+pub end_later : (s : Side) (vs ws : SendState) (x : Parts) → Grows vs ws → EndIs s vs x → EndIs s ws x
+end_later s vs ws x g h = record { base = base_later s vs ws x g h.base; says = h.says }
+
+-- ---- what a copy means
+
+-- what it takes for a copy to mean this
+abbrev pub MeansIs : Copy → EndState → Meaning → Type 0
+MeansIs c s means.Opens = (s.state ≡ phase.Listen) × ((c.syn ≡ true) × ((c.rst ≡ false) × (c.fin ≡ false)))
+MeansIs c s (means.Accepts acknowledged) = (s.state ≡ phase.SynSent) × ((c.syn ≡ true) × (c.rst ≡ false))
+MeansIs c s (means.Taken pos acknowledged) =
+    (is_past s.state ≡ true) × ((c.syn ≡ false) × ((c.rst ≡ false) × ((c.position ≡ Some pos) × (c.acknowledged ≡ Some acknowledged))))
+MeansIs c s means.Kills = Unit {0}
+MeansIs c s means.Ignored = Unit {0}
+MeansIs c s means.Unwanted = Unit {0}
+MeansIs c s _ = is_past s.state ≡ true
+
+-- the copy is answered or taken, or opens B's end
+abbrev pub is_heeded : Meaning → Bool
+is_heeded means.Ignored = false
+is_heeded means.Unwanted = false
+is_heeded means.Kills = false
+is_heeded (means.Accepts acknowledged) = false
+is_heeded _ = true
+
+module _ (c : Copy) (s : EndState) where
+  abbrev Is : Meaning → Type 0
+  Is = MeansIs c s
+
+  either : (b : Bool) (x y : Meaning) → (b ≡ true → Is x) → (b ≡ false → Is y) → Is (if b then x else y)
+  either true x y first second = first refl
+  either false x y first second = second refl
+
+  module _ (past : is_past s.state ≡ true) where
+    acknowledging : (o : Option ℕ) (pos : ℕ) → c.acknowledged ≡ o → c.position ≡ Some pos → c.rst ≡ false → c.syn ≡ false → Is (meaning_acknowledging o pos s)
+    acknowledging None pos acks at rst syn = past
+    acknowledging (Some acknowledged) pos acks at rst syn =
+        either (nat_lt s.send.nxt acknowledged) means.Ahead (if is_half_open s.state && acknowledged == 0 then means.Unacknowledging else means.Taken pos acknowledged) (λ is. past)
+        (λ is. either (is_half_open s.state && acknowledged == 0) means.Unacknowledging (means.Taken pos acknowledged) (λ half. past) (λ half. (past, (syn, (rst, (at, acks))))))
+
+    outside : Is (meaning_outside c)
+    outside = either c.rst means.Ignored means.Outside (λ is. tt) (λ is. past)
+
+    within : (pos : ℕ) → c.position ≡ Some pos → Is (meaning_within pos c s)
+    within pos at =
+        either c.rst (if pos == s.recv.edge then means.Kills else means.Challenged) (if c.syn then means.Challenged else meaning_acknowledging c.acknowledged pos s)
+        (λ is. either (pos == s.recv.edge) means.Kills means.Challenged (λ here. tt) (λ here. past))
+        (λ rst. either c.syn means.Challenged (meaning_acknowledging c.acknowledged pos s) (λ syn. past) (λ syn. acknowledging c.acknowledged pos refl at rst syn))
+
+    placed : (o : Option ℕ) → c.position ≡ o → Is (meaning_placed o c s)
+    placed None at = outside
+    placed (Some pos) at = either (is_acceptable s.recv.edge pos c) (meaning_within pos c s) (meaning_outside c) (λ is. within pos at) (λ is. outside)
+
+    connected : Is (meaning_connected c s)
+    connected =
+        either (is_at_limit s) means.Ignored (if is_repeated_syn c s then means.RepeatedSyn else meaning_placed c.position c s) (λ is. tt)
+        (λ is. either (is_repeated_syn c s) means.RepeatedSyn (meaning_placed c.position c s) (λ again. past) (λ again. placed c.position refl))
+
+  answering : s.state ≡ phase.SynSent → (o : Option ℕ) → Is (meaning_answering o c s)
+  answering sent None = tt
+  answering sent (Some acknowledged) =
+      either (nat_lt 0 acknowledged && nat_le acknowledged s.send.nxt) (meaning_answer c acknowledged) means.Ignored
+      (λ is. either c.rst means.Kills (if c.syn then means.Accepts acknowledged else means.Ignored) (λ rst. tt)
+      (λ rst. either c.syn (means.Accepts acknowledged) means.Ignored (λ syn. (sent, (syn, rst))) (λ syn. tt)))
+      (λ is. tt)
+
+  alone : s.state ≡ phase.Listen → is_syn_alone c ≡ true → Is means.Opens
+  alone listens is =
+      let syn = and_parts c.syn (not c.fin && (not c.rst && is_none c.acknowledged)) is in
+      let fin = and_parts (not c.fin) (not c.rst && is_none c.acknowledged) syn.1 in
+      let rst = and_parts (not c.rst) (is_none c.acknowledged) fin.1 in
+      (listens, (syn.0, (is_not c.rst rst.0, is_not c.fin fin.0)))
+    where
+      is_not : (b : Bool) → not b ≡ true → b ≡ false
+      is_not true is = absurd (false≢true is)
+      is_not false is = refl
+
+  pub means_so : MeansIs c s (meaning_of c s)
+  means_so = by s.state refl
+    where
+      by : (state : EndPhase) → s.state ≡ state → MeansIs c s (meaning_at state c s)
+      by phase.Dead is = either c.rst means.Ignored means.Unwanted (λ rst. tt) (λ rst. tt)
+      by phase.Waiting is = tt
+      by phase.Listen is = either (is_syn_alone c) means.Opens means.Ignored (alone is) (λ no. tt)
+      by phase.SynSent is = either (is_at_limit s) means.Ignored (meaning_answering c.acknowledged c s) (λ limit. tt) (λ limit. answering is c.acknowledged)
+      by phase.SynReceived is = connected (ap is_past is)
+      by phase.Established is = connected (ap is_past is)
+      by phase.FinWait1 is = connected (ap is_past is)
+      by phase.FinWait2 is = connected (ap is_past is)
+      by phase.CloseWait is = connected (ap is_past is)
+      by phase.Closing is = connected (ap is_past is)
+      by phase.LastAck is = connected (ap is_past is)
+      by phase.TimeWait is = connected (ap is_past is)
+
+-- ---- an end of which little changes
+
+pub rebuild : (s : Side) (vs : SendState) (x y : Parts) → EndsWell y.send → y.recv.edge ≡ x.recv.edge → y.mappings.live ≡ x.mappings.live → y.clear ≡ x.clear → y.peer_key ≡ x.peer_key
+    → y.peer_infinite ≡ x.peer_infinite → IfSome y.fin_at (λ n. NoneAt n vs) → is_apart s y.state ≡ false → TreatedIs y.copy y.held_edge → Base s vs x → Base s vs y
+rebuild s vs x y sends edge live clear key infinite fin apart treated h = record {
+  sends = sends;
+  low = ⊎_elim (λ is. inl (clear ∙ is))
+      (λ (both : NoneBelow x.recv.edge vs × (x.mappings.live ≡ [])). inr (subst (λ n. NoneBelow n vs) (sym edge) both.0, live ∙ both.1)) h.low;
+  fin_at = fin;
+  finite = infinite ∙ h.finite;
+  apart = apart;
+  keyed = λ same has. clear ∙ h.keyed same (ap is_some (sym key) ∙ has);
+  treated = treated;
+}
+
+-- ---- a copy
+
+any_append : {X : Type 0} (test : X → Bool) (xs ys : List X) → list_any test xs ≡ false → list_any test ys ≡ false → list_any test (xs ++ ys) ≡ false
+any_append test [] ys none rest = rest
+any_append test (x ∷ xs) ys none rest =
+    let parts = or_parts (test x) (list_any test xs) none in or_from (test x) (list_any test (xs ++ ys)) parts.0 (any_append test xs ys parts.1 rest)
+
+ack_finite : (next : Option (Option ℕ)) (window : ℕ) → list_any is_infinite_item (ack_items next window) ≡ false
+ack_finite None window = refl
+ack_finite (Some None) window = refl
+ack_finite (Some (Some next)) window = by (nat_lt next (2 ^ 62))
+  where
+    by : (b : Bool) → list_any is_infinite_item (if b then says.DataAck next window ∷ [] else []) ≡ false
+    by true = refl
+    by false = refl
+
+if_finite : (b : Bool) (item : Heard) → is_infinite_item item ≡ false → list_any is_infinite_item (if b then item ∷ [] else []) ≡ false
+if_finite true item none = ap (λ x. x || false) none
+if_finite false item none = refl
+
+map_finite : (next : Option (Option ℕ)) (mapping : Option (PathMapping (Option ℕ))) → is_infinite_option (options.Dss next mapping) ≡ false → list_any is_infinite_item (map_items mapping) ≡ false
+map_finite next None none = refl
+map_finite next (Some (mappings.Bytes (Some place) (Some position) len fin checksum)) none = if_finite _ (says.Mapping fin) refl
+map_finite next (Some (mappings.Bytes (Some place) None len fin checksum)) none = refl
+map_finite next (Some (mappings.Bytes None position len fin checksum)) none = refl
+map_finite next (Some (mappings.End (Some place) checksum)) none = if_finite _ (says.DataFin place) refl
+map_finite next (Some (mappings.End None checksum)) none = refl
+map_finite next (Some (mappings.Infinite place position)) none = absurd (false≢true (sym none))
+
+keys_finite : (s : Side) (keys : CapableKeys) → list_any is_infinite_item (key_items s keys) ≡ false
+keys_finite A NoKey = refl
+keys_finite B (WithData sender receiver len checksum) = by (nat_lt 0 len)
+  where
+    by : (b : Bool) → list_any is_infinite_item (if b then (if nat_lt 0 1 && nat_le (0 + len) (2 ^ 62) then says.Mapping false ∷ [] else []) else []) ≡ false
+    by true = if_finite _ (says.Mapping false) refl
+    by false = refl
+keys_finite s keys = refl
+
+joins_finite : (s : Side) (form : JoinForm) → list_any is_infinite_item (join_items s form) ≡ false
+joins_finite A (joins.Answer backup id hmac nonce) = refl
+joins_finite B (joins.Answer backup id hmac nonce) = refl
+joins_finite s form = refl
+
+removed_finite : (ids : List ℕ) → list_any is_infinite_item (map item_removed ids) ≡ false
+removed_finite [] = refl
+removed_finite (id ∷ ids) = removed_finite ids
+
+option_finite : (s : Side) (window : ℕ) (o : HeardOption) → is_infinite_option o ≡ false → list_any is_infinite_item (items_in false s window o) ≡ false
+option_finite s window (options.Capable flag_a flag_c keys) none = keys_finite s keys
+option_finite s window (options.Dss next mapping) none = any_append is_infinite_item (ack_items next window) (map_items mapping) (ack_finite next window) (map_finite next mapping none)
+option_finite s window (options.Join form) none = joins_finite s form
+option_finite s window (options.AddAddr true id address port hmac) none = refl
+option_finite s window (options.AddAddr false id address port (Some hmac)) none = refl
+option_finite s window (options.AddAddr false id address port None) none = refl
+option_finite s window (options.Remove ids) none = removed_finite ids
+option_finite s window _ none = refl
+
+items_finite : (s : Side) (window : ℕ) (os : List HeardOption) → list_any is_infinite_option os ≡ false → list_any is_infinite_item (flat_map (items_in false s window) os) ≡ false
+items_finite s window [] none = refl
+items_finite s window (o ∷ os) none =
+    let parts = or_parts (is_infinite_option o) (list_any is_infinite_option os) none in
+    any_append is_infinite_item (items_in false s window o) (flat_map (items_in false s window) os) (option_finite s window o parts.0) (items_finite s window os parts.1)
+
+-- a SYN of B's that shows a key has an option
+key_has_option : (h : HeardSegment) → SynIs B h → is_nil h.options ≡ false
+key_has_option h is = by h.options is
+  where
+    by : (os : List HeardOption) → SynIs B (record h { options = os }) → is_nil os ≡ false
+    by [] is = absurd (false≢true is)
+    by (o ∷ os) is = refl
+
+asks_has_option : (h : HeardSegment) → SynIs A h → is_nil h.options ≡ false
+asks_has_option h is = by h.options is
+  where
+    by : (os : List HeardOption) → SynIs A (record h { options = os }) → is_nil os ≡ false
+    by [] is = absurd (false≢true is)
+    by (o ∷ os) is = refl
+
+-- the copy `h` comes to this end, whose side `s` is, from the other one, which sent `vs`
+module _ (s : Side) (vs : SendState) (h : HeardSegment) (e : PathEnd) (told : List KeptMapping) (answer : Outgoing) (now : ℕ) (resets : answer.rst ≡ true)
+    (said : HeardIs (peer s) e.tcp.send vs h) (was : Base s vs (parts_of e)) where
+  abbrev c : Copy
+  c = copy_of h
+
+  abbrev pub after : Meaning → PathEnd
+  after m = copy_judged false told answer s now h m e
+
+  -- ---- what the subflow makes of it
+
+  first_fin_at : (o : Option ℕ) (fin : Bool) (n : ℕ) → IfSome o (λ k. NoneAt k vs) → (fin ≡ true → NoneAt n vs) → IfSome (first_fin o fin n) (λ k. NoneAt k vs)
+  first_fin_at None true n old new = new refl
+  first_fin_at None false n old new = tt
+  first_fin_at (Some k) fin n old new = old
+
+  -- a subflow that became another one by a copy
+  record Moved (x y : EndState) : Type 0 where
+    sends : Remains x.send y.send
+    edge : y.recv.edge ≡ x.recv.edge
+    fin : IfSome y.fin_at (λ n. NoneAt n vs)
+    apart : is_apart s y.state ≡ false
+
+  acked_sends : (n : ℕ) (x : EndState) → Remains x.send (after_acknowledgement n now x).send
+  acked_sends n x = by (ack_kind n x.send)
+    where
+      by : (kind : AckKind) → Remains x.send (after_ack_kind kind (sample_of n x.send) now (record x { send = after_acknowledge n x.send })).send
+      by (kinds.New octets) = acknowledged_remains x.send n
+      by kinds.Duplicate = acknowledged_remains x.send n
+      by kinds.Old = acknowledged_remains x.send n
+      by kinds.Future = acknowledged_remains x.send n
+
+  acked_recv : (n : ℕ) (x : EndState) → ((after_acknowledgement n now x).recv ≡ x.recv) × ((after_acknowledgement n now x).fin_at ≡ x.fin_at)
+  acked_recv n x = by (ack_kind n x.send)
+    where
+      by : (kind : AckKind) → let y = after_ack_kind kind (sample_of n x.send) now (record x { send = after_acknowledge n x.send }) in (y.recv ≡ x.recv) × (y.fin_at ≡ x.fin_at)
+      by (kinds.New octets) = (refl, refl)
+      by kinds.Duplicate = (refl, refl)
+      by kinds.Old = (refl, refl)
+      by kinds.Future = (refl, refl)
+
+  not_apart : (x y : EndPhase) → (is_apart s y ≡ true → is_apart s x ≡ true) → is_apart s x ≡ false → is_apart s y ≡ false
+  not_apart x y back none = by (is_apart s y) refl
+    where
+      by : (b : Bool) → is_apart s y ≡ b → b ≡ false
+      by true is = absurd (both_ways (is_apart s x) none (back is))
+      by false is = refl
+
+  abbrev hint : Hint
+  hint = hint_of (items_of false s h)
+
+  owing_moves : (b : Bool) (y : EndState) → Moved e.tcp y → Moved e.tcp (owing_if b y)
+  owing_moves true y moved = record { sends = moved.sends; edge = moved.edge; fin = moved.fin; apart = moved.apart }
+  owing_moves false y moved = moved
+
+  taken_moves : (pos n : ℕ) (x : EndState) → (h.fin ≡ true → NoneAt (pos + length h.payload) vs) → IfSome x.fin_at (λ k. NoneAt k vs) → is_apart s x.state ≡ false
+      → Moved x (after_taken pos n hint now c x)
+  taken_moves pos n x new old apart =
+      let row = by (is_duplicate (ack_kind n opened.send) (told_by hint c) c (after_acknowledgement n now opened)) in
+      record { sends = row.sends; edge = row.edge; fin = row.fin; apart = row.apart }
+    where
+      opened : EndState
+      opened = after_established (after_hearing (after_payload pos hint c x))
+
+      kept : ((after_acknowledgement n now opened).recv ≡ opened.recv) × ((after_acknowledgement n now opened).fin_at ≡ opened.fin_at)
+      kept = acked_recv n opened
+
+      moved : Moved x (after_acknowledgement n now opened)
+      moved = record {
+        sends = acked_sends n opened;
+        edge = ap (λ (r : Receiving). r.edge) kept.0;
+        fin = subst (λ (o : Option ℕ). IfSome o (λ k. NoneAt k vs)) (sym kept.1) (first_fin_at x.fin_at h.fin (pos + length h.payload) old new);
+        apart = ack_apart s n now opened ∙ not_apart x.state (after_handshake x.state) (handshake_apart s x.state) apart;
+      }
+
+      by : (b : Bool) → Moved x (if b then after_duplicate (after_acknowledgement n now opened) else after_interruption (after_acknowledgement n now opened))
+      by true = record { sends = moved.sends; edge = moved.edge; fin = moved.fin; apart = moved.apart }
+      by false = record { sends = moved.sends; edge = moved.edge; fin = moved.fin; apart = moved.apart }
+
+  -- as the copy means this to the end
+  abbrev Fits : Meaning → Type 0
+  Fits m = MeansIs c e.tcp m
+
+  fin_then : (pos : ℕ) → h.rst ≡ false → position_in h.position ≡ Some pos → h.fin ≡ true → NoneAt (pos + length h.payload) vs
+  fin_then pos rst at is = subst (λ (o : Option ℕ). IfSome o (λ n. NoneAt (n + length h.payload) vs)) at (said.fin rst is).1
+
+  no_fin : h.rst ≡ false → h.syn ≡ true → h.fin ≡ true → NoneAt (1 + length h.payload) vs
+  no_fin rst syn is = absurd (both_ways h.syn (said.fin rst is).0 syn)
+
+  still_moved : Moved e.tcp e.tcp
+  still_moved = record { sends = remains_self e.tcp.send; edge = refl; fin = was.fin_at; apart = was.apart }
+
+  taken_held : (pos n : ℕ) (b : Bool) → Fits (means.Taken pos n) → let x : EndState = if b then e.tcp else after_holding pos h.payload e.tcp in Moved e.tcp (after_taken pos n hint now c x)
+  taken_held pos n true fits = taken_moves pos n e.tcp (fin_then pos fits.1.1.0 fits.1.1.1.0) was.fin_at was.apart
+  taken_held pos n false fits =
+      let x : EndState = after_holding pos h.payload e.tcp in
+      let moved = taken_moves pos n x (fin_then pos fits.1.1.0 fits.1.1.1.0) was.fin_at was.apart in
+      record { sends = moved.sends; edge = moved.edge; fin = moved.fin; apart = moved.apart }
+
+  arrival_moves : (m : Meaning) → Fits m → Moved e.tcp (after_arrival m hint now c (with_payload m h.payload e.tcp))
+  arrival_moves means.Ignored fits = still_moved
+  arrival_moves means.Unwanted fits = still_moved
+  arrival_moves means.Opens fits = record {
+    sends = remains_self e.tcp.send;
+    edge = refl;
+    fin = first_fin_at e.tcp.fin_at h.fin (1 + length h.payload) was.fin_at (no_fin fits.1.1.0 fits.1.0);
+    apart = ap (is_apart s) (sym fits.0) ∙ was.apart;
+  }
+  arrival_moves (means.Accepts n) fits =
+      let opened : EndState = record (after_hearing (after_payload 1 hint c e.tcp)) { state = phase.Established } in
+      let same = acked_recv n opened in
+      record {
+        sends = acked_sends n opened;
+        edge = ap (λ (r : Receiving). r.edge) same.0;
+        fin = subst (λ (o : Option ℕ). IfSome o (λ k. NoneAt k vs)) (sym same.1) (first_fin_at e.tcp.fin_at h.fin (1 + length h.payload) was.fin_at (no_fin fits.1.1 fits.1.0));
+        apart = ack_apart s n now opened;
+      }
+  arrival_moves means.RepeatedSyn fits = record { sends = remains_self e.tcp.send; edge = refl; fin = was.fin_at; apart = was.apart }
+  arrival_moves means.Outside fits = record { sends = remains_self e.tcp.send; edge = refl; fin = was.fin_at; apart = was.apart }
+  arrival_moves means.Kills fits = record { sends = acknowledged_remains e.tcp.send e.tcp.send.nxt; edge = refl; fin = was.fin_at; apart = refl }
+  arrival_moves means.Challenged fits = record { sends = remains_self e.tcp.send; edge = refl; fin = was.fin_at; apart = was.apart }
+  arrival_moves means.Unacknowledging fits = record { sends = remains_self e.tcp.send; edge = refl; fin = was.fin_at; apart = was.apart }
+  arrival_moves means.Ahead fits = record { sends = remains_self e.tcp.send; edge = refl; fin = was.fin_at; apart = was.apart }
+  arrival_moves (means.Taken pos n) fits = taken_held pos n (is_nil h.payload) fits
+
+  -- ---- what is still to be treated of it
+
+  and_never : (b : Bool) → b && false ≡ false
+  and_never true = refl
+  and_never false = refl
+
+  no_octets : (n : ℕ) (x : SendState) → NoneBelow n x → (b : Bool) (new : ℕ) → octets_acked (if b then Opened else Took (ack_kind n x) new h.fin) ≡ 0
+  no_octets n x low true new = refl
+  no_octets n x low false new = by (nat_lt x.nxt n) (nat_lt x.una n) (n == x.una)
+    where
+      by : (ahead more again : Bool) → octets_acked (Took (if ahead then kinds.Future else (if more then kinds.New (newly_acknowledged n x) else (if again then kinds.Duplicate else kinds.Old))) new h.fin) ≡ 0
+      by true more again = refl
+      by false true again = none_acknowledged n x low
+      by false false true = refl
+      by false false false = refl
+
+  -- with a Data ACK nothing is acknowledged without one, and without it no byte
+  acks_plainly : (pos n : ℕ) (x : EndState) → x.send ≡ e.tcp.send → Fits (means.Taken pos n) → is_plain_ack (arrival_of (means.Taken pos n) hint c x) h ≡ false
+  acks_plainly pos n x same fits = by (list_any has_data_ack h.options) refl
+    where
+      octets : ℕ
+      octets = octets_acked (arrival_of (means.Taken pos n) hint c x)
+
+      low : list_any has_data_ack h.options ≡ false → NoneBelow n x.send
+      low none = subst (λ v. NoneBelow n v) (sym same) (subst (λ (o : Option ℕ). IfSome o (λ k. NoneBelow k e.tcp.send)) fits.1.1.1.1 (said.acks fits.1.1.0 fits.1.0 none))
+
+      by : (b : Bool) → list_any has_data_ack h.options ≡ b → nat_lt 0 octets && not b ≡ false
+      by true is = and_never (nat_lt 0 octets)
+      by false is = ap (λ k. nat_lt 0 k && true) (no_octets n x.send (low is) (is_half_open x.state) (kept_new false pos h.payload x))
+
+  plainly_held : (pos n : ℕ) (b : Bool) → Fits (means.Taken pos n) → is_plain_ack (arrival_of (means.Taken pos n) hint c (if b then e.tcp else after_holding pos h.payload e.tcp)) h ≡ false
+  plainly_held pos n true fits = acks_plainly pos n e.tcp refl fits
+  plainly_held pos n false fits = acks_plainly pos n (after_holding pos h.payload e.tcp) refl fits
+
+  -- a copy opens A's end by its SYN, and B's by an option
+  opened_optional : (t : Side) → s ≡ t → (state : EndPhase) → is_apart t state ≡ false → is_half_open state ≡ true → h.syn ≡ false → h.rst ≡ false → is_nil h.options ≡ false
+  opened_optional A same phase.SynReceived apart half syn rst = absurd (false≢true (sym apart))
+  opened_optional A same _ apart half syn rst = absurd (false≢true half)
+  opened_optional B same state apart half syn rst = subst (λ t. OptionIs (peer t) h) same (said.option rst syn)
+
+  syn_optional : (t : Side) → SynIs t h → is_nil h.options ≡ false
+  syn_optional A is = asks_has_option h is
+  syn_optional B is = key_has_option h is
+
+  -- a payload at the edge
+  edge_optional : (t : Side) → s ≡ t → (pos edge : ℕ) → h.syn ≡ false → h.rst ≡ false → IfSome (edge_held (means.Taken pos 0) h.payload edge) (λ k. not (is_nil h.options) ≡ true)
+  edge_optional B same pos edge syn rst = some_later (λ k. Unit {0}) _ (edge_held (means.Taken pos 0) h.payload edge) (λ k any. ap not (subst (λ t. OptionIs (peer t) h) same (said.option rst syn))) (any_some (edge_held (means.Taken pos 0) h.payload edge))
+    where
+      any_some : (o : Option ℕ) → IfSome o (λ k. Unit {0})
+      any_some None = tt
+      any_some (Some k) = tt
+  edge_optional A same pos edge syn rst = by (subst (λ t. OptionIs (peer t) h) same (said.option rst syn))
+    where
+      at : (b : Bool) → (nat_le pos edge && nat_lt edge (pos + length h.payload)) ≡ b → is_nil h.payload ≡ true → IfSome (if b then Some edge else None) (λ k. not (is_nil h.options) ≡ true)
+      at false is nil = tt
+      at true is nil =
+          let both = and_parts (nat_le pos edge) (nat_lt edge (pos + length h.payload)) is in
+          let low = leb-true pos edge both.0 in let high = ltb-true edge (pos + length h.payload) both.1 in let none = nil_length h.payload nil in absurd (omega (arith, low, high, none))
+        where
+          nil_length : (xs : List ℕ) → is_nil xs ≡ true → length xs ≡ 0
+          nil_length [] nil = refl
+          nil_length (x ∷ xs) nil = absurd (false≢true nil)
+
+      optional : (b : Bool) → is_nil h.options ≡ false → IfSome (if b then Some edge else None) (λ k. not (is_nil h.options) ≡ true)
+      optional true some = ap not some
+      optional false some = tt
+
+      by : OptionIs B h → IfSome (edge_held (means.Taken pos 0) h.payload edge) (λ k. not (is_nil h.options) ≡ true)
+      by (inl nil) = at (nat_le pos edge && nat_lt edge (pos + length h.payload)) refl nil
+      by (inr some) = optional (nat_le pos edge && nat_lt edge (pos + length h.payload)) some
+
+  treated_so : (t : Treated) (held : Option ℕ) → t.items ≡ items_of false s h → t.answer ≡ Some answer → t.plain_ack ≡ false → (t.opened ≡ true → t.has_option ≡ true)
+      → IfSome held (λ edge. t.has_option ≡ true) → TreatedIs t held
+  treated_so t held items answers plain opens holds = record {
+    plain = plain;
+    opens = opens;
+    holds = holds;
+    finite = ap (list_any is_infinite_item) items ∙ items_finite s h.window h.options said.finite;
+    answer = subst (λ o. IfSome o (λ (o : Outgoing). o.rst ≡ true)) (sym answers) resets;
+  }
+
+  copy_treated : (m : Meaning) → Fits m → TreatedIs (parts_of (after m)).copy (parts_of (after m)).held_edge
+  copy_treated (means.Taken pos n) fits =
+      treated_so (copy_said (after (means.Taken pos n)).treated) _ refl refl (plainly_held pos n (is_nil h.payload) fits)
+      (held_opens (is_nil h.payload)) (held_edge_is (is_nil h.payload))
+    where
+      held_opens : (b : Bool) → is_half_open (if b then e.tcp else after_holding pos h.payload e.tcp).state ≡ true → not (is_nil h.options) ≡ true
+      held_opens true half = ap not (opened_optional s refl e.tcp.state was.apart half fits.1.0 fits.1.1.0)
+      held_opens false half = ap not (opened_optional s refl e.tcp.state was.apart half fits.1.0 fits.1.1.0)
+
+      held_edge_is : (b : Bool) → IfSome (edge_held (means.Taken pos n) h.payload (if b then e.tcp else after_holding pos h.payload e.tcp).recv.edge) (λ k. not (is_nil h.options) ≡ true)
+      held_edge_is true = edge_optional s refl pos e.tcp.recv.edge fits.1.0 fits.1.1.0
+      held_edge_is false = edge_optional s refl pos e.tcp.recv.edge fits.1.0 fits.1.1.0
+  copy_treated (means.Accepts n) fits = treated_so _ _ refl refl refl (λ is. ap not (syn_optional (peer s) (said.syn fits.1.1 fits.1.0))) tt
+  copy_treated m fits = treated_so _ _ refl refl refl (λ is. absurd (false≢true is)) tt
+
+  -- ---- the end
+
+  copy_moves : (m : Meaning) → Fits m → Moved e.tcp (after m).tcp
+  copy_moves m fits = owing_moves (owes_by m (items_of false s h)) _ (arrival_moves m fits)
+
+  based : (m : Meaning) → Fits m → (parts_of (after m)).clear ≡ e.modes.clear → (parts_of (after m)).peer_key ≡ e.modes.peer_key → (parts_of (after m)).peer_infinite ≡ e.modes.peer_infinite
+      → Base s vs (parts_of (after m))
+  based m fits clear key infinite =
+      let moved = copy_moves m fits in
+      rebuild s vs (parts_of e) (parts_of (after m)) (remains_well e.tcp.send (after m).tcp.send moved.sends was.sends) moved.edge refl clear key infinite moved.fin moved.apart (copy_treated m fits) was
+
+  pub copy_base : (m : Meaning) → Fits m → Base s vs (parts_of (after m))
+  copy_base means.Opens fits = based means.Opens fits refl refl refl
+  copy_base means.Ignored fits = based means.Ignored fits refl refl refl
+  copy_base m fits = based m fits refl refl refl
+
+  pub copy_grows : (m : Meaning) → Fits m → Grows e.tcp.send (after m).tcp.send
+  copy_grows m fits = remains_grows e.tcp.send (after m).tcp.send (copy_moves m fits).sends
+
+  known_past : is_past e.tcp.state ≡ true → SaysOr s (parts_of e) → Knows s e.modes.peer_key e.modes.capable_asked
+  known_past past (inl knows) = knows
+  known_past past (inr unmet) = absurd (both_ways (is_past e.tcp.state) unmet.past past)
+
+  opens_known : (t : Side) → s ≡ t → e.tcp.state ≡ phase.Listen → h.rst ≡ false → h.syn ≡ true → Knows t e.modes.peer_key (list_any asks_capable h.options)
+  opens_known A same listens rst syn = absurd (both_ways (is_apart A phase.Listen) (subst (λ x. is_apart A x ≡ false) listens (subst (λ t. is_apart t e.tcp.state ≡ false) same was.apart)) refl)
+  opens_known B same listens rst syn = subst (λ t. SynIs (peer t) h) same (said.syn rst syn)
+
+  -- after a copy that is answered or taken it may say all
+  pub copy_speaks : (m : Meaning) → Fits m → is_heeded m ≡ true → SaysOr s (parts_of e) → Knows s (parts_of (after m)).peer_key (parts_of (after m)).asked
+  copy_speaks means.Opens fits heeds says = opens_known s refl fits.0 fits.1.1.0 fits.1.0
+  copy_speaks (means.Accepts n) fits heeds says = absurd (false≢true heeds)
+  copy_speaks means.Ignored fits heeds says = absurd (false≢true heeds)
+  copy_speaks means.Unwanted fits heeds says = absurd (false≢true heeds)
+  copy_speaks means.Kills fits heeds says = absurd (false≢true heeds)
+  copy_speaks (means.Taken pos n) fits heeds says = known_past fits.0 says
+  copy_speaks m fits heeds says = known_past fits says
+
+  pub copy_knows : (m : Meaning) → Fits m → Knows s e.modes.peer_key e.modes.capable_asked → Knows s (parts_of (after m)).peer_key (parts_of (after m)).asked
+  copy_knows means.Opens fits knows = opens_known s refl fits.0 fits.1.1.0 fits.1.0
+  copy_knows means.Ignored fits knows = knows
+  copy_knows m fits knows = knows
+
+  -- a copy that A's end accepts shows B's key, which is told next
+  pub copy_says : (m : Meaning) → Fits m → is_accepts m ≡ false → SaysOr s (parts_of e) → SaysOr s (parts_of (after m))
+  copy_says (means.Accepts n) fits other says = absurd (false≢true (sym other))
+  copy_says means.Ignored fits other (inl knows) = inl knows
+  copy_says means.Ignored fits other (inr unmet) = inr (same_unmet (parts_of e) (parts_of (after means.Ignored)) refl refl refl unmet)
+  copy_says means.Unwanted fits other (inl knows) = inl knows
+  copy_says means.Unwanted fits other (inr unmet) = inr (same_unmet (parts_of e) (parts_of (after means.Unwanted)) refl refl refl unmet)
+  copy_says means.Kills fits other (inl knows) = inl knows
+  copy_says means.Kills fits other (inr unmet) = inr (record { past = refl; still = inl refl })
+  copy_says m fits other says = inl (copy_speaks m fits refl says)
+
+  pub accepted_key : (n : ℕ) → Fits (means.Accepts n) → s ≡ A → is_some (key_heard (items_of false A h)) ≡ true
+  accepted_key n fits same = subst (λ t. SynIs (peer t) h) same (said.syn fits.1.1 fits.1.0)
+
+  pub accepts_a : (n : ℕ) → Fits (means.Accepts n) → s ≡ A
+  accepts_a n fits = by s refl
+    where
+      by : (t : Side) → s ≡ t → s ≡ A
+      by A same = same
+      by B same = absurd (both_ways (is_apart B phase.SynSent) (subst (λ x. is_apart B x ≡ false) fits.0 (subst (λ t. is_apart t e.tcp.state ≡ false) same was.apart)) refl)
