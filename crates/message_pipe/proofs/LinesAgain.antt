@@ -41,7 +41,7 @@ have_within : (most : ℕ) (parts : List (List ℕ)) → most < 2 ^ 32 → Withi
 have_within most [] small within = tt
 have_within most (part ∷ parts) small within = (let few = within.0 in omega arith, have_within most parts small within.1)
 
-lines_have : (content : List ℕ) → length content < 2 ^ 32 → HaveFrames (text_lines content)
+pub lines_have : (content : List ℕ) → length content < 2 ^ 32 → HaveFrames (text_lines content)
 lines_have content small = have_within (length content) (text_lines content) small (lines_within content)
 
 -- ---- one list of messages
@@ -69,7 +69,7 @@ first_ones (m ∷ messages) (n ∷ list) behind have all e =
     record { others = rest.others; are = ap (λ k. k ∷ list) (sym front.0) ∙ ap (λ l. m ∷ l) rest.are }
 
 -- and all of them where no whole frame stands behind
-all_ones : (messages list : List (List ℕ)) (behind : List ℕ) → HaveFrames messages → HaveFrames list → frames messages ++ behind ≡ frames list → first_message behind ≡ None
+pub all_ones : (messages list : List (List ℕ)) (behind : List ℕ) → HaveFrames messages → HaveFrames list → frames messages ++ behind ≡ frames list → first_message behind ≡ None
     → messages ≡ list
 all_ones [] [] behind have all e none = refl
 all_ones [] (n ∷ list) behind have all e none =
@@ -88,7 +88,7 @@ whole_ports_show_all_lines port content first held small are shows =
     subst P same shows.shown_is
 
 -- a prefix of the frames has the frames of messages at its front
-front_ones : (octets : List ℕ) (messages list : List (List ℕ)) (behind : List ℕ) → HaveFrames messages → HaveFrames list → octets ≡ frames messages ++ behind → IsPrefix octets (frames list)
+pub front_ones : (octets : List ℕ) (messages list : List (List ℕ)) (behind : List ℕ) → HaveFrames messages → HaveFrames list → octets ≡ frames messages ++ behind → IsPrefix octets (frames list)
     → AreFirst messages list
 front_ones octets messages list behind have all is prefix =
     first_ones messages list (behind ++ prefix.rest) have all (sym (append_assoc (frames messages) behind prefix.rest) ∙ (ap (λ o. o ++ prefix.rest) (sym is) ∙ sym prefix.whole_is))

@@ -4,7 +4,7 @@ use Rattle.std.specs.Prelude.{◌≢◌, IfSome, IsSome, IsSomeAnd, Result, Ok, 
 use Rattle.std.proofs.lemmas.List.{drop-append-le, take-append-drop}
 use Rattle.outside_kit.specs.declared.outside.PutFault.{PutFault}
 use Rattle.outside_kit.specs.declared.outside.PutFault.TheVariants.{Failed}
-use Rattle.outside_kit.specs.declared.port.Port.TheVariants.{ReadByA, ReadByB}
+use Rattle.outside_kit.specs.declared.port.Port.TheVariants.{ReadByA, ReadByB, Log}
 use Rattle.outside_kit.specs.Outside.{HasRisen, HoldsAfter, HoldsPrefix}
 use Rattle.octet_text.specs.Prefix.{IsPrefix}
 use Rattle.message_pipe.specs.Frames.{frames, first_message}
@@ -157,3 +157,9 @@ b_is_not_a e = cc
 
 pub a_is_not_b : ReadByA ≢ ReadByB
 a_is_not_b e = cc
+
+pub a_is_not_log : ReadByA ≢ Log
+a_is_not_log e = cc
+
+pub b_is_not_log : ReadByB ≢ Log
+b_is_not_log e = cc

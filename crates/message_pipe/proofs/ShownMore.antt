@@ -28,7 +28,7 @@ shown-one : (message : List ℕ) → message_lines (message ∷ []) ≡ line_of 
 shown-one message = append-nil (line_of message)
 
 -- with one message more
-frames_more : (messages : List (List ℕ)) (message : List ℕ) → frames (messages ++ message ∷ []) ≡ frames messages ++ frame_of message
+pub frames_more : (messages : List (List ℕ)) (message : List ℕ) → frames (messages ++ message ∷ []) ≡ frames messages ++ frame_of message
 frames_more messages message = frames-append messages (message ∷ []) ∙ ap (λ end. frames messages ++ end) (frames-one message)
 
 shown_more : (messages : List (List ℕ)) (message : List ℕ) → message_lines (messages ++ message ∷ []) ≡ message_lines messages ++ line_of message
@@ -51,7 +51,7 @@ held_part messages message (Some held) mid new first next =
           ∙ ap (λ end. held ++ end) (sym (ap (λ text. take (length (message_lines messages) + last.0) text) (shown_more messages message) ∙ take-append-add (message_lines messages) (line_of message) last.0))),
     )
 
-drop_further : (octets : List ℕ) (end count : ℕ) → drop count (drop end octets) ≡ drop (end + count) octets
+pub drop_further : (octets : List ℕ) (end count : ℕ) → drop count (drop end octets) ≡ drop (end + count) octets
 drop_further octets end count = drop-drop count end octets
 
 long : (message : List ℕ) → length (frame_of message) ≡ 4 + length message

@@ -1,6 +1,10 @@
+pub mod Below
+pub mod CallCode
 pub mod Frames
 pub mod Lined
 pub mod Lines
 pub mod LinesShown
+pub mod Noted
+pub mod OnePut
 pub mod Showing
 pub mod Uses

@@ -1,19 +1,20 @@
 -- An outside whose files and readers' ports have lines that are messages.
-use Rattle.std.specs.Prelude.{ℕ, ◌||◌, if◌then◌else◌, List, Option, Some, None, option_map}
+use Rattle.std.specs.Prelude.{ℕ, ◌||◌, if◌then◌else◌, List, Option, Some, option_map}
 use Rattle.std.specs.Str.{bytes_eq}
 use Rattle.outside_kit.specs.declared.port.Port.{Port}
 use Rattle.outside_kit.specs.declared.port.Port.TheVariants.{ReadByA, ReadByB, Log}
-use Rattle.outside_kit.specs.declared.outside.PutFault.{PutFault}
+use Rattle.outside_kit.specs.Calls.{Made}
 use Rattle.message_pipe.specs.Lines.{framed}
 use Rattle.message_pipe.specs.Showing.{Counted, PortStands}
 
--- the outside that lies below, the names whose contents are lines, and what was put for the readers' ports
+-- the outside that lies below, the names whose contents are lines, what was put for the readers' ports, and the calls that were made
 pub record Lined (O : Type 0) : Type 0 where
   pub inner : O
   pub file_a : List ℕ
   pub file_b : List ℕ
   pub read_by_a : Counted
   pub read_by_b : Counted
+  pub calls : List Made
 
 -- of these two names the content is the frames of the lines of what lies below; of others it is that itself
 abbrev pub lined_content : List ℕ → List ℕ → (List ℕ → Option (List ℕ)) → List ℕ → Option (List ℕ)
@@ -29,9 +30,3 @@ lined_holds read_by_a read_by_b holds Log = holds Log
 pub record PortsStand (a b : Counted) (first holds : Port → Option (List ℕ)) (faults_first faults : Port → ℕ) : Type 0 where
   pub read_by_a : PortStands a (first ReadByA) (holds ReadByA) (faults_first ReadByA) (faults ReadByA)
   pub read_by_b : PortStands b (first ReadByB) (holds ReadByB) (faults_first ReadByB) (faults ReadByB)
-
--- the refusal that a port keeps
-abbrev pub refused_of : {O : Type 0} → Port → Lined O → Option PutFault
-refused_of ReadByA lines = lines.read_by_a.refused
-refused_of ReadByB lines = lines.read_by_b.refused
-refused_of Log lines = None

@@ -1,5 +1,6 @@
 //! What holds of the frames of messages, and of ports that show them, by the definitions alone.
 
+ghost use Rattle.message_pipe.specs.OnePut.{MessagesArePutOneByOne};
 ghost use Rattle.message_pipe.specs.Uses.{FramesAreReadAgain, MessagesComeWhole};
 ghost use Rattle.message_pipe.specs.LinesShown.{WholePortsShowAllLines, PortsShowFirstLines, RefusedPortsShowPrefixes};
 
@@ -21,4 +22,10 @@ pub fn ports_show_lines()
     ensures whole { WholePortsShowAllLines }
     ensures first { PortsShowFirstLines }
     ensures refused { RefusedPortsShowPrefixes }
+{}
+
+/// A law: where no call on a `LineOutside` failed, none failed on the outside below, and what was put there for a reader since its
+/// port was bound is one put for each message that came whole, in order.
+pub fn messages_are_put_one_by_one()
+    ensures { MessagesArePutOneByOne }
 {}

@@ -10,8 +10,11 @@ mod line_port;
 mod lines;
 mod messages;
 mod showing;
+mod trace;
 
 pub use framing::frame;
-pub use laws::{frames_are_read_again, messages_come_whole, ports_show_lines};
+pub use laws::{
+    frames_are_read_again, messages_are_put_one_by_one, messages_come_whole, ports_show_lines,
+};
 pub use line_outside::{LineOutside, Naming};
 pub use messages::Messages;

@@ -1,13 +1,16 @@
 //! An outside over another one, whose files and readers' ports have lines where this one has frames.
 
-ghost use Rattle.std.specs.Prelude.{◌≡◌, ◌≢◌, ◌^◌, ◌<◌, ◌≤◌, ℕ, List, [], Option, None, Some, length, vec_len, option_map, string_bytes, IfOk, IfSome, OnOk, OnErr};
+ghost use Rattle.std.specs.Prelude.{◌≡◌, ◌≢◌, ◌^◌, ◌<◌, ◌≤◌, ℕ, List, [], Option, None, Some, length, vec_len, is_ok, option_map, string_bytes, IfOk, IfSome, OnOk, OnErr};
 ghost use Rattle.outside_kit.specs.declared.port.Port.{Port};
 ghost use Rattle.outside_kit.specs.Outside.{HasRisen};
+ghost use Rattle.outside_kit.specs.Calls.{Load, Bind, AreCallsAfter};
 ghost use Rattle.message_pipe.specs.Showing.{StaysElsewhere, PortStands, counted_of};
+ghost use Rattle.message_pipe.specs.Below.{LoadComes, passed_of, nothing_passed};
 ghost use Rattle.message_pipe.specs.Lined.{lined_content};
 
 use crate::line_port::{LinePort, put_for};
 use crate::lines::framed_within;
+use crate::trace::{MadeCall, Trace};
 use outside_kit::{LoadFault, Outside, Port, PutFault};
 use std::alloc::Global;
 use std::marker::{Brand, Model, PhantomData};
@@ -16,12 +19,16 @@ use std::marker::{Brand, Model, PhantomData};
 pub trait Naming {
     ghost use Rattle.std.specs.Prelude.{ℕ, List, Option};
     ghost use Rattle.outside_kit.specs.declared.port.Port.{Port};
+    ghost use Rattle.outside_kit.specs.Calls.{Made};
 
     /// What each port held, where that was told.
     ghost held: { Port → Option (List ℕ) };
 
     /// How many binds and puts of each port had failed.
     ghost faults: { Port → ℕ };
+
+    /// The calls that had been made, where they were told.
+    ghost calls: { Option (List Made) };
 }
 
 impl Naming for Brand {
@@ -30,6 +37,8 @@ impl Naming for Brand {
     ghost held = { λ _. None };
 
     ghost faults = { λ _. 0 };
+
+    ghost calls = { None };
 }
 
 /// An outside over another one. Of two names the content is the frames of the lines of what the outside below has, and at the
@@ -41,12 +50,15 @@ pub struct LineOutside<O: Outside, N: Naming> {
     file_b: String,
     read_by_a: LinePort,
     read_by_b: LinePort,
+    /// The calls that were made on this outside.
+    trace: Trace,
     of: PhantomData<N>,
 }
 
 impl<O: Outside, N: Naming> Model for LineOutside<O, N> {
     ghost use Rattle.std.specs.Prelude.{◌≤◌, length, string_bytes};
     ghost use Rattle.message_pipe.specs.Showing.{counted_of};
+    ghost use Rattle.message_pipe.specs.Below.{CallsStand};
     ghost use Rattle.message_pipe.specs.Lined.{Lined, PortsStand};
 
     ghost Value = { Lined O };
@@ -57,12 +69,15 @@ impl<O: Outside, N: Naming> Model for LineOutside<O, N> {
       file_b = string_bytes lines.file_b;
       read_by_a = counted_of lines.read_by_a;
       read_by_b = counted_of lines.read_by_b;
+      calls = lines.trace.calls;
     } };
 
     ghost invariant = { λ lines. (lines.read_by_a.end ≤ length lines.read_by_a.octets.items)
         × (lines.read_by_b.end ≤ length lines.read_by_b.octets.items)
         × PortsStand (counted_of lines.read_by_a) (counted_of lines.read_by_b) N.held
-        (O.holds lines.inner) N.faults (O.port_faults lines.inner) };
+        (O.holds lines.inner) N.faults (O.port_faults lines.inner)
+        × CallsStand lines.trace.calls (counted_of lines.read_by_a) (counted_of lines.read_by_b)
+        N.calls (O.calls lines.inner) };
 }
 
 /// Loads a content through the outside below, as the frames of its lines where the name is one of these two.
@@ -93,6 +108,7 @@ fn load_from<O: Outside>(
     ensures same_ports { (port : Port) → O.holds inner.new port ≡ O.holds inner.old port }
     ensures same_counts { (port : Port) →
         O.port_faults inner.new port ≡ O.port_faults inner.old port }
+    ensures calls { LoadComes name.now (is_ok result) (O.calls inner.old) (O.calls inner.new) }
 {
     let bytes = inner.load(alloc, name, limit)?;
     if name == lined.0 || name == lined.1 {
@@ -125,6 +141,10 @@ fn bind_for<O: Outside>(
         (O.load_faults inner.new) }
     ensures failed { result ≡ Err PutFault.Failed →
         HasRisen (O.port_faults inner.old port) (O.port_faults inner.new port) }
+    ensures calls { AreCallsAfter (Bind port name.now) (is_ok result) (O.calls inner.old)
+        (O.calls inner.new) }
+    ensures fresh { OnOk result (passed_of (counted_of lines.new) ≡ nothing_passed) }
+    ensures unrefused { OnOk result (lines.new.refused ≡ None) }
 {
     match inner.bind(port, name) {
         Ok(()) => {
@@ -136,13 +156,15 @@ fn bind_for<O: Outside>(
 }
 
 impl<O: Outside, N: Naming> LineOutside<O, N> {
-    ghost use Rattle.message_pipe.specs.Lined.{PortsStand, refused_of};
+    ghost use Rattle.message_pipe.specs.Below.{CallsStand};
+    ghost use Rattle.message_pipe.specs.Lined.{PortsStand};
 
     /// Over this outside, with lines in the contents of these two names. Of the readers' ports it has to tell that they are empty,
     /// where it tells what they hold.
     pub fn new(alloc: Global, inner: O, file_a: String, file_b: String) -> Self
         requires held { (port : Port) → N.held port ≡ O.holds inner port }
         requires faults { (port : Port) → N.faults port ≡ O.port_faults inner port }
+        requires calls { N.calls ≡ O.calls inner }
         requires empty_a { IfSome (O.holds inner Port.ReadByA) (λ text. text ≡ []) }
         requires empty_b { IfSome (O.holds inner Port.ReadByB) (λ text. text ≡ []) }
         ensures { result ≡ record {
@@ -151,6 +173,7 @@ impl<O: Outside, N: Naming> LineOutside<O, N> {
           file_b = string_bytes file_b;
           read_by_a = record { octets = []; behind = []; refused = None };
           read_by_b = record { octets = []; behind = []; refused = None };
+          calls = [];
         } }
     {
         LineOutside {
@@ -160,26 +183,19 @@ impl<O: Outside, N: Naming> LineOutside<O, N> {
             file_b,
             read_by_a: LinePort::new(alloc),
             read_by_b: LinePort::new(alloc),
+            trace: Trace::new(),
             of: PhantomData,
         }
     }
 
-    /// The refusal of a line that a reader's port keeps; none for the log.
-    pub fn refused(&self, port: Port) -> Option<PutFault>
-        ensures { result ≡ refused_of port self.now }
-    {
-        match port {
-            Port::ReadByA => self.read_by_a.refused,
-            Port::ReadByB => self.read_by_b.refused,
-            Port::Log => None,
-        }
-    }
-
-    /// The outside below, as it stands. Its readers' ports show the messages of what was put for them.
+    /// The outside below, as it stands. Its readers' ports show the messages of what was put for them, and the calls that were made
+    /// on it are those that the calls on this one came to.
     pub fn into_inner(self) -> O
         ensures inner { result ≡ self.inner }
         ensures ports { PortsStand self.read_by_a self.read_by_b N.held (O.holds result) N.faults
             (O.port_faults result) }
+        ensures calls { CallsStand self.calls self.read_by_a self.read_by_b N.calls
+            (O.calls result) }
     {
         let LineOutside {
             alloc: _,
@@ -188,6 +204,7 @@ impl<O: Outside, N: Naming> LineOutside<O, N> {
             file_b: _,
             read_by_a: _,
             read_by_b: _,
+            trace: _,
             of: _,
         } = self;
         inner
@@ -195,7 +212,7 @@ impl<O: Outside, N: Naming> LineOutside<O, N> {
 }
 
 impl<O: Outside, N: Naming> Outside for LineOutside<O, N> {
-    ghost use Rattle.std.specs.Prelude.{None};
+    ghost use Rattle.std.specs.Prelude.{Some};
     ghost use Rattle.message_pipe.specs.Lined.{lined_content, lined_holds};
 
     ghost content = { λ lines. lined_content lines.file_a lines.file_b (O.content lines.inner) };
@@ -209,50 +226,63 @@ impl<O: Outside, N: Naming> Outside for LineOutside<O, N> {
 
     ghost port_faults = { λ lines. O.port_faults lines.inner };
 
-    ghost calls = { λ _. None };
+    ghost calls = { λ lines. Some lines.calls };
 
     fn load(&mut self, alloc: Global, name: &str, limit: u64) -> Result<Vec<u8>, LoadFault> {
         let lined = (self.file_a.as_str(), self.file_b.as_str());
-        load_from(alloc, &mut self.inner, lined, name, limit)
+        let told = load_from(alloc, &mut self.inner, lined, name, limit);
+        let ok = told.is_ok();
+        self.trace = self.trace.then(&MadeCall::Load { name, ok });
+        told
     }
 
     fn bind(&mut self, port: Port, name: &str) -> Result<(), PutFault> {
         match port {
-            Port::ReadByA => bind_for(
-                self.alloc,
-                &mut self.inner,
-                Port::ReadByA,
-                &mut self.read_by_a,
-                name,
-            ),
-            Port::ReadByB => bind_for(
-                self.alloc,
-                &mut self.inner,
-                Port::ReadByB,
-                &mut self.read_by_b,
-                name,
-            ),
-            Port::Log => self.inner.bind(Port::Log, name),
+            Port::ReadByA => {
+                let lines = &mut self.read_by_a;
+                let told = bind_for(self.alloc, &mut self.inner, Port::ReadByA, lines, name);
+                let ok = told.is_ok();
+                self.trace = self.trace.then(&MadeCall::Bind { port, name, ok });
+                told
+            }
+            Port::ReadByB => {
+                let lines = &mut self.read_by_b;
+                let told = bind_for(self.alloc, &mut self.inner, Port::ReadByB, lines, name);
+                let ok = told.is_ok();
+                self.trace = self.trace.then(&MadeCall::Bind { port, name, ok });
+                told
+            }
+            Port::Log => {
+                let told = self.inner.bind(Port::Log, name);
+                let ok = told.is_ok();
+                self.trace = self.trace.then(&MadeCall::Bind { port, name, ok });
+                told
+            }
         }
     }
 
     fn put(&mut self, port: Port, piece: &[u8]) -> Result<(), PutFault> {
         match port {
-            Port::ReadByA => put_for(
-                self.alloc,
-                &mut self.inner,
-                Port::ReadByA,
-                &mut self.read_by_a,
-                piece,
-            ),
-            Port::ReadByB => put_for(
-                self.alloc,
-                &mut self.inner,
-                Port::ReadByB,
-                &mut self.read_by_b,
-                piece,
-            ),
-            Port::Log => self.inner.put(Port::Log, piece),
+            Port::ReadByA => {
+                let lines = &mut self.read_by_a;
+                let told = put_for(self.alloc, &mut self.inner, Port::ReadByA, lines, piece);
+                let ok = told.is_ok();
+                self.trace = self.trace.then(&MadeCall::Put { port, piece, ok });
+                told
+            }
+            Port::ReadByB => {
+                let lines = &mut self.read_by_b;
+                let told = put_for(self.alloc, &mut self.inner, Port::ReadByB, lines, piece);
+                let ok = told.is_ok();
+                self.trace = self.trace.then(&MadeCall::Put { port, piece, ok });
+                told
+            }
+            Port::Log => {
+                let told = self.inner.put(Port::Log, piece);
+                let ok = told.is_ok();
+                self.trace = self.trace.then(&MadeCall::Put { port, piece, ok });
+                told
+            }
         }
     }
 }

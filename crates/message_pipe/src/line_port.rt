@@ -1,9 +1,10 @@
 //! A port whose messages are shown as lines.
 
-ghost use Rattle.std.specs.Prelude.{◌≡◌, ◌≤◌, ◌++◌, ℕ, List, [], length, drop, Option, Some, None, IfErr, OnOk, OnErr};
+ghost use Rattle.std.specs.Prelude.{◌≡◌, ◌≤◌, ◌++◌, ℕ, List, [], length, drop, Option, Some, None, is_ok, IfErr, OnOk, OnErr};
 ghost use Rattle.outside_kit.specs.Outside.{HasRisen, HoldsPrefix};
 ghost use Rattle.message_pipe.specs.Frames.{first_message};
 ghost use Rattle.message_pipe.specs.Showing.{ShowsMore, ShowsPart, StaysElsewhere, PortStands, counted_of};
+ghost use Rattle.message_pipe.specs.Below.{PutsMore, PutsPart, PieceComes, passed_of};
 
 use crate::showing::show_messages;
 use outside_kit::{Outside, Port, PutFault};
@@ -52,6 +53,10 @@ fn show<O: Outside>(
     ensures err { OnErr result
         (ShowsPart lines.old.octets.items lines.old.end (O.holds outside.old port)
         (O.holds outside.new port)) }
+    ensures puts { OnOk result (PutsMore port lines.old.octets.items lines.old.end lines.new.end
+        (O.calls outside.old) (O.calls outside.new)) }
+    ensures part { OnErr result (PutsPart port lines.old.octets.items lines.old.end
+        (O.calls outside.old) (O.calls outside.new)) }
     ensures refused { IfErr result (λ fault. lines.new.refused ≡ Some fault) }
     ensures stays { StaysElsewhere port (O.content outside.old) (O.content outside.new)
         (O.holds outside.old) (O.holds outside.new)
@@ -86,6 +91,10 @@ pub(crate) fn put_for<O: Outside>(
     ensures ok { OnOk result (lines.new.octets.items ≡ lines.old.octets.items ++ piece.now) }
     ensures err { OnErr result
         (HoldsPrefix (Some lines.old.octets.items) (Some lines.new.octets.items) piece.now) }
+    ensures comes { PieceComes port lines.old.refused
+        (passed_of (counted_of lines.old)) piece.now (is_ok result)
+        (passed_of (counted_of lines.new)) (O.calls outside.old) (O.calls outside.new) }
+    ensures unrefused { OnOk result (lines.old.refused ≡ None → lines.new.refused ≡ None) }
     ensures stands { (first : Option (List ℕ)) (faults_first : ℕ) →
         PortStands (counted_of lines.old) first (O.holds outside.old port) faults_first
         (O.port_faults outside.old port) →

@@ -1,10 +1,12 @@
 //! Showing messages as lines at a port.
 
-ghost use Rattle.std.specs.Prelude.{◌≡◌, ◌≤◌, ◌++◌, length, drop, None, IfOk, OnOk, OnErr};
+ghost use Rattle.std.specs.Prelude.{◌≡◌, ◌≤◌, ◌++◌, [], ◌∷◌, length, drop, true, None, IfOk, OnOk, OnErr};
 ghost use Rattle.outside_kit.specs.Outside.{HasRisen, HoldsAfter, HoldsPrefix};
 ghost use Rattle.message_pipe.specs.Frames.{first_message};
 ghost use Rattle.message_pipe.specs.Lines.{line_of};
 ghost use Rattle.message_pipe.specs.Showing.{ShowsMore, ShowsPart, StaysElsewhere};
+ghost use Rattle.outside_kit.specs.Calls.{Put};
+ghost use Rattle.message_pipe.specs.Below.{made, AreAdded, LineRefused, PutsMore, PutsPart};
 
 use crate::framing::first_message;
 use outside_kit::{Outside, Port, PutFault};
@@ -30,6 +32,10 @@ fn put_line<O: Outside>(
         (λ held. held ++ line_of message.now)) }
     ensures err { OnErr result
         (HoldsPrefix (O.holds outside.old port) (O.holds outside.new port) (line_of message.now)) }
+    ensures one { OnOk result (AreAdded (made true (Put port (line_of message.now)) ∷ [])
+        (O.calls outside.old) (O.calls outside.new)) }
+    ensures refused { OnErr result (LineRefused port message.now (O.calls outside.old)
+        (O.calls outside.new)) }
     ensures stays { StaysElsewhere port (O.content outside.old) (O.content outside.new)
         (O.holds outside.old) (O.holds outside.new)
         (O.port_faults outside.old) (O.port_faults outside.new) (O.load_faults outside.old)
@@ -43,7 +49,7 @@ fn put_line<O: Outside>(
     }
 }
 
-/// Shows the whole messages from this place on, up to the first that is refused, and answers where their frames end.
+/// Shows the whole messages from this place on, each in one put, up to the first that is refused, and answers where their frames end.
 pub(crate) fn show_messages<O: Outside>(
     alloc: Global,
     outside: &mut O,
@@ -57,6 +63,10 @@ pub(crate) fn show_messages<O: Outside>(
     ensures all { IfOk result (λ end. first_message (drop end octets.now) ≡ None) }
     ensures err { OnErr result
         (ShowsPart octets.now from (O.holds outside.old port) (O.holds outside.new port)) }
+    ensures puts { IfOk result (λ end. PutsMore port octets.now from end (O.calls outside.old)
+        (O.calls outside.new)) }
+    ensures part { OnErr result (PutsPart port octets.now from (O.calls outside.old)
+        (O.calls outside.new)) }
     ensures stays { StaysElsewhere port (O.content outside.old) (O.content outside.new)
         (O.holds outside.old) (O.holds outside.new)
         (O.port_faults outside.old) (O.port_faults outside.new) (O.load_faults outside.old)

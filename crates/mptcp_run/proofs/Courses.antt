@@ -7,7 +7,7 @@ use Rattle.world_laws.specs.Worlds.{Turn, world_step, end_round, world_run}
 use Rattle.world_core.specs.Rounds.{RoundTo}
 use Rattle.world_core.specs.RoundEnds.{round_ends}
 use Rattle.run_outside.specs.declared.status.Status.{Status}
-use Rattle.run_outside.specs.declared.status.Status.TheVariants.{Delivered, Rounds, NoPath, Aborted, Usage, Script, Load, Put, TooLong, Memory, Log}
+use Rattle.run_outside.specs.declared.status.Status.TheVariants.{Put, Memory, Log}
 use Rattle.mptcp_run.specs.Courses.{CourseMade, CourseCut, LogStops}
 use Rattle.mptcp_run.specs.Putting.{AreFirstOf}
 use Rattle.mptcp_run.specs.Task.{Connection}

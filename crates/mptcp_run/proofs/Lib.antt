@@ -28,5 +28,6 @@ mod ThreadsMade
 mod TurnsTimely
 mod Taken
 mod CleanRuns
+mod MessagesCalled
 mod MessagesClean
 mod Unstopped

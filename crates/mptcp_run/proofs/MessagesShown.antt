@@ -1,5 +1,5 @@
 -- What the readers' ports show after a run over the frames of lines.
-use Rattle.std.proofs.Common.{◌≡◌, refl, sym, ◌∙◌, ap, subst, ℕ, ◌+◌, ◌≤◌, ◌<◌, ◌^◌, Bool, true, false, not, if◌then◌else◌, List, [], ◌∷◌, ◌++◌, length, Option, Some, None, IfSome, IsSome, IsNone, inl, inr, ◌⊎◌, length-append, append-nil, arith}
+use Rattle.std.proofs.Common.{◌≡◌, refl, sym, ◌∙◌, ap, subst, ℕ, ◌+◌, ◌≤◌, ◌<◌, ◌^◌, Bool, true, false, not, if◌then◌else◌, List, [], ◌∷◌, ◌++◌, map, length, Option, Some, None, IfSome, IsSome, IsNone, inl, inr, ◌⊎◌, length-append, append-nil, arith}
 use Rattle.std.specs.Prelude.{◌==◌, ◌||◌, ◌&&◌, IsSomeAnd, option_map, option_and_then}
 use Rattle.std.specs.List.{onto_first}
 use Rattle.std.specs.Str.{bytes_eq}
@@ -8,30 +8,40 @@ use Rattle.std.proofs.lemmas.Slice.Eq.{bytes_eq-Decides}
 use Rattle.outside_kit.specs.declared.port.Port.{Port}
 use Rattle.outside_kit.specs.declared.port.Port.TheVariants.{ReadByA, ReadByB}
 use Rattle.outside_kit.specs.declared.outside.PutFault.{PutFault}
-use Rattle.outside_kit.specs.declared.outside.PutFault.TheVariants as fault
-use Rattle.outside_kit.specs.Outside.{HasRisen, HoldsAfter}
+use Rattle.outside_kit.specs.Calls.{Call, Made}
+use Rattle.outside_kit.specs.Outside.{HoldsAfter}
 use Rattle.octet_text.specs.Lines.{text_lines}
 use Rattle.octet_text.specs.Prefix.{IsPrefix}
 use Rattle.message_pipe.specs.Frames.{frame_of, frames}
 use Rattle.message_pipe.specs.Lines.{message_lines, framed}
 use Rattle.message_pipe.specs.LinesShown.{ShowsFirstLines}
 use Rattle.message_pipe.specs.Showing.{Counted, ShowsPrefix, PortStands}
+use Rattle.message_pipe.specs.Below.{AllMade, CallsStand, passed_of, readers_of}
+use Rattle.message_pipe.specs.OnePut.{AreMessages}
 use Rattle.message_pipe.specs.Lined.{lined_content, lined_holds, PortsStand}
+use Rattle.message_pipe.proofs.CallsBelow.{none_added}
 use Rattle.message_pipe.proofs.LinesAgain.{whole_ports_show_all_lines, ports_show_first_lines, refused_ports_show_prefixes}
 use Rattle.run_words.specs.Lines.{Line, line_of}
 use Rattle.run_outside.specs.declared.status.Named.TheVariants as input
 use Rattle.run_outside.specs.declared.status.Status.{Status}
 use Rattle.run_outside.specs.declared.status.Status.TheVariants.{Delivered, Rounds, NoPath, Aborted, Usage, Script, Load, Put, TooLong, Memory, Log}
-use Rattle.mptcp_run.specs.Answers.{IsAnswer}
+use Rattle.mptcp_run.specs.Answers.{EndRow, HasRun, IsAnswer}
+use Rattle.mptcp_run.specs.Ends.{HasEnded}
+use Rattle.mptcp_run.specs.MessagesCalls.{AreFirstLines, AreLines, CalledToEnd, EndsWithLine}
+use Rattle.mptcp_run.specs.Plan.{puts_so_far}
+use Rattle.mptcp_run.specs.Putting.{last_line}
+use Rattle.mptcp_run.specs.Task.{Task, task_of}
 use Rattle.mptcp_run.specs.Asked.{asked_in, is_run}
-use Rattle.mptcp_run.specs.Messages.{ReadersShowLines, ReadersShowFirstLines, ReadersShowPrefixes, ReadersShowNothing, ReadersShow, refused_or, with_refusals, IsRunOverFrames, IsMessagesAnswer, is_apart, takes_messages, if_messages, messages_in}
+use Rattle.mptcp_run.specs.Messages.{ReadersShowLines, ReadersShowFirstLines, ReadersShowPrefixes, ReadersShowNothing, ReadersShow, IsRunOverFrames, IsMessagesAnswer, is_apart, takes_messages, if_messages, messages_in}
 use Rattle.run_outside.specs.Causes.{IsWordsFault}
+use Rattle.run_outside.specs.Plan.{loads_of, plan_of, succeeded}
 use Rattle.run_outside.specs.Ports.{IsUntouched, Ports}
 use Rattle.mptcp_run.specs.Promised.{HoldsPrefixOf, HoldsPrefixIfBound, NoneIsAltered, ReadersHaveFiles, ReadersHavePrefixes, ReadersHavePrefixesIfBound}
 use Rattle.run_outside.specs.Inputs.{AreWithinLimits}
 use Rattle.run_outside.specs.Reading.{script_in}
 use Rattle.world_laws.specs.PlainScripts.{AltersNone}
 use Rattle.mptcp_run.proofs.Asking.{asked_is}
+use Rattle.mptcp_run.proofs.MessagesCalled.{all_lines, all_made, called_to_end, first_lines}
 
 -- ---- a content is no longer than the frames of its lines
 
@@ -247,21 +257,18 @@ empty_still file_a file_b held holds empty_a empty_b same = record {
   read_by_a = still_empty (held ReadByA) (holds ReadByA) empty_a (same ReadByA);
 }
 
--- a refusal in the place of a run's own end
-or_cut : (file_a file_b : Option (List ℕ)) (held holds : Ports) (ended : Status) (b a : Option PutFault) → ReadersShowPrefixes file_a file_b held holds
-    → (b ≡ None → a ≡ None → ReadersShow file_a file_b held holds ended) → ReadersShow file_a file_b held holds (refused_or ended b a)
-or_cut file_a file_b held holds ended (Some fault.Failed) a cut own = cut
-or_cut file_a file_b held holds ended (Some fault.Memory) a cut own = cut
-or_cut file_a file_b held holds ended None (Some fault.Failed) cut own = cut
-or_cut file_a file_b held holds ended None (Some fault.Memory) cut own = cut
-or_cut file_a file_b held holds ended None None cut own = own refl refl
-
 -- ---- by the answer of the run over frames
 
-module _ (content : List ℕ → Option (List ℕ)) (line : Line) (loads_before loads : ℕ) (faults_before faults : Port → ℕ) (held holds : Ports) (a b : Counted)
-    (stand : PortsStand a b held holds faults_before faults) where
-  abbrev told : List ℕ → Option (List ℕ)
-  told = lined_content line.names.file_a line.names.file_b content
+-- the last line is the last put
+line_ends : (task : Option Task) (status : Status) (puts : List Call) (old new : Ports) → IfSome task (λ task. HasRun task status puts old new) → IfSome task (λ _. EndsWithLine puts)
+line_ends None status puts old new run = tt
+line_ends (Some task) status puts old new run =
+    record { before = puts_so_far task run.whole.turns; text = last_line task run.whole.turns; puts_are = run.puts_are }
+
+module _ (content : List ℕ → Option (List ℕ)) (line : Line) (loads_before loads : ℕ) (faults_before faults : Port → ℕ) (held holds : Ports) (told tells : Option (List Made))
+    (made : List Made) (a b : Counted) (stand : PortsStand a b held holds faults_before faults) (calls : CallsStand made a b told tells) where
+  abbrev frames_of : List ℕ → Option (List ℕ)
+  frames_of = lined_content line.names.file_a line.names.file_b content
 
   abbrev old : Ports
   old = lined_holds [] [] held
@@ -278,51 +285,59 @@ module _ (content : List ℕ → Option (List ℕ)) (line : Line) (loads_before 
   abbrev Shown : Status → Type 0
   Shown = ReadersShow file_a file_b held holds
 
-  abbrev Answer : Status → Type 0
-  Answer = IsAnswer told line loads_before loads faults_before faults old new None None
+  abbrev Called : Status → Type 0
+  Called status = CalledToEnd status file_a file_b (task_of frames_of line) line told tells
 
-  told_a : told line.names.file_a ≡ option_map framed file_a
+  abbrev End : Status → Type 0
+  End = EndRow frames_of line loads_before loads faults_before faults old new (Some []) (Some made)
+
+  abbrev Answer : Status → Type 0
+  Answer = IsAnswer frames_of line loads_before loads faults_before faults old new (Some []) (Some made)
+
+  told_a : frames_of line.names.file_a ≡ option_map framed file_a
   told_a = file_a_is content line.names.file_a line.names.file_b
 
-  told_b : told line.names.file_b ≡ option_map framed file_b
+  told_b : frames_of line.names.file_b ≡ option_map framed file_b
   told_b = file_b_is content line.names.file_a line.names.file_b
 
-  small_a : AreWithinLimits told line → IfSome file_a (λ text. length text < 2 ^ 32)
-  small_a within = small_file file_a (told line.names.file_a) told_a (within input.FileA)
+  small_a : AreWithinLimits frames_of line → IfSome file_a (λ text. length text < 2 ^ 32)
+  small_a within = small_file file_a (frames_of line.names.file_a) told_a (within input.FileA)
 
-  small_b : AreWithinLimits told line → IfSome file_b (λ text. length text < 2 ^ 32)
-  small_b within = small_file file_b (told line.names.file_b) told_b (within input.FileB)
+  small_b : AreWithinLimits frames_of line → IfSome file_b (λ text. length text < 2 ^ 32)
+  small_b within = small_file file_b (frames_of line.names.file_b) told_b (within input.FileB)
 
-  all_shown : AreWithinLimits told line → ReadersHaveFiles (told line.names.file_a) (told line.names.file_b) old new → b.refused ≡ None → a.refused ≡ None
+  -- where all calls succeeded no line was refused
+  unrefused : (plan : List Call) → made ≡ map succeeded plan → (a.refused ≡ None) × (b.refused ≡ None)
+  unrefused plan is = calls.unrefused (subst AllMade (sym is) (all_made plan))
+
+  all_shown : AreWithinLimits frames_of line → ReadersHaveFiles (frames_of line.names.file_a) (frames_of line.names.file_b) old new → (a.refused ≡ None) × (b.refused ≡ None)
       → ReadersShowLines file_a file_b held holds
-  all_shown within files = all_lines_shown file_a file_b a b held holds faults_before faults stand (small_a within) (small_b within)
-      (all_of b.octets file_a (told line.names.file_a) told_a files.read_by_b) (all_of a.octets file_b (told line.names.file_b) told_b files.read_by_a)
+  all_shown within files none = all_lines_shown file_a file_b a b held holds faults_before faults stand (small_a within) (small_b within)
+      (all_of b.octets file_a (frames_of line.names.file_a) told_a files.read_by_b) (all_of a.octets file_b (frames_of line.names.file_b) told_b files.read_by_a) none.1 none.0
 
-  first_shown : AreWithinLimits told line → ReadersHavePrefixes (told line.names.file_a) (told line.names.file_b) old new → b.refused ≡ None → a.refused ≡ None
-      → ReadersShowFirstLines file_a file_b held holds
-  first_shown within prefixes = first_lines_shown file_a file_b a b held holds faults_before faults stand (small_a within) (small_b within)
-      (prefix_of b.octets file_a (told line.names.file_a) told_a prefixes.read_by_b) (prefix_of a.octets file_b (told line.names.file_b) told_b prefixes.read_by_a)
+  end_shown : (ended : Status) → NoneIsAltered frames_of line → End ended → ReadersShowFirstLines file_a file_b held holds
+  end_shown ended unaltered h =
+      let prefixes = h.prefixes unaltered in
+      let none = unrefused (plan_of (loads_of line) line h.puts) h.calls in
+      first_lines_shown file_a file_b a b held holds faults_before faults stand (small_a h.read.within) (small_b h.read.within)
+      (prefix_of b.octets file_a (frames_of line.names.file_a) told_a prefixes.read_by_b) (prefix_of a.octets file_b (frames_of line.names.file_b) told_b prefixes.read_by_a) none.1 none.0
 
-  part_shown : AreWithinLimits told line → ReadersHavePrefixes (told line.names.file_a) (told line.names.file_b) old new → ReadersShowPrefixes file_a file_b held holds
+  part_shown : AreWithinLimits frames_of line → ReadersHavePrefixes (frames_of line.names.file_a) (frames_of line.names.file_b) old new → ReadersShowPrefixes file_a file_b held holds
   part_shown within prefixes = prefixes_shown file_a file_b a b held holds faults_before faults stand (small_a within) (small_b within)
-      (prefix_of b.octets file_a (told line.names.file_a) told_a prefixes.read_by_b) (prefix_of a.octets file_b (told line.names.file_b) told_b prefixes.read_by_a)
+      (prefix_of b.octets file_a (frames_of line.names.file_a) told_a prefixes.read_by_b) (prefix_of a.octets file_b (frames_of line.names.file_b) told_b prefixes.read_by_a)
 
-  cut_shown : AreWithinLimits told line → ReadersHavePrefixesIfBound (told line.names.file_a) (told line.names.file_b) old new → ReadersShowPrefixes file_a file_b held holds
+  cut_shown : AreWithinLimits frames_of line → ReadersHavePrefixesIfBound (frames_of line.names.file_a) (frames_of line.names.file_b) old new → ReadersShowPrefixes file_a file_b held holds
   cut_shown within prefixes = prefixes_shown file_a file_b a b held holds faults_before faults stand (small_a within) (small_b within)
-      (prefix_if_bound b.octets file_a (told line.names.file_a) told_a prefixes.read_by_b) (prefix_if_bound a.octets file_b (told line.names.file_b) told_b prefixes.read_by_a)
+      (prefix_if_bound b.octets file_a (frames_of line.names.file_a) told_a prefixes.read_by_b) (prefix_if_bound a.octets file_b (frames_of line.names.file_b) told_b prefixes.read_by_a)
 
   none_shown : IsUntouched old new faults_before faults → ReadersShowNothing file_a file_b held holds
   none_shown = nothing_shown file_a file_b a b held holds faults_before faults stand
 
-  end_shown : (ended : Status) → AreWithinLimits told line → ReadersHavePrefixes (told line.names.file_a) (told line.names.file_b) old new
-      → (b.refused ≡ None → a.refused ≡ None → Shown ended) → Shown (refused_or ended b.refused a.refused)
-  end_shown ended within prefixes own = or_cut file_a file_b held holds ended b.refused a.refused (part_shown within prefixes) own
-
-  pub shown_by : (ended : Status) → NoneIsAltered told line → Answer ended → Shown (with_refusals ended b.refused a.refused)
-  shown_by Delivered none h = end_shown Delivered h.row.read.within (h.row.prefixes none) (all_shown h.row.read.within (h.files none))
-  shown_by Rounds none h = end_shown Rounds h.read.within (h.prefixes none) (first_shown h.read.within (h.prefixes none))
-  shown_by NoPath none h = end_shown NoPath h.read.within (h.prefixes none) (first_shown h.read.within (h.prefixes none))
-  shown_by (Aborted reader) none h = end_shown (Aborted reader) h.read.within (h.prefixes none) (first_shown h.read.within (h.prefixes none))
+  pub shown_by : (status : Status) → NoneIsAltered frames_of line → Answer status → Shown status
+  shown_by Delivered none h = all_shown h.row.read.within (h.files none) (unrefused (plan_of (loads_of line) line h.row.puts) h.row.calls)
+  shown_by Rounds none h = end_shown Rounds none h
+  shown_by NoPath none h = end_shown NoPath none h
+  shown_by (Aborted reader) none h = end_shown (Aborted reader) none h
   shown_by (Put port) none h = cut_shown h.1.read.within (h.1.prefixes none)
   shown_by Memory none (inl h) = nothing_is_cut file_a file_b held holds (none_shown h.untouched)
   shown_by Memory none (inr h) = cut_shown h.read.within (h.prefixes none)
@@ -333,45 +348,51 @@ module _ (content : List ℕ → Option (List ℕ)) (line : Line) (loads_before 
   shown_by (TooLong named) none h = none_shown h.untouched
   shown_by Usage none h = absurd h
 
--- ---- a port that failed
+  -- the calls of a run that came to its own end
+  end_called : (ended : Status) → End ended → (AreWithinLimits frames_of line → (pieces : List (List ℕ)) → AreMessages (passed_of b) pieces → IfSome file_a (λ file. AreLines ended file pieces))
+      → (AreWithinLimits frames_of line → (pieces : List (List ℕ)) → AreMessages (passed_of a) pieces → IfSome file_b (λ file. AreLines ended file pieces)) → Called ended
+  end_called ended h of_a of_b =
+      called_to_end ended file_a file_b (task_of frames_of line) line told tells h.puts made calls.below (readers_of a b) h.calls
+      (line_ends (task_of frames_of line) ended h.puts _ _ h.run) calls.are calls.added (of_a h.read.within) (of_b h.read.within)
 
-put_is : (p port : Port) → Put p ≡ Put port → p ≡ port
-put_is p port is = cc
+  first_called : (ended : Status) → NoneIsAltered frames_of line → End ended → ((file : List ℕ) (pieces : List (List ℕ)) → AreFirstLines file pieces → AreLines ended file pieces) → Called ended
+  first_called ended none h lines =
+      let prefixes = h.prefixes none in
+      end_called ended h
+      (λ within pieces are. of_file file_a (λ file. AreFirstLines file pieces) _ (λ file. AreLines ended file pieces) (λ file first same. lines file pieces first)
+      (first_lines file_a (passed_of b) pieces (small_a within) (prefix_of b.octets file_a (frames_of line.names.file_a) told_a prefixes.read_by_b) are) (small_a within))
+      (λ within pieces are. of_file file_b (λ file. AreFirstLines file pieces) _ (λ file. AreLines ended file pieces) (λ file first same. lines file pieces first)
+      (first_lines file_b (passed_of a) pieces (small_b within) (prefix_of a.octets file_b (frames_of line.names.file_b) told_b prefixes.read_by_a) are) (small_b within))
 
-module _ (a b : Counted) (held holds : Ports) (faults_before faults : Port → ℕ) (stand : PortsStand a b held holds faults_before faults) where
-  abbrev Risen : Port → Type 0
-  Risen port = HasRisen (faults_before port) (faults port)
+  pub called_by : (status : Status) → NoneIsAltered frames_of line → Answer status → HasEnded status → Called status
+  called_by Delivered none h own =
+      let files = h.files none in
+      end_called Delivered h.row
+      (λ within pieces are. all_lines file_a (passed_of b) pieces (small_a within) (all_of b.octets file_a (frames_of line.names.file_a) told_a files.read_by_b) are)
+      (λ within pieces are. all_lines file_b (passed_of a) pieces (small_b within) (all_of a.octets file_b (frames_of line.names.file_b) told_b files.read_by_a) are)
+  called_by Rounds none h own = first_called Rounds none h (λ file pieces first. first)
+  called_by NoPath none h own = first_called NoPath none h (λ file pieces first. first)
+  called_by (Aborted reader) none h own = first_called (Aborted reader) none h (λ file pieces first. first)
+  called_by _ none h own = absurd own
 
-  refused_risen : (ended : Status) (port : Port) (refused_b refused_a : Option PutFault) → b.refused ≡ refused_b → a.refused ≡ refused_a
-      → refused_or ended refused_b refused_a ≡ Put port → (ended ≡ Put port → ⊥) → Risen port
-  refused_risen ended port (Some fault.Failed) refused_a is_b is_a is own = subst Risen (put_is ReadByB port is) (stand.read_by_b.risen is_b)
-  refused_risen ended port (Some fault.Memory) refused_a is_b is_a is own = absurd cc
-  refused_risen ended port None (Some fault.Failed) is_b is_a is own = subst Risen (put_is ReadByA port is) (stand.read_by_a.risen is_a)
-  refused_risen ended port None (Some fault.Memory) is_b is_a is own = absurd cc
-  refused_risen ended port None None is_b is_a is own = absurd (own is)
-
-  put_risen : (content : List ℕ → Option (List ℕ)) (line : Line) (loads_before loads : ℕ) (old new : Ports) (ended : Status) (port : Port)
-      → IsAnswer content line loads_before loads faults_before faults old new None None ended → with_refusals ended b.refused a.refused ≡ Put port → Risen port
-  put_risen content line loads_before loads old new Delivered port answer is = refused_risen Delivered port b.refused a.refused refl refl is (λ e. cc)
-  put_risen content line loads_before loads old new Rounds port answer is = refused_risen Rounds port b.refused a.refused refl refl is (λ e. cc)
-  put_risen content line loads_before loads old new NoPath port answer is = refused_risen NoPath port b.refused a.refused refl refl is (λ e. cc)
-  put_risen content line loads_before loads old new (Aborted reader) port answer is = refused_risen (Aborted reader) port b.refused a.refused refl refl is (λ e. cc)
-  put_risen content line loads_before loads old new (Put p) port answer is = subst Risen (put_is p port is) answer.0
-  put_risen content line loads_before loads old new Memory port answer is = absurd cc
-  put_risen content line loads_before loads old new (Log at) port answer is = absurd cc
-  put_risen content line loads_before loads old new (Script at kind) port answer is = absurd cc
-  put_risen content line loads_before loads old new (Load named) port answer is = absurd cc
-  put_risen content line loads_before loads old new (TooLong named) port answer is = absurd cc
-  put_risen content line loads_before loads old new Usage port answer is = absurd cc
+-- so it is of each answer
+pub messages_called : (content : List ℕ → Option (List ℕ)) (line : Line) (loads_before loads : ℕ) (faults_before faults : Port → ℕ) (held holds : Ports) (told tells : Option (List Made)) (status : Status)
+    → takes_messages line ≡ true → IsMessagesAnswer content line loads_before loads faults_before faults held holds told tells status → NoneIsAltered content line → HasEnded status
+    → CalledToEnd status (content line.names.file_a) (content line.names.file_b) (task_of (lined_content line.names.file_a line.names.file_b content) line) line told tells
+messages_called content line loads_before loads faults_before faults held holds told tells status takes (inl none) unaltered own =
+    let P : Status → Type 0 = HasEnded in absurd (subst P none.status_is own)
+messages_called content line loads_before loads faults_before faults held holds told tells status takes (inr h) unaltered own =
+    called_by content line loads_before loads faults_before faults held holds told tells h.made h.read_by_a h.read_by_b h.stand h.calls status
+    (frames_unaltered content line takes unaltered) h.answer own
 
 -- what the ports show after a run over frames
-pub over_frames : (content : List ℕ → Option (List ℕ)) (line : Line) (loads_before loads : ℕ) (faults_before faults : Port → ℕ) (held holds : Ports) (status : Status)
-    → takes_messages line ≡ true → NoneIsAltered content line → IsRunOverFrames content line loads_before loads faults_before faults held holds status
+pub over_frames : (content : List ℕ → Option (List ℕ)) (line : Line) (loads_before loads : ℕ) (faults_before faults : Port → ℕ) (held holds : Ports)
+    (calls_before calls : Option (List Made)) (status : Status)
+    → takes_messages line ≡ true → NoneIsAltered content line → IsRunOverFrames content line loads_before loads faults_before faults held holds calls_before calls status
     → ReadersShow (content line.names.file_a) (content line.names.file_b) held holds status
-over_frames content line loads_before loads faults_before faults held holds status takes none h =
-    let P : Status → Type 0 = ReadersShow (content line.names.file_a) (content line.names.file_b) held holds in
-    subst P (sym h.status_is) (shown_by content line loads_before loads faults_before faults held holds h.read_by_a h.read_by_b h.stand h.ended
-    (frames_unaltered content line takes none) h.answer)
+over_frames content line loads_before loads faults_before faults held holds calls_before calls status takes none h =
+    shown_by content line loads_before loads faults_before faults held holds calls_before calls h.made h.read_by_a h.read_by_b h.stand h.calls status
+    (frames_unaltered content line takes none) h.answer
 
 -- ---- from what a type parameter tells
 
@@ -386,41 +407,40 @@ stand_from a b named first holds named_faults first_faults faults same same_faul
     }
 
 pub ran_over_frames : (asked : Option Line) (line : Line) (name_a name_b : List ℕ) (content : List ℕ → Option (List ℕ)) (loads_before loads : ℕ)
-    (faults_before faults named_faults : Port → ℕ) (held holds named : Ports) (a b : Counted) (ended status : Status) → asked ≡ Some line
-    → IfSome asked (λ line. IsAnswer (lined_content name_a name_b content) line loads_before loads faults_before faults (lined_holds [] [] held) (lined_holds a.octets b.octets holds) None None ended)
-    → ((port : Port) → named port ≡ held port) → ((port : Port) → named_faults port ≡ faults_before port) → PortsStand a b named holds named_faults faults
-    → status ≡ with_refusals ended b.refused a.refused → name_a ≡ line.names.file_a → name_b ≡ line.names.file_b
-    → IsRunOverFrames content line loads_before loads faults_before faults held holds status
-ran_over_frames asked line name_a name_b content loads_before loads faults_before faults named_faults held holds named a b ended status asks answer same same_faults stand is is_a is_b =
+    (faults_before faults named_faults : Port → ℕ) (held holds named : Ports) (calls_before calls named_calls : Option (List Made)) (made : List Made) (a b : Counted) (status : Status)
+    → asked ≡ Some line
+    → IfSome asked (λ line. IsAnswer (lined_content name_a name_b content) line loads_before loads faults_before faults (lined_holds [] [] held) (lined_holds a.octets b.octets holds)
+    (Some []) (Some made) status)
+    → ((port : Port) → named port ≡ held port) → ((port : Port) → named_faults port ≡ faults_before port) → named_calls ≡ calls_before
+    → PortsStand a b named holds named_faults faults → CallsStand made a b named_calls calls → name_a ≡ line.names.file_a → name_b ≡ line.names.file_b
+    → IsRunOverFrames content line loads_before loads faults_before faults held holds calls_before calls status
+ran_over_frames asked line name_a name_b content loads_before loads faults_before faults named_faults held holds named calls_before calls named_calls made a b status
+    asks answer same same_faults same_calls stand come is_a is_b =
     let P : List ℕ → List ℕ → Line → Type 0 =
-    λ x y asked. IsAnswer (lined_content x y content) asked loads_before loads faults_before faults (lined_holds [] [] held) (lined_holds a.octets b.octets holds) None None ended in
+    λ x y asked. IsAnswer (lined_content x y content) asked loads_before loads faults_before faults (lined_holds [] [] held) (lined_holds a.octets b.octets holds) (Some []) (Some made) status in
     let asked_is : P name_a name_b line = subst (λ o. IfSome o (P name_a name_b)) asks answer in
-    let answer_is : P line.names.file_a line.names.file_b line = subst (λ x. P x line.names.file_b line) is_a (subst (λ y. P name_a y line) is_b asked_is) in
-    let stand_is : PortsStand a b held holds faults_before faults = stand_from a b named held holds named_faults faults_before faults same same_faults stand in
     record {
-      ended = ended;
       read_by_a = a;
       read_by_b = b;
-      answer = answer_is;
-      stand = stand_is;
-      status_is = is;
-      risen = λ port put. put_risen a b held holds faults_before faults stand_is (lined_content line.names.file_a line.names.file_b content) line loads_before loads
-          (lined_holds [] [] held) (lined_holds a.octets b.octets holds) ended port answer_is (sym is ∙ put);
+      made = made;
+      answer = subst (λ x. P x line.names.file_b line) is_a (subst (λ y. P name_a y line) is_b asked_is);
+      stand = stand_from a b named held holds named_faults faults_before faults same same_faults stand;
+      calls = subst (λ first. CallsStand made a b first calls) same_calls come;
     }
 
 -- ---- by the words
 
 -- what the ports show, by the answer
-pub messages_shown : (content : List ℕ → Option (List ℕ)) (line : Line) (loads_before loads : ℕ) (faults_before faults : Port → ℕ) (held holds : Ports) (status : Status)
+pub messages_shown : (content : List ℕ → Option (List ℕ)) (line : Line) (loads_before loads : ℕ) (faults_before faults : Port → ℕ) (held holds : Ports) (calls_before calls : Option (List Made)) (status : Status)
     → IfSome (held ReadByA) (λ text. text ≡ []) → IfSome (held ReadByB) (λ text. text ≡ []) → takes_messages line ≡ true
-    → IsMessagesAnswer content line loads_before loads faults_before faults held holds status
+    → IsMessagesAnswer content line loads_before loads faults_before faults held holds calls_before calls status
     → NoneIsAltered content line → ReadersShow (content line.names.file_a) (content line.names.file_b) held holds status
-messages_shown content line loads_before loads faults_before faults held holds status empty_a empty_b takes (inl none) unaltered =
+messages_shown content line loads_before loads faults_before faults held holds calls_before calls status empty_a empty_b takes (inl none) unaltered =
     let P : Status → Type 0 = ReadersShow (content line.names.file_a) (content line.names.file_b) held holds in
     subst P (sym none.status_is) (nothing_is_cut (content line.names.file_a) (content line.names.file_b) held holds
     (empty_still (content line.names.file_a) (content line.names.file_b) held holds empty_a empty_b (λ port. (none.untouched port).0)))
-messages_shown content line loads_before loads faults_before faults held holds status empty_a empty_b takes (inr ran) unaltered =
-    over_frames content line loads_before loads faults_before faults held holds status takes unaltered ran
+messages_shown content line loads_before loads faults_before faults held holds calls_before calls status empty_a empty_b takes (inr ran) unaltered =
+    over_frames content line loads_before loads faults_before faults held holds calls_before calls status takes unaltered ran
 
 pub messages_are : (words : List (List ℕ)) (line : Line) → line_of words ≡ Some line → messages_in words ≡ if_messages line
 unfolding messages_in
@@ -462,13 +482,13 @@ module _ (asked : Option Line) where
       some_line (Some line) = p line
 
 -- words that weren't read
-pub unread_messages : (content : List ℕ → Option (List ℕ)) (loads : ℕ) (faults : Port → ℕ) (holds : Ports) (words : List (List ℕ)) (status : Status) → IsWordsFault words status
-    → IfSome (messages_in words) (λ line. IsMessagesAnswer content line loads loads faults faults holds holds status)
-unread_messages content loads faults holds words Usage is = of_nothing (messages_in words) (λ line. IsMessagesAnswer content line loads loads faults faults holds holds Usage) (no_messages words is)
-unread_messages content loads faults holds words Memory is = nothing_asked_for (messages_in words) (λ line. IsMessagesAnswer content line loads loads faults faults holds holds Memory)
-    (λ line. inl (record { status_is = refl; untouched = λ port. (refl, refl); unloaded = refl }))
-unread_messages content loads faults holds words Delivered is = absurd is
-unread_messages content loads faults holds words _ is = absurd is
+pub unread_messages : (content : List ℕ → Option (List ℕ)) (loads : ℕ) (faults : Port → ℕ) (holds : Ports) (calls : Option (List Made)) (words : List (List ℕ)) (status : Status) → IsWordsFault words status
+    → IfSome (messages_in words) (λ line. IsMessagesAnswer content line loads loads faults faults holds holds calls calls status)
+unread_messages content loads faults holds calls words Usage is = of_nothing (messages_in words) (λ line. IsMessagesAnswer content line loads loads faults faults holds holds calls calls Usage) (no_messages words is)
+unread_messages content loads faults holds calls words Memory is = nothing_asked_for (messages_in words) (λ line. IsMessagesAnswer content line loads loads faults faults holds holds calls calls Memory)
+    (λ line. inl (record { status_is = refl; untouched = λ port. (refl, refl); unloaded = refl; calls = none_added calls }))
+unread_messages content loads faults holds calls words Delivered is = absurd is
+unread_messages content loads faults holds calls words _ is = absurd is
 
 pub unread_lines : (content : List ℕ → Option (List ℕ)) (holds : Ports) → IfSome (holds ReadByA) (λ text. text ≡ []) → IfSome (holds ReadByB) (λ text. text ≡ [])
     → (words : List (List ℕ)) (status : Status) → IsWordsFault words status
@@ -479,3 +499,14 @@ unread_lines content holds empty_a empty_b words Memory is = nothing_asked_for (
     (empty_still (content line.names.file_a) (content line.names.file_b) holds holds empty_a empty_b (λ port. refl)))
 unread_lines content holds empty_a empty_b words Delivered is = absurd is
 unread_lines content holds empty_a empty_b words _ is = absurd is
+
+pub unread_called : (content : List ℕ → Option (List ℕ)) (calls : Option (List Made)) (words : List (List ℕ)) (status : Status) → IsWordsFault words status
+    → IfSome (messages_in words) (λ line. NoneIsAltered content line → HasEnded status
+    → CalledToEnd status (content line.names.file_a) (content line.names.file_b) (task_of (lined_content line.names.file_a line.names.file_b content) line) line calls calls)
+unread_called content calls words status fault = nothing_asked_for (messages_in words) _ (λ line unaltered own. absurd (never status fault own))
+  where
+    never : (status : Status) → IsWordsFault words status → HasEnded status → ⊥
+    never Usage is own = own
+    never Memory is own = own
+    never Delivered is own = is
+    never _ is own = is

@@ -10,7 +10,7 @@ use Rattle.world_core.specs.Logged.{turn_of}
 use Rattle.world_laws.specs.Worlds.{Turn, world_step}
 use Rattle.mptcp_run.specs.declared.rounds.Run.{Run}
 use Rattle.run_outside.specs.declared.status.Status.{Status}
-use Rattle.run_outside.specs.declared.status.Status.TheVariants.{Delivered, Rounds, NoPath, Aborted, Usage, Script, Load, Put, TooLong, Memory, Log}
+use Rattle.run_outside.specs.declared.status.Status.TheVariants.{Memory, Log}
 use Rattle.mptcp_run.specs.Making.{TurnMade}
 use Rattle.mptcp_run.specs.Replaying.{UnderWay, StepFault, TurnStops, IsReplayFault, round_turn}
 use Rattle.mptcp_run.specs.Task.{Connection}

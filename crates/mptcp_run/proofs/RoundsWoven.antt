@@ -1,5 +1,5 @@
 -- Rounds whose steps stand by stamp, then actor: how one is made of any steps, and what many of them come to.
-use Rattle.std.proofs.Common.{◌≡◌, refl, sym, ◌∙◌, ap, subst, ℕ, suc, ◌+◌, false, List, [], ◌∷◌, ◌++◌, map, length, append_assoc}
+use Rattle.std.proofs.Common.{◌≡◌, refl, sym, ◌∙◌, ap, subst, ℕ, suc, false, List, [], ◌∷◌, ◌++◌, map, length, append_assoc}
 use Rattle.std.proofs.lemmas.List.{append-nil}
 use Rattle.actor_desk.specs.declared.ask.Note.{Note}
 use Rattle.actor_desk.specs.Journals.{order_of}

@@ -11,7 +11,7 @@ use Rattle.mptcp_run.specs.declared.report.Report.{Report}
 use Rattle.mptcp_run.specs.declared.report.Report.TheVariants as report
 use Rattle.mptcp_run.specs.declared.rounds.Run.{Run}
 use Rattle.run_outside.specs.declared.status.Status.{Status}
-use Rattle.run_outside.specs.declared.status.Status.TheVariants.{Delivered, Rounds, NoPath, Aborted, Usage, Script, Load, Put, TooLong, Memory, Log}
+use Rattle.run_outside.specs.declared.status.Status.TheVariants.{Delivered, Put, Memory, Log}
 use Rattle.mptcp_run.specs.Courses.{CourseMade, CourseCut, LogStops}
 use Rattle.mptcp_run.specs.Ends.{CameToEnd, IsCut, ReplayEnds}
 use Rattle.run_outside.specs.Plan.{AddsAll, AddsShort, binds_of}

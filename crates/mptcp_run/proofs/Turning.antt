@@ -9,7 +9,7 @@ use Rattle.world_laws.specs.Fine.{lists_of}
 use Rattle.world_laws.specs.Worlds.{world_step, all_over, end_round, greatest}
 use Rattle.mptcp_run.specs.declared.rounds.Run.{Run}
 use Rattle.run_outside.specs.declared.status.Status.{Status}
-use Rattle.run_outside.specs.declared.status.Status.TheVariants.{Delivered, Rounds, NoPath, Aborted, Usage, Script, Load, Put, TooLong, Memory, Log}
+use Rattle.run_outside.specs.declared.status.Status.TheVariants.{Put, Memory}
 use Rattle.run_outside.specs.Plan.{AddsCut}
 use Rattle.mptcp_run.specs.Plan.{round_puts}
 use Rattle.run_outside.specs.Ports.{IsPortsFault}

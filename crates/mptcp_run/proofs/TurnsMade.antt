@@ -8,7 +8,7 @@ use Rattle.world_laws.specs.Outcomes.{output_of}
 use Rattle.world_core.specs.Kept.{Kept, standing}
 use Rattle.world_laws.specs.Worlds.{Turn, end_round, after_turn, IsLawfulTurn}
 use Rattle.run_outside.specs.declared.status.Status.{Status}
-use Rattle.run_outside.specs.declared.status.Status.TheVariants.{Delivered, Rounds, NoPath, Aborted, Usage, Script, Load, Put, TooLong, Memory, Log}
+use Rattle.run_outside.specs.declared.status.Status.TheVariants.{Put, Memory, Log}
 use Rattle.mptcp_run.specs.Adding.{turn_puts}
 use Rattle.run_outside.specs.Plan.{AddsAll}
 use Rattle.run_outside.specs.Ports.{HoldsMore, IsBetween, Ports}

@@ -8,6 +8,7 @@ pub mod Logged
 pub mod Made
 pub mod Making
 pub mod Messages
+pub mod MessagesCalls
 pub mod Plan
 pub mod Promised
 pub mod Putting

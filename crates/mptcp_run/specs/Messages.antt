@@ -3,13 +3,13 @@ use Rattle.std.specs.Prelude.{◌≡◌, ℕ, ◌⊎◌, Bool, false, ◌&&◌, 
 use Rattle.std.specs.Str.{bytes_eq}
 use Rattle.outside_kit.specs.declared.port.Port.{Port}
 use Rattle.outside_kit.specs.declared.port.Port.TheVariants.{ReadByA, ReadByB}
-use Rattle.outside_kit.specs.declared.outside.PutFault.{PutFault}
-use Rattle.outside_kit.specs.declared.outside.PutFault.TheVariants as fault
-use Rattle.outside_kit.specs.Outside.{HasRisen, HoldsAfter}
+use Rattle.outside_kit.specs.Calls.{Made}
+use Rattle.outside_kit.specs.Outside.{HoldsAfter}
 use Rattle.octet_text.specs.Lines.{text_lines}
 use Rattle.message_pipe.specs.Lines.{message_lines}
 use Rattle.message_pipe.specs.LinesShown.{ShowsFirstLines}
 use Rattle.message_pipe.specs.Showing.{Counted}
+use Rattle.message_pipe.specs.Below.{CallsStand}
 use Rattle.message_pipe.specs.Lined.{lined_content, lined_holds, PortsStand}
 use Rattle.run_words.specs.Lines.{Line, line_of}
 use Rattle.run_outside.specs.declared.status.Status.{Status}
@@ -17,6 +17,7 @@ use Rattle.run_outside.specs.declared.status.Status.TheVariants.{Delivered, Roun
 use Rattle.mptcp_run.specs.Answers.{IsAnswer}
 use Rattle.mptcp_run.specs.Asked.{is_run}
 use Rattle.run_outside.specs.Inputs.{order_of}
+use Rattle.run_outside.specs.Plan.{AddsAll}
 use Rattle.run_outside.specs.Ports.{IsUntouched, Ports}
 use Rattle.mptcp_run.specs.Promised.{HoldsPrefixOf}
 
@@ -82,54 +83,30 @@ module _ (file_a file_b : Option (List ℕ)) (old new : Ports) where
 
 -- ---- how it ends
 
--- a fault of a port as a status
-abbrev pub status_for : Port → PutFault → Status
-status_for port fault.Failed = Put port
-status_for port fault.Memory = Memory
-
--- the first line that was refused, that for B's reader before that for A's; or else this end
-abbrev pub refused_or : Status → Option PutFault → Option PutFault → Status
-refused_or ended (Some fault) read_by_a = status_for ReadByB fault
-refused_or ended None (Some fault) = status_for ReadByA fault
-refused_or ended None None = ended
-
--- a refusal stands in the place of a run's own end; another status stays
-abbrev pub with_refusals : Status → Option PutFault → Option PutFault → Status
-with_refusals Delivered read_by_b read_by_a = refused_or Delivered read_by_b read_by_a
-with_refusals Rounds read_by_b read_by_a = refused_or Rounds read_by_b read_by_a
-with_refusals NoPath read_by_b read_by_a = refused_or NoPath read_by_b read_by_a
-with_refusals (Aborted reader) read_by_b read_by_a = refused_or (Aborted reader) read_by_b read_by_a
-with_refusals (Put port) read_by_b read_by_a = Put port
-with_refusals Memory read_by_b read_by_a = Memory
-with_refusals (Log at) read_by_b read_by_a = Log at
-with_refusals (Script at kind) read_by_b read_by_a = Script at kind
-with_refusals (Load named) read_by_b read_by_a = Load named
-with_refusals (TooLong named) read_by_b read_by_a = TooLong named
-with_refusals Usage read_by_b read_by_a = Usage
-
 module _ (content : List ℕ → Option (List ℕ)) (line : Line) (loads_before loads : ℕ)
-    (faults_before faults : Port → ℕ) (held holds : Ports) where
+    (faults_before faults : Port → ℕ) (held holds : Ports) (told tells : Option (List Made)) where
   -- A run whose two files hold the frames of their lines. What it put for the readers' ports was
-  -- counted, and the messages in it were shown; a line that was refused is the answer in the place
-  -- of the run's own end.
+  -- counted, and the messages in it were shown.
   pub record IsRunOverFrames (status : Status) : Type 0 where
-    pub ended : Status
     pub read_by_a : Counted
     pub read_by_b : Counted
+    -- the calls of that run: its loads, binds and puts, of which each piece for a reader is frames
+    pub made : List Made
     pub answer : IsAnswer (lined_content line.names.file_a line.names.file_b content) line
         loads_before loads faults_before faults
-        (lined_holds [] [] held) (lined_holds read_by_a.octets read_by_b.octets holds) None None
-        ended
+        (lined_holds [] [] held) (lined_holds read_by_a.octets read_by_b.octets holds)
+        (Some []) (Some made) status
     pub stand : PortsStand read_by_a read_by_b held holds faults_before faults
-    pub status_is : status ≡ with_refusals ended read_by_b.refused read_by_a.refused
-    -- a port is told as one that failed only where its count rose
-    pub risen : (port : Port) → status ≡ Put port → HasRisen (faults_before port) (faults port)
+    -- what they came to on the outside: a piece for a reader to one put for each message that it
+    -- completes, and every other call to that call
+    pub calls : CallsStand made read_by_a read_by_b told tells
 
   -- nothing was begun for want of memory
   pub record IsUnbegun (status : Status) : Type 0 where
     pub status_is : status ≡ Memory
     pub untouched : IsUntouched held holds faults_before faults
     pub unloaded : loads ≡ loads_before
+    pub calls : AddsAll [] told tells
 
   abbrev pub IsMessagesAnswer : Status → Type 0
   IsMessagesAnswer status = IsUnbegun status ⊎ IsRunOverFrames status

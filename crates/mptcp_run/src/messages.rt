@@ -7,13 +7,16 @@ ghost use Rattle.mptcp_run.specs.Answers.{NothingWasRun};
 ghost use Rattle.message_pipe.specs.Lined.{lined_content};
 ghost use Rattle.mptcp_run.specs.Asked.{asked_in, is_run};
 ghost use Rattle.mptcp_run.specs.Clean.{DeliversIfClean};
+ghost use Rattle.mptcp_run.specs.Ends.{HasEnded};
+ghost use Rattle.mptcp_run.specs.MessagesCalls.{CalledToEnd};
 ghost use Rattle.mptcp_run.specs.Promised.{NoneIsAltered};
+ghost use Rattle.mptcp_run.specs.Task.{task_of};
 ghost use Rattle.run_outside.specs.Inputs.{order_of};
-ghost use Rattle.mptcp_run.specs.Messages.{IsMessagesAnswer, IsRunOverFrames, ReadersShow, is_apart, is_order, messages_in, refused_or, status_for, takes_messages, with_refusals};
+ghost use Rattle.mptcp_run.specs.Messages.{IsMessagesAnswer, IsRunOverFrames, ReadersShow, is_apart, is_order, messages_in, takes_messages};
 
 use crate::top_call::run;
 use message_pipe::{LineOutside, Naming};
-use outside_kit::{Gate, Outside, Port, PutFault};
+use outside_kit::{Gate, Outside};
 use run_outside::{Status, read_words};
 use run_words::{CommandLine, Mode};
 use std::alloc::{AllocError, Global};
@@ -67,42 +70,6 @@ fn file_names(alloc: Global, line: &CommandLine<'_>) -> Result<(String, String),
     Ok((file_a, file_b))
 }
 
-/// The status of a port's fault.
-fn status_for(port: Port, fault: PutFault) -> Status
-    ensures { result ≡ status_for port fault }
-{
-    match fault {
-        PutFault::Failed => Status::Put { port },
-        PutFault::Memory => Status::Memory,
-    }
-}
-
-/// The first line that was refused, or else the end that the run came to.
-fn refused_or<O: Outside, N: Naming>(lines: &LineOutside<O, N>, ended: Status) -> Status
-    ensures { result ≡ refused_or ended lines.now.read_by_b.refused lines.now.read_by_a.refused }
-{
-    match lines.refused(Port::ReadByB) {
-        Some(fault) => status_for(Port::ReadByB, fault),
-        None => match lines.refused(Port::ReadByA) {
-            Some(fault) => status_for(Port::ReadByA, fault),
-            None => ended,
-        },
-    }
-}
-
-/// The status of a run that ended so, where a refusal stands in the place of its own end.
-fn with_refusals<O: Outside, N: Naming>(lines: &LineOutside<O, N>, ended: Status) -> Status
-    ensures { result ≡ with_refusals ended lines.now.read_by_b.refused lines.now.read_by_a.refused }
-{
-    match ended {
-        Status::Delivered => refused_or(lines, Status::Delivered),
-        Status::Rounds => refused_or(lines, Status::Rounds),
-        Status::NoPath => refused_or(lines, Status::NoPath),
-        Status::Aborted { reader } => refused_or(lines, Status::Aborted { reader }),
-        other => other,
-    }
-}
-
 /// Runs over the frames of the lines of both files, whose names are copied, in an outside whose ports N tells.
 fn run_over_frames<O: Outside, G: Gate + Sync, R: Threads + Wait + Sync, N: Naming>(
     rt: &R,
@@ -115,6 +82,7 @@ fn run_over_frames<O: Outside, G: Gate + Sync, R: Threads + Wait + Sync, N: Nami
 ) -> (Status, O)
     requires held { (port : Port) → N.held port ≡ O.holds outside port }
     requires faults { (port : Port) → N.faults port ≡ O.port_faults outside port }
+    requires calls { N.calls ≡ O.calls outside }
     requires empty_a { IfSome (O.holds outside Port.ReadByA) (λ text. text ≡ []) }
     requires empty_b { IfSome (O.holds outside Port.ReadByB) (λ text. text ≡ []) }
     requires words { asked_in (map string_bytes words.now) ≡ Some (as_line line.now) }
@@ -123,11 +91,10 @@ fn run_over_frames<O: Outside, G: Gate + Sync, R: Threads + Wait + Sync, N: Nami
     ensures { IsRunOverFrames (O.content outside) (as_line line.now)
         (O.load_faults outside) (O.load_faults result.1)
         (O.port_faults outside) (O.port_faults result.1)
-        (O.holds outside) (O.holds result.1) result.0 }
+        (O.holds outside) (O.holds result.1) (O.calls outside) (O.calls result.1) result.0 }
 {
     let mut lines: LineOutside<O, N> = LineOutside::new(alloc, outside, files.0, files.1);
-    let ended = run(rt, alloc, words, &mut lines, gate);
-    let status = with_refusals(&lines, ended);
+    let status = run(rt, alloc, words, &mut lines, gate);
     (status, lines.into_inner())
 }
 
@@ -146,7 +113,7 @@ fn run_line<O: Outside, G: Gate + Sync, R: Threads + Wait + Sync>(
     ensures { IsMessagesAnswer (O.content outside) (as_line line.now)
         (O.load_faults outside) (O.load_faults result.1)
         (O.port_faults outside) (O.port_faults result.1)
-        (O.holds outside) (O.holds result.1) result.0 }
+        (O.holds outside) (O.holds result.1) (O.calls outside) (O.calls result.1) result.0 }
 {
     match file_names(alloc, line) {
         Ok(files) => {
@@ -178,6 +145,13 @@ pub fn run_messages<O: Outside, G: Gate + Sync, R: Threads + Wait + Sync>(
         NoneIsAltered (O.content outside) line → ReadersShow
         (O.content outside line.names.file_a) (O.content outside line.names.file_b)
         (O.holds outside) (O.holds result.1) result.0) }
+    // Which calls a run makes that comes to its own end, where no line of the script alters a payload: the loads in their order, the
+    // binds, for each reader one put for each line, all of them at status 0, and the last line at last.
+    ensures calls { IfSome (messages_in (map string_bytes words.now)) (λ line.
+        NoneIsAltered (O.content outside) line → HasEnded result.0 → CalledToEnd result.0
+        (O.content outside line.names.file_a) (O.content outside line.names.file_b)
+        (task_of (lined_content line.names.file_a line.names.file_b (O.content outside)) line) line
+        (O.calls outside) (O.calls result.1)) }
     // A clean script, one path and no line, in `run` or `serial`, with rounds that are enough for the frames of its files: all lines
     // are delivered, or memory is wanting, as long as the inputs are valid and no count of faults rises.
     ensures clean { IfSome (messages_in (map string_bytes words.now)) (λ line. DeliversIfClean
@@ -189,7 +163,7 @@ pub fn run_messages<O: Outside, G: Gate + Sync, R: Threads + Wait + Sync>(
         (O.content outside) line
         (O.load_faults outside) (O.load_faults result.1)
         (O.port_faults outside) (O.port_faults result.1)
-        (O.holds outside) (O.holds result.1) result.0) }
+        (O.holds outside) (O.holds result.1) (O.calls outside) (O.calls result.1) result.0) }
     // Words that ask for no such run: they are refused, and nothing is done.
     ensures neither { IsNone (messages_in (map string_bytes words.now)) → NothingWasRun
         (O.load_faults outside) (O.load_faults result.1)
