@@ -1,3 +1,4 @@
+pub mod FramedFiles
 pub mod Frames
 pub mod Lined
 pub mod Lines
