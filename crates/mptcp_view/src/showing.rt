@@ -21,8 +21,8 @@ ghost use Rattle.mptcp_view.specs.Views.{HoldsCut, IsBeforeOut, IsOutFault, IsTu
 
 use crate::cutting::{Extent, ReadLog, read_shown};
 use crate::telling::untold;
-use link_script::Script;
-use link_trace::{Base, Carried, Sent, all_carried, capture, lines, picture, summary};
+use link_script::{Script, ScriptLine};
+use link_trace::{Base, Carried, Death, Sent, all_carried, capture, lines, picture, summary};
 use outside_kit::{Outside, Port, PutFault};
 use path_core::key_of;
 use run_outside::{Input, Logged, Status, load_logged, opening_count};
@@ -74,6 +74,31 @@ fn carried_in(alloc: Global, script: &Script, trace: &[Sent]) -> Result<Vec<Carr
     all_carried(alloc, &base_in(script), &initials, trace)
 }
 
+/// The death that a line of the script tells, where it came: where the clock of its path reached its tick.
+fn death_in(world: &World, line: &ScriptLine) -> Option<Death> {
+    let ScriptLine::Die { path, tick } = *line else {
+        return None;
+    };
+    // The actors 0 and 1 are the applications.
+    let path_actor = world.path(path.checked_add(2)?)?;
+    if tick <= path_actor.tick() {
+        Some(Death { path, tick })
+    } else {
+        None
+    }
+}
+
+/// The deaths by the script that came in a run, which ended with this world.
+fn deaths_in(alloc: Global, world: &World, lines: &[ScriptLine]) -> Result<Vec<Death>, AllocError> {
+    let mut deaths = Vec::new(alloc);
+    for line in lines {
+        if let Some(death) = death_in(world, line) {
+            deaths.push(death)?;
+        }
+    }
+    Ok(deaths)
+}
+
 /// A view of what was sent in a run of this script, which ended with this world.
 fn shown(
     alloc: Global,
@@ -94,7 +119,8 @@ fn shown(
         }
         View::Picture => {
             let carried = carried_in(alloc, script, trace)?;
-            picture(alloc, paths, script.lines.as_slice(), &carried)
+            let deaths = deaths_in(alloc, world, script.lines.as_slice())?;
+            picture(alloc, paths, &deaths, &carried)
         }
         View::Text => lines(alloc, script.checksum, trace),
     }
