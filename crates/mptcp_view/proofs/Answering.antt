@@ -1,5 +1,5 @@
 -- What is answered is put together of what its parts answer.
-use Rattle.std.proofs.Common.{◌≡◌, refl, sym, subst, ℕ, List, Option, None, Result, Ok, Err, IfSome, IfOk}
+use Rattle.std.proofs.Common.{◌≡◌, ◌≢◌, ◌∙◌, refl, sym, subst, ℕ, List, Option, None, Result, Ok, Err, IfSome, IfOk}
 use Rattle.std.specs.Prelude.{option_and_then}
 use Rattle.world_core.specs.Logged.{all_turns}
 use Rattle.link_script.specs.declared.script.Script.{Script}
@@ -15,7 +15,7 @@ use Rattle.path_rules.specs.Octets.{octets}
 use Rattle.run_log.specs.declared.turn.Turn as logged
 use Rattle.run_outside.specs.Inputs.{AreWithinLimits, order_of}
 use Rattle.run_outside.specs.Plan.{AddsAll, AddsCut, loads_of}
-use Rattle.run_outside.specs.Ports.{Ports}
+use Rattle.run_outside.specs.Ports.{IsUntouched, Ports}
 use Rattle.run_outside.proofs.Calls.{Told, all_then, cut_then}
 use Rattle.link_script.specs.Reading.{reading}
 use Rattle.run_outside.specs.declared.input.Input.{Input}
@@ -28,10 +28,10 @@ use Rattle.world_laws.specs.Worlds.{AreLawful, WorldState}
 use Rattle.mptcp_view.specs.Cutting.{IsRead}
 use Rattle.mptcp_view.specs.Telling.{untold}
 use Rattle.mptcp_view.specs.declared.cutting.Extent.{Extent}
-use Rattle.mptcp_view.specs.Views.{AreInputs, Asking, HoldsCut, IsOutFault, IsViewFault, IsViewFrom, IsViewOf, Shows, WithView, base_in, first_world, out_calls}
+use Rattle.mptcp_view.specs.Views.{AreInputs, Asking, HoldsCut, IsOutFault, IsViewAnswer, IsViewFault, IsViewFrom, IsViewOf, Shows, WithView, base_in, first_world, out_calls}
 use Rattle.mptcp_view.specs.declared.showing.View.{View}
 use Rattle.mptcp_view.specs.declared.showing.View.TheVariants.{Summary}
-use Rattle.mptcp_view.proofs.Refusing.{out_refused}
+use Rattle.mptcp_view.proofs.Refusing.{late, out_refused}
 
 -- the table of what a trace carries
 pub table_shown : {V E : Type 0} (items : V → List ℕ) (view : View) (script : Script) (w : WorldState (List ℕ)) (trace : List Sent) (rates : List Rates) (carried : List Carried)
@@ -76,3 +76,40 @@ module _ (content : List ℕ → Option (List ℕ)) (asked : Asking) (name : Lis
         let then = subst (λ (o : Option (List ℕ)). HoldsCut o (holds ReadByB) shown) same put in
         let calls = cut_then (loads_of asked.line) (out_calls asked.line.names.read_by_b shown) s told read tells loaded cut in
         out_refused content asked held holds told tells loads_old loads_new old new middle_count counts s fault (with_view (then, calls))
+
+-- ---- all that is said of an answer
+
+module _ (content : List ℕ → Option (List ℕ)) (asked : Asking) (held holds : Ports) (told tells : Told) (loads_old loads_new : ℕ) (old new : Port → ℕ) where
+  -- before OUT was touched
+  pub refused_early : (s : Status) → IsViewFault content asked held holds told tells loads_old loads_new old new s → IsUntouched held holds old new
+      → IsViewAnswer content asked held holds told tells loads_old loads_new old new (Err s)
+  refused_early s fault untouched = record {
+    shown = tt;
+    fault = fault;
+    untouched = λ before. untouched;
+    other_ports = λ at other. (untouched at).0;
+    other_counts = λ at other. (untouched at).1;
+  }
+
+  -- behind all loads, which touched no port; of the others none was touched then
+  module _ (middle : Ports) (counts : Port → ℕ) (loaded : IsUntouched held middle old counts) (others : (at : Port) → at ≢ ReadByB → holds at ≡ middle at)
+      (other_counts : (at : Port) → at ≢ ReadByB → new at ≡ counts at) where
+    pub answered : (extent : Extent) → Shows content asked held holds told tells extent
+        → IsViewAnswer content asked held holds told tells loads_old loads_new old new (Ok extent)
+    answered extent shows = record {
+      shown = shows;
+      fault = tt;
+      untouched = tt;
+      other_ports = λ at other. others at other ∙ (loaded at).0;
+      other_counts = λ at other. other_counts at other ∙ (loaded at).1;
+    }
+
+    pub refused_late : (s : Status) → IsViewFault content asked held holds told tells loads_old loads_new old new s → IsOutFault (counts ReadByB) (new ReadByB) s
+        → IsViewAnswer content asked held holds told tells loads_old loads_new old new (Err s)
+    refused_late s fault out = record {
+      shown = tt;
+      fault = fault;
+      untouched = late (counts ReadByB) (new ReadByB) (IsUntouched held holds old new) s out;
+      other_ports = λ at other. others at other ∙ (loaded at).0;
+      other_counts = λ at other. other_counts at other ∙ (loaded at).1;
+    }

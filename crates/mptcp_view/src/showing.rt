@@ -17,7 +17,7 @@ ghost use Rattle.world_core.specs.Kept.{standing};
 ghost use Rattle.world_core.specs.Logged.{all_turns};
 ghost use Rattle.world_laws.specs.Worlds.{AreLawful};
 ghost use Rattle.mptcp_view.specs.Telling.{untold};
-ghost use Rattle.mptcp_view.specs.Views.{HoldsCut, IsBeforeOut, IsOutFault, IsTurnsFault, IsUntold, IsViewFault, IsViewFrom, IsViewOf, Shows, are_given, are_names, are_read_apart, as_asked, asked_in, base_in, first_world, is_apart, out_calls, stopped_at, view_named};
+ghost use Rattle.mptcp_view.specs.Views.{HoldsCut, IsBeforeOut, IsOutFault, IsTurnsFault, IsUntold, IsViewAnswer, IsViewFault, IsViewFrom, IsViewOf, Shows, are_given, are_names, are_read_apart, as_asked, asked_in, base_in, first_world, is_apart, out_calls, stopped_at, view_named};
 
 use crate::cutting::{Extent, ReadLog, read_shown};
 use crate::telling::untold;
@@ -352,19 +352,10 @@ pub fn show<O: Outside, P: Progress>(
     asked: &Asked<'_>,
 ) -> Result<Extent, Status>
     requires { (as_line asked.now.line).work ≡ replay asked.now.log.now }
-    ensures shown { IfOk result (Shows (O.content outside.old) (as_asked asked.now)
-        (O.holds outside.old) (O.holds outside.new) (O.calls outside.old) (O.calls outside.new)) }
-    ensures fault { IfErr result (IsViewFault (O.content outside.old) (as_asked asked.now)
+    ensures { IsViewAnswer (O.content outside.old) (as_asked asked.now)
         (O.holds outside.old) (O.holds outside.new) (O.calls outside.old) (O.calls outside.new)
         (O.load_faults outside.old) (O.load_faults outside.new)
-        (O.port_faults outside.old) (O.port_faults outside.new)) }
-    ensures untouched { IfErr result (λ status. IsBeforeOut status → IsUntouched
-        (O.holds outside.old) (O.holds outside.new)
-        (O.port_faults outside.old) (O.port_faults outside.new)) }
-    ensures other_ports { (port : Port) → port ≢ Port.ReadByB →
-        O.holds outside.new port ≡ O.holds outside.old port }
-    ensures other_counts { (port : Port) → port ≢ Port.ReadByB →
-        O.port_faults outside.new port ≡ O.port_faults outside.old port }
+        (O.port_faults outside.old) (O.port_faults outside.new) result }
 {
     let logged = load_logged(alloc, outside, &asked.line, asked.log)?;
     let Logged { input, log } = logged;

@@ -11,12 +11,11 @@ returns g c =
     let holds = g.O.Outside.holds in
     let first = c.args.outside in
     let asked = as_asked c.args.asked.now in
-    let made = c.show-shown.ensures in
     let over = c.show-shown.new.outside in
     let shown = c.show-shown.result in
     let over_is = subst (λ l. IsViewAnswer (lined_content l.file_a l.file_b (content l.inner)) asked (holds l.inner) (holds over.inner) None None (loads l.inner) (loads over.inner) (faults l.inner)
     (faults over.inner) shown) c.new-framed.ensures
-    (record { shown = made.shown; fault = made.fault; untouched = made.untouched; other_ports = made.other_ports; other_counts = made.other_counts }) in
+    c.show-shown.ensures in
     let last_is = subst (λ o. IsViewAnswer (lined_content (string_bytes c.args.files.0) (string_bytes c.args.files.1) (content first)) asked (holds first) (holds o) None None (loads first) (loads o)
     (faults first) (faults o) shown) (sym c.into_inner.ensures) over_is in
     let last = c.into_inner.result in
