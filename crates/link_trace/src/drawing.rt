@@ -6,7 +6,6 @@ use crate::carried::Carried;
 use crate::marks::{Panel, Scale, crosses, dots, part_of, strokes};
 use crate::rows::last_tick;
 use crate::strokes::{dots_of, strokes_of};
-use link_script::ScriptLine;
 use sides::Side;
 use std::alloc::{AllocError, Global};
 
@@ -20,6 +19,14 @@ const HEAD: &str =
     "<svg xmlns=\"http://www.w3.org/2000/svg\" viewBox=\"0 0 10000 9000\" width=\"1000\" height=\"900\" font-family=\"sans-serif\" font-size=\"150\">
 <rect width=\"10000\" height=\"9000\" fill=\"#ffffff\"/>
 ";
+
+/// A path that died by a line of the script, and when, in ticks of a millisecond.
+#[derive(Clone, Copy)]
+pub struct Death {
+    /// The number of the path.
+    pub path: u8,
+    pub tick: u64,
+}
 
 /// What was drawn so far, what goes over it, and how many octets may still be drawn. What goes over is drawn first, so that it has room.
 #[derive(Drop)]
@@ -108,16 +115,14 @@ impl Drawing {
         &mut self,
         alloc: Global,
         scale: &Scale,
-        lines: &[ScriptLine],
+        deaths: &[Death],
     ) -> Result<(), AllocError>
         requires { IsWithin self.old }
         ensures { OnOk result (IsWithin self.new) }
     {
-        for line in lines {
-            if let ScriptLine::Die { path, tick } = *line {
-                let death = death(alloc, scale, path, tick)?;
-                self.put_over(death.as_str())?;
-            }
+        for death in deaths {
+            let line = death_line(alloc, scale, death)?;
+            self.put_over(line.as_str())?;
         }
         Ok(())
     }
@@ -188,12 +193,9 @@ fn frame(alloc: Global, panel: &Panel) -> Result<String, AllocError> {
 }
 
 /// The line of a death, with its name on the side that has more room.
-fn death(alloc: Global, scale: &Scale, path: u8, tick: u64) -> Result<String, AllocError> {
+fn death_line(alloc: Global, scale: &Scale, death: &Death) -> Result<String, AllocError> {
     let mut text = String::new(alloc);
-    if scale.ticks < tick {
-        return Ok(text);
-    }
-    let x = scale.x(tick);
+    let (path, x) = (death.path, scale.x(death.tick));
     writeln!(
         text,
         "<path stroke=\"#000000\" stroke-width=\"12\" stroke-dasharray=\"60 60\" d=\"M{x} 900L{x} 8500\"/>"
@@ -249,47 +251,48 @@ fn legend(alloc: Global, paths: usize, step: usize) -> Result<String, AllocError
     Ok(text)
 }
 
-/// The panel of a side's stream, which has its place 0 at this height.
+/// The greatest tick of a segment, or of a death behind all of them.
+fn last_shown(carried: &[Carried], deaths: &[Death]) -> u64 {
+    let mut last = last_tick(carried);
+    for death in deaths {
+        last = last.max(death.tick);
+    }
+    last
+}
+
+/// The panel of a side's stream over so many ticks.
 fn panel_of(
     alloc: Global,
     carried: &[Carried],
     side: Side,
-    floor: u64,
-    name: &'static str,
+    ticks: u64,
 ) -> Result<Panel, AllocError> {
     let strokes = strokes_of(alloc, side, carried)?;
     let dots = dots_of(alloc, side, carried)?;
-    Ok(Panel::new(strokes, dots, last_tick(carried), floor, name))
+    let (floor, name) = match side {
+        Side::A => (4_300, "places of A's stream, by tick"),
+        Side::B => (8_500, "places of B's stream, by tick"),
+    };
+    Ok(Panel::new(strokes, dots, ticks, floor, name))
 }
 
-/// The picture of what a trace carries over so many paths: ticks go across, places up.
+/// The picture of what a trace carries over so many paths, of which these died: ticks go across, places up.
 pub fn picture(
     alloc: Global,
     paths: usize,
-    lines: &[ScriptLine],
+    deaths: &[Death],
     carried: &[Carried],
 ) -> Result<Vec<u8>, AllocError>
     ensures { IfOk result (λ text. length text.items ≤ 2 ^ 21) }
 {
-    let from_a = panel_of(
-        alloc,
-        carried,
-        Side::A,
-        4_300,
-        "places of A's stream, by tick",
-    )?;
-    let from_b = panel_of(
-        alloc,
-        carried,
-        Side::B,
-        8_500,
-        "places of B's stream, by tick",
-    )?;
+    let ticks = last_shown(carried, deaths);
+    let from_a = panel_of(alloc, carried, Side::A, ticks)?;
+    let from_b = panel_of(alloc, carried, Side::B, ticks)?;
     let legend = legend(alloc, paths, from_a.step.max(from_b.step))?;
     let mut drawing = Drawing::new(alloc);
     drawing.put(HEAD)?;
     drawing.put(legend.as_str())?;
-    drawing.put_deaths(alloc, &from_a.scale, lines)?;
+    drawing.put_deaths(alloc, &from_a.scale, deaths)?;
     drawing.put_panel_over(alloc, &from_a)?;
     drawing.put_panel_over(alloc, &from_b)?;
     drawing.put_over("</svg>\n")?;

@@ -18,7 +18,7 @@ mod table;
 mod text;
 
 pub use carried::{Base, Carried, PathInitials, all_carried};
-pub use drawing::picture;
+pub use drawing::{Death, picture};
 pub use laws::first_octets_are_the_places;
 pub use packets::capture;
 pub use rows::{Rate, Rates, Row, rows_of};

@@ -1,5 +1,6 @@
 pub mod Below
 pub mod CallCode
+pub mod FramedFiles
 pub mod Frames
 pub mod Lined
 pub mod Lines

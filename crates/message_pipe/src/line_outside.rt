@@ -81,7 +81,7 @@ impl<O: Outside, N: Naming> Model for LineOutside<O, N> {
 }
 
 /// Loads a content through the outside below, as the frames of its lines where the name is one of these two.
-fn load_from<O: Outside>(
+pub(crate) fn load_from<O: Outside>(
     alloc: Global,
     inner: &mut O,
     lined: (&str, &str),

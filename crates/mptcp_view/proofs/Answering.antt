@@ -1,5 +1,5 @@
 -- What is answered is put together of what its parts answer.
-use Rattle.std.proofs.Common.{◌≡◌, sym, subst, ℕ, List, Option, None, Result, Ok, Err, IfSome, IfOk, IfErr, OnOk, OnErr}
+use Rattle.std.proofs.Common.{◌≡◌, ◌≢◌, ◌∙◌, refl, sym, subst, ℕ, List, Option, None, Result, Ok, Err, IfSome, IfOk}
 use Rattle.std.specs.Prelude.{option_and_then}
 use Rattle.world_core.specs.Logged.{all_turns}
 use Rattle.link_script.specs.declared.script.Script.{Script}
@@ -13,11 +13,10 @@ use Rattle.outside_kit.specs.declared.port.Port.{Port}
 use Rattle.outside_kit.specs.declared.port.Port.TheVariants.{ReadByB}
 use Rattle.path_rules.specs.Octets.{octets}
 use Rattle.run_log.specs.declared.turn.Turn as logged
-use Rattle.run_outside.specs.Inputs.{AreWithinLimits, opening_count, order_of}
+use Rattle.run_outside.specs.Inputs.{AreWithinLimits, order_of}
 use Rattle.run_outside.specs.Plan.{AddsAll, AddsCut, loads_of}
-use Rattle.run_outside.specs.Ports.{Ports}
+use Rattle.run_outside.specs.Ports.{IsUntouched, Ports}
 use Rattle.run_outside.proofs.Calls.{Told, all_then, cut_then}
-use Rattle.run_outside.specs.Reading.{log_reading}
 use Rattle.link_script.specs.Reading.{reading}
 use Rattle.run_outside.specs.declared.input.Input.{Input}
 use Rattle.run_outside.specs.declared.status.Status.{Status}
@@ -26,11 +25,13 @@ use Rattle.run_trace.specs.Rates.{rates_of}
 use Rattle.run_trace.specs.Trace.{trace_of}
 use Rattle.run_words.specs.Lines.{Work, replay}
 use Rattle.world_laws.specs.Worlds.{AreLawful, WorldState}
+use Rattle.mptcp_view.specs.Cutting.{IsRead}
 use Rattle.mptcp_view.specs.Telling.{untold}
-use Rattle.mptcp_view.specs.Views.{AreInputs, Asking, HoldsCut, IsOutFault, IsViewFault, IsViewFrom, IsViewOf, Shows, base_in, first_world, out_calls}
+use Rattle.mptcp_view.specs.declared.cutting.Extent.{Extent}
+use Rattle.mptcp_view.specs.Views.{AreInputs, Asking, HoldsCut, IsOutFault, IsViewAnswer, IsViewFault, IsViewFrom, IsViewOf, Shows, WithView, base_in, first_world, out_calls}
 use Rattle.mptcp_view.specs.declared.showing.View.{View}
 use Rattle.mptcp_view.specs.declared.showing.View.TheVariants.{Summary}
-use Rattle.mptcp_view.proofs.Refusing.{out_refused}
+use Rattle.mptcp_view.proofs.Refusing.{late, out_refused}
 
 -- the table of what a trace carries
 pub table_shown : {V E : Type 0} (items : V → List ℕ) (view : View) (script : Script) (w : WorldState (List ℕ)) (trace : List Sent) (rates : List Rates) (carried : List Carried)
@@ -39,41 +40,76 @@ pub table_shown : {V E : Type 0} (items : V → List ℕ) (view : View) (script 
 table_shown items view script w trace rates carried is rates_are carried_are (Err e) h = tt
 table_shown items view script w trace rates carried is rates_are carried_are (Ok text) h = rw (is, ← rates_are, ← carried_are) h
 
-module _ (content : List ℕ → Option (List ℕ)) (asked : Asking) (log : List ℕ) (input : Input) (turns : List logged.Turn) (lines : ℕ) (text : List ℕ) where
-  pub are_inputs : asked.line.work ≡ replay log → AreWithinLimits content asked.line
+module _ (content : List ℕ → Option (List ℕ)) (asked : Asking) (name : List ℕ) (input : Input) (log : List ℕ) where
+  pub are_inputs : asked.line.work ≡ replay name → AreWithinLimits content asked.line
       → IfSome (content asked.line.names.script) (λ told. reading told ≡ Ok input.script)
       → IfSome (content asked.line.names.file_a) (λ told. input.file_a ≡ told) → IfSome (content asked.line.names.file_b) (λ told. input.file_b ≡ told)
-      → IfSome (content log) (λ told. log_reading input.script told ≡ Ok turns) → IfSome (content log) (λ told. lines ≡ opening_count told) → IfSome (content log) (λ told. text ≡ told)
-      → AreInputs content asked.line input turns lines text
-  are_inputs named within script file_a file_b read opened whole = record {
+      → IfSome (content name) (λ told. log ≡ told) → AreInputs content asked.line input log
+  are_inputs named within script file_a file_b whole = record {
     within = within;
     script = script;
     file_a = file_a;
     file_b = file_b;
-    order = subst (λ (work : Work). IfSome (option_and_then content (order_of work)) (λ told. log_reading input.script told ≡ Ok turns)) (sym named) read;
-    opening = subst (λ (work : Work). IfSome (option_and_then content (order_of work)) (λ told. lines ≡ opening_count told)) (sym named) opened;
-    text = subst (λ (work : Work). IfSome (option_and_then content (order_of work)) (λ told. text ≡ told)) (sym named) whole;
+    whole = subst (λ (work : Work). IfSome (option_and_then content (order_of work)) (λ told. log ≡ told)) (sym named) whole;
   }
 
   -- OUT held this before the inputs were read, and holds the view now, or isn't written whole
-  module _ (held middle holds : Ports) (told read tells : Told) (shown : List ℕ) (are : AreInputs content asked.line input turns lines text)
-      (lawful : AreLawful octets (all_turns turns) (first_world input)) (all_told : untold text (trace_of (all_turns turns) (first_world input)) ≡ None) (is : IsViewOf asked.view input (all_turns turns) shown)
+  module _ (extent : Extent) (part : List ℕ) (turns : List logged.Turn) (held middle holds : Ports) (told read tells : Told) (shown : List ℕ) (are : AreInputs content asked.line input log)
+      (is_read : IsRead input.script log extent part turns) (lawful : AreLawful octets (all_turns turns) (first_world input))
+      (all_told : untold part (trace_of (all_turns turns) (first_world input)) ≡ None) (is : IsViewOf asked.view input (all_turns turns) shown)
       (same : middle ReadByB ≡ held ReadByB) (loaded : AddsAll (loads_of asked.line) told read) where
-    pub shown_where_ok : {X : Type 0} (r : Result X Status) → OnOk r (HoldsAfter (middle ReadByB) (holds ReadByB) (λ _. shown))
-        → OnOk r (AddsAll (out_calls asked.line.names.read_by_b shown) read tells) → OnOk r (Shows content asked held holds told tells)
-    shown_where_ok (Err s) put made = tt
-    shown_where_ok (Ok x) put made =
+    with_view : {P : Extent → List ℕ → Type 0} → P extent shown → WithView content asked P
+    with_view p = (input, (log, (are, (extent, (part, (turns, (is_read, (lawful, (all_told, (shown, (is, p)))))))))))
+
+    pub shown_where_ok : HoldsAfter (middle ReadByB) (holds ReadByB) (λ _. shown) → AddsAll (out_calls asked.line.names.read_by_b shown) read tells
+        → Shows content asked held holds told tells extent
+    shown_where_ok put made =
         let then = subst (λ (o : Option (List ℕ)). HoldsAfter o (holds ReadByB) (λ _. shown)) same put in
         let calls = all_then (loads_of asked.line) (out_calls asked.line.names.read_by_b shown) told read tells loaded made in
-        (input, (turns, (lines, (text, (are, (lawful, (all_told, (shown, (is, (then, calls))))))))))
+        with_view (refl, (then, calls))
 
-    pub refused_where_cut : {X : Type 0} (loads_old loads_new : ℕ) (old new : Port → ℕ) (middle_count : ℕ) → middle_count ≡ old ReadByB → (r : Result X Status)
-        → OnErr r (HoldsCut (middle ReadByB) (holds ReadByB) shown) → IfErr r (IsOutFault middle_count (new ReadByB))
-        → IfErr r (λ s. AddsCut (out_calls asked.line.names.read_by_b shown) s read tells)
-        → IfErr r (IsViewFault content asked held holds told tells loads_old loads_new old new)
-    refused_where_cut loads_old loads_new old new middle_count counts (Ok x) put fault cut = tt
-    refused_where_cut loads_old loads_new old new middle_count counts (Err s) put fault cut =
+    pub refused_where_cut : (loads_old loads_new : ℕ) (old new : Port → ℕ) (middle_count : ℕ) → middle_count ≡ old ReadByB → (s : Status)
+        → HoldsCut (middle ReadByB) (holds ReadByB) shown → IsOutFault middle_count (new ReadByB) s
+        → AddsCut (out_calls asked.line.names.read_by_b shown) s read tells
+        → IsViewFault content asked held holds told tells loads_old loads_new old new s
+    refused_where_cut loads_old loads_new old new middle_count counts s put fault cut =
         let then = subst (λ (o : Option (List ℕ)). HoldsCut o (holds ReadByB) shown) same put in
         let calls = cut_then (loads_of asked.line) (out_calls asked.line.names.read_by_b shown) s told read tells loaded cut in
-        out_refused content asked held holds told tells loads_old loads_new old new middle_count counts s fault
-        (input, (turns, (lines, (text, (are, (lawful, (all_told, (shown, (is, (then, calls))))))))))
+        out_refused content asked held holds told tells loads_old loads_new old new middle_count counts s fault (with_view (then, calls))
+
+-- ---- all that is said of an answer
+
+module _ (content : List ℕ → Option (List ℕ)) (asked : Asking) (held holds : Ports) (told tells : Told) (loads_old loads_new : ℕ) (old new : Port → ℕ) where
+  -- before OUT was touched
+  pub refused_early : (s : Status) → IsViewFault content asked held holds told tells loads_old loads_new old new s → IsUntouched held holds old new
+      → IsViewAnswer content asked held holds told tells loads_old loads_new old new (Err s)
+  refused_early s fault untouched = record {
+    shown = tt;
+    fault = fault;
+    untouched = λ before. untouched;
+    other_ports = λ at other. (untouched at).0;
+    other_counts = λ at other. (untouched at).1;
+  }
+
+  -- behind all loads, which touched no port; of the others none was touched then
+  module _ (middle : Ports) (counts : Port → ℕ) (loaded : IsUntouched held middle old counts) (others : (at : Port) → at ≢ ReadByB → holds at ≡ middle at)
+      (other_counts : (at : Port) → at ≢ ReadByB → new at ≡ counts at) where
+    pub answered : (extent : Extent) → Shows content asked held holds told tells extent
+        → IsViewAnswer content asked held holds told tells loads_old loads_new old new (Ok extent)
+    answered extent shows = record {
+      shown = shows;
+      fault = tt;
+      untouched = tt;
+      other_ports = λ at other. others at other ∙ (loaded at).0;
+      other_counts = λ at other. other_counts at other ∙ (loaded at).1;
+    }
+
+    pub refused_late : (s : Status) → IsViewFault content asked held holds told tells loads_old loads_new old new s → IsOutFault (counts ReadByB) (new ReadByB) s
+        → IsViewAnswer content asked held holds told tells loads_old loads_new old new (Err s)
+    refused_late s fault out = record {
+      shown = tt;
+      fault = fault;
+      untouched = late (counts ReadByB) (new ReadByB) (IsUntouched held holds old new) s out;
+      other_ports = λ at other. others at other ∙ (loaded at).0;
+      other_counts = λ at other. other_counts at other ∙ (loaded at).1;
+    }

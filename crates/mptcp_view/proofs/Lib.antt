@@ -1,3 +1,4 @@
 mod Refusing
 mod Answering
+mod RoundsGathered
 mod LinesTold

@@ -1,48 +1,47 @@
 -- Why nothing is shown: by what is read, by a turn, or by OUT.
-use Rattle.std.proofs.Common.{◌≡◌, subst, ℕ, Option, Some, None, List, [], ◌++◌, Result, Ok, Err, OnOk, OnErr, IfErr, inl, inr}
+use Rattle.std.proofs.Common.{◌≡◌, refl, subst, ℕ, Option, Some, None, List, [], ◌++◌, Result, Ok, Err, OnOk, OnErr, IfErr, inl, inr}
 use Rattle.outside_kit.specs.Calls.{Call}
 use Rattle.outside_kit.specs.Outside.{HoldsAfter, HoldsPrefix}
 use Rattle.outside_kit.specs.declared.port.Port.{Port}
 use Rattle.outside_kit.specs.declared.port.Port.TheVariants as port
+use Rattle.run_outside.specs.declared.input.Input.{Input}
 use Rattle.run_outside.specs.declared.status.Status.{Status}
 use Rattle.run_outside.specs.declared.status.Status.TheVariants as status
-use Rattle.run_outside.specs.Inputs.{IsReplayInputFault}
+use Rattle.run_outside.specs.Inputs.{IsLoggedFault}
 use Rattle.run_outside.specs.Loading.{InputAdds}
 use Rattle.run_outside.specs.Plan.{AddsAll, AddsCut, loads_of}
 use Rattle.run_outside.specs.Ports.{IsUntouched, Ports}
-use Rattle.run_outside.proofs.Calls.{Told, all_then, cut_over, cut_then}
-use Rattle.mptcp_view.specs.Views.{Asking, HoldsCut, IsBeforeOut, IsCut, IsOutFault, IsTurnsFault, IsViewFault, WithInputs}
+use Rattle.run_outside.proofs.Calls.{Told, adds_none, all_then, cut_none, cut_over, cut_then}
+use Rattle.run_log.specs.declared.turn.Turn as logged
+use Rattle.world_core.specs.Logged.{all_turns}
+use Rattle.mptcp_view.specs.Cutting.{IsRead, IsUnread}
+use Rattle.mptcp_view.specs.Views.{AreInputs, Asking, HoldsCut, IsBeforeOut, IsCut, IsOutFault, IsTurnsFault, IsViewAnswer, IsViewFault}
+use Rattle.mptcp_view.specs.declared.cutting.Extent.{Extent}
 
 module _ (content : List ℕ → Option (List ℕ)) (asked : Asking) (held holds : Ports) (told tells : Told) (loads_old loads_new : ℕ) (old new : Port → ℕ) where
-  -- by what is read
-  pub inputs_refused : (s : Status) → IsReplayInputFault content asked.line loads_old loads_new s → InputAdds asked.line (loads_of asked.line) told tells s
+  -- by what is loaded
+  pub inputs_refused : (s : Status) → IsLoggedFault content asked.line loads_old loads_new s → InputAdds asked.line (loads_of asked.line) told tells s
       → IsUntouched held holds old new → IsViewFault content asked held holds told tells loads_old loads_new old new s
-  inputs_refused status.Delivered h adds untouched = absurd h
-  inputs_refused status.Rounds h adds untouched = absurd h
-  inputs_refused status.NoPath h adds untouched = absurd h
-  inputs_refused (status.Aborted reader) h adds untouched = absurd h
-  inputs_refused status.Usage h adds untouched = absurd h
   inputs_refused (status.Script at kind) h adds untouched = (h, adds)
   inputs_refused (status.Load input) h adds untouched = (h, adds)
-  inputs_refused (status.Put at) h adds untouched = absurd h
   inputs_refused (status.TooLong input) h adds untouched = (h, adds)
   inputs_refused status.Memory h adds untouched = inl (untouched, adds)
-  inputs_refused (status.Log at) h adds untouched = (inl h, adds)
+  inputs_refused _ h adds untouched = absurd h
 
-  -- by a turn that can't be made
-  pub turns_refused : (s : Status) → WithInputs content asked.line (λ input turns lines log. IsTurnsFault turns input lines log s)
-      → AddsAll (loads_of asked.line) told tells → IsUntouched held holds old new → IsViewFault content asked held holds told tells loads_old loads_new old new s
-  turns_refused status.Delivered (input, (turns, (lines, (log, (are, h))))) made untouched = absurd h
-  turns_refused status.Rounds (input, (turns, (lines, (log, (are, h))))) made untouched = absurd h
-  turns_refused status.NoPath (input, (turns, (lines, (log, (are, h))))) made untouched = absurd h
-  turns_refused (status.Aborted reader) (input, (turns, (lines, (log, (are, h))))) made untouched = absurd h
-  turns_refused status.Usage (input, (turns, (lines, (log, (are, h))))) made untouched = absurd h
-  turns_refused (status.Script at kind) (input, (turns, (lines, (log, (are, h))))) made untouched = absurd h
-  turns_refused (status.Load input) (inputs, (turns, (lines, (log, (are, h))))) made untouched = absurd h
-  turns_refused (status.Put at) (input, (turns, (lines, (log, (are, h))))) made untouched = absurd h
-  turns_refused (status.TooLong input) (inputs, (turns, (lines, (log, (are, h))))) made untouched = absurd h
-  turns_refused status.Memory h made untouched = inl (untouched, cut_over (loads_of asked.line) told tells made)
-  turns_refused (status.Log at) h made untouched = (inr h, made)
+  module _ (input : Input) (log : List ℕ) (are : AreInputs content asked.line input log) (made : AddsAll (loads_of asked.line) told tells)
+      (untouched : IsUntouched held holds old new) where
+    -- by the log
+    pub log_refused : (s : Status) → IsUnread input.script log s → IsViewFault content asked held holds told tells loads_old loads_new old new s
+    log_refused status.Memory h = inl (untouched, cut_over (loads_of asked.line) told tells made)
+    log_refused (status.Log at) h = (inl (input, (log, (are, h))), made)
+    log_refused _ h = absurd h
+
+    -- by a turn that can't be made, or tells another segment
+    pub turns_refused : (extent : Extent) (part : List ℕ) (turns : List logged.Turn) → IsRead input.script log extent part turns → (s : Status)
+        → IsTurnsFault (all_turns turns) input part s → IsViewFault content asked held holds told tells loads_old loads_new old new s
+    turns_refused extent part turns read status.Memory h = inl (untouched, cut_over (loads_of asked.line) told tells made)
+    turns_refused extent part turns read (status.Log at) h = (inr (input, (log, (are, (extent, (part, (turns, (read, h))))))), made)
+    turns_refused extent part turns read _ h = absurd h
 
   -- by OUT
   pub out_refused : (middle : ℕ) → middle ≡ old port.ReadByB → (s : Status) → IsOutFault middle (new port.ReadByB) s
@@ -52,22 +51,10 @@ module _ (content : List ℕ → Option (List ℕ)) (asked : Asking) (held holds
   out_refused middle same _ h cut = absurd h
 
 -- a fault of OUT comes late
-late : (old new : ℕ) (X : Type 0) (s : Status) → IsOutFault old new s → IsBeforeOut s → X
-late old new X status.Delivered h before = absurd h
-late old new X status.Rounds h before = absurd h
-late old new X status.NoPath h before = absurd h
-late old new X (status.Aborted reader) h before = absurd h
-late old new X status.Usage h before = absurd h
-late old new X (status.Script at kind) h before = absurd h
-late old new X (status.Load input) h before = absurd h
+pub late : (old new : ℕ) (X : Type 0) (s : Status) → IsOutFault old new s → IsBeforeOut s → X
 late old new X (status.Put at) h before = absurd before
-late old new X (status.TooLong input) h before = absurd h
 late old new X status.Memory h before = absurd before
-late old new X (status.Log at) h before = absurd h
-
-pub is_late : {Y : Type 0} (old new : ℕ) (X : Type 0) (r : Result Y Status) → IfErr r (IsOutFault old new) → IfErr r (λ s. IsBeforeOut s → X)
-is_late old new X (Ok y) h = tt
-is_late old new X (Err s) h = late old new X s h
+late old new X _ h before = absurd h
 
 -- ---- OUT
 
@@ -103,3 +90,27 @@ pub cut_behind : {X : Type 0} (xs ys : List Call) (a b c : Told) → AddsAll xs 
     → IfErr r (λ s. AddsCut (xs ++ ys) s a c)
 cut_behind xs ys a b c first (Ok x) more = tt
 cut_behind xs ys a b c first (Err s) more = cut_then xs ys s a b c first more
+
+-- ---- a run of messages
+
+-- nothing was begun for want of memory
+pub unbegun : (content : List ℕ → Option (List ℕ)) (asked : Asking) (held : Ports) (loads : ℕ) (faults : Port → ℕ)
+    → IsViewAnswer content asked held held None None loads loads faults faults (Err status.Memory)
+unbegun content asked held loads faults = record {
+  shown = tt;
+  fault = inl (λ at. (refl, refl), cut_none (loads_of asked.line) status.Memory None None refl (adds_none None));
+  untouched = λ before. absurd before;
+  other_ports = λ at other. refl;
+  other_counts = λ at other. refl;
+}
+
+-- it isn't the words that are refused
+pub no_usage : (content : List ℕ → Option (List ℕ)) (asked : Asking) (held holds : Ports) (told tells : Told) (loads_old loads_new : ℕ) (old new : Port → ℕ) (r : Result Extent Status)
+    → IsViewAnswer content asked held holds told tells loads_old loads_new old new r → r ≡ Err status.Usage → ⊥
+no_usage content asked held holds told tells loads_old loads_new old new r h is =
+    let fault : IsViewFault content asked held holds told tells loads_old loads_new old new status.Usage = subst (λ e. IfErr e (IsViewFault content asked held holds told tells loads_old loads_new old new)) is h.fault in
+    absurd fault.0
+
+pub not_none : {A : Type 0} (o : Option A) (a : A) → Some a ≡ o → o ≡ None → ⊥
+not_none None a some none = cc
+not_none (Some b) a some none = cc

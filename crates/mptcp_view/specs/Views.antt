@@ -1,5 +1,5 @@
 -- What the words ask for, what OUT then shows, and why it doesn't.
-use Rattle.std.specs.Prelude.{◌≡◌, ◌⊎◌, Ok, ℕ, ◌+◌, ◌^◌, ◌≤◌, Bool, not, ◌&&◌, if◌then◌else◌, Option, Some, None, option_map, IfSome, List, [], ◌∷◌, ◌++◌, length, take, codes}
+use Rattle.std.specs.Prelude.{◌≡◌, ◌≢◌, ◌⊎◌, Result, Ok, IfOk, IfErr, ℕ, ◌+◌, ◌^◌, ◌≤◌, Bool, not, ◌&&◌, ◌||◌, if◌then◌else◌, Option, Some, None, option_map, IfSome, List, [], ◌∷◌, ◌++◌, length, take, codes}
 use Rattle.std.specs.Str.{bytes_eq}
 use Rattle.world_core.specs.Logged.{all_turns}
 use Rattle.outside_kit.specs.Calls.{Call, Made}
@@ -18,11 +18,10 @@ use Rattle.path_rules.specs.Octets.{octets}
 use Rattle.path_rules.specs.Starts.{key_of}
 use Rattle.pcap_text.specs.Blocks.{capture_text}
 use Rattle.run_log.specs.declared.turn.Turn as logged
-use Rattle.run_outside.specs.Inputs.{AreWithinLimits, IsReplayInputFault, content_of, opening_count}
+use Rattle.run_outside.specs.Inputs.{AreWithinLimits, IsLoggedFault, content_of, opening_count}
 use Rattle.run_outside.specs.Loading.{InputAdds}
 use Rattle.run_outside.specs.Plan.{AddsAll, AddsCut, loads_of}
 use Rattle.run_outside.specs.Ports.{IsUntouched, Ports}
-use Rattle.run_outside.specs.Reading.{log_reading}
 use Rattle.link_script.specs.Reading.{reading}
 use Rattle.run_outside.specs.declared.input.Input.{Input}
 use Rattle.run_outside.specs.declared.status.Named.TheVariants as named
@@ -36,7 +35,9 @@ use Rattle.run_trace.specs.declared.making.TraceFault.TheVariants as fault
 use Rattle.run_words.specs.Lines.{Line, as_line, is_given, replay}
 use Rattle.world_laws.specs.Openings.{opened_world, start_of}
 use Rattle.world_laws.specs.Worlds.{AreLawful, Turn, WorldState, world_run}
+use Rattle.mptcp_view.specs.Cutting.{IsRead, IsUnread}
 use Rattle.mptcp_view.specs.Telling.{untold}
+use Rattle.mptcp_view.specs.declared.cutting.Extent.{Extent}
 use Rattle.mptcp_view.specs.declared.showing.Asked.{Asked}
 use Rattle.mptcp_view.specs.declared.showing.View.{View}
 use Rattle.mptcp_view.specs.declared.showing.View.TheVariants.{Capture, Summary, Picture, Text}
@@ -74,15 +75,24 @@ abbrev pub is_apart : List ℕ → List ℕ → List ℕ → List ℕ → List �
 is_apart out script file_a file_b log =
     not (bytes_eq out script) && (not (bytes_eq out file_a) && (not (bytes_eq out file_b) && not (bytes_eq out log)))
 
-abbrev pub are_names : List ℕ → List ℕ → List ℕ → List ℕ → List ℕ → Bool
-are_names script file_a file_b log out = are_given script file_a file_b log out && is_apart out script file_a file_b log
+-- neither file has the name of the script or of the log, which are read as they stand
+abbrev pub are_read_apart : List ℕ → List ℕ → List ℕ → List ℕ → Bool
+are_read_apart script file_a file_b log =
+    not (bytes_eq file_a script) && (not (bytes_eq file_a log) && (not (bytes_eq file_b script) && not (bytes_eq file_b log)))
 
--- six words, of which the first names a view; none of the names is empty, and OUT is none of the inputs
-abbrev pub asked_in : List (List ℕ) → Option Asking
-asked_in (word ∷ script ∷ file_a ∷ file_b ∷ log ∷ out ∷ []) =
-    if are_names script file_a file_b log out
+-- these can be the names, of a run of messages too where that is asked
+abbrev pub are_names : Bool → List ℕ → List ℕ → List ℕ → List ℕ → List ℕ → Bool
+are_names messages script file_a file_b log out =
+    are_given script file_a file_b log out
+    && (is_apart out script file_a file_b log && (not messages || are_read_apart script file_a file_b log))
+
+-- six words, of which the first names a view; none of the names is empty, and OUT is none of the inputs; of a run of messages neither
+-- file is the script or the log
+abbrev pub asked_in : Bool → List (List ℕ) → Option Asking
+asked_in messages (word ∷ script ∷ file_a ∷ file_b ∷ log ∷ out ∷ []) =
+    if are_names messages script file_a file_b log out
     then option_map (λ view. record { view = view; line = line_with script file_a file_b log out }) (view_named word) else None
-asked_in words = None
+asked_in messages words = None
 
 -- ---- the view
 
@@ -109,28 +119,29 @@ IsViewOf view input turns shown =
 
 -- ---- the inputs
 
--- these are the inputs of the line, as far as they are told, and each is within its limit: the turns of the log, whose octets these
--- are, stand behind so many lines
-pub record AreInputs (content : List ℕ → Option (List ℕ)) (line : Line) (input : Input) (turns : List logged.Turn) (lines : ℕ) (log : List ℕ) : Type 0 where
+-- these are the inputs of the line and this the log, as far as they are told, and each is within its limit
+pub record AreInputs (content : List ℕ → Option (List ℕ)) (line : Line) (input : Input) (log : List ℕ) : Type 0 where
   pub within : AreWithinLimits content line
   pub script : IfSome (content line.names.script) (λ told. reading told ≡ Ok input.script)
   pub file_a : IfSome (content line.names.file_a) (λ told. input.file_a ≡ told)
   pub file_b : IfSome (content line.names.file_b) (λ told. input.file_b ≡ told)
-  pub order : IfSome (content_of content line named.Order) (λ told. log_reading input.script told ≡ Ok turns)
-  pub opening : IfSome (content_of content line named.Order) (λ told. lines ≡ opening_count told)
-  pub text : IfSome (content_of content line named.Order) (λ told. log ≡ told)
+  pub whole : IfSome (content_of content line named.Order) (λ told. log ≡ told)
 
 -- some inputs of this line, of which this holds
-abbrev pub WithInputs : (List ℕ → Option (List ℕ)) → Line → (Input → List Turn → ℕ → List ℕ → Type 0) → Type 0
-WithInputs content line P =
-    (input : Input) × ((turns : List logged.Turn) × ((lines : ℕ) × ((log : List ℕ)
-    × (AreInputs content line input turns lines log × P input (all_turns turns) lines log))))
+abbrev pub WithInputs : (List ℕ → Option (List ℕ)) → Line → (Input → List ℕ → Type 0) → Type 0
+WithInputs content line P = (input : Input) × ((log : List ℕ) × (AreInputs content line input log × P input log))
 
--- The turns of the log can be made, what they send is just what its lines tell, and this holds of a view of it.
-abbrev pub WithView : (List ℕ → Option (List ℕ)) → Asking → (List ℕ → Type 0) → Type 0
-WithView content asked P = WithInputs content asked.line (λ input turns lines log.
-    AreLawful octets turns (first_world input) × ((untold log (trace_of turns (first_world input)) ≡ None)
-    × ((shown : List ℕ) × (IsViewOf asked.view input turns shown × P shown))))
+-- and this, of what is read of the log: so much of it, these octets, and their turns
+abbrev pub WithTurns : (List ℕ → Option (List ℕ)) → Line → (Extent → Input → List ℕ → List Turn → Type 0) → Type 0
+WithTurns content line P = WithInputs content line (λ input log.
+    (extent : Extent) × ((part : List ℕ) × ((turns : List logged.Turn)
+    × (IsRead input.script log extent part turns × P extent input part (all_turns turns)))))
+
+-- The turns that are read can be made, what they send is just what their lines tell, and this holds of a view of it.
+abbrev pub WithView : (List ℕ → Option (List ℕ)) → Asking → (Extent → List ℕ → Type 0) → Type 0
+WithView content asked P = WithTurns content asked.line (λ extent input part turns.
+    AreLawful octets turns (first_world input) × ((untold part (trace_of turns (first_world input)) ≡ None)
+    × ((shown : List ℕ) × (IsViewOf asked.view input turns shown × P extent shown))))
 
 -- ---- OUT
 
@@ -160,14 +171,13 @@ IsUntold log trace (status.Log line) = untold log trace ≡ Some line
 IsUntold log trace status.Memory = Unit {0}
 IsUntold log trace _ = ⊥
 
--- the turn at this line of the log, of which so many stand before the first turn, can't be made; or all can, and this line tells
--- another segment than the one that is sent
-abbrev pub IsTurnsFault : List Turn → Input → ℕ → List ℕ → Status → Type 0
-IsTurnsFault turns input lines log (status.Log line) =
-    ((place : ℕ) × ((line ≡ lines + place + 1) × StopsAt place turns (first_world input)))
-    ⊎ (untold log (trace_of turns (first_world input)) ≡ Some line)
-IsTurnsFault turns input lines log status.Memory = Unit {0}
-IsTurnsFault turns input lines log _ = ⊥
+-- the turn at this line of the log can't be made; or all can, and this line tells another segment than the one that is sent
+abbrev pub IsTurnsFault : List Turn → Input → List ℕ → Status → Type 0
+IsTurnsFault turns input part (status.Log line) =
+    ((place : ℕ) × ((line ≡ opening_count part + place + 1) × StopsAt place turns (first_world input)))
+    ⊎ (untold part (trace_of turns (first_world input)) ≡ Some line)
+IsTurnsFault turns input part status.Memory = Unit {0}
+IsTurnsFault turns input part _ = ⊥
 
 -- where so many lines stand before the first turn; the first line of the log is line 1
 abbrev pub stopped_at : ℕ → TraceFault → Status
@@ -183,17 +193,17 @@ IsBeforeOut _ = Unit {0}
 -- ---- what is answered
 
 module _ (content : List ℕ → Option (List ℕ)) (asked : Asking) (held holds : Ports) (told tells : Option (List Made)) where
-  -- OUT holds the view of what the log's turns send: it was put, all inputs being loaded
-  abbrev pub Shows : Type 0
-  Shows = WithView content asked (λ shown.
-      HoldsAfter (held port.ReadByB) (holds port.ReadByB) (λ _. shown) × AddsAll (view_calls asked.line shown) told tells)
+  -- OUT holds the view of what the turns of so much of the log send: it was put, all inputs being loaded
+  abbrev pub Shows : Extent → Type 0
+  Shows extent = WithView content asked (λ read shown. (read ≡ extent)
+      × (HoldsAfter (held port.ReadByB) (holds port.ReadByB) (λ _. shown) × AddsAll (view_calls asked.line shown) told tells))
 
   -- such a view was made, and not written whole
   abbrev pub IsCut : Status → Type 0
-  IsCut s = WithView content asked (λ shown.
+  IsCut s = WithView content asked (λ read shown.
       HoldsCut (held port.ReadByB) (holds port.ReadByB) shown × AddsCut (view_calls asked.line shown) s told tells)
 
-  -- what replay refuses, or OUT; what is refused of a log is its form, the first turn that can't be made, or the first line that tells
+  -- what is loaded, or OUT; what is refused of a log is its form, the first turn that can't be made, or the first line that tells
   -- another segment
   abbrev pub IsViewFault : ℕ → ℕ → (Port → ℕ) → (Port → ℕ) → Status → Type 0
   IsViewFault loads_old loads_new old new (status.Put at) =
@@ -201,8 +211,18 @@ module _ (content : List ℕ → Option (List ℕ)) (asked : Asking) (held holds
   IsViewFault loads_old loads_new old new status.Memory =
       (IsUntouched held holds old new × AddsCut (loads_of asked.line) status.Memory told tells) ⊎ IsCut status.Memory
   IsViewFault loads_old loads_new old new (status.Log at) =
-      (IsReplayInputFault content asked.line loads_old loads_new (status.Log at)
-      ⊎ WithInputs content asked.line (λ input turns lines log. IsTurnsFault turns input lines log (status.Log at)))
+      (WithInputs content asked.line (λ input log. IsUnread input.script log (status.Log at))
+      ⊎ WithTurns content asked.line (λ extent input part turns. IsTurnsFault turns input part (status.Log at)))
       × AddsAll (loads_of asked.line) told tells
   IsViewFault loads_old loads_new old new s =
-      IsReplayInputFault content asked.line loads_old loads_new s × InputAdds asked.line (loads_of asked.line) told tells s
+      IsLoggedFault content asked.line loads_old loads_new s × InputAdds asked.line (loads_of asked.line) told tells s
+
+  -- how it ends, of a run of messages too: then the files of these contents are the frames of their lines
+  pub record IsViewAnswer (loads_old loads_new : ℕ) (old new : Port → ℕ) (result : Result Extent Status) : Type 0 where
+    pub shown : IfOk result Shows
+    pub fault : IfErr result (IsViewFault loads_old loads_new old new)
+    -- after an error before OUT no port was touched
+    pub untouched : IfErr result (λ s. IsBeforeOut s → IsUntouched held holds old new)
+    -- of the ports only that of OUT is touched
+    pub other_ports : (at : Port) → at ≢ port.ReadByB → holds at ≡ held at
+    pub other_counts : (at : Port) → at ≢ port.ReadByB → new at ≡ old at

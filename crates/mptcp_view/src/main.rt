@@ -1,12 +1,16 @@
 //! Shows a run: `mptcp_view capture|summary|picture|text SCRIPT FILE_A FILE_B LOG OUT` makes the steps of a log again, and writes
-//! what was sent on each path to OUT.
+//! what was sent on each path to OUT. Behind a first word `messages` the log is that of a run of messages.
 #![tactic(auto)]
 
+mod cutting;
+mod messages;
 mod showing;
 mod telling;
 mod terminal;
 
+use cutting::Extent;
 use file_outside::FileOutside;
+use messages::view_messages;
 use run_outside::{Named, Status, command_words};
 use showing::view_words;
 use std::alloc::{AllocError, Global};
@@ -26,7 +30,7 @@ fn renamed(alloc: Global, status: &Status) -> Result<String, AllocError> {
 fn fault_line(alloc: Global, status: &Status) -> Result<String, AllocError> {
     let line = match status {
         Status::Usage => {
-            "mptcp_view: usage: capture|summary|picture|text SCRIPT FILE_A FILE_B LOG OUT"
+            "mptcp_view: usage: [messages] capture|summary|picture|text SCRIPT FILE_A FILE_B LOG OUT"
         }
         Status::Load {
             input: Named::Order,
@@ -40,18 +44,44 @@ fn fault_line(alloc: Global, status: &Status) -> Result<String, AllocError> {
     String::from_str(alloc, line)
 }
 
+/// Writes what the words ask for, and tells a terminal how far it is.
+fn shown(
+    rt: &HostRuntime,
+    words: &[String],
+    terminal: &mut Terminal<'_>,
+) -> Result<Extent, Status> {
+    let mut outside = FileOutside::new(rt, false);
+    match words {
+        [first, others @ ..] if first.as_str() == "messages" => {
+            let (shown, _outside) = view_messages(rt.alloc(), others, outside, terminal);
+            shown
+        }
+        _ => view_words(rt.alloc(), words, &mut outside, terminal),
+    }
+}
+
 /// Writes what the words ask for.
-fn view_of(rt: &HostRuntime) -> Result<(), Status> {
+fn view_of(rt: &HostRuntime) -> Result<Extent, Status> {
     let words = command_words(rt)?;
-    let (mut outside, mut terminal) = (FileOutside::new(rt, false), Terminal::new(rt));
-    let shown = view_words(rt.alloc(), &words, &mut outside, &mut terminal);
+    let mut terminal = Terminal::new(rt);
+    let shown = shown(rt, &words, &mut terminal);
     terminal.end();
     shown
 }
 
+/// Says that a log was cut off.
+fn tell(rt: &HostRuntime, extent: Extent) {
+    if extent == Extent::WholeRounds {
+        let _ = eprintln!(rt; "mptcp_view: the log was cut off: shown up to its last whole round");
+    }
+}
+
 fn main(rt: HostRuntime) -> ExitCode {
     match view_of(&rt) {
-        Ok(()) => ExitCode::from(0),
+        Ok(extent) => {
+            tell(&rt, extent);
+            ExitCode::from(0)
+        }
         Err(status) => {
             if let Ok(line) = fault_line(rt.alloc(), &status) {
                 let _ = eprintln!(rt; "{line}");

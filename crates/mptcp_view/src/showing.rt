@@ -1,6 +1,6 @@
 //! What the words of a command line ask for: the log's steps made again, and one view of what was sent.
 
-ghost use Rattle.std.specs.Prelude.{◌≡◌, ◌≢◌, ◌++◌, ◌↔◌, ◌<◌, ◌≤◌, ◌^◌, Err, None, [], ◌∷◌, map, option_map, IfOk, IfErr, IfSome, OnOk, OnErr, string_bytes};
+ghost use Rattle.std.specs.Prelude.{◌≡◌, ◌≢◌, ◌++◌, ◌↔◌, ◌<◌, ◌≤◌, ◌^◌, false, Err, None, [], ◌∷◌, map, option_map, IfOk, IfErr, IfSome, OnOk, OnErr, string_bytes};
 ghost use Rattle.outside_kit.specs.Calls as call;
 ghost use Rattle.outside_kit.specs.Outside.{HoldsAfter, HoldsPrefix};
 ghost use Rattle.outside_kit.specs.declared.port.Port.{Port};
@@ -17,14 +17,15 @@ ghost use Rattle.world_core.specs.Kept.{standing};
 ghost use Rattle.world_core.specs.Logged.{all_turns};
 ghost use Rattle.world_laws.specs.Worlds.{AreLawful};
 ghost use Rattle.mptcp_view.specs.Telling.{untold};
-ghost use Rattle.mptcp_view.specs.Views.{HoldsCut, IsBeforeOut, IsOutFault, IsTurnsFault, IsUntold, IsViewFault, IsViewFrom, IsViewOf, Shows, are_given, are_names, as_asked, asked_in, base_in, first_world, is_apart, out_calls, stopped_at, view_named};
+ghost use Rattle.mptcp_view.specs.Views.{HoldsCut, IsBeforeOut, IsOutFault, IsTurnsFault, IsUntold, IsViewAnswer, IsViewFault, IsViewFrom, IsViewOf, Shows, are_given, are_names, are_read_apart, as_asked, asked_in, base_in, first_world, is_apart, out_calls, stopped_at, view_named};
 
+use crate::cutting::{Extent, ReadLog, read_shown};
 use crate::telling::untold;
-use link_script::Script;
-use link_trace::{Base, Carried, Sent, all_carried, capture, lines, picture, summary};
+use link_script::{Script, ScriptLine};
+use link_trace::{Base, Carried, Death, Sent, all_carried, capture, lines, picture, summary};
 use outside_kit::{Outside, Port, PutFault};
 use path_core::key_of;
-use run_outside::{Replay, Status, load_replay};
+use run_outside::{Input, Logged, Status, load_logged, opening_count};
 use run_trace::{Progress, TraceFault, gather, initials_in, rates_of};
 use run_words::{CommandLine, Mode};
 use std::alloc::{AllocError, Global};
@@ -73,6 +74,31 @@ fn carried_in(alloc: Global, script: &Script, trace: &[Sent]) -> Result<Vec<Carr
     all_carried(alloc, &base_in(script), &initials, trace)
 }
 
+/// The death that a line of the script tells, where it came: where the clock of its path reached its tick.
+fn death_in(world: &World, line: &ScriptLine) -> Option<Death> {
+    let ScriptLine::Die { path, tick } = *line else {
+        return None;
+    };
+    // The actors 0 and 1 are the applications.
+    let path_actor = world.path(path.checked_add(2)?)?;
+    if tick <= path_actor.tick() {
+        Some(Death { path, tick })
+    } else {
+        None
+    }
+}
+
+/// The deaths by the script that came in a run, which ended with this world.
+fn deaths_in(alloc: Global, world: &World, lines: &[ScriptLine]) -> Result<Vec<Death>, AllocError> {
+    let mut deaths = Vec::new(alloc);
+    for line in lines {
+        if let Some(death) = death_in(world, line) {
+            deaths.push(death)?;
+        }
+    }
+    Ok(deaths)
+}
+
 /// A view of what was sent in a run of this script, which ended with this world.
 fn shown(
     alloc: Global,
@@ -93,7 +119,8 @@ fn shown(
         }
         View::Picture => {
             let carried = carried_in(alloc, script, trace)?;
-            picture(alloc, paths, script.lines.as_slice(), &carried)
+            let deaths = deaths_in(alloc, world, script.lines.as_slice())?;
+            picture(alloc, paths, &deaths, &carried)
         }
         View::Text => lines(alloc, script.checksum, trace),
     }
@@ -182,28 +209,27 @@ fn are_told(alloc: Global, log: &[u8], trace: &[Sent]) -> Result<(), Status>
 fn view_from<P: Progress>(
     alloc: Global,
     view: View,
-    replay: &Replay,
+    input: &Input,
+    read: &ReadLog,
     world: &mut World,
     progress: &mut P,
 ) -> Result<Vec<u8>, Status>
-    requires opened { world.old ≡ standing (first_world replay.now.input) }
-    requires few { replay.now.lines ≤ 3 }
+    requires opened { world.old ≡ standing (first_world input.now) }
     ensures shown { IfOk result
-        (λ shown. IsViewOf view replay.now.input (all_turns replay.now.turns.items) shown.items) }
+        (λ shown. IsViewOf view input.now (all_turns read.now.turns.items) shown.items) }
     ensures lawful { OnOk result
-        (AreLawful octets (all_turns replay.now.turns.items) (first_world replay.now.input)) }
-    ensures told { OnOk result (untold replay.now.log.items
-        (trace_of (all_turns replay.now.turns.items) (first_world replay.now.input)) ≡ None) }
+        (AreLawful octets (all_turns read.now.turns.items) (first_world input.now)) }
+    ensures told { OnOk result (untold read.now.part.items
+        (trace_of (all_turns read.now.turns.items) (first_world input.now)) ≡ None) }
     ensures fault { IfErr result
-        (IsTurnsFault (all_turns replay.now.turns.items) replay.now.input replay.now.lines
-        replay.now.log.items) }
+        (IsTurnsFault (all_turns read.now.turns.items) input.now read.now.part.items) }
 {
-    let trace = match gather(alloc, world, &replay.turns, progress) {
+    let trace = match gather(alloc, world, &read.turns, progress) {
         Ok(trace) => trace,
-        Err(fault) => return Err(stopped(fault, replay.lines)),
+        Err(fault) => return Err(stopped(fault, opening_count(&read.part))),
     };
-    are_told(alloc, &replay.log, &trace)?;
-    match shown(alloc, view, &replay.input.script, world, &trace) {
+    are_told(alloc, &read.part, &trace)?;
+    match shown(alloc, view, &input.script, world, &trace) {
         Ok(shown) => Ok(shown),
         Err(_) => Err(Status::Memory),
     }
@@ -213,25 +239,24 @@ fn view_from<P: Progress>(
 fn view_of<P: Progress>(
     alloc: Global,
     view: View,
-    replay: &Replay,
+    input: &Input,
+    read: &ReadLog,
     progress: &mut P,
 ) -> Result<Vec<u8>, Status>
-    requires ranges { HasRanges replay.now.input.script }
-    requires few { replay.now.lines ≤ 3 }
+    requires ranges { HasRanges input.now.script }
     ensures shown { IfOk result
-        (λ shown. IsViewOf view replay.now.input (all_turns replay.now.turns.items) shown.items) }
+        (λ shown. IsViewOf view input.now (all_turns read.now.turns.items) shown.items) }
     ensures lawful { OnOk result
-        (AreLawful octets (all_turns replay.now.turns.items) (first_world replay.now.input)) }
-    ensures told { OnOk result (untold replay.now.log.items
-        (trace_of (all_turns replay.now.turns.items) (first_world replay.now.input)) ≡ None) }
+        (AreLawful octets (all_turns read.now.turns.items) (first_world input.now)) }
+    ensures told { OnOk result (untold read.now.part.items
+        (trace_of (all_turns read.now.turns.items) (first_world input.now)) ≡ None) }
     ensures fault { IfErr result
-        (IsTurnsFault (all_turns replay.now.turns.items) replay.now.input replay.now.lines
-        replay.now.log.items) }
+        (IsTurnsFault (all_turns read.now.turns.items) input.now read.now.part.items) }
 {
-    let Ok(mut world) = World::open(alloc, &replay.input) else {
+    let Ok(mut world) = World::open(alloc, input) else {
         return Err(Status::Memory);
     };
-    let shown = view_from(alloc, view, replay, &mut world, progress);
+    let shown = view_from(alloc, view, input, read, &mut world, progress);
     // What drops a world stands in its crate alone.
     world.close();
     shown
@@ -257,30 +282,41 @@ fn is_apart(out: &str, script: &str, file_a: &str, file_b: &str, log: &str) -> b
     out != script && out != file_a && out != file_b && out != log
 }
 
-/// Whether these can be the names of the inputs and of OUT.
-fn are_names(script: &str, file_a: &str, file_b: &str, log: &str, out: &str) -> bool
-    ensures { result ≡ are_names script.now file_a.now file_b.now log.now out.now }
+/// Whether neither file has the name of the script or of the log.
+fn are_read_apart(script: &str, file_a: &str, file_b: &str, log: &str) -> bool
+    ensures { result ≡ are_read_apart script.now file_a.now file_b.now log.now }
 {
-    are_given(script, file_a, file_b, log, out) && is_apart(out, script, file_a, file_b, log)
+    file_a != script && file_a != log && file_b != script && file_b != log
+}
+
+/// Whether these can be the names of the inputs and of OUT, of a run of messages too where that is asked.
+fn are_names(messages: bool, script: &str, file_a: &str, file_b: &str, log: &str, out: &str) -> bool
+    ensures { result ≡ are_names messages script.now file_a.now file_b.now log.now out.now }
+{
+    are_given(script, file_a, file_b, log, out)
+        && is_apart(out, script, file_a, file_b, log)
+        && (!messages || are_read_apart(script, file_a, file_b, log))
 }
 
 /// What the words ask for: a view, and the inputs of a replay.
 #[derive(Clone, Copy)]
-struct Asked<'a> {
-    view: View,
-    line: CommandLine<'a>,
-    log: &'a str,
+pub struct Asked<'a> {
+    pub view: View,
+    pub line: CommandLine<'a>,
+    pub log: &'a str,
 }
 
-/// Six words, of which the first names a view; no name is empty, and OUT is none of the inputs.
-fn asked_by(words: &[String]) -> Option<Asked<'_>>
-    ensures asked { option_map as_asked result ≡ asked_in (map string_bytes words.now) }
+/// Six words, of which the first names a view; no name is empty, and OUT is none of the inputs. Of a run of messages neither file is the
+/// script or the log.
+pub fn asked_by(messages: bool, words: &[String]) -> Option<Asked<'_>>
+    ensures asked { option_map as_asked result ≡ asked_in messages (map string_bytes words.now) }
     ensures log { IfSome result (λ asked. (as_line asked.line).work ≡ replay asked.log.now) }
 {
     let [word, script, file_a, file_b, log, out] = words else {
         return None;
     };
     if !are_names(
+        messages,
         script.as_str(),
         file_a.as_str(),
         file_b.as_str(),
@@ -308,35 +344,32 @@ fn asked_by(words: &[String]) -> Option<Asked<'_>>
     }
 }
 
-/// Makes the turns of the log again, and writes the view of what they send.
-fn show<O: Outside, P: Progress>(
+/// Makes the turns of the log again, or of its whole rounds, and writes the view of what they send.
+pub fn show<O: Outside, P: Progress>(
     alloc: Global,
     outside: &mut O,
     progress: &mut P,
     asked: &Asked<'_>,
-) -> Result<(), Status>
+) -> Result<Extent, Status>
     requires { (as_line asked.now.line).work ≡ replay asked.now.log.now }
-    ensures shown { OnOk result (Shows (O.content outside.old) (as_asked asked.now)
-        (O.holds outside.old) (O.holds outside.new) (O.calls outside.old) (O.calls outside.new)) }
-    ensures fault { IfErr result (IsViewFault (O.content outside.old) (as_asked asked.now)
+    ensures { IsViewAnswer (O.content outside.old) (as_asked asked.now)
         (O.holds outside.old) (O.holds outside.new) (O.calls outside.old) (O.calls outside.new)
         (O.load_faults outside.old) (O.load_faults outside.new)
-        (O.port_faults outside.old) (O.port_faults outside.new)) }
-    ensures untouched { IfErr result (λ status. IsBeforeOut status → IsUntouched
-        (O.holds outside.old) (O.holds outside.new)
-        (O.port_faults outside.old) (O.port_faults outside.new)) }
-    ensures other_ports { (port : Port) → port ≢ Port.ReadByB →
-        O.holds outside.new port ≡ O.holds outside.old port }
-    ensures other_counts { (port : Port) → port ≢ Port.ReadByB →
-        O.port_faults outside.new port ≡ O.port_faults outside.old port }
+        (O.port_faults outside.old) (O.port_faults outside.new) result }
 {
-    let replay = load_replay(alloc, outside, &asked.line, asked.log)?;
-    let shown = view_of(alloc, asked.view, &replay, progress)?;
-    write_out(outside, asked.line.read_by_b, &shown)
+    let logged = load_logged(alloc, outside, &asked.line, asked.log)?;
+    let Logged { input, log } = logged;
+    let read = read_shown(alloc, &input.script, log)?;
+    let shown = view_of(alloc, asked.view, &input, &read, progress)?;
+    match write_out(outside, asked.line.read_by_b, &shown) {
+        Ok(()) => Ok(read.extent),
+        Err(status) => Err(status),
+    }
 }
 
 /// Writes the view that the words ask for: six words, of which the first is `capture`, `summary`, `picture` or `text`. No name is empty,
 /// and OUT is none of the inputs. It tells how far the turns of the log are made. Of the ports only that of OUT, `ReadByB`, is touched.
+/// The answer is how much of the log is shown: where it was cut off, as that of a run that was killed, its whole rounds.
 ///
 /// # Errors
 ///
@@ -348,12 +381,12 @@ pub fn view_words<O: Outside, P: Progress>(
     words: &[String],
     outside: &mut O,
     progress: &mut P,
-) -> Result<(), Status>
-    ensures usage { (result ≡ Err Usage) ↔ (asked_in (map string_bytes words.now) ≡ None) }
-    ensures shown { OnOk result (IfSome (asked_in (map string_bytes words.now)) (λ asked.
+) -> Result<Extent, Status>
+    ensures usage { (result ≡ Err Usage) ↔ (asked_in false (map string_bytes words.now) ≡ None) }
+    ensures shown { IfOk result (λ extent. IfSome (asked_in false (map string_bytes words.now)) (λ asked.
         Shows (O.content outside.old) asked (O.holds outside.old) (O.holds outside.new)
-        (O.calls outside.old) (O.calls outside.new))) }
-    ensures fault { IfErr result (λ status. IfSome (asked_in (map string_bytes words.now)) (λ asked.
+        (O.calls outside.old) (O.calls outside.new) extent)) }
+    ensures fault { IfErr result (λ status. IfSome (asked_in false (map string_bytes words.now)) (λ asked.
         IsViewFault (O.content outside.old) asked (O.holds outside.old) (O.holds outside.new)
         (O.calls outside.old) (O.calls outside.new)
         (O.load_faults outside.old) (O.load_faults outside.new)
@@ -368,7 +401,7 @@ pub fn view_words<O: Outside, P: Progress>(
     ensures unloaded { result ≡ Err Usage → O.load_faults outside.new ≡ O.load_faults outside.old }
     ensures uncalled { result ≡ Err Usage → O.calls outside.new ≡ O.calls outside.old }
 {
-    match asked_by(words) {
+    match asked_by(false, words) {
         None => Err(Status::Usage),
         Some(asked) => show(alloc, outside, progress, &asked),
     }

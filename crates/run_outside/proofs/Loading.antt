@@ -15,7 +15,7 @@ use Rattle.run_outside.specs.declared.status.Status.{Status}
 use Rattle.run_outside.specs.declared.status.Status.TheVariants.{Delivered, Rounds, NoPath, Aborted, Usage, Script, Load, Put, TooLong, Memory, Log}
 use Rattle.run_outside.specs.Loading.{LoadsAdd, InputAdds}
 use Rattle.run_outside.specs.Causes.{limit_of, IsLoadFault, IsScriptFault, IsFormFault}
-use Rattle.run_outside.specs.Inputs.{name_of, order_of, content_of, AreWithinLimitsBefore, IsLoadsFault, IsInputFault, IsReplayInputFault}
+use Rattle.run_outside.specs.Inputs.{name_of, order_of, content_of, AreWithinLimitsBefore, IsLoadsFault, IsInputFault, IsLoggedFault, IsReplayInputFault}
 use Rattle.run_outside.specs.Plan.{succeeded, failed, Adds, AddsAll, AddsCut, load_of, first_loads, loads_of, loads_before, AddsLoadsTo}
 use Rattle.run_outside.proofs.Calls.{Told, adds_then, cut_then, cut_longer, cut_first, cut_over}
 use Rattle.run_outside.proofs.PortsLemmas.{risen_later}
@@ -62,11 +62,19 @@ input_fault content line a b (TooLong named) fault = fault
 input_fault content line a b Memory fault = tt
 input_fault content line a b _ fault = absurd fault
 
-pub replay_fault : (content : List ℕ → Option (List ℕ)) (line : Line) (a b : ℕ) (status : Status) → IsLoadsFault content line a b status → IsReplayInputFault content line a b status
-replay_fault content line a b (Load named) fault = fault
-replay_fault content line a b (TooLong named) fault = fault
-replay_fault content line a b Memory fault = tt
-replay_fault content line a b _ fault = absurd fault
+pub logged_fault : (content : List ℕ → Option (List ℕ)) (line : Line) (a b : ℕ) (status : Status) → IsLoadsFault content line a b status → IsLoggedFault content line a b status
+logged_fault content line a b (Load named) fault = fault
+logged_fault content line a b (TooLong named) fault = fault
+logged_fault content line a b Memory fault = tt
+logged_fault content line a b _ fault = absurd fault
+
+-- what is loaded, among what is read
+pub logged_is_replay : (content : List ℕ → Option (List ℕ)) (line : Line) (a b : ℕ) (status : Status) → IsLoggedFault content line a b status → IsReplayInputFault content line a b status
+logged_is_replay content line a b (Script at kind) fault = fault
+logged_is_replay content line a b (Load named) fault = fault
+logged_is_replay content line a b (TooLong named) fault = fault
+logged_is_replay content line a b Memory fault = tt
+logged_is_replay content line a b _ fault = absurd fault
 
 -- in a longer plan
 pub loads_longer : (line : Line) (plan more : List Call) (a b : Told) (status : Status) → LoadsAdd line plan a b status → LoadsAdd line (plan ++ more) a b status

@@ -7,7 +7,7 @@ ghost use Rattle.run_outside.specs.Calling.{Loads};
 ghost use Rattle.run_outside.specs.declared.status.Named.TheVariants as named;
 ghost use Rattle.run_outside.specs.declared.status.Status.TheVariants.{Memory};
 ghost use Rattle.run_outside.specs.Causes.{IsLoadFault, IsScriptFault};
-ghost use Rattle.run_outside.specs.Inputs.{IsWithinLimit, IsLoadsFault, AreFirstWithinLimits, IsInputFault, IsReplayInputFault, AreWithinLimits, opening_count};
+ghost use Rattle.run_outside.specs.Inputs.{IsWithinLimit, IsLoadsFault, AreFirstWithinLimits, IsInputFault, IsLoggedFault, IsReplayInputFault, AreWithinLimits, opening_count};
 ghost use Rattle.outside_kit.specs.Calls as call;
 ghost use Rattle.run_outside.specs.Plan.{failed, Adds, first_loads, loads_of};
 ghost use Rattle.run_outside.specs.Loading.{LoadsAdd, InputAdds};
@@ -176,6 +176,53 @@ pub fn load_input<O: Outside>(
     input_of(alloc, contents)
 }
 
+/// What a run of the steps of a log loads.
+#[derive(Drop)]
+pub struct Logged {
+    pub input: Input,
+    /// The octets of the log.
+    pub log: Vec<u8>,
+}
+
+/// What a run of the steps of a log loads: the script, which is read, both files, and the log.
+///
+/// # Errors
+///
+/// `Load` or `TooLong` of an input that can't be loaded or is over its limit, where those before it are within theirs; `Script` where
+/// all four are within their limits and the script is refused; `Memory` where there is no memory.
+pub fn load_logged<O: Outside>(
+    alloc: Global,
+    outside: &mut O,
+    line: &CommandLine<'_>,
+    order: &str,
+) -> Result<Logged, Status>
+    requires named { (as_line line.now).work ≡ replay order.now }
+    ensures script { IfOk result (λ logged. IfSome (O.content outside.old line.now.script.now)
+        (λ told. reading told ≡ Ok logged.input.script)) }
+    ensures file_a { IfOk result (λ logged. IfSome (O.content outside.old line.now.file_a.now)
+        (λ told. logged.input.file_a ≡ told)) }
+    ensures file_b { IfOk result (λ logged. IfSome (O.content outside.old line.now.file_b.now)
+        (λ told. logged.input.file_b ≡ told)) }
+    ensures log { IfOk result (λ logged. IfSome (O.content outside.old order.now)
+        (λ told. logged.log.items ≡ told)) }
+    ensures loaded { IfOk result (λ logged. IsLoaded logged.input) }
+    ensures within { OnOk result (AreWithinLimits (O.content outside.old) (as_line line.now)) }
+    ensures fault { IfErr result (IsLoggedFault (O.content outside.old) (as_line line.now)
+        (O.load_faults outside.old) (O.load_faults outside.new)) }
+    ensures calls_cut { IfErr result (InputAdds (as_line line.now) (loads_of (as_line line.now))
+        (O.calls outside.old) (O.calls outside.new)) }
+    ensures loads { Loads (loads_of (as_line line.now))
+        (O.load_faults outside.old) (O.load_faults outside.new)
+        (O.port_faults outside.old) (O.port_faults outside.new)
+        (O.holds outside.old) (O.holds outside.new)
+        (O.calls outside.old) (O.calls outside.new) result }
+{
+    let contents = load_contents(alloc, outside, line)?;
+    let log = load_order(alloc, outside, line, order)?;
+    let input = input_of(alloc, contents)?;
+    Ok(Logged { input, log })
+}
+
 /// What a run of the steps of a log reads.
 #[derive(Drop)]
 pub struct Replay {
@@ -184,8 +231,6 @@ pub struct Replay {
     pub turns: Vec<Turn>,
     /// How many lines of the log stand before its first turn.
     pub lines: u64,
-    /// The octets of the log.
-    pub log: Vec<u8>,
 }
 
 /// What a run of the steps of a log reads: the script, both files and the log.
@@ -212,8 +257,6 @@ pub fn load_replay<O: Outside>(
         (λ told. log_reading replay.input.script told ≡ Ok replay.turns.items)) }
     ensures lines { IfOk result (λ replay. IfSome (O.content outside.old order.now)
         (λ told. replay.lines ≡ opening_count told)) }
-    ensures log { IfOk result (λ replay. IfSome (O.content outside.old order.now)
-        (λ told. replay.log.items ≡ told)) }
     ensures few { IfOk result (λ replay. replay.lines ≤ 3) }
     // The last turn of a log is the end of a round.
     ensures ends { IfOk result (λ replay. EndsInRound replay.turns.items) }
@@ -229,14 +272,13 @@ pub fn load_replay<O: Outside>(
         (O.holds outside.old) (O.holds outside.new)
         (O.calls outside.old) (O.calls outside.new) result }
 {
-    let contents = load_contents(alloc, outside, line)?;
-    let log = load_order(alloc, outside, line, order)?;
-    let input = input_of(alloc, contents)?;
-    let turns = read_order(alloc, &input.script, &log)?;
+    let logged = load_logged(alloc, outside, line, order)?;
+    let turns = read_order(alloc, &logged.input.script, &logged.log)?;
+    let lines = opening_count(&logged.log);
+    let Logged { input, log: _ } = logged;
     Ok(Replay {
         input,
         turns,
-        lines: opening_count(&log),
-        log,
+        lines,
     })
 }

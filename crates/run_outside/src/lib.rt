@@ -16,11 +16,11 @@ mod status;
 mod words;
 
 pub use device::put;
-pub use input::{Input, Replay, load_input, load_replay};
+pub use input::{Input, Logged, Replay, load_input, load_logged, load_replay};
 pub use lines::logged_text;
 pub use link_script::ScriptKind;
 pub use made::made_input;
-pub use order::width_of;
+pub use order::{opening_count, read_order, width_of};
 pub use parting::split_at_first;
 pub use pieces::Piece;
 pub use readers::bind_readers;

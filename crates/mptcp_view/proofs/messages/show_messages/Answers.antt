@@ -1,0 +1,6 @@
+use Rattle.mptcp_view.specs.Views.{as_asked}
+use Rattle.mptcp_view.proofs.Refusing.{unbegun}
+use Rattle.mptcp_view.proofs.messages.show_messages.Goals as goal
+
+pub returns-in-Err : goal.returns-in-Err
+returns-in-Err g c = unbegun _ (as_asked c.args.asked.now) _ _ _
