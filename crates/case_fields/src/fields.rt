@@ -28,7 +28,11 @@ pub fn word_at<'a>(fields: &[&'a str], place: usize) -> Result<&'a str, CaseFaul
 
 /// The octets at a place of the fields: two hexadecimal digits each, or `-` for none.
 pub fn octets_at(alloc: Global, fields: &[&str], place: usize) -> Result<Vec<u8>, CaseFault> {
-    let word = word_at(fields, place)?;
+    octets_of(alloc, word_at(fields, place)?)
+}
+
+/// The octets that a field tells: two hexadecimal digits each, or `-` for none.
+pub fn octets_of(alloc: Global, word: &str) -> Result<Vec<u8>, CaseFault> {
     if word == "-" {
         return Ok(Vec::new(alloc));
     }
