@@ -1,5 +1,5 @@
-//! A case as the programs take it that print what the calls of other crates answer: a line of fields, read one after the other or by their
-//! places, and what is answered; and a run that a case tells, with an outside that notes its calls.
+//! A case as the programs take it that print what the calls of other crates answer: a line of fields, read one after the other, and
+//! what is answered; and a run that a case tells, with an outside that notes its calls.
 #![tactic(auto)]
 
 mod case;
@@ -12,18 +12,13 @@ mod order;
 mod recorder;
 mod report;
 mod task;
-mod telling;
 
 pub use case::Case;
 pub use fails::failing;
-pub use fields::{
-    CaseFault, digits, four_at, octets_at, octets_of, optional_at, pair_at, parsed_at, quad_at,
-    triple_at, truth_at, word_at,
-};
+pub use fields::{CaseFault, digits, octets_of};
 pub use files::{content, lines_in, with_line_ends};
 pub use listed::{files_of, words_of};
 pub use meeting::{CountingGate, gate_of, put_meeting};
 pub use recorder::Recorder;
 pub use report::{put_log, put_port, put_report};
 pub use task::{Shown, Task};
-pub use telling::{put_digits, put_numbers, put_text, put_value, put_word};
