@@ -1,140 +1,191 @@
 //! `log CASE`: what `run_log` answers.
 //!
-//! - `note STAMP ACTOR OBJECT ASK` and, at a book, ` => REPLY`: the line of that note. ASK and REPLY are the names of
-//!   variants with their numbers, as the heads of `note.rt` and `reply.rt` say.
+//! - `note STAMP ACTOR OBJECT ASK` and, at a book, ` => REPLY`: the line of that note. An object is `sa`, `sb`, `ra`, `rb`, `ca`, `cb` or
+//!   `me`. ASK and REPLY have the words of a log for calls, as `calls.rt` says, and the names of variants with their numbers
+//!   for replies, as the head of `reply.rt` says; `write N` and `place AT N` have so many octets. The actor's own steps are `arrive SIDE N`,
+//!   `fire SIDE`, `line N`, `sent SIDE N LENGTH SUM` and `end`; a side is `a` or `b`.
 //! - `opening WIDTH A B`, `round N`, `outcome NAME`: these lines.
 //! - `text ACTORS WIDTH TEXT`, where `;` stands for LF, and `octets ACTORS WIDTH HEX`: `ok` and the turns that the text tells,
 //!   an actor by its number and the end of a round as `/`, or the first line that is refused.
 
-mod note;
 mod reply;
 
-use case_fields::{
-    CaseFault, octets_at, pair_at, parsed_at, put_value, put_word, triple_at, with_line_ends,
-    word_at,
-};
-use note::note_of;
+use crate::calls::{control_call, reassembly_call, send_call};
+use actor_desk::{Ask, LocalStep, Note, Reply};
+use case_fields::{Case, with_line_ends};
 use octet_text::Text;
+use reassembly_book::ReassemblyCall;
+use reply::{control_reply, octets_of, reassembly_reply, send_reply};
 use run_log::{LogFault, Outcome, Turn, line, opening, outcome_line, read_log, round_line};
-use std::alloc::{AllocError, Global};
+use send_book::SendCall;
+use sides::Side;
+use std::alloc::AllocError;
 
-/// Puts turns in words.
-fn put_turns(text: &mut String, turns: &[Turn]) -> Result<(), CaseFault> {
-    put_word(text, "ok")?;
-    for turn in turns {
-        put_turn(text, turn)?;
-    }
-    Ok(())
-}
-
-fn put_turn(text: &mut String, turn: &Turn) -> Result<(), CaseFault> {
-    match turn {
-        Turn::Step(actor) => {
-            put_word(text, " ")?;
-            put_value(text, actor)
+/// Puts the answer to a case.
+pub fn log(case: &mut Case<'_>) {
+    match case.word() {
+        "text" => put_text(case),
+        "octets" => {
+            let (actors, width) = (case.number(), case.number());
+            let octets = case.octets();
+            put_read(case, octets.as_slice(), actors, width);
         }
-        Turn::Round => put_word(text, " /"),
-    }
-}
-
-fn put_fault(text: &mut String, fault: LogFault) -> Result<(), CaseFault> {
-    match fault {
-        LogFault::Line(number) => {
-            put_word(text, "line ")?;
-            put_value(text, &number)
-        }
-        LogFault::Memory => Err(CaseFault::Memory),
-    }
-}
-
-/// Puts what `read_log` answers to octets.
-fn put_read(
-    alloc: Global,
-    text: &mut String,
-    fields: &[&str],
-    octets: &[u8],
-) -> Result<(), CaseFault> {
-    let (actors, width) = pair_at(fields, 0)?;
-    match read_log(alloc, octets, actors, width) {
-        Ok(turns) => put_turns(text, turns.as_slice()),
-        Err(fault) => put_fault(text, fault),
+        "note" => put_note(case),
+        name => put_line(case, name),
     }
 }
 
 /// Puts the answer to `text ACTORS WIDTH TEXT`.
-fn put_text(alloc: Global, text: &mut String, case: &str) -> Result<(), CaseFault> {
-    let Some((actors, rest)) = case.split_once(" ") else {
-        return Err(CaseFault::Form);
-    };
-    let Some((width, lines)) = rest.split_once(" ") else {
-        return Err(CaseFault::Form);
-    };
-    let lines = with_line_ends(alloc, lines)?;
-    put_read(alloc, text, &[actors, width], lines.as_bytes())
-}
-
-/// Puts the answer to `octets ACTORS WIDTH HEX`.
-fn put_octets(alloc: Global, text: &mut String, fields: &[&str]) -> Result<(), CaseFault> {
-    let octets = octets_at(alloc, fields, 2)?;
-    put_read(alloc, text, fields, octets.as_slice())
-}
-
-fn outcome_at(fields: &[&str]) -> Result<Outcome, CaseFault> {
-    match word_at(fields, 0)? {
-        "Delivered" => Ok(Outcome::Delivered),
-        "Rounds" => Ok(Outcome::Rounds),
-        "NoPath" => Ok(Outcome::NoPath),
-        "Aborted" => Ok(Outcome::Aborted),
-        _ => Err(CaseFault::Form),
+fn put_text(case: &mut Case<'_>) {
+    let (actors, width) = (case.number(), case.number());
+    match with_line_ends(case.alloc, case.rest()) {
+        Ok(lines) => put_read(case, lines.as_bytes(), actors, width),
+        Err(_) => case.fail(),
     }
 }
 
-/// The lines that a case asks to write.
-fn written(alloc: Global, name: &str, case: &str) -> Result<Text, CaseFault> {
-    if name == "note" {
-        let note = note_of(alloc, case)?;
-        return Ok(line(alloc, &note)?);
-    }
-    let fields: Vec<&str> = case.split(' ').collect(alloc)?;
-    line_of(alloc, name, fields.as_slice())
-}
-
-/// A line that tells no note.
-fn line_of(alloc: Global, name: &str, fields: &[&str]) -> Result<Text, CaseFault> {
-    match name {
-        "round" => Ok(round_line(alloc, parsed_at(fields, 0)?)?),
-        "outcome" => Ok(outcome_line(alloc, outcome_at(fields)?)?),
-        "opening" => {
-            let (width, key_a, key_b) = triple_at(fields, 0)?;
-            Ok(opening(alloc, width, key_a, key_b)?)
+/// Puts what `read_log` answers to octets.
+fn put_read(case: &mut Case<'_>, octets: &[u8], actors: u8, width: u8) {
+    match read_log(case.alloc, octets, actors, width) {
+        Ok(turns) => put_turns(case, turns.as_slice()),
+        Err(LogFault::Line(number)) => {
+            case.put("line ");
+            case.say(&number);
         }
-        _ => Err(CaseFault::Form),
+        Err(LogFault::Memory) => case.fail(),
     }
 }
 
-/// Puts the lines that a case asks to write.
-fn put_written(alloc: Global, text: &mut String, name: &str, case: &str) -> Result<(), CaseFault> {
-    let lines = written(alloc, name, case)?;
-    put_word(
-        text,
-        String::from_utf8_lossy(alloc, lines.as_bytes())?.as_str(),
-    )?;
-    // the program ends the last line
-    text.pop();
-    Ok(())
+/// Puts turns in words.
+fn put_turns(case: &mut Case<'_>, turns: &[Turn]) {
+    case.put("ok");
+    for turn in turns {
+        match turn {
+            Turn::Step(actor) => {
+                case.put(" ");
+                case.say(actor);
+            }
+            Turn::Round => case.put(" /"),
+        }
+    }
 }
 
-/// Puts the answer to a case.
-pub fn put_answer(alloc: Global, text: &mut String, input: &str) -> Result<(), CaseFault> {
-    let Some((name, case)) = input.split_once(" ") else {
-        return Err(CaseFault::Form);
+/// Puts lines without the end of the last one, which the program ends.
+fn put_lines(case: &mut Case<'_>, lines: Result<Text, AllocError>) {
+    let Ok(lines) = lines else {
+        return case.fail();
     };
-    match name {
-        "text" => put_text(alloc, text, case),
-        "octets" => {
-            let fields: Vec<&str> = case.split(' ').collect(alloc)?;
-            put_octets(alloc, text, fields.as_slice())
+    match String::from_utf8_lossy(case.alloc, lines.as_bytes()) {
+        Ok(text) => case.put(text.as_str().trim_end()),
+        Err(_) => case.fail(),
+    }
+}
+
+/// Puts the line of a note. What the actor knew before is not told, and taken as 0.
+fn put_note(case: &mut Case<'_>) {
+    let (stamp, actor) = (case.number(), case.number());
+    let (object, name) = (case.word(), case.word());
+    let ask = ask_of(case, object, name);
+    let reply = reply_of(case, object);
+    let note = Note {
+        stamp,
+        seen: 0,
+        actor,
+        ask,
+        reply,
+    };
+    let lines = line(case.alloc, &note);
+    put_lines(case, lines);
+}
+
+/// Puts a line that tells no note.
+fn put_line(case: &mut Case<'_>, name: &str) {
+    let lines = match name {
+        "round" => round_line(case.alloc, case.number()),
+        "outcome" => outcome_line(case.alloc, outcome_of(case)),
+        _ => {
+            let (width, key_a, key_b) = (case.number(), case.number(), case.number());
+            opening(case.alloc, width, key_a, key_b)
         }
-        _ => put_written(alloc, text, name, case),
+    };
+    put_lines(case, lines);
+}
+
+fn outcome_of(case: &mut Case<'_>) -> Outcome {
+    match case.word() {
+        "Delivered" => Outcome::Delivered,
+        "Rounds" => Outcome::Rounds,
+        "NoPath" => Outcome::NoPath,
+        _ => Outcome::Aborted,
+    }
+}
+
+fn side_of(word: &str) -> Side {
+    if word == "a" { Side::A } else { Side::B }
+}
+
+/// What is asked of an object by a name and numbers.
+fn ask_of(case: &mut Case<'_>, object: &str, name: &str) -> Ask {
+    match object {
+        "sa" => Ask::Send(Side::A, send_ask(case, name)),
+        "sb" => Ask::Send(Side::B, send_ask(case, name)),
+        "ra" => Ask::Reassembly(Side::A, reassembly_ask(case, name)),
+        "rb" => Ask::Reassembly(Side::B, reassembly_ask(case, name)),
+        "ca" => Ask::Control(Side::A, control_call(case, name)),
+        "cb" => Ask::Control(Side::B, control_call(case, name)),
+        _ => Ask::Local(local_step(case, name)),
+    }
+}
+
+/// What a send book is asked.
+fn send_ask(case: &mut Case<'_>, name: &str) -> SendCall {
+    match name {
+        "write" => SendCall::Write {
+            bytes: octets_of(case),
+        },
+        _ => send_call(case, name),
+    }
+}
+
+/// What a reassembly book is asked.
+fn reassembly_ask(case: &mut Case<'_>, name: &str) -> ReassemblyCall {
+    match name {
+        "place" => ReassemblyCall::Place {
+            at: case.number(),
+            bytes: octets_of(case),
+        },
+        _ => reassembly_call(case, name),
+    }
+}
+
+/// What the actor does itself, by a name and numbers.
+fn local_step(case: &mut Case<'_>, name: &str) -> LocalStep {
+    match name {
+        "arrive" => LocalStep::Arrive {
+            to: side_of(case.word()),
+            copy: case.number(),
+        },
+        "fire" => LocalStep::Fire(side_of(case.word())),
+        "line" => LocalStep::Line(case.number()),
+        "sent" => LocalStep::Sent {
+            from: side_of(case.word()),
+            copy: case.number(),
+            length: case.number(),
+            sum: case.number(),
+        },
+        _ => LocalStep::End,
+    }
+}
+
+/// What the object answers.
+fn reply_of(case: &mut Case<'_>, object: &str) -> Reply {
+    if object != "me" && case.word() != "=>" {
+        case.refuse();
+    }
+    match object {
+        "sa" | "sb" => Reply::Send(send_reply(case)),
+        "ra" | "rb" => Reply::Reassembly(reassembly_reply(case)),
+        "ca" | "cb" => Reply::Control(control_reply(case)),
+        _ => Reply::Done,
     }
 }

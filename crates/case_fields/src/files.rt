@@ -1,7 +1,6 @@
-//! The contents of files, and the calls of an outside that are to fail, as fields tell them.
+//! The contents of files, and lines, as fields tell them.
 
-use crate::fields::{CaseFault, octets_at, parsed_at};
-use outside_kit::FailAt;
+use crate::fields::{CaseFault, octets_of};
 use std::alloc::{AllocError, Global};
 
 /// The octets of a file: `-` for none, `text` and the text itself, `hex` and the octets in hexadecimal digits, `made` and
@@ -9,11 +8,19 @@ use std::alloc::{AllocError, Global};
 pub fn content(alloc: Global, field: &str) -> Result<Vec<u8>, CaseFault> {
     match field.split_once(" ") {
         Some(("text", text)) => Ok(Vec::from_slice(alloc, text.as_bytes())?),
-        Some(("hex", digits)) => octets_at(alloc, &[digits], 0),
-        Some(("made", count)) => Ok(made(alloc, parsed_at(&[count], 0)?)?),
+        Some(("hex", digits)) => octets_of(alloc, digits),
+        Some(("made", count)) => Ok(made(alloc, number_in(count)?)?),
         Some(("lines", numbers)) => lines(alloc, numbers),
         None if field == "-" => Ok(Vec::new(alloc)),
         _ => Err(CaseFault::Form),
+    }
+}
+
+/// A number.
+fn number_in(word: &str) -> Result<u32, CaseFault> {
+    match word.parse() {
+        Ok(number) => Ok(number),
+        Err(_) => Err(CaseFault::Form),
     }
 }
 
@@ -27,9 +34,10 @@ fn put_line(octets: &mut Vec<u8>, length: u32) -> Result<(), AllocError> {
 
 /// Lines: how many, and how long each is without its LF.
 fn lines(alloc: Global, numbers: &str) -> Result<Vec<u8>, CaseFault> {
-    let fields: Vec<&str> = numbers.split(' ').collect(alloc)?;
-    let count: u32 = parsed_at(fields.as_slice(), 0)?;
-    let length: u32 = parsed_at(fields.as_slice(), 1)?;
+    let (count, length) = match numbers.split_once(" ") {
+        Some((count, length)) => (number_in(count)?, number_in(length)?),
+        None => return Err(CaseFault::Form),
+    };
     let mut octets = Vec::new(alloc);
     for _ in 0..count {
         put_line(&mut octets, length)?;
@@ -54,21 +62,7 @@ pub fn with_line_ends(alloc: Global, field: &str) -> Result<String, AllocError> 
 
 /// Lines that stand between `;`, each with LF behind it.
 pub fn lines_in(alloc: Global, field: &str) -> Result<String, AllocError> {
-    let mut text = String::new(alloc);
-    for line in field.split(';') {
-        text.push_str(line)?;
-        text.push('\n')?;
-    }
+    let mut text = with_line_ends(alloc, field)?;
+    text.push('\n')?;
     Ok(text)
-}
-
-/// The call that fails, if any, and how many octets it keeps.
-pub fn failing(alloc: Global, field: &str) -> Result<Vec<FailAt>, CaseFault> {
-    if field == "-" {
-        return Ok(Vec::new(alloc));
-    }
-    let fields: Vec<&str> = field.split(' ').collect(alloc)?;
-    let call = parsed_at(fields.as_slice(), 0)?;
-    let kept = parsed_at(fields.as_slice(), 1)?;
-    Ok(Vec::from_slice(alloc, &[FailAt { call, kept }])?)
 }

@@ -1,14 +1,24 @@
-//! The fields of a case: a line of words with one blank between them, as the programs read it that print what the calls
-//! of other crates answer; and how they put what they print behind a text.
+//! A case as the programs take it that print what the calls of other crates answer: a line of fields, read one after the other, and
+//! what is answered; and a run that a case tells, with an outside that notes its calls.
 #![tactic(auto)]
 
+mod case;
+mod fails;
 mod fields;
 mod files;
-mod telling;
+mod listed;
+mod meeting;
+mod order;
+mod recorder;
+mod report;
+mod task;
 
-pub use fields::{
-    CaseFault, digits, four_at, octets_at, optional_at, pair_at, parsed_at, quad_at, triple_at,
-    truth_at, word_at,
-};
-pub use files::{content, failing, lines_in, with_line_ends};
-pub use telling::{put_digits, put_numbers, put_text, put_value, put_word};
+pub use case::Case;
+pub use fails::failing;
+pub use fields::{CaseFault, digits, octets_of};
+pub use files::{content, lines_in, with_line_ends};
+pub use listed::{files_of, words_of};
+pub use meeting::{CountingGate, gate_of, put_meeting};
+pub use recorder::Recorder;
+pub use report::{put_log, put_port, put_report};
+pub use task::{Shown, Task};

@@ -8,64 +8,59 @@
 //!
 //! `drawn SEED STREAM WORD`: a word that stands for a random one.
 
-use case_fields::{
-    CaseFault, octets_at, parsed_at, put_digits, put_numbers, put_value, put_word, quad_at,
-    triple_at,
-};
+use case_fields::Case;
 use key_material::{Address, add_addr64, hmac_of_pieces, idsn, join_a160, join_b64, token};
-use std::alloc::Global;
 
-pub fn key(text: &mut String, fields: &[&str]) -> Result<(), CaseFault> {
-    let key: u64 = parsed_at(fields, 0)?;
-    put_numbers(text, " ", &[u64::from(token(key)), idsn(key)])
+pub fn key(case: &mut Case<'_>) {
+    let key: u64 = case.number();
+    case.put_numbers(" ", &[u64::from(token(key)), idsn(key)]);
 }
 
-pub fn hmac(alloc: Global, text: &mut String, fields: &[&str]) -> Result<(), CaseFault> {
-    let key = octets_at(alloc, fields, 0)?;
-    let message = octets_at(alloc, fields, 1)?;
-    put_hmacs(alloc, text, key.as_slice(), message.as_slice())
+pub fn hmac(case: &mut Case<'_>) {
+    let key = case.octets();
+    let message = case.octets();
+    put_hmacs(case, key.as_slice(), message.as_slice());
 }
 
-fn put_hmacs(
-    alloc: Global,
-    text: &mut String,
-    key: &[u8],
-    message: &[u8],
-) -> Result<(), CaseFault> {
+fn put_hmacs(case: &mut Case<'_>, key: &[u8], message: &[u8]) {
     if key.len() > 64 {
-        return Err(CaseFault::Form);
+        return case.refuse();
     }
-    put_digits(alloc, text, &key_material::hmac(key, message))?;
-    put_word(text, " ")?;
+    case.put_digits(&key_material::hmac(key, message));
+    case.put(" ");
     let (prefix, rest) = message.split_at(message.len() / 3);
-    put_digits(alloc, text, &hmac_of_pieces(key, &[prefix, rest]))
+    case.put_digits(&hmac_of_pieces(key, &[prefix, rest]));
 }
 
-pub fn join(alloc: Global, text: &mut String, fields: &[&str]) -> Result<(), CaseFault> {
-    let (key_a, key_b, nonce_a, nonce_b) = quad_at(fields, 0)?;
-    put_value(text, &join_b64(key_a, key_b, nonce_a, nonce_b))?;
-    put_word(text, " ")?;
-    put_digits(alloc, text, &join_a160(key_a, key_b, nonce_a, nonce_b))
+pub fn join(case: &mut Case<'_>) {
+    let (key_a, key_b) = (case.number(), case.number());
+    let (nonce_a, nonce_b) = (case.number(), case.number());
+    case.tell(&join_b64(key_a, key_b, nonce_a, nonce_b));
+    case.put(" ");
+    case.put_digits(&join_a160(key_a, key_b, nonce_a, nonce_b));
 }
 
-pub fn address(alloc: Global, text: &mut String, fields: &[&str]) -> Result<(), CaseFault> {
-    let (sender, receiver, id) = triple_at(fields, 0)?;
-    let address = address_of(octets_at(alloc, fields, 3)?.as_slice())?;
-    let port = parsed_at(fields, 4)?;
-    put_value(text, &add_addr64(sender, receiver, id, &address, port))
-}
-
-fn address_of(octets: &[u8]) -> Result<Address, CaseFault> {
-    if octets.len() == 4 {
-        Ok(Address::V4(*octets.first_chunk().unwrap()))
-    } else if octets.len() == 16 {
-        Ok(Address::V6(*octets.first_chunk().unwrap()))
-    } else {
-        Err(CaseFault::Form)
+pub fn address(case: &mut Case<'_>) {
+    let (sender, receiver, id) = (case.number(), case.number(), case.number());
+    let address = address_of(case.octets().as_slice());
+    let port: u16 = case.number();
+    match address {
+        Some(address) => case.tell(&add_addr64(sender, receiver, id, &address, port)),
+        None => case.refuse(),
     }
 }
 
-pub fn drawn(text: &mut String, fields: &[&str]) -> Result<(), CaseFault> {
-    let (seed, stream, word) = triple_at(fields, 0)?;
-    put_value(text, &key_material::drawn(seed, stream, word))
+fn address_of(octets: &[u8]) -> Option<Address> {
+    if octets.len() == 4 {
+        Some(Address::V4(*octets.first_chunk().unwrap()))
+    } else if octets.len() == 16 {
+        Some(Address::V6(*octets.first_chunk().unwrap()))
+    } else {
+        None
+    }
+}
+
+pub fn drawn(case: &mut Case<'_>) {
+    let (seed, stream, word) = (case.number(), case.number(), case.number());
+    case.tell(&key_material::drawn(seed, stream, word));
 }

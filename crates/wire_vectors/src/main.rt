@@ -1,4 +1,5 @@
-//! Prints what the calls of the wire's crates and of those below the ends answer, one case for each line of standard input.
+//! Prints what the calls of the wire's crates, of those below the ends, and of the ends of subflows answer, one case for each line of standard
+//! input.
 //! `stdin` holds the cases, `stdout` the wanted answers. Lines that begin with `#` are printed as they stand, and say where the
 //! answers come from.
 //!
@@ -6,6 +7,7 @@
 //! none; numbers are decimal. The head of each file says the cases that it answers.
 #![tactic(auto)]
 
+mod end_cases;
 mod hearing_cases;
 mod increase_cases;
 mod key_cases;
@@ -15,6 +17,7 @@ mod message_cases;
 mod mode_cases;
 mod number_cases;
 mod option_cases;
+mod pair_cases;
 mod pipe_cases;
 mod receive_cases;
 mod record_cases;
@@ -28,97 +31,93 @@ mod timer_cases;
 mod window_cases;
 mod words_cases;
 
-use case_fields::{CaseFault, put_word};
+use case_fields::{Case, CaseFault};
 use std::alloc::{AllocError, Global};
 use std::io::{self, BufWriter, Write};
+use subflow_tcp::Subflow;
 
 /// Puts the answer to a case of octets, keys and numbers.
-fn put_wire_answer(
-    alloc: Global,
-    text: &mut String,
-    name: &str,
-    fields: &[&str],
-) -> Result<(), CaseFault> {
+fn put_wire_answer(case: &mut Case<'_>, name: &str) {
     match name {
-        "option" => option_cases::option(alloc, text, fields),
-        "segment" => segment_cases::segment(alloc, text, fields),
-        "written" => segment_cases::written(alloc, text, fields),
-        "sum" => sum_cases::sum(alloc, text, fields),
-        "sums" => sum_cases::sums(alloc, text, fields),
-        "key" => key_cases::key(text, fields),
-        "hmac" => key_cases::hmac(alloc, text, fields),
-        "join" => key_cases::join(alloc, text, fields),
-        "address" => key_cases::address(alloc, text, fields),
-        "message" => message_cases::message(alloc, text, fields),
-        "frames" => message_cases::frames(alloc, text, fields),
-        "drawn" => key_cases::drawn(text, fields),
-        "number" => number_cases::number(text, fields),
-        "near32" => number_cases::near32(text, fields),
-        "near64" => number_cases::near64(text, fields),
-        "widen" => number_cases::widen(text, fields),
-        "pipe" => pipe_cases::pipe(alloc, text, fields),
-        "spelled" => spelling_cases::spelled(alloc, text, fields),
-        "heard" => spelling_cases::heard(alloc, text, fields),
-        _ => put_leaf_answer(alloc, text, name, fields),
+        "option" => option_cases::option(case),
+        "segment" => segment_cases::segment(case),
+        "written" => segment_cases::written(case),
+        "sum" => sum_cases::sum(case),
+        "sums" => sum_cases::sums(case),
+        "key" => key_cases::key(case),
+        "hmac" => key_cases::hmac(case),
+        "join" => key_cases::join(case),
+        "address" => key_cases::address(case),
+        "message" => message_cases::message(case),
+        "frames" => message_cases::frames(case),
+        "drawn" => key_cases::drawn(case),
+        "number" => number_cases::number(case),
+        "near32" => number_cases::near32(case),
+        "near64" => number_cases::near64(case),
+        "widen" => number_cases::widen(case),
+        "pipe" => pipe_cases::pipe(case),
+        "spelled" => spelling_cases::spelled(case),
+        "heard" => spelling_cases::heard(case),
+        "script" => script_cases::script(case),
+        "words" => words_cases::words(case),
+        _ => put_leaf_answer(case, name),
     }
 }
 
 /// Puts the answer to a case of what stands below the ends.
-fn put_leaf_answer(
-    alloc: Global,
-    text: &mut String,
-    name: &str,
-    fields: &[&str],
-) -> Result<(), CaseFault> {
+fn put_leaf_answer(case: &mut Case<'_>, name: &str) {
     match name {
-        "grow" => increase_cases::grow(text, fields),
-        "rtt" => timer_cases::rtt(alloc, text, fields),
-        "reno" => window_cases::reno(alloc, text, fields),
-        "said" => saying_cases::said(text, fields),
-        "fin-number" => saying_cases::fin_number(text, fields),
-        "capable" => hearing_cases::capable(alloc, text, fields),
-        "joined" => hearing_cases::joined(alloc, text, fields),
-        "checksum" => mapping_cases::checksum(alloc, text, fields),
-        "mappings" => mapping_cases::mappings(alloc, text, fields),
-        "marks" => marks_cases::marks(alloc, text, fields),
-        "records" => record_cases::records(alloc, text, fields),
-        "receive" => receive_cases::receive(alloc, text, fields),
-        "pieces" => receive_cases::pieces(alloc, text, fields),
-        "modes" => mode_cases::modes(text, fields),
-        _ => Err(CaseFault::Form),
+        "grow" => increase_cases::grow(case),
+        "rtt" => timer_cases::rtt(case),
+        "reno" => window_cases::reno(case),
+        "said" => saying_cases::said(case),
+        "fin-number" => saying_cases::fin_number(case),
+        "capable" => hearing_cases::capable(case),
+        "joined" => hearing_cases::joined(case),
+        "checksum" => mapping_cases::checksum(case),
+        "mappings" => mapping_cases::mappings(case),
+        "marks" => marks_cases::marks(case),
+        "records" => record_cases::records(case),
+        "receive" => receive_cases::receive(case),
+        "pieces" => receive_cases::pieces(case),
+        "modes" => mode_cases::modes(case),
+        _ => case.refuse(),
     }
 }
 
-/// Puts the answer to a line of input.
-fn put_answer(alloc: Global, text: &mut String, line: &str) -> Result<(), CaseFault> {
+/// Puts the answer to a line of input. Lines of `end` and of `pair` are printed again before it.
+fn put_answer(case: &mut Case<'_>, end: &mut Subflow, line: &str) {
     if line.is_empty() || line.starts_with("#") {
-        return put_word(text, line);
+        return case.put(line);
     }
-    let Some((name, case)) = line.split_once(" ") else {
-        return Err(CaseFault::Form);
-    };
-    match name {
-        "script" => put_word(text, script_cases::script(alloc, case)?.as_str()),
-        "words" => put_word(text, words_cases::words(alloc, case)?.as_str()),
-        _ => {
-            let fields: Vec<&str> = case.split(' ').collect(alloc)?;
-            put_wire_answer(alloc, text, name, fields.as_slice())
+    match case.word() {
+        "end" => {
+            case.put(line);
+            case.put(" = ");
+            end_cases::end(case, end);
         }
+        "pair" => {
+            case.put(line);
+            case.put(" = ");
+            pair_cases::pair(case);
+        }
+        name => put_wire_answer(case, name),
     }
 }
 
-/// The answer to a line of input.
-fn answer(alloc: Global, line: &str) -> Result<String, CaseFault> {
-    let mut text = String::new(alloc);
-    put_answer(alloc, &mut text, line)?;
-    Ok(text)
+/// The answer to a line of input, where the lines of `end` go on with this end.
+fn answer(alloc: Global, end: &mut Subflow, line: &str) -> Result<String, CaseFault> {
+    let mut case = Case::new(alloc, line);
+    put_answer(&mut case, end, line);
+    case.end()
 }
 
 fn main(rt: HostRuntime) -> io::Result<()> {
+    let mut end = Subflow::open(rt.alloc(), 0, 0, 1_400);
     let mut out = BufWriter::new(rt.alloc(), io::writer(&rt))?;
     for line in rt.lines(rt.alloc()) {
         let line = line?;
-        match answer(rt.alloc(), line.as_str()) {
+        match answer(rt.alloc(), &mut end, line.as_str()) {
             Ok(text) => writeln!(out, "{text}")?,
             Err(CaseFault::Form) => writeln!(out, "not a case: {line}")?,
             Err(CaseFault::Memory) => return Err(AllocError.into()),

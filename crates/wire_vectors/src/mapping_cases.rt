@@ -7,84 +7,53 @@
 ghost use Rattle.std.specs.Prelude.{◌≤◌, ◌+◌, ◌^◌};
 
 use crate::steps::{Steps, put_steps};
-use case_fields::{
-    CaseFault, octets_at, pair_at, parsed_at, put_numbers, put_value, put_word, triple_at,
-};
+use case_fields::Case;
 use dss_checksum::DssSum;
 use dss_mapping::{KeptMapping, Mappings};
 use seq_units::Mapping;
-use std::alloc::Global;
 
 /// The last place that a case names.
 const LAST: u64 = 1 << 61;
 
-pub fn checksum(alloc: Global, text: &mut String, fields: &[&str]) -> Result<(), CaseFault> {
-    let (number, relative, length) = triple_at(fields, 0)?;
+pub fn checksum(case: &mut Case<'_>) {
     let mapping = Mapping {
-        number,
-        relative,
-        length,
+        number: case.number(),
+        relative: case.number(),
+        length: case.number(),
         checksum: 0,
     };
-    let octets = octets_at(alloc, fields, 3)?;
-    put_checksum(text, &mapping, octets.as_slice())
+    let octets = case.octets();
+    put_checksum(case, &mapping, octets.as_slice());
 }
 
-fn put_checksum(text: &mut String, mapping: &Mapping, octets: &[u8]) -> Result<(), CaseFault> {
+fn put_checksum(case: &mut Case<'_>, mapping: &Mapping, octets: &[u8]) {
     if octets.len() > 65_535 {
-        return Err(CaseFault::Form);
+        return case.refuse();
     }
     let mut sum = DssSum::new(mapping);
     sum.add(octets);
-    put_value(text, &sum.make())
+    case.tell(&sum.make());
 }
 
-pub fn mappings(alloc: Global, text: &mut String, fields: &[&str]) -> Result<(), CaseFault> {
-    let mut mappings = Mappings::new(alloc);
-    put_steps(alloc, text, &mut mappings, fields)
+pub fn mappings(case: &mut Case<'_>) {
+    let mut mappings = Mappings::new(case.alloc);
+    put_steps(case, &mut mappings);
 }
 
 impl Steps for Mappings {
-    fn step(
-        &mut self,
-        alloc: Global,
-        text: &mut String,
-        name: &str,
-        fields: &[&str],
-    ) -> Result<(), CaseFault> {
+    fn step(&mut self, case: &mut Case<'_>, name: &str) {
         match name {
-            "learn" => learn(text, self, fields),
-            "infinite" => infinite(text, self, fields),
-            "hold" => hold(alloc, self, fields),
-            "clashes" => put_value(text, &self.held_clashes()),
-            "learn-held" => {
-                self.learn_held();
-                Ok(())
-            }
-            "skip-held" => {
-                self.skip_held();
-                Ok(())
-            }
-            _ => by_position(text, self, name, parsed_at(fields, 0)?),
+            "learn" => learn(case, self),
+            "infinite" => infinite(case, self),
+            "place" => put_place(case, self),
+            "first" => put_first(case, self),
+            "forget" => self.forget_below(case.number()),
+            "hold" => hold(case, self),
+            "clashes" => case.tell(&self.held_clashes()),
+            "learn-held" => self.learn_held(),
+            "skip-held" => self.skip_held(),
+            _ => case.refuse(),
         }
-    }
-}
-
-/// A step that names a position alone.
-fn by_position(
-    text: &mut String,
-    mappings: &mut Mappings,
-    name: &str,
-    pos: u64,
-) -> Result<(), CaseFault> {
-    match name {
-        "place" => put_value(text, &mappings.place_of(pos)),
-        "first" => put_first(text, mappings, pos),
-        "forget" => {
-            mappings.forget_below(pos);
-            Ok(())
-        }
-        _ => Err(CaseFault::Form),
     }
 }
 
@@ -98,50 +67,56 @@ fn mapping_of(length: u16) -> Mapping {
     }
 }
 
-fn learn(text: &mut String, mappings: &mut Mappings, fields: &[&str]) -> Result<(), CaseFault> {
-    let (pos, place, length): (u64, u64, u16) = triple_at(fields, 0)?;
+fn learn(case: &mut Case<'_>, mappings: &mut Mappings) {
+    let (pos, place): (u64, u64) = (case.number(), case.number());
+    let mapping = mapping_of(case.number());
     if place > LAST {
-        return Err(CaseFault::Form);
+        return case.refuse();
     }
-    let learned = mappings.learn(pos, place, &mapping_of(length))?;
-    put_value(text, &learned)
+    match mappings.learn(pos, place, &mapping) {
+        Ok(learned) => case.tell(&learned),
+        Err(_) => case.fail(),
+    }
 }
 
-fn infinite(text: &mut String, mappings: &mut Mappings, fields: &[&str]) -> Result<(), CaseFault> {
-    let (pos, place): (u64, u64) = pair_at(fields, 0)?;
+fn infinite(case: &mut Case<'_>, mappings: &mut Mappings) {
+    let (pos, place): (u64, u64) = (case.number(), case.number());
     if place > LAST {
-        return Err(CaseFault::Form);
+        return case.refuse();
     }
-    put_value(text, &mappings.infinite(pos, place))
+    case.tell(&mappings.infinite(pos, place));
 }
 
-fn put_first(text: &mut String, mappings: &Mappings, pos: u64) -> Result<(), CaseFault> {
-    match mappings.mapping_at(pos) {
+fn put_place(case: &mut Case<'_>, mappings: &Mappings) {
+    let place = mappings.place_of(case.number());
+    case.tell(&place);
+}
+
+fn put_first(case: &mut Case<'_>, mappings: &Mappings) {
+    match mappings.mapping_at(case.number()) {
         Some(kept) => {
             let length = u64::from(kept.mapping.length);
-            put_numbers(text, "/", &[kept.pos, kept.place, length])
+            case.put_numbers("/", &[kept.pos, kept.place, length]);
         }
-        None => put_word(text, "None"),
+        None => case.put("None"),
     }
 }
 
-fn hold(alloc: Global, mappings: &mut Mappings, fields: &[&str]) -> Result<(), CaseFault> {
-    let (pos, place, length): (u64, u64, u16) = triple_at(fields, 0)?;
-    if place > LAST {
-        return Err(CaseFault::Form);
-    }
+fn hold(case: &mut Case<'_>, mappings: &mut Mappings) {
     let kept = KeptMapping {
-        pos,
-        place,
-        mapping: mapping_of(length),
+        pos: case.number(),
+        place: case.number(),
+        mapping: mapping_of(case.number()),
         fin: false,
     };
-    mappings.make_ready(1)?;
-    match Vec::from_array(alloc, [kept]) {
-        Ok(told) => {
-            mappings.hold(told);
-            Ok(())
-        }
-        Err(_) => Err(CaseFault::Memory),
+    if kept.place > LAST {
+        return case.refuse();
+    }
+    if mappings.make_ready(1).is_err() {
+        return case.fail();
+    }
+    match Vec::from_array(case.alloc, [kept]) {
+        Ok(told) => mappings.hold(told),
+        Err(_) => case.fail(),
     }
 }

@@ -4,87 +4,85 @@
 ghost use Rattle.std.specs.Prelude.{◌≤◌, ◌<◌, ◌+◌, ◌^◌};
 
 use crate::steps::{Steps, put_steps};
-use case_fields::{CaseFault, pair_at, parsed_at, put_value, put_word, triple_at};
-use range_marks::{RangeMarks, Run};
-use std::alloc::{AllocError, Global};
+use case_fields::Case;
+use range_marks::RangeMarks;
 
 /// More places than any case has.
 const MOST: u64 = 1 << 32;
 
-pub fn marks(alloc: Global, text: &mut String, fields: &[&str]) -> Result<(), CaseFault> {
-    let mut marks: RangeMarks<u8> = RangeMarks::new(alloc);
-    put_steps(alloc, text, &mut marks, fields)
+pub fn marks(case: &mut Case<'_>) {
+    let mut marks: RangeMarks<u8> = RangeMarks::new(case.alloc);
+    put_steps(case, &mut marks);
 }
 
 impl Steps for RangeMarks<u8> {
-    fn step(
-        &mut self,
-        _alloc: Global,
-        text: &mut String,
-        name: &str,
-        fields: &[&str],
-    ) -> Result<(), CaseFault> {
+    fn step(&mut self, case: &mut Case<'_>, name: &str) {
         match name {
-            "extend" => extend(self, fields),
-            "mark" => mark(self, fields),
-            "front" => drop_front(self, parsed_at(fields, 0)?),
-            "back" => cut_back(self, parsed_at(fields, 0)?),
-            "first" => put_first(text, self, fields),
-            "run" => put_value(text, &self.run_at(parsed_at(fields, 0)?)),
-            "runs" => put_runs(text, self),
-            _ => Err(CaseFault::Form),
+            "extend" => extend(case, self),
+            "mark" => mark(case, self),
+            "front" => drop_front(case, self),
+            "back" => cut_back(case, self),
+            "first" => put_first(case, self),
+            "run" => {
+                let run = self.run_at(case.number());
+                case.tell(&run);
+            }
+            "runs" => put_runs(case, self),
+            _ => case.refuse(),
         }
     }
 }
 
-fn extend(marks: &mut RangeMarks<u8>, fields: &[&str]) -> Result<(), CaseFault> {
-    let (count, mark): (u64, u8) = pair_at(fields, 0)?;
+fn extend(case: &mut Case<'_>, marks: &mut RangeMarks<u8>) {
+    let count: u64 = case.number();
     if count > MOST || marks.len() > MOST {
-        return Err(CaseFault::Form);
+        return case.refuse();
     }
-    Ok(marks.extend(count, mark)?)
+    if marks.extend(count, case.number()).is_err() {
+        case.fail();
+    }
 }
 
-fn mark(marks: &mut RangeMarks<u8>, fields: &[&str]) -> Result<(), CaseFault> {
-    let (from, to, mark): (u64, u64, u8) = triple_at(fields, 0)?;
+fn mark(case: &mut Case<'_>, marks: &mut RangeMarks<u8>) {
+    let (from, to): (u64, u64) = (case.number(), case.number());
     if to < from || marks.len() < to {
-        return Err(CaseFault::Form);
+        return case.refuse();
     }
-    Ok(marks.mark(from, to, mark)?)
+    if marks.mark(from, to, case.number()).is_err() {
+        case.fail();
+    }
 }
 
-fn drop_front(marks: &mut RangeMarks<u8>, to: u64) -> Result<(), CaseFault> {
+fn drop_front(case: &mut Case<'_>, marks: &mut RangeMarks<u8>) {
+    let to: u64 = case.number();
     if marks.len() < to {
-        return Err(CaseFault::Form);
+        return case.refuse();
     }
     marks.drop_front(to);
-    Ok(())
 }
 
-fn cut_back(marks: &mut RangeMarks<u8>, to: u64) -> Result<(), CaseFault> {
+fn cut_back(case: &mut Case<'_>, marks: &mut RangeMarks<u8>) {
+    let to: u64 = case.number();
     if to < marks.forgotten() {
-        return Err(CaseFault::Form);
+        return case.refuse();
     }
     marks.cut_back(to);
-    Ok(())
 }
 
-fn put_first(text: &mut String, marks: &RangeMarks<u8>, fields: &[&str]) -> Result<(), CaseFault> {
-    let (from, mark): (u64, u8) = pair_at(fields, 0)?;
-    put_value(text, &marks.first_where(from, &mark))
+fn put_first(case: &mut Case<'_>, marks: &RangeMarks<u8>) {
+    let (from, mark): (u64, u8) = (case.number(), case.number());
+    case.tell(&marks.first_where(from, &mark));
 }
 
-fn put_runs(text: &mut String, marks: &RangeMarks<u8>) -> Result<(), CaseFault> {
+fn put_runs(case: &mut Case<'_>, marks: &RangeMarks<u8>) {
+    let mut before = "";
     for run in marks.runs() {
-        if !text.is_empty() {
-            put_word(text, ",")?;
-        }
-        put_run(text, run)?;
+        case.put(before);
+        case.say(&run.from);
+        case.put("-");
+        case.say(&run.to);
+        case.put("=");
+        case.say(&run.mark);
+        before = ",";
     }
-    Ok(())
-}
-
-fn put_run(text: &mut String, run: Run<u8>) -> Result<(), AllocError> {
-    let (from, to, mark) = (run.from, run.to, run.mark);
-    write!(text, "{from}-{to}={mark}")
 }

@@ -4,68 +4,56 @@
 //! `frames OCTETS ..`: the frames of these messages, one behind the other.
 
 use crate::steps::{Steps, put_steps};
-use case_fields::{CaseFault, octets_at, put_digits, put_word};
+use case_fields::Case;
 use message_pipe::{Messages, frame};
 use octet_text::Text;
-use std::alloc::Global;
 
-pub fn message(alloc: Global, text: &mut String, fields: &[&str]) -> Result<(), CaseFault> {
-    let mut messages = Messages::new(alloc);
-    put_steps(alloc, text, &mut messages, fields)
+pub fn message(case: &mut Case<'_>) {
+    let mut messages = Messages::new(case.alloc);
+    put_steps(case, &mut messages);
 }
 
 impl Steps for Messages {
-    fn step(
-        &mut self,
-        alloc: Global,
-        text: &mut String,
-        name: &str,
-        fields: &[&str],
-    ) -> Result<(), CaseFault> {
+    fn step(&mut self, case: &mut Case<'_>, name: &str) {
         match name {
-            "feed" => feed(alloc, text, self, fields),
-            "next" => put_next(alloc, text, self),
-            "rest" => put_digits(alloc, text, self.rest()),
-            _ => Err(CaseFault::Form),
+            "feed" => feed(case, self),
+            "next" => put_next(case, self),
+            "rest" => case.put_digits(self.rest()),
+            _ => case.refuse(),
         }
     }
 }
 
-fn feed(
-    alloc: Global,
-    text: &mut String,
-    messages: &mut Messages,
-    fields: &[&str],
-) -> Result<(), CaseFault> {
-    let octets = octets_at(alloc, fields, 0)?;
-    messages.feed(octets.as_slice())?;
-    put_word(text, "fed")
-}
-
-fn put_next(alloc: Global, text: &mut String, messages: &mut Messages) -> Result<(), CaseFault> {
-    match messages.next()? {
-        Some(message) => put_digits(alloc, text, message.as_bytes()),
-        None => put_word(text, "none"),
+fn feed(case: &mut Case<'_>, messages: &mut Messages) {
+    match messages.feed(case.octets().as_slice()) {
+        Ok(()) => case.put("fed"),
+        Err(_) => case.fail(),
     }
 }
 
-pub fn frames(alloc: Global, text: &mut String, fields: &[&str]) -> Result<(), CaseFault> {
-    let mut framed = Text::new(alloc);
-    for index in 0..fields.len() {
-        put_frame(alloc, &mut framed, fields, index)?;
+fn put_next(case: &mut Case<'_>, messages: &mut Messages) {
+    match messages.next() {
+        Ok(Some(message)) => case.put_digits(message.as_bytes()),
+        Ok(None) => case.put("none"),
+        Err(_) => case.fail(),
     }
-    put_digits(alloc, text, framed.as_bytes())
 }
 
-fn put_frame(
-    alloc: Global,
-    framed: &mut Text,
-    fields: &[&str],
-    place: usize,
-) -> Result<(), CaseFault> {
-    let message = octets_at(alloc, fields, place)?;
+pub fn frames(case: &mut Case<'_>) {
+    let mut framed = Text::new(case.alloc);
+    for word in case.rest().split(' ') {
+        case.read(word, " ");
+        put_frame(case, &mut framed);
+    }
+    case.put_digits(framed.as_bytes());
+}
+
+fn put_frame(case: &mut Case<'_>, framed: &mut Text) {
+    let message = case.octets();
     if message.len() > 65_535 {
-        return Err(CaseFault::Form);
+        return case.refuse();
     }
-    Ok(frame(alloc, message.as_slice(), framed)?)
+    if frame(case.alloc, message.as_slice(), framed).is_err() {
+        case.fail();
+    }
 }

@@ -1,9 +1,8 @@
 //! `modes MODE`: where a side in this mode stands after every event, whether it joined or not, whether the path is the sole one
 //! or not, and whether a checksum was wrong on it, on another path or on none: one line for each case.
 
-use case_fields::{CaseFault, word_at};
+use case_fields::Case;
 use fallback_state::{Event, Fall, Mode, fall_step};
-use std::alloc::AllocError;
 
 const EVENTS: [Event; 11] = [
     Event::PlainHandshake,
@@ -19,38 +18,33 @@ const EVENTS: [Event; 11] = [
     Event::Stop,
 ];
 
-pub fn modes(text: &mut String, fields: &[&str]) -> Result<(), CaseFault> {
-    let mode = mode_named(word_at(fields, 0)?)?;
-    put_sides(text, mode)?;
-    // the program ends the last line
-    text.pop();
-    Ok(())
-}
-
-/// A side that joined or not, on the sole path or not.
-fn put_sides(text: &mut String, mode: Mode) -> Result<(), AllocError> {
+pub fn modes(case: &mut Case<'_>) {
+    let Some(mode) = mode_named(case.word()) else {
+        return case.refuse();
+    };
     for joined in [false, true] {
-        put_failures(text, mode, joined, false)?;
-        put_failures(text, mode, joined, true)?;
+        put_failures(case, mode, joined, false);
+        put_failures(case, mode, joined, true);
     }
-    Ok(())
+    // the program ends the last line
+    case.take_back();
 }
 
-fn mode_named(name: &str) -> Result<Mode, CaseFault> {
+fn mode_named(name: &str) -> Option<Mode> {
     match name {
-        "starting" => Ok(Mode::Starting),
-        "sure" => Ok(Mode::Sure),
-        "identity" => Ok(Mode::Identity),
-        "infinite-send" => Ok(Mode::InfiniteSend),
-        "infinite-receive" => Ok(Mode::InfiniteReceive),
-        "infinite-both" => Ok(Mode::InfiniteBoth),
-        "aborted" => Ok(Mode::Aborted),
-        _ => Err(CaseFault::Form),
+        "starting" => Some(Mode::Starting),
+        "sure" => Some(Mode::Sure),
+        "identity" => Some(Mode::Identity),
+        "infinite-send" => Some(Mode::InfiniteSend),
+        "infinite-receive" => Some(Mode::InfiniteReceive),
+        "infinite-both" => Some(Mode::InfiniteBoth),
+        "aborted" => Some(Mode::Aborted),
+        _ => None,
     }
 }
 
 /// A wrong checksum on no path, on this one, on another.
-fn put_failures(text: &mut String, mode: Mode, joined: bool, sole: bool) -> Result<(), AllocError> {
+fn put_failures(case: &mut Case<'_>, mode: Mode, joined: bool, sole: bool) {
     for failed in [None, Some(0), Some(1)] {
         let before = Fall {
             mode,
@@ -58,29 +52,37 @@ fn put_failures(text: &mut String, mode: Mode, joined: bool, sole: bool) -> Resu
             joined,
             failed,
         };
-        put_events(text, &before, sole)?;
+        put_events(case, &before, sole);
     }
-    Ok(())
 }
 
 /// Each event on path 0.
-fn put_events(text: &mut String, before: &Fall, sole: bool) -> Result<(), AllocError> {
+fn put_events(case: &mut Case<'_>, before: &Fall, sole: bool) {
     for event in EVENTS {
-        put_case(text, before, sole, event)?;
+        put_event(case, before, sole, event);
     }
-    Ok(())
 }
 
-fn put_case(text: &mut String, before: &Fall, sole: bool, event: Event) -> Result<(), AllocError> {
+fn put_event(case: &mut Case<'_>, before: &Fall, sole: bool, event: Event) {
     let (after, verdict) = fall_step(before, 0, sole, event);
-    let (mode, joined, failed) = (before.mode, before.joined, before.failed);
-    write!(
-        text,
-        "{mode:?} joined {joined} sole {sole} failed {failed:?}: "
-    )?;
-    write!(text, "{event:?} = {verdict:?} ")?;
-    let (mode, confirmed) = (after.mode, after.confirmed);
-    write!(text, "{mode:?} confirmed {confirmed} ")?;
-    let (joined, failed) = (after.joined, after.failed);
-    write!(text, "joined {joined} failed {failed:?}\n")
+    case.tell(&before.mode);
+    case.put(" joined ");
+    case.tell(&before.joined);
+    case.put(" sole ");
+    case.tell(&sole);
+    case.put(" failed ");
+    case.tell(&before.failed);
+    case.put(": ");
+    case.tell(&event);
+    case.put(" = ");
+    case.tell(&verdict);
+    case.put(" ");
+    case.tell(&after.mode);
+    case.put(" confirmed ");
+    case.tell(&after.confirmed);
+    case.put(" joined ");
+    case.tell(&after.joined);
+    case.put(" failed ");
+    case.tell(&after.failed);
+    case.put("\n");
 }

@@ -7,32 +7,37 @@
 
 ghost use Rattle.std.specs.Prelude.{◌<◌, ◌^◌};
 
-use case_fields::{CaseFault, pair_at, put_value, put_word, triple_at};
+use case_fields::Case;
 use seq_units::{POSITION_LIMIT, Seq32, Seq64, number32, number64};
 
-pub fn number(text: &mut String, fields: &[&str]) -> Result<(), CaseFault> {
-    let (base, position): (u64, u64) = pair_at(fields, 0)?;
+pub fn number(case: &mut Case<'_>) {
+    let (base, position): (u64, u64) = (case.number(), case.number());
     if let Ok(low) = u32::try_from(base) {
-        put_value(text, &number32(Seq32(low), position).0)?;
-        put_word(text, " ")?;
+        case.tell(&number32(Seq32(low), position).0);
+        case.put(" ");
     }
-    put_value(text, &number64(Seq64(base), position).0)
+    case.tell(&number64(Seq64(base), position).0);
 }
 
-pub fn near32(text: &mut String, fields: &[&str]) -> Result<(), CaseFault> {
-    let (base, expected, raw): (u32, u64, u32) = triple_at(fields, 0)?;
+pub fn near32(case: &mut Case<'_>) {
+    let base = Seq32(case.number());
+    let expected: u64 = case.number();
+    let raw = Seq32(case.number());
     if expected >= POSITION_LIMIT {
-        return Err(CaseFault::Form);
+        return case.refuse();
     }
-    put_value(text, &seq_units::near32(Seq32(base), expected, Seq32(raw)))
+    case.tell(&seq_units::near32(base, expected, raw));
 }
 
-pub fn near64(text: &mut String, fields: &[&str]) -> Result<(), CaseFault> {
-    let (base, expected, raw): (u64, u64, u64) = triple_at(fields, 0)?;
-    put_value(text, &seq_units::near64(Seq64(base), expected, Seq64(raw)))
+pub fn near64(case: &mut Case<'_>) {
+    let base = Seq64(case.number());
+    let expected: u64 = case.number();
+    let raw = Seq64(case.number());
+    case.tell(&seq_units::near64(base, expected, raw));
 }
 
-pub fn widen(text: &mut String, fields: &[&str]) -> Result<(), CaseFault> {
-    let (expected, low): (u64, u32) = pair_at(fields, 0)?;
-    put_value(text, &seq_units::widen(Seq64(expected), low).0)
+pub fn widen(case: &mut Case<'_>) {
+    let expected = Seq64(case.number());
+    let low: u32 = case.number();
+    case.tell(&seq_units::widen(expected, low).0);
 }

@@ -3,7 +3,7 @@
 
 ghost use Rattle.std.specs.Prelude.{◌≤◌, length};
 
-use case_fields::{CaseFault, digits, octets_at, put_word};
+use case_fields::{Case, digits};
 use mptcp_options::{Read, read, write};
 use octet_text::Text;
 use std::alloc::{AllocError, Global};
@@ -11,28 +11,32 @@ use std::alloc::{AllocError, Global};
 /// The most octets that the options of a segment have.
 const LONGEST: usize = 40;
 
-pub fn option(alloc: Global, text: &mut String, fields: &[&str]) -> Result<(), CaseFault> {
-    let octets = octets_at(alloc, fields, 0)?;
-    put_answers(alloc, text, octets.as_slice())
+pub fn option(case: &mut Case<'_>) {
+    let octets = case.octets();
+    put_answers(case, octets.as_slice());
 }
 
-fn put_answers(alloc: Global, text: &mut String, octets: &[u8]) -> Result<(), CaseFault> {
+fn put_answers(case: &mut Case<'_>, octets: &[u8]) {
     if octets.len() > LONGEST {
-        return Err(CaseFault::Form);
+        return case.refuse();
     }
-    let without = read_and_written(alloc, octets, false)?;
-    let with = read_and_written(alloc, octets, true)?;
-    put_both(text, without.as_str(), with.as_str())
+    let alloc = case.alloc;
+    let Ok(without) = read_and_written(alloc, octets, false) else {
+        return case.fail();
+    };
+    let Ok(with) = read_and_written(alloc, octets, true) else {
+        return case.fail();
+    };
+    put_both(case, without.as_str(), with.as_str());
 }
 
 /// Both answers, or the one where they are equal.
-fn put_both(text: &mut String, without: &str, with: &str) -> Result<(), CaseFault> {
-    put_word(text, without)?;
-    if without == with {
-        return Ok(());
+fn put_both(case: &mut Case<'_>, without: &str, with: &str) {
+    case.put(without);
+    if without != with {
+        case.put(" / ");
+        case.put(with);
     }
-    put_word(text, " / ")?;
-    put_word(text, with)
 }
 
 fn read_and_written(alloc: Global, octets: &[u8], checksum: bool) -> Result<String, AllocError>

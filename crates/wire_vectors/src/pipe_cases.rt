@@ -2,44 +2,39 @@
 //! `write:OCTETS`, `close`, `read:COUNT`, `ack:TO:RECEIVED` or `end`.
 
 use crate::steps::{Steps, put_steps};
-use case_fields::{CaseFault, octets_at, pair_at, parsed_at, put_word};
+use case_fields::Case;
 use octet_text::Text;
 use pipe_model::{Pipe, PipeFault, PipeStep, pipe_step};
-use std::alloc::Global;
 
-pub fn pipe(alloc: Global, text: &mut String, fields: &[&str]) -> Result<(), CaseFault> {
-    let mut pipe = Pipe::new(alloc);
-    put_steps(alloc, text, &mut pipe, fields)
+pub fn pipe(case: &mut Case<'_>) {
+    let mut pipe = Pipe::new(case.alloc);
+    put_steps(case, &mut pipe);
 }
 
 impl Steps for Pipe {
-    fn step(
-        &mut self,
-        alloc: Global,
-        text: &mut String,
-        name: &str,
-        fields: &[&str],
-    ) -> Result<(), CaseFault> {
-        let step = step_of(alloc, name, fields)?;
-        put_word(text, word_of(pipe_step(self, &step)))
+    fn step(&mut self, case: &mut Case<'_>, name: &str) {
+        match step_of(case, name) {
+            Some(step) => case.put(word_of(pipe_step(self, &step))),
+            None => case.refuse(),
+        }
     }
 }
 
-fn step_of(alloc: Global, name: &str, fields: &[&str]) -> Result<PipeStep, CaseFault> {
+fn step_of(case: &mut Case<'_>, name: &str) -> Option<PipeStep> {
     match name {
-        "write" => Ok(PipeStep::Write {
-            bytes: Text::from(octets_at(alloc, fields, 0)?),
+        "write" => Some(PipeStep::Write {
+            bytes: Text::from(case.octets()),
         }),
-        "close" => Ok(PipeStep::Close),
-        "read" => Ok(PipeStep::Read {
-            count: parsed_at(fields, 0)?,
+        "close" => Some(PipeStep::Close),
+        "read" => Some(PipeStep::Read {
+            count: case.number(),
         }),
-        "ack" => {
-            let (to, received) = pair_at(fields, 0)?;
-            Ok(PipeStep::Ack { to, received })
-        }
-        "end" => Ok(PipeStep::TellEnd),
-        _ => Err(CaseFault::Form),
+        "ack" => Some(PipeStep::Ack {
+            to: case.number(),
+            received: case.number(),
+        }),
+        "end" => Some(PipeStep::TellEnd),
+        _ => None,
     }
 }
 

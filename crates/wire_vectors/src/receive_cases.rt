@@ -9,254 +9,168 @@ ghost use Rattle.std.specs.Prelude.{◌≤◌, ◌<◌, ◌+◌, ◌^◌, length
 
 use crate::steps::{Steps, put_steps};
 use byte_pieces::{BytePieces, Parts};
-use case_fields::{CaseFault, octets_at, parsed_at, put_digits, put_numbers, put_value, put_word};
-use std::alloc::Global;
+use case_fields::Case;
 use subflow_recv::SubflowRecv;
 
 /// The last place that a case names.
 const LAST: u64 = 1 << 61;
 
-/// The place and the octets of a step.
-#[derive(Drop)]
-struct Piece {
-    at: u64,
-    octets: Vec<u8>,
-}
-
-impl Piece {
-    /// Those behind the name of a step.
-    fn read(alloc: Global, fields: &[&str]) -> Result<Self, CaseFault> {
-        Ok(Piece {
-            at: parsed_at(fields, 0)?,
-            octets: octets_at(alloc, fields, 1)?,
-        })
-    }
-}
-
-/// The octets of all parts, in one piece.
-fn put_joined(alloc: Global, text: &mut String, parts: Parts<'_>) -> Result<(), CaseFault> {
-    let mut octets = Vec::new(alloc);
+/// Puts the octets of all parts, in one piece.
+fn put_joined(case: &mut Case<'_>, parts: Parts<'_>) {
+    let mut octets = Vec::new(case.alloc);
     for part in parts {
-        octets.extend_from_slice(part)?;
-    }
-    put_digits(alloc, text, octets.as_slice())
-}
-
-/// Octets part by part behind an empty text, with `,` between the parts.
-fn put_parts(alloc: Global, text: &mut String, parts: Parts<'_>) -> Result<(), CaseFault> {
-    for part in parts {
-        if !text.is_empty() {
-            put_word(text, ",")?;
+        if octets.extend_from_slice(part).is_err() {
+            return case.fail();
         }
-        put_digits(alloc, text, part)?;
     }
-    if text.is_empty() {
-        put_word(text, "-")?;
-    }
-    Ok(())
+    case.put_digits(octets.as_slice());
 }
 
-pub fn receive(alloc: Global, text: &mut String, fields: &[&str]) -> Result<(), CaseFault> {
-    let window: u32 = parsed_at(fields, 0)?;
-    let Some((_, steps)) = fields.split_first() else {
-        return Err(CaseFault::Form);
-    };
-    if window == 0 {
-        return Err(CaseFault::Form);
+/// Puts octets part by part, with `,` between the parts.
+fn put_parts(case: &mut Case<'_>, parts: Parts<'_>) {
+    let start = case.answered();
+    for part in parts {
+        if case.answered() > start {
+            case.put(",");
+        }
+        case.put_digits(part);
     }
-    let mut side = SubflowRecv::new(alloc, window);
+    if case.answered() == start {
+        case.put("-");
+    }
+}
+
+pub fn receive(case: &mut Case<'_>) {
+    let window: u32 = case.number();
+    if window == 0 {
+        return case.refuse();
+    }
+    let mut side = SubflowRecv::new(case.alloc, window);
     if side.edge() < 1 {
         side.pass();
     }
-    put_steps(alloc, text, &mut side, steps)
+    put_steps(case, &mut side);
 }
 
 impl Steps for SubflowRecv {
-    fn step(
-        &mut self,
-        alloc: Global,
-        text: &mut String,
-        name: &str,
-        fields: &[&str],
-    ) -> Result<(), CaseFault> {
+    fn step(&mut self, case: &mut Case<'_>, name: &str) {
         match name {
-            "accept" => accept(alloc, text, self, fields),
-            "hold" => hold(alloc, self, fields),
-            "keep" => {
-                self.keep_held();
-                Ok(())
+            "accept" | "hold" => take(case, self, name == "accept"),
+            "advance" => advance(case, self),
+            "forget" => forget(case, self),
+            "keep" => self.keep_held(),
+            "drop" => self.drop_held(),
+            "held" => put_joined(case, self.held()),
+            "ends" => {
+                let ends = [self.edge(), self.held_end(), self.window_end()];
+                case.put_numbers("/", &ends);
             }
-            "drop" => {
-                self.drop_held();
-                Ok(())
-            }
-            "held" => put_joined(alloc, text, self.held()),
-            "ends" => put_ends(text, self),
-            _ => move_edge(self, name, parsed_at(fields, 0)?),
+            _ => case.refuse(),
         }
     }
 }
 
-fn put_ends(text: &mut String, side: &SubflowRecv) -> Result<(), CaseFault> {
-    put_numbers(
-        text,
-        "/",
-        &[side.edge(), side.held_end(), side.window_end()],
-    )
+/// `accept` or `hold`.
+fn take(case: &mut Case<'_>, side: &mut SubflowRecv, accepts: bool) {
+    let at: u64 = case.number();
+    let octets = case.octets();
+    take_octets(case, side, accepts, at, octets.as_slice());
 }
 
-fn accept(
-    alloc: Global,
-    text: &mut String,
-    side: &mut SubflowRecv,
-    fields: &[&str],
-) -> Result<(), CaseFault> {
-    let piece = Piece::read(alloc, fields)?;
-    put_accepted(text, side, piece.at, piece.octets.as_slice())
-}
-
-fn put_accepted(
-    text: &mut String,
-    side: &mut SubflowRecv,
-    at: u64,
-    octets: &[u8],
-) -> Result<(), CaseFault> {
+fn take_octets(case: &mut Case<'_>, side: &mut SubflowRecv, accepts: bool, at: u64, octets: &[u8]) {
     if at > LAST || octets.len() > 65_536 {
-        return Err(CaseFault::Form);
+        return case.refuse();
     }
-    let acceptance = side.accept(at, octets)?;
-    put_value(text, &acceptance)
-}
-
-fn hold(alloc: Global, side: &mut SubflowRecv, fields: &[&str]) -> Result<(), CaseFault> {
-    let piece = Piece::read(alloc, fields)?;
-    hold_octets(side, piece.at, piece.octets.as_slice())
-}
-
-fn hold_octets(side: &mut SubflowRecv, at: u64, octets: &[u8]) -> Result<(), CaseFault> {
-    if at > LAST || octets.len() > 65_536 {
-        return Err(CaseFault::Form);
+    if !accepts {
+        if side.hold(at, octets).is_err() {
+            case.fail();
+        }
+        return;
     }
-    Ok(side.hold(at, octets)?)
-}
-
-/// `advance` or `forget`.
-fn move_edge(side: &mut SubflowRecv, name: &str, to: u64) -> Result<(), CaseFault> {
-    match name {
-        "advance" => advance(side, to),
-        "forget" => forget(side, to),
-        _ => Err(CaseFault::Form),
+    match side.accept(at, octets) {
+        Ok(acceptance) => case.tell(&acceptance),
+        Err(_) => case.fail(),
     }
 }
 
-fn advance(side: &mut SubflowRecv, to: u64) -> Result<(), CaseFault> {
+fn advance(case: &mut Case<'_>, side: &mut SubflowRecv) {
+    let to: u64 = case.number();
     if to < side.edge() || side.held_end() < to {
-        return Err(CaseFault::Form);
+        return case.refuse();
     }
     side.advance(to);
-    Ok(())
 }
 
-fn forget(side: &mut SubflowRecv, from: u64) -> Result<(), CaseFault> {
+fn forget(case: &mut Case<'_>, side: &mut SubflowRecv) {
+    let from: u64 = case.number();
     if from < side.edge() {
-        return Err(CaseFault::Form);
+        return case.refuse();
     }
     side.forget_from(from);
-    Ok(())
 }
 
-pub fn pieces(alloc: Global, text: &mut String, fields: &[&str]) -> Result<(), CaseFault> {
-    let from: u64 = parsed_at(fields, 0)?;
-    let Some((_, steps)) = fields.split_first() else {
-        return Err(CaseFault::Form);
-    };
+pub fn pieces(case: &mut Case<'_>) {
+    let from: u64 = case.number();
     if from > LAST {
-        return Err(CaseFault::Form);
+        return case.refuse();
     }
-    let mut kept = BytePieces::new(alloc, from);
-    put_steps(alloc, text, &mut kept, steps)
+    let mut kept = BytePieces::new(case.alloc, from);
+    put_steps(case, &mut kept);
 }
 
 impl Steps for BytePieces {
-    fn step(
-        &mut self,
-        alloc: Global,
-        text: &mut String,
-        name: &str,
-        fields: &[&str],
-    ) -> Result<(), CaseFault> {
+    fn step(&mut self, case: &mut Case<'_>, name: &str) {
         match name {
-            "put" | "count" | "hold" => with_piece(alloc, text, self, name, fields),
-            "front" => drop_front(self, parsed_at(fields, 0)?),
-            "back" => cut_back(self, parsed_at(fields, 0)?),
-            "keep" => {
-                self.keep_held();
-                Ok(())
-            }
-            "drop" => {
-                self.drop_held();
-                Ok(())
-            }
-            _ => put_kept(alloc, text, self, name),
+            "put" | "count" | "hold" => with_octets(case, self, name),
+            "front" => drop_front(case, self),
+            "back" => cut_back(case, self),
+            "keep" => self.keep_held(),
+            "drop" => self.drop_held(),
+            "gap" => case.tell(&self.gap_len()),
+            "parts" => put_parts(case, self.in_order()),
+            "ends" => case.put_numbers("/", &[self.from(), self.in_order_end(), self.top()]),
+            _ => case.refuse(),
         }
     }
 }
 
-/// A step that has octets.
-fn with_piece(
-    alloc: Global,
-    text: &mut String,
-    kept: &mut BytePieces,
-    name: &str,
-    fields: &[&str],
-) -> Result<(), CaseFault> {
-    let piece = Piece::read(alloc, fields)?;
-    treat_octets(text, kept, name, piece.at, piece.octets.as_slice())
+/// `put`, `count` or `hold`.
+fn with_octets(case: &mut Case<'_>, kept: &mut BytePieces, name: &str) {
+    let at: u64 = case.number();
+    let octets = case.octets();
+    treat_octets(case, kept, name, at, octets.as_slice());
 }
 
-fn treat_octets(
-    text: &mut String,
-    kept: &mut BytePieces,
-    name: &str,
-    at: u64,
-    octets: &[u8],
-) -> Result<(), CaseFault> {
+fn treat_octets(case: &mut Case<'_>, kept: &mut BytePieces, name: &str, at: u64, octets: &[u8]) {
     if at > LAST || octets.len() > 65_536 {
-        return Err(CaseFault::Form);
+        return case.refuse();
     }
     match name {
-        "put" => put_value(text, &kept.put(at, octets)?),
-        "count" => put_value(text, &kept.count_new(at, octets)),
-        _ => Ok(kept.hold(at, octets)?),
+        "count" => case.tell(&kept.count_new(at, octets)),
+        "put" => match kept.put(at, octets) {
+            Ok(count) => case.tell(&count),
+            Err(_) => case.fail(),
+        },
+        _ => {
+            if kept.hold(at, octets).is_err() {
+                case.fail();
+            }
+        }
     }
 }
 
-fn drop_front(kept: &mut BytePieces, to: u64) -> Result<(), CaseFault> {
+fn drop_front(case: &mut Case<'_>, kept: &mut BytePieces) {
+    let to: u64 = case.number();
     if to < kept.from() || LAST < to {
-        return Err(CaseFault::Form);
+        return case.refuse();
     }
     kept.drop_front(to);
-    Ok(())
 }
 
-fn cut_back(kept: &mut BytePieces, to: u64) -> Result<(), CaseFault> {
+fn cut_back(case: &mut Case<'_>, kept: &mut BytePieces) {
+    let to: u64 = case.number();
     if to < kept.from() {
-        return Err(CaseFault::Form);
+        return case.refuse();
     }
     kept.cut_back(to);
-    Ok(())
-}
-
-fn put_kept(
-    alloc: Global,
-    text: &mut String,
-    kept: &BytePieces,
-    name: &str,
-) -> Result<(), CaseFault> {
-    match name {
-        "gap" => put_value(text, &kept.gap_len()),
-        "parts" => put_parts(alloc, text, kept.in_order()),
-        "ends" => put_numbers(text, "/", &[kept.from(), kept.in_order_end(), kept.top()]),
-        _ => Err(CaseFault::Form),
-    }
 }

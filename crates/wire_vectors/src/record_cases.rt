@@ -6,127 +6,103 @@
 ghost use Rattle.std.specs.Prelude.{◌≤◌, ◌<◌, ◌^◌, length};
 
 use crate::steps::{Steps, put_steps};
-use case_fields::{CaseFault, digits, octets_at, parsed_at, put_numbers, put_value, put_word};
+use case_fields::Case;
 use seq_units::Mapping;
-use std::alloc::{AllocError, Global};
 use subflow_send::{RecordRef, SubflowSend};
 
-pub fn records(alloc: Global, text: &mut String, fields: &[&str]) -> Result<(), CaseFault> {
-    let mut side = SubflowSend::new(alloc);
-    put_steps(alloc, text, &mut side, fields)
+/// The mapping of each piece.
+const MAPPING: Mapping = Mapping {
+    number: 7,
+    relative: 1,
+    length: 2,
+    checksum: 0,
+};
+
+pub fn records(case: &mut Case<'_>) {
+    let mut side = SubflowSend::new(case.alloc);
+    put_steps(case, &mut side);
 }
 
 impl Steps for SubflowSend {
-    fn step(
-        &mut self,
-        alloc: Global,
-        text: &mut String,
-        name: &str,
-        fields: &[&str],
-    ) -> Result<(), CaseFault> {
+    fn step(&mut self, case: &mut Case<'_>, name: &str) {
         match name {
-            "push" => push(alloc, self, fields),
-            "finish" => finish(self),
-            "expire" => {
-                self.expired();
-                Ok(())
+            "push" => push(case, self),
+            "finish" => finish(case, self),
+            "expire" => self.expired(),
+            "due" => put_record(case, self.due()),
+            "first" => put_record(case, self.retransmit_first()),
+            "at" => {
+                let record = self.record_at(case.number());
+                put_record(case, record);
             }
-            "due" => put_record(alloc, text, self.due()),
-            "first" => put_record(alloc, text, self.retransmit_first()),
-            "flight" => put_flight(text, self),
-            "ends" => put_numbers(text, "/", &[self.una(), self.nxt()]),
-            "new-fin" => put_value(text, &self.has_new_fin()),
-            _ => numbered(alloc, text, self, name, parsed_at(fields, 0)?),
+            "flight" => {
+                case.tell(&self.flight());
+                case.put("/");
+                case.tell(&self.again());
+            }
+            "ends" => case.put_numbers("/", &[self.una(), self.nxt()]),
+            "new-fin" => case.tell(&self.has_new_fin()),
+            "ack" => {
+                let kind = self.acknowledge(case.number());
+                case.tell(&kind);
+            }
+            "sample" => {
+                let sample = self.sample(case.number());
+                case.tell(&sample);
+            }
+            _ => at_tick(case, self, name),
         }
-    }
-}
-
-/// A step that names a position or a tick.
-fn numbered(
-    alloc: Global,
-    text: &mut String,
-    side: &mut SubflowSend,
-    name: &str,
-    number: u64,
-) -> Result<(), CaseFault> {
-    match name {
-        "ack" => put_value(text, &side.acknowledge(number)),
-        "at" => put_record(alloc, text, side.record_at(number)),
-        "sample" => put_value(text, &side.sample(number)),
-        _ => at_tick(side, name, number),
     }
 }
 
 /// What is sent, or sent again, at a tick.
-fn at_tick(side: &mut SubflowSend, name: &str, tick: u64) -> Result<(), CaseFault> {
+fn at_tick(case: &mut Case<'_>, side: &mut SubflowSend, name: &str) {
+    let tick: u64 = case.number();
     match name {
-        "sent" => send(side, tick),
-        "resent" => {
-            side.resent(tick);
-            Ok(())
-        }
-        "fin-sent" => {
-            side.fin_sent(tick);
-            Ok(())
-        }
-        _ => Err(CaseFault::Form),
+        "sent" => send(case, side, tick),
+        "resent" => side.resent(tick),
+        "fin-sent" => side.fin_sent(tick),
+        _ => case.refuse(),
     }
 }
 
-fn send(side: &mut SubflowSend, tick: u64) -> Result<(), CaseFault> {
+fn send(case: &mut Case<'_>, side: &mut SubflowSend, tick: u64) {
     if side.due().is_none() {
-        return Err(CaseFault::Form);
+        return case.refuse();
     }
     side.sent(tick);
-    Ok(())
 }
 
-fn push(alloc: Global, side: &mut SubflowSend, fields: &[&str]) -> Result<(), CaseFault> {
-    let octets = octets_at(alloc, fields, 0)?;
-    push_octets(side, octets.as_slice())
+fn push(case: &mut Case<'_>, side: &mut SubflowSend) {
+    let octets = case.octets();
+    push_octets(case, side, octets.as_slice());
 }
 
-fn push_octets(side: &mut SubflowSend, octets: &[u8]) -> Result<(), CaseFault> {
-    let mapping = Mapping {
-        number: 7,
-        relative: 1,
-        length: 2,
-        checksum: 0,
-    };
+fn push_octets(case: &mut Case<'_>, side: &mut SubflowSend, octets: &[u8]) {
     if octets.is_empty() || octets.len() > 1_000 || side.nxt() > 1 << 32 || side.is_finished() {
-        return Err(CaseFault::Form);
+        return case.refuse();
     }
-    side.push(octets, &mapping)?;
-    Ok(())
+    if side.push(octets, &MAPPING).is_err() {
+        case.fail();
+    }
 }
 
-fn finish(side: &mut SubflowSend) -> Result<(), CaseFault> {
+fn finish(case: &mut Case<'_>, side: &mut SubflowSend) {
     if side.is_finished() {
-        return Err(CaseFault::Form);
+        return case.refuse();
     }
     side.finish();
-    Ok(())
 }
 
-fn put_record(
-    alloc: Global,
-    text: &mut String,
-    record: Option<RecordRef<'_>>,
-) -> Result<(), CaseFault> {
+fn put_record(case: &mut Case<'_>, record: Option<RecordRef<'_>>) {
     match record {
-        Some(record) => Ok(put_parts(alloc, text, &record)?),
-        None => put_word(text, "None"),
+        Some(record) => {
+            case.say(&record.pos);
+            case.put("/");
+            case.tell(&record.kind);
+            case.put("/");
+            case.put_digits(record.piece);
+        }
+        None => case.put("None"),
     }
-}
-
-fn put_parts(alloc: Global, text: &mut String, record: &RecordRef<'_>) -> Result<(), AllocError> {
-    let (pos, kind) = (record.pos, record.kind);
-    let octets = digits(alloc, record.piece)?;
-    write!(text, "{pos}/{kind:?}/{octets}")
-}
-
-fn put_flight(text: &mut String, side: &SubflowSend) -> Result<(), CaseFault> {
-    put_value(text, &side.flight())?;
-    put_word(text, "/")?;
-    put_value(text, &side.again())
 }

@@ -3,45 +3,37 @@
 //! before them. The case is printed again behind the answer, which is `ok`, or the first refused line and the kind of its fault.
 //! The script that an accepted text says is written by `text`, and printed on a line of its own.
 
-use case_fields::with_line_ends;
+use case_fields::{Case, with_line_ends};
 use link_script::{Script, ScriptFault, parse, text};
 use std::alloc::{AllocError, Global};
 
-/// What a case asks.
-enum Case<'a> {
-    /// A whole script.
-    Text(&'a str),
-    /// What stands between the first line of a script and its last.
-    Lines(&'a str),
-    /// So many empty lines behind the line of path 0, and what stands behind them.
-    Long(u16, &'a str),
-}
-
-impl<'a> Case<'a> {
-    /// The case that the words behind `script` tell, if it is in form.
-    fn read(line: &'a str) -> Option<Self> {
-        match line.split_once(" ") {
-            Some(("text", script)) => Some(Case::Text(script)),
-            Some(("lines", lines)) => Some(Case::Lines(lines)),
-            Some(("long", rest)) => {
-                let (count, last) = rest.split_once(" ")?;
-                Some(Case::Long(count.parse().ok()?, last))
-            }
-            _ => None,
-        }
+pub fn script(case: &mut Case<'_>) {
+    let told = case.rest();
+    case.read(told, " ");
+    match script_of(case) {
+        Ok(script) => put_parsed(case, told, script.as_str()),
+        Err(_) => case.fail(),
     }
 }
 
-/// A text with `;` for each LF but the last.
-fn without_line_ends(alloc: Global, script: &[u8]) -> Result<String, AllocError> {
-    let mut case = String::new(alloc);
-    for (place, line) in String::from_utf8_lossy(alloc, script)?.lines().enumerate() {
-        if place > 0 {
-            case.push(';')?;
+/// The script that a case tells.
+fn script_of(case: &mut Case<'_>) -> Result<String, AllocError> {
+    let alloc = case.alloc;
+    match case.word() {
+        "text" => with_line_ends(alloc, case.rest()),
+        "lines" => {
+            let lines = with_line_ends(alloc, case.rest())?;
+            format!(in alloc; "mptcp-script 1\n{lines}\nend\n")
         }
-        case.push_str(line)?;
+        "long" => {
+            let count = case.number();
+            long_script(alloc, count, case.rest())
+        }
+        _ => {
+            case.refuse();
+            Ok(String::new(alloc))
+        }
     }
-    Ok(case)
 }
 
 /// A script with so many empty lines behind the line of path 0.
@@ -54,36 +46,46 @@ fn long_script(alloc: Global, count: u16, last: &str) -> Result<String, AllocErr
     Ok(script)
 }
 
-/// What `text` answers to a script that was read.
-fn read_text(alloc: Global, line: &str, read: &Script) -> Result<String, AllocError> {
-    let written = without_line_ends(alloc, &text(alloc, read)?)?;
-    format!(in alloc; "ok: {line}\n    {written}")
-}
-
 /// What `parse` answers to a script, and `text` to what it says.
-fn answer(alloc: Global, line: &str, script: &str) -> Result<String, AllocError> {
-    match parse(alloc, script.as_bytes()) {
-        Ok(read) => read_text(alloc, line, &read),
-        Err(ScriptFault::Line { line: number, kind }) => {
-            format!(in alloc; "{number} {kind}: {line}")
+fn put_parsed(case: &mut Case<'_>, told: &str, script: &str) {
+    match parse(case.alloc, script.as_bytes()) {
+        Ok(read) => {
+            case.put("ok: ");
+            case.put(told);
+            case.put("\n    ");
+            put_text(case, &read);
         }
-        Err(ScriptFault::Memory) => Err(AllocError),
+        Err(ScriptFault::Line { line, kind }) => {
+            case.say(&line);
+            case.put(" ");
+            case.say(&kind);
+            case.put(": ");
+            case.put(told);
+        }
+        Err(ScriptFault::Memory) => case.fail(),
     }
 }
 
-/// The answer to a case.
-pub fn script(alloc: Global, line: &str) -> Result<String, AllocError> {
-    match Case::read(line) {
-        Some(Case::Text(script)) => answer(alloc, line, &with_line_ends(alloc, script)?),
-        Some(Case::Lines(lines)) => {
-            let between = with_line_ends(alloc, lines)?;
-            answer(
-                alloc,
-                line,
-                &format!(in alloc; "mptcp-script 1\n{between}\nend\n")?,
-            )
-        }
-        Some(Case::Long(count, last)) => answer(alloc, line, &long_script(alloc, count, last)?),
-        None => format!(in alloc; "no case: {line}"),
+/// Puts the text that says this, with `;` for each LF but the last.
+fn put_text(case: &mut Case<'_>, script: &Script) {
+    let Ok(text) = text(case.alloc, script) else {
+        return case.fail();
+    };
+    put_lines(case, &text);
+}
+
+fn put_lines(case: &mut Case<'_>, text: &[u8]) {
+    match String::from_utf8_lossy(case.alloc, text) {
+        Ok(text) => put_between(case, text.as_str()),
+        Err(_) => case.fail(),
+    }
+}
+
+fn put_between(case: &mut Case<'_>, text: &str) {
+    let mut before = "";
+    for line in text.lines() {
+        case.put(before);
+        case.put(line);
+        before = ";";
     }
 }

@@ -5,20 +5,20 @@
 
 ghost use Rattle.std.specs.Prelude.{◌≤◌, ◌^◌, length};
 
-use case_fields::{CaseFault, octets_at, pair_at, put_numbers, put_value};
+use case_fields::Case;
 use std::alloc::{AllocError, Global};
 
-pub fn sum(alloc: Global, text: &mut String, fields: &[&str]) -> Result<(), CaseFault> {
-    let octets = octets_at(alloc, fields, 0)?;
-    put_sum(text, octets.as_slice())
+pub fn sum(case: &mut Case<'_>) {
+    let octets = case.octets();
+    put_sum(case, octets.as_slice());
 }
 
-fn put_sum(text: &mut String, octets: &[u8]) -> Result<(), CaseFault> {
+fn put_sum(case: &mut Case<'_>, octets: &[u8]) {
     if octets.len() > 1 << 32 {
-        return Err(CaseFault::Form);
+        return case.refuse();
     }
     let total = ones_sum::sum(octets);
-    put_numbers(text, " ", &[total, u64::from(ones_sum::fold(total))])
+    case.put_numbers(" ", &[total, u64::from(ones_sum::fold(total))]);
 }
 
 /// So many octets of any value.
@@ -70,8 +70,11 @@ fn summed(octets: &[u8], lengths: u16, places: u8) -> u64 {
     count
 }
 
-pub fn sums(alloc: Global, text: &mut String, fields: &[&str]) -> Result<(), CaseFault> {
-    let (lengths, places): (u16, u8) = pair_at(fields, 0)?;
-    let octets = made(alloc, lengths.saturating_add(u16::from(places)))?;
-    put_value(text, &summed(octets.as_slice(), lengths, places))
+pub fn sums(case: &mut Case<'_>) {
+    let lengths: u16 = case.number();
+    let places: u8 = case.number();
+    match made(case.alloc, lengths.saturating_add(u16::from(places))) {
+        Ok(octets) => case.tell(&summed(octets.as_slice(), lengths, places)),
+        Err(_) => case.fail(),
+    }
 }

@@ -3,9 +3,8 @@
 //! a segment each, `third:FLIGHT`, `more`, `expired:FLIGHT:AGAIN`, or `room:FLIGHT`, whose answer is the room.
 
 use crate::steps::{Steps, put_steps};
-use case_fields::{CaseFault, pair_at, parsed_at, put_numbers, put_value, put_word, truth_at};
+use case_fields::Case;
 use reno_window::Reno;
-use std::alloc::Global;
 
 /// A congestion window, and the octets of a segment.
 #[derive(Drop)]
@@ -14,58 +13,52 @@ struct Window {
     mss: u16,
 }
 
-pub fn reno(alloc: Global, text: &mut String, fields: &[&str]) -> Result<(), CaseFault> {
-    let mss: u16 = parsed_at(fields, 0)?;
-    let Some((_, steps)) = fields.split_first() else {
-        return Err(CaseFault::Form);
-    };
+pub fn reno(case: &mut Case<'_>) {
+    let mss: u16 = case.number();
     if mss == 0 {
-        return Err(CaseFault::Form);
+        return case.refuse();
     }
     let mut window = Window {
         reno: Reno::new(mss),
         mss,
     };
-    put_state(text, &window.reno)?;
-    put_steps(alloc, text, &mut window, steps)
+    put_state(case, &window.reno);
+    put_steps(case, &mut window);
 }
 
-fn put_state(text: &mut String, reno: &Reno) -> Result<(), CaseFault> {
+fn put_state(case: &mut Case<'_>, reno: &Reno) {
     let (window, ssthresh) = (u64::from(reno.window()), u64::from(reno.ssthresh()));
-    put_numbers(text, "/", &[window, ssthresh])?;
-    put_word(text, "/")?;
-    put_value(text, &reno.in_fast_recovery())
+    case.put_numbers("/", &[window, ssthresh]);
+    case.put("/");
+    case.tell(&reno.in_fast_recovery());
 }
 
 impl Steps for Window {
-    fn step(
-        &mut self,
-        _alloc: Global,
-        text: &mut String,
-        name: &str,
-        fields: &[&str],
-    ) -> Result<(), CaseFault> {
+    fn step(&mut self, case: &mut Case<'_>, name: &str) {
         if name == "room" {
-            return put_value(text, &self.reno.room(parsed_at(fields, 0)?));
+            let room = self.reno.room(case.number());
+            return case.tell(&room);
         }
-        change(&mut self.reno, self.mss, name, fields)?;
-        put_state(text, &self.reno)
+        change(case, &mut self.reno, self.mss, name);
+        put_state(case, &self.reno);
     }
 }
 
-fn change(reno: &mut Reno, mss: u16, name: &str, fields: &[&str]) -> Result<(), CaseFault> {
+fn change(case: &mut Case<'_>, reno: &mut Reno, mss: u16, name: &str) {
     match name {
         "acked" => {
-            let (octets, growth) = pair_at(fields, 0)?;
+            let (octets, growth) = (case.number(), case.number());
             reno.acked(octets, growth);
         }
-        "steady" => acknowledge_often(reno, mss, parsed_at(fields, 0)?),
-        "third" => reno.third_duplicate(parsed_at(fields, 0)?),
+        "steady" => acknowledge_often(reno, mss, case.number()),
+        "third" => reno.third_duplicate(case.number()),
         "more" => reno.more_duplicate(),
-        "expired" => reno.expired(parsed_at(fields, 0)?, truth_at(fields, 1)?),
-        _ => return Err(CaseFault::Form),
+        "expired" => {
+            let (flight, again) = (case.number(), case.truth());
+            reno.expired(flight, again);
+        }
+        _ => case.refuse(),
     }
-    Ok(())
 }
 
 fn acknowledge_often(reno: &mut Reno, mss: u16, count: u16) {

@@ -1,54 +1,67 @@
 //! `words` and then each word of a command line behind a `;`: what `run_words` reads of it. The case is printed again behind ` = `
 //! and the answer: `usage`, or the mode, its values and the five names, with a `;` between.
 
+use case_fields::Case;
 use run_words::{CommandLine, Mode, WordsFault, read};
 use std::alloc::{AllocError, Global};
 
-/// The words of a case, or None where it isn't in form.
-fn words_of(alloc: Global, case: &str) -> Result<Option<Vec<String>>, AllocError> {
+pub fn words(case: &mut Case<'_>) {
+    let told = case.rest();
+    case.put(told);
+    case.put(" = ");
+    match words_of(case.alloc, told) {
+        Ok(words) => put_read(case, words.as_slice()),
+        Err(_) => case.fail(),
+    }
+}
+
+/// The words of a case, each of which stands behind a `;`.
+fn words_of(alloc: Global, told: &str) -> Result<Vec<String>, AllocError> {
     let mut words = Vec::new(alloc);
-    for (place, word) in case.split(';').enumerate() {
-        if place > 0 {
-            words.push(String::from_str(alloc, word)?)?;
-        } else if !word.is_empty() {
-            return Ok(None);
+    for word in told.split(';').skip(1) {
+        words.push(String::from_str(alloc, word)?)?;
+    }
+    Ok(words)
+}
+
+/// Puts what the words of a case are read as.
+fn put_read(case: &mut Case<'_>, words: &[String]) {
+    match read(case.alloc, words) {
+        Ok(line) => put_line(case, &line),
+        Err(WordsFault::Usage) => case.put("usage"),
+        Err(WordsFault::Memory) => case.fail(),
+    }
+}
+
+/// Puts a command line with a `;` between what it says.
+fn put_line(case: &mut Case<'_>, line: &CommandLine<'_>) {
+    match line.mode {
+        Mode::Run { rounds } => put_mode(case, "run;", rounds),
+        Mode::Serial { rounds } => put_mode(case, "serial;", rounds),
+        Mode::Replay { order } => {
+            case.put("replay;");
+            case.put(order);
+        }
+        Mode::Bench { rounds, number } => {
+            put_mode(case, "bench;", rounds);
+            case.put(";");
+            case.say(&number);
         }
     }
-    Ok(Some(words))
-}
-
-/// The mode and its values.
-fn mode_text(alloc: Global, mode: Mode<'_>) -> Result<String, AllocError> {
-    match mode {
-        Mode::Run { rounds } => format!(in alloc; "run;{rounds}"),
-        Mode::Serial { rounds } => format!(in alloc; "serial;{rounds}"),
-        Mode::Replay { order } => format!(in alloc; "replay;{order}"),
-        Mode::Bench { rounds, number } => format!(in alloc; "bench;{rounds};{number}"),
+    for name in [
+        line.script,
+        line.file_a,
+        line.file_b,
+        line.read_by_b,
+        line.read_by_a,
+    ] {
+        case.put(";");
+        case.put(name);
     }
 }
 
-/// A command line with a `;` between what it says.
-fn line_text(alloc: Global, line: &CommandLine<'_>) -> Result<String, AllocError> {
-    let mode = mode_text(alloc, line.mode)?;
-    let (script, file_a, file_b) = (line.script, line.file_a, line.file_b);
-    let (read_by_b, read_by_a) = (line.read_by_b, line.read_by_a);
-    format!(in alloc; "{mode};{script};{file_a};{file_b};{read_by_b};{read_by_a}")
-}
-
-/// What the words of a case are read as.
-fn answer(alloc: Global, words: &[String]) -> Result<String, AllocError> {
-    match read(alloc, words) {
-        Ok(line) => line_text(alloc, &line),
-        Err(WordsFault::Usage) => String::from_str(alloc, "usage"),
-        Err(WordsFault::Memory) => Err(AllocError),
-    }
-}
-
-/// The answer to a case.
-pub fn words(alloc: Global, case: &str) -> Result<String, AllocError> {
-    let Some(words) = words_of(alloc, case)? else {
-        return format!(in alloc; "no case: {case}");
-    };
-    let answer = answer(alloc, words.as_slice())?;
-    format!(in alloc; "{case} = {answer}")
+/// Puts a mode and how many rounds are made.
+fn put_mode(case: &mut Case<'_>, mode: &str, rounds: u32) {
+    case.put(mode);
+    case.say(&rounds);
 }

@@ -3,101 +3,154 @@
 //! holds the cases, `stdout` the wanted answers. Lines that begin with `#` are printed as they stand, and say how the answers were found.
 //! Runs that words say stand in `checks/runs.cases`.
 //!
-//! `case.rt` tells the form of a case, which is printed before its answer. Of the answer, `sums` shows how many octets the
+//! `task.rt` of `case_fields` tells the form of a case, which is printed before its answer. Of the answer, `sums` shows how many octets the
 //! readers' ports hold, how many lines the log has, and the SHA-256 of each; `read` the same of the readers' ports alone; `calls` these sums,
 //! and the calls that were made on the outside: the name and the limit of a load, the port and the name of a bind, the port and the number
 //! of octets of a put. A line that begins with `meet` is a run by threads, as `meeting.rt` tells; one that begins with `round` is the
 //! first round of a run by threads at locks, as `opening.rt` tells; one that begins with `enough` asks within how many rounds a clean
-//! script ends, as `enough.rt` tells; one that begins with `many` is a run of a list of connections, as `lists.rt` tells; and one that
-//! begins with `table` is calls of a table of connections, as `tables.rt` tells.
+//! script ends, as `enough.rt` tells; one that begins with `many` is a run of a list of connections, as `lists.rt` tells; one that
+//! begins with `table` is calls of a table of connections, as `tables.rt` tells; one that begins with `tables` is rounds by threads at the
+//! tables of books, as `at_tables.rt` tells; and one that begins with `path` is a run with segments that no end sent, as `paths.rt`
+//! tells.
 #![tactic(auto)]
 
-mod case;
+mod at_tables;
+mod caller;
 mod enough;
+mod inputs;
 mod lists;
 mod meeting;
 mod opening;
-mod order;
-mod recorder;
-mod report;
+mod paths;
 mod tables;
 
-use case::Case;
-use case_fields::CaseFault;
-use enough::bound;
-use lists::list_answer;
+use at_tables::at_tables;
+use case_fields::{Case, CaseFault, Recorder, Task, put_report};
+use enough::enough;
+use lists::list_run;
 use meeting::meeting;
 use mptcp_run::{Status, run, run_messages};
 use opening::first_round;
 use outside_kit::{OpenGate, Port};
-use recorder::Recorder;
-use report::report;
+use paths::path;
 use std::alloc::{AllocError, Global};
 use std::io;
 use std::sync::Wait;
 use std::thread::Threads;
-use tables::table_answer;
+use tables::table;
 
 /// The run of a case: how it ended, and the outside then.
 fn ended<R: Threads + Wait + Sync>(
     rt: &R,
     alloc: Global,
-    case: &Case<'_>,
+    task: &Task<'_>,
     words: &[String],
     mut outside: Recorder,
 ) -> (Status, Recorder) {
-    if case.has_messages {
+    if task.has_messages {
         return run_messages(rt, alloc, words, outside, &OpenGate);
     }
     let status = run(rt, alloc, words, &mut outside, &OpenGate);
     (status, outside)
 }
 
-/// How a case ends, and what is shown of it. A serial case leaves its log in `log`.
+/// Puts how a run ends, and what is shown of it. A serial run leaves its log in `log`.
+fn put_run<R: Threads + Wait + Sync>(
+    rt: &R,
+    case: &mut Case<'_>,
+    task: &Task<'_>,
+    log: &mut Vec<u8>,
+) {
+    let alloc = case.alloc;
+    let Ok(words) = task.words(alloc) else {
+        return case.fail();
+    };
+    let Ok(outside) = task.outside(alloc, log.as_slice()) else {
+        return case.refuse();
+    };
+    let outside = Recorder::new(alloc, outside);
+    let (status, outside) = ended(rt, alloc, task, words.as_slice(), outside);
+    case.put("\n  ");
+    case.tell(&status);
+    put_report(case, task.shown, &outside);
+    if task.is_serial() {
+        keep_log(case, log, outside.port(Port::Log));
+    }
+}
+
+fn keep_log(case: &mut Case<'_>, log: &mut Vec<u8>, told: &[u8]) {
+    match Vec::from_slice(case.alloc, told) {
+        Ok(told) => *log = told,
+        Err(_) => case.fail(),
+    }
+}
+
+/// Puts what is printed for a line of standard input.
+fn put_answer<'a, R: Threads + Wait + Sync>(
+    rt: &R,
+    case: &mut Case<'a>,
+    line: &'a str,
+    log: &mut Vec<u8>,
+) {
+    if line.is_empty() || line.starts_with("#") {
+        return case.put(line);
+    }
+    match case.word() {
+        "path" => path(case, line),
+        "table" => table(case, line),
+        "tables" => at_tables(rt, case, line),
+        "meet" => meeting(rt, case, line),
+        "many" => {
+            case.put(line);
+            case.put("\n  ");
+            let fields = case.rest();
+            case.read(fields, " | ");
+            let told = list_run(case);
+            case.put_told(told);
+        }
+        name => put_other(rt, case, name, line, log),
+    }
+}
+
+/// Puts the answer to a line all of whose fields have ` | ` between them.
+fn put_other<'a, R: Threads + Wait + Sync>(
+    rt: &R,
+    case: &mut Case<'a>,
+    name: &str,
+    line: &'a str,
+    log: &mut Vec<u8>,
+) {
+    case.read(line, " | ");
+    match name {
+        "round" => first_round(rt, case, line),
+        "enough" => enough(case, line),
+        _ => {
+            let task = Task::read(case);
+            case.put(line);
+            put_run(rt, case, &task, log);
+        }
+    }
+}
+
+/// What is printed for a line of standard input.
 fn answer<R: Threads + Wait + Sync>(
     rt: &R,
     alloc: Global,
     line: &str,
     log: &mut Vec<u8>,
 ) -> Result<String, CaseFault> {
-    let case = Case::read(alloc, line)?;
-    let outside = Recorder::new(alloc, case.outside(alloc, log.as_slice())?);
-    let words = case.words(alloc)?;
-    let (status, outside) = ended(rt, alloc, &case, words.as_slice(), outside);
-    let report = report(alloc, case.shown, &outside)?;
-    if case.is_serial() {
-        *log = Vec::from_slice(alloc, outside.port(Port::Log))?;
-    }
-    Ok(format!(in alloc; "{line}\n  {status:?}{report}")?)
-}
-
-/// What is printed for a line of standard input.
-fn respond<R: Threads + Wait + Sync>(
-    rt: &R,
-    alloc: Global,
-    line: &str,
-    log: &mut Vec<u8>,
-) -> Result<String, CaseFault> {
-    if line.is_empty() || line.starts_with("#") {
-        return Ok(String::from_str(alloc, line)?);
-    }
-    match line.split_once(" ") {
-        Some(("meet", fields)) => meeting(rt, alloc, line, fields),
-        Some(("round", _)) => first_round(rt, alloc, line),
-        Some(("enough", _)) => bound(alloc, line),
-        Some(("many", fields)) => list_answer(alloc, line, fields),
-        Some(("table", calls)) => table_answer(alloc, line, calls),
-        _ => answer(rt, alloc, line, log),
-    }
+    let mut case = Case::new(alloc, line);
+    put_answer(rt, &mut case, line, log);
+    case.end()
 }
 
 fn main(rt: HostRuntime) -> io::Result<()> {
     let mut log = Vec::new(rt.alloc());
     for line in rt.lines(rt.alloc()) {
         let line = line?;
-        match respond(&rt, rt.alloc(), line.as_str(), &mut log) {
+        match answer(&rt, rt.alloc(), line.as_str(), &mut log) {
             Ok(text) => println!(rt; "{text}")?,
-            Err(CaseFault::Form) => println!(rt; "no case: {line}")?,
+            Err(CaseFault::Form) => println!(rt; "not a case: {line}")?,
             Err(CaseFault::Memory) => return Err(AllocError.into()),
         }
     }

@@ -1,57 +1,37 @@
 //! The first round of a connection, by threads at locks: `round | SCRIPT | FILE_A | FILE_B`. Shown is how it ended; in which order its
 //! steps come is up to the threads.
 
-ghost use Rattle.std.specs.Prelude.{IfOk};
 ghost use Rattle.link_script.specs.Scripts.{HasRanges};
 
-use crate::case::Case;
-use case_fields::CaseFault;
+use crate::inputs::input_told;
+use case_fields::Case;
 use outside_kit::OpenGate;
-use run_outside::{Input, load_input, read_words};
-use stamped_book::Refusal;
-use std::alloc::{AllocError, Global};
+use run_outside::Input;
 use std::sync::Wait;
 use std::thread::Threads;
 use subflow_worker::threaded_round;
 use world_core::World;
 
-/// What the run of a case reads.
-fn input_of(alloc: Global, case: &Case<'_>) -> Result<Input, CaseFault>
-    ensures { IfOk result (λ input. HasRanges input.script) }
-{
-    let words = case.words(alloc)?;
-    let mut outside = case.outside(alloc, &[])?;
-    let Ok(line) = read_words(alloc, words.as_slice()) else {
-        return Err(CaseFault::Form);
-    };
-    match load_input(alloc, &mut outside, &line) {
-        Ok(input) => Ok(input),
-        Err(_) => Err(CaseFault::Form),
+/// Puts the answer to a line, whose fields the case has.
+pub fn first_round<R: Threads + Wait + Sync>(rt: &R, case: &mut Case<'_>, line: &str) {
+    case.put(line);
+    case.put("\n  ");
+    let (_, script, file_a, file_b) = (case.word(), case.word(), case.word(), case.word());
+    match input_told(case.alloc, script, file_a, file_b) {
+        Ok(input) => put_round(rt, case, &input),
+        Err(_) => case.refuse(),
     }
 }
 
-/// How a connection's first round ended, each actor's turn in a thread of its own, over books behind locks.
-fn round_of<R: Threads + Wait + Sync>(
-    rt: &R,
-    alloc: Global,
-    input: &Input,
-) -> Result<Result<(), Refusal>, AllocError>
+/// Puts how a connection's first round ended, each actor's turn in a thread of its own, over books behind locks.
+fn put_round<R: Threads + Wait + Sync>(rt: &R, case: &mut Case<'_>, input: &Input)
     requires { HasRanges input.now.script }
 {
-    let (books, mut crew) = World::open(alloc, input)?.into_parts();
-    let (told, books) = threaded_round(rt, alloc, &mut crew, books, &OpenGate);
+    let Ok(world) = World::open(case.alloc, input) else {
+        return case.fail();
+    };
+    let (books, mut crew) = world.into_parts();
+    let (told, books) = threaded_round(rt, case.alloc, &mut crew, books, &OpenGate);
     World::from_parts(books, crew, true).close();
-    Ok(told)
-}
-
-/// What is printed of the first round of a line.
-pub fn first_round<R: Threads + Wait + Sync>(
-    rt: &R,
-    alloc: Global,
-    line: &str,
-) -> Result<String, CaseFault> {
-    let case = Case::by_threads(alloc, line)?;
-    let input = input_of(alloc, &case)?;
-    let told = round_of(rt, alloc, &input)?;
-    Ok(format!(in alloc; "{line}\n  {told:?}")?)
+    case.tell(&told);
 }

@@ -1,6 +1,6 @@
-//! Octets of a case: a word as it stands, or `made N`, of which the octet at place k of the stream is k modulo 251.
+//! Octets of a case.
 
-use case_fields::{CaseFault, parsed_at, put_value, put_word, word_at};
+use case_fields::Case;
 use octet_text::Text;
 use std::alloc::{AllocError, Global};
 
@@ -10,58 +10,48 @@ const SHOWN: usize = 40;
 /// The most octets that are made.
 const MOST_MADE: u64 = 1_048_576;
 
-fn many(alloc: Global, place: u64, count: u64) -> Result<Text, AllocError> {
+/// The octets that `made` makes for the places from `place` on, at most 1,048,576.
+pub fn made(alloc: Global, place: u64, count: u64) -> Result<Text, AllocError> {
     let mut octets = Vec::new(alloc);
-    for step in 0..count {
+    for step in 0..count.min(MOST_MADE) {
         octets.push((place.wrapping_add(step) % 251) as u8)?;
     }
     Ok(Text::from(octets))
 }
 
-/// The octets that `made` makes for the places from `place` on.
-pub fn made(alloc: Global, place: u64, count: u64) -> Result<Text, CaseFault> {
-    if count > MOST_MADE {
-        return Err(CaseFault::Form);
-    }
-    Ok(many(alloc, place, count)?)
-}
-
-/// The octets that stand in the fields from a field on, for the places from `place` on.
-pub fn octets_at(
-    alloc: Global,
-    fields: &[&str],
-    field: usize,
-    place: u64,
-) -> Result<Text, CaseFault> {
-    match word_at(fields, field)? {
-        "made" => made(alloc, place, parsed_at(fields, field.saturating_add(1))?),
-        word => Ok(Text::of(alloc, word.as_bytes())?),
+/// The octets that the next fields tell, for the places from `place` on.
+pub fn octets_of(case: &mut Case<'_>, place: u64) -> Text {
+    let told = match case.word() {
+        "made" => made(case.alloc, place, case.number()),
+        word => Text::of(case.alloc, word.as_bytes()),
+    };
+    match told {
+        Ok(octets) => octets,
+        Err(_) => {
+            case.fail();
+            Text::new(case.alloc)
+        }
     }
 }
 
 /// Whether these octets are those that `made` makes for the places from `place` on.
-fn is_made(place: u64, octets: &[u8]) -> bool {
+fn are_made(place: u64, octets: &[u8]) -> bool {
     octets.iter().enumerate().all(|(step, octet)| place.wrapping_add(step as u64) % 251
         == u64::from(*octet))
 }
 
 /// Puts octets as they are, or their number where there are many: `made` or `other`.
-pub fn put_octets(
-    alloc: Global,
-    text: &mut String,
-    place: u64,
-    octets: &[u8],
-) -> Result<(), CaseFault> {
-    if is_made(place, octets) {
-        return put_count(text, "made ", octets.len());
+pub fn put_octets(case: &mut Case<'_>, place: u64, octets: &[u8]) {
+    if are_made(place, octets) {
+        case.put("made ");
+        return case.say(&octets.len());
     }
     if octets.len() > SHOWN {
-        return put_count(text, "other ", octets.len());
+        case.put("other ");
+        return case.say(&octets.len());
     }
-    put_word(text, String::from_utf8_lossy(alloc, octets)?.as_str())
-}
-
-fn put_count(text: &mut String, word: &str, count: usize) -> Result<(), CaseFault> {
-    put_word(text, word)?;
-    put_value(text, &count)
+    match String::from_utf8_lossy(case.alloc, octets) {
+        Ok(text) => case.put(text.as_str()),
+        Err(_) => case.fail(),
+    }
 }

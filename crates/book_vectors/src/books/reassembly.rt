@@ -1,73 +1,21 @@
-//! Calls of the reassembly book: `place AT OCTETS`, `fin AT`, `read MAX`, `ackout`, `abort BY_PEER`. `front` shows what is
-//! lent of the bytes that can be read. `reversed AT N SIZE` places N made octets in pieces of SIZE, the last piece first,
-//! and tells how many were placed; `reads MAX` reads until nothing is left.
+//! Calls of the reassembly book. `front` shows what is lent of the bytes that can be read. `reversed AT N SIZE` places N made octets in
+//! pieces of SIZE, the last piece first, and tells how many were placed; `reads MAX` reads until nothing is left.
 
-ghost use Rattle.std.specs.Prelude.{IfOk, IsTrue, ◌≤◌, ◌^◌};
+ghost use Rattle.std.specs.Prelude.{IsTrue, ◌≤◌, ◌^◌};
 ghost use Rattle.reassembly_book.specs.Steps.{CanAsk};
 
-use crate::books::octets::{made, octets_at, put_octets};
-use crate::books::words::put_reply;
+use crate::books::octets::{made, octets_of, put_octets};
+use crate::books::put_reply;
 use crate::calls::reassembly_call;
 use actor_desk::{Ask, Reply};
-use case_fields::{CaseFault, parsed_at, put_value, put_word};
+use case_fields::Case;
 use octet_text::Text;
 use reassembly_book::{ReassemblyBook, ReassemblyCall, ReassemblyReply};
 use sides::Side;
 use stamped_book::Book;
-use std::alloc::{AllocError, Global};
 
 /// The greatest place of a case.
 const MOST: u64 = 1 << 32;
-
-/// A book, and how many bytes were read from it.
-#[derive(Drop)]
-pub struct Reading {
-    book: ReassemblyBook,
-    read: u64,
-}
-
-/// An empty book of a capacity of one byte.
-pub fn empty_reassembly(alloc: Global) -> Result<Reading, AllocError> {
-    Ok(Reading {
-        book: ReassemblyBook::new(alloc, 1)?,
-        read: 0,
-    })
-}
-
-/// An empty book of a capacity of 1 to 1,048,576 bytes.
-pub fn open_reassembly(alloc: Global, fields: &[&str]) -> Result<Reading, CaseFault> {
-    let capacity: u64 = parsed_at(fields, 0)?;
-    if capacity < 1 || capacity > 1_048_576 {
-        return Err(CaseFault::Form);
-    }
-    Ok(Reading {
-        book: ReassemblyBook::new(alloc, capacity)?,
-        read: 0,
-    })
-}
-
-/// A place of the stream.
-fn place_at(fields: &[&str], field: usize) -> Result<u64, CaseFault>
-    ensures { IfOk result (λ place. place ≤ 2 ^ 32) }
-{
-    let place: u64 = parsed_at(fields, field)?;
-    if place <= MOST {
-        Ok(place)
-    } else {
-        Err(CaseFault::Form)
-    }
-}
-
-fn placing(at: u64, bytes: Text) -> Result<ReassemblyCall, CaseFault>
-    requires { at ≤ 2 ^ 33 }
-    ensures { IfOk result (λ call. CanAsk call) }
-{
-    if bytes.len() as u64 <= MOST {
-        Ok(ReassemblyCall::Place { at, bytes })
-    } else {
-        Err(CaseFault::Form)
-    }
-}
 
 /// Whether the book may be asked this.
 fn may_ask(call: &ReassemblyCall) -> bool
@@ -81,84 +29,49 @@ fn may_ask(call: &ReassemblyCall) -> bool
     }
 }
 
-/// The call of this name and these fields.
-fn call_of(alloc: Global, name: &str, fields: &[&str]) -> Result<ReassemblyCall, CaseFault> {
-    if name == "place" {
-        let at = place_at(fields, 0)?;
-        return placing(at, octets_at(alloc, fields, 1, at)?);
-    }
-    reassembly_call(name, fields)
-}
-
-/// Puts the words of a reply to a reader that has read so many bytes before: those of a log, but the octets as they are.
-fn put_words(
-    alloc: Global,
-    text: &mut String,
-    read: u64,
-    reply: ReassemblyReply,
-) -> Result<(), CaseFault> {
+/// Puts a reply to a reader that has read so many bytes before.
+fn put_answer(case: &mut Case<'_>, read: &mut u64, reply: ReassemblyReply) {
     if let ReassemblyReply::Bytes(bytes) = &reply {
-        return put_bytes(alloc, text, read, bytes.as_bytes());
+        case.put("bytes ");
+        put_octets(case, *read, bytes.as_bytes());
+        *read = read.saturating_add(bytes.len() as u64);
+        return;
     }
     put_reply(
-        alloc,
-        text,
+        case,
         Ask::Reassembly(Side::A, ReassemblyCall::AckOut),
         Reply::Reassembly(reply),
-    )
+    );
 }
 
-fn put_bytes(alloc: Global, text: &mut String, read: u64, bytes: &[u8]) -> Result<(), CaseFault> {
-    put_word(text, "bytes ")?;
-    put_octets(alloc, text, read, bytes)
-}
-
-/// How many bytes were read.
-fn count_of(reply: &ReassemblyReply) -> u64 {
-    match reply {
-        ReassemblyReply::Bytes(bytes) => bytes.len() as u64,
-        _ => 0,
+/// How many of so many made octets from a place on are placed.
+fn placed(case: &mut Case<'_>, book: &mut ReassemblyBook, at: u64, count: u64) -> u64 {
+    let Ok(bytes) = made(case.alloc, at, count) else {
+        case.fail();
+        return 0;
+    };
+    let call = ReassemblyCall::Place { at, bytes };
+    if !may_ask(&call) {
+        case.refuse();
+        return 0;
+    }
+    match book.apply(&call) {
+        Ok(ReassemblyReply::Placed(count)) => count,
+        Ok(_) => 0,
+        Err(_) => {
+            case.fail();
+            0
+        }
     }
 }
 
-/// The book's reply to a call, where it may be asked.
-fn reply_to(reading: &mut Reading, call: &ReassemblyCall) -> Result<ReassemblyReply, CaseFault> {
-    if !may_ask(call) {
-        return Err(CaseFault::Form);
-    }
-    let reply = reading.book.apply(call)?;
-    reading.read = reading.read.saturating_add(count_of(&reply));
-    Ok(reply)
-}
-
-/// Puts what is lent of the bytes that can be read.
-fn put_front(alloc: Global, text: &mut String, reading: &Reading) -> Result<(), CaseFault> {
-    put_octets(alloc, text, reading.read, reading.book.front())
-}
-
-/// How many of the octets that are made for the places from `at` on are placed.
-fn placed(alloc: Global, book: &mut ReassemblyBook, at: u64, count: u64) -> Result<u64, CaseFault>
-    requires { at ≤ 2 ^ 33 }
-{
-    let call = placing(at, made(alloc, at, count)?)?;
-    match book.apply(&call)? {
-        ReassemblyReply::Placed(count) => Ok(count),
-        _ => Ok(0),
-    }
-}
-
-/// Places made octets in pieces, the last piece first.
-fn reversed(
-    alloc: Global,
-    text: &mut String,
-    reading: &mut Reading,
-    fields: &[&str],
-) -> Result<(), CaseFault> {
-    let at = place_at(fields, 0)?;
-    let count = place_at(fields, 1)?;
-    let size: u64 = parsed_at(fields, 2)?;
-    if size < 1 || size > MOST {
-        return Err(CaseFault::Form);
+/// `reversed AT N SIZE`.
+fn reversed(case: &mut Case<'_>, book: &mut ReassemblyBook) {
+    let at: u64 = case.number();
+    let count: u64 = case.number();
+    let size: u64 = case.number();
+    if size < 1 {
+        return case.refuse();
     }
     let mut all: u64 = 0;
     let pieces = count.div_ceil(size);
@@ -166,96 +79,74 @@ fn reversed(
         let after = pieces.saturating_sub(step);
         let from = after.saturating_sub(1).saturating_mul(size).min(count);
         let len = size.min(count - from);
-        all = all.saturating_add(placed(alloc, &mut reading.book, at + from, len)?);
+        all = all.saturating_add(placed(case, book, at.saturating_add(from), len));
     }
-    put_value(text, &all)
-}
-
-/// Reads once, and keeps the bytes; the reply, where it is another one.
-fn read_more(
-    book: &mut ReassemblyBook,
-    call: &ReassemblyCall,
-    all: &mut Text,
-) -> Result<Option<ReassemblyReply>, AllocError>
-    requires { CanAsk call.now }
-{
-    match book.apply(call)? {
-        ReassemblyReply::Bytes(bytes) => {
-            all.append(bytes.as_bytes())?;
-            Ok(None)
-        }
-        reply => Ok(Some(reply)),
-    }
+    case.say(&all);
 }
 
 /// Reads until no bytes are left: the last reply.
 fn read_all(
+    case: &mut Case<'_>,
     book: &mut ReassemblyBook,
     call: &ReassemblyCall,
     all: &mut Text,
-) -> Result<ReassemblyReply, CaseFault>
+) -> ReassemblyReply
     requires { CanAsk call.now }
 {
     for _ in 0..10_000 {
-        if let Some(reply) = read_more(book, call, all)? {
-            return Ok(reply);
+        match book.apply(call) {
+            Ok(ReassemblyReply::Bytes(bytes)) => {
+                if all.append(bytes.as_bytes()).is_err() {
+                    case.fail();
+                }
+            }
+            Ok(reply) => return reply,
+            Err(_) => case.fail(),
         }
     }
-    Err(CaseFault::Form)
+    case.refuse();
+    ReassemblyReply::NoneYet
 }
 
-/// Reads until no bytes are left: how many were read and whether they are made ones, and the last reply.
-fn reads(
-    alloc: Global,
-    text: &mut String,
-    reading: &mut Reading,
-    fields: &[&str],
-) -> Result<(), CaseFault> {
-    let call = ReassemblyCall::Read {
-        max: parsed_at(fields, 0)?,
-    };
+/// `reads MAX`: how many were read and whether they are made ones, and the last reply.
+fn reads(case: &mut Case<'_>, book: &mut ReassemblyBook, read: &mut u64) {
+    let call = ReassemblyCall::Read { max: case.number() };
     if !may_ask(&call) {
-        return Err(CaseFault::Form);
+        return case.refuse();
     }
-    let mut all = Text::new(alloc);
-    let last = read_all(&mut reading.book, &call, &mut all)?;
-    let start = reading.read;
-    reading.read = start.saturating_add(all.len() as u64);
-    put_all(alloc, text, start, all.as_bytes())?;
-    put_words(alloc, text, start, last)
+    let mut all = Text::new(case.alloc);
+    let last = read_all(case, book, &call, &mut all);
+    put_octets(case, *read, all.as_bytes());
+    *read = read.saturating_add(all.len() as u64);
+    case.put(" ");
+    put_answer(case, read, last);
 }
 
-/// Puts octets, and a blank behind them.
-fn put_all(alloc: Global, text: &mut String, start: u64, octets: &[u8]) -> Result<(), CaseFault> {
-    put_octets(alloc, text, start, octets)?;
-    put_word(text, " ")
-}
-
-/// Puts the words of the book's reply to a call that can be made.
-fn put_asked_once(
-    alloc: Global,
-    text: &mut String,
-    reading: &mut Reading,
-    name: &str,
-    fields: &[&str],
-) -> Result<(), CaseFault> {
-    let before = reading.read;
-    let reply = reply_to(reading, &call_of(alloc, name, fields)?)?;
-    put_words(alloc, text, before, reply)
-}
-
-/// Puts the words of the book's reply to a call.
-pub fn put_asked(
-    alloc: Global,
-    text: &mut String,
-    reading: &mut Reading,
-    name: &str,
-    fields: &[&str],
-) -> Result<(), CaseFault> {
+/// Puts the book's reply to a call, from which so many octets were read.
+pub fn ask(case: &mut Case<'_>, book: &mut ReassemblyBook, read: &mut u64, name: &str) {
     match name {
-        "front" => put_front(alloc, text, reading),
-        "reversed" => reversed(alloc, text, reading, fields),
-        "reads" => reads(alloc, text, reading, fields),
-        _ => put_asked_once(alloc, text, reading, name, fields),
+        "front" => put_octets(case, *read, book.front()),
+        "reversed" => reversed(case, book),
+        "reads" => reads(case, book, read),
+        _ => ask_once(case, book, read, name),
+    }
+}
+
+fn ask_once(case: &mut Case<'_>, book: &mut ReassemblyBook, read: &mut u64, name: &str) {
+    let call = if name == "place" {
+        let at = case.number();
+        ReassemblyCall::Place {
+            at,
+            bytes: octets_of(case, at),
+        }
+    } else {
+        reassembly_call(case, name)
+    };
+    if case.is_refused() || !may_ask(&call) {
+        return case.refuse();
+    }
+    match book.apply(&call) {
+        Ok(reply) => put_answer(case, read, reply),
+        Err(_) => case.fail(),
     }
 }

@@ -26,7 +26,7 @@ pub struct Caller {
 }
 
 impl Errand {
-    ghost use Rattle.book_vectors.specs.Errands.{call_of};
+    ghost use Rattle.world_vectors.specs.Errands.{call_of};
 
     fn call(self, alloc: Global) -> Result<SendCall, AllocError>
         ensures { IfOk result (λ call. call ≡ call_of self) }
@@ -42,7 +42,7 @@ impl Errand {
 }
 
 impl Actor for Caller {
-    ghost use Rattle.book_vectors.specs.Errands.{asks_of, one_less};
+    ghost use Rattle.world_vectors.specs.Errands.{asks_of, one_less};
 
     ghost asks = { asks_of };
 

@@ -5,9 +5,9 @@ use Rattle.send_book.specs.declared.call.SendCall.{SendCall}
 use Rattle.send_book.specs.declared.call.SendCall.TheVariants as calls
 use Rattle.actor_desk.specs.declared.ask.Ask.{Ask}
 use Rattle.actor_desk.specs.declared.ask.Ask.TheVariants as asks
-use Rattle.book_vectors.specs.declared.caller.Caller.{Caller}
-use Rattle.book_vectors.specs.declared.caller.Errand.{Errand}
-use Rattle.book_vectors.specs.declared.caller.Errand.TheVariants as errands
+use Rattle.world_vectors.specs.declared.caller.Caller.{Caller}
+use Rattle.world_vectors.specs.declared.caller.Errand.{Errand}
+use Rattle.world_vectors.specs.declared.caller.Errand.TheVariants as errands
 
 -- the octet of the letter x is 120
 abbrev pub call_of : Errand → SendCall

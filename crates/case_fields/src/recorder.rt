@@ -1,12 +1,11 @@
 //! An outside that notes which calls are made on it, as lines for a reader: what the clause on the order of work promises.
 
 use outside_kit::{LoadFault, MemoryOutside, Outside, Port, PutFault};
-use std::alloc::{AllocError, Global};
+use std::alloc::Global;
 
 /// An outside in memory, and a line for each call that was made on it. It tells contracts nothing of what it holds.
 #[derive(Drop)]
 pub struct Recorder {
-    alloc: Global,
     outside: MemoryOutside,
     calls: String,
 }
@@ -24,7 +23,6 @@ impl Recorder {
     /// Before the first call.
     pub fn new(alloc: Global, outside: MemoryOutside) -> Self {
         Recorder {
-            alloc,
             outside,
             calls: String::new(alloc),
         }
@@ -39,24 +37,6 @@ impl Recorder {
     pub fn calls(&self) -> &str {
         self.calls.as_str()
     }
-}
-
-/// Notes a load.
-fn note_load(alloc: Global, calls: &mut String, name: &str, limit: u64) -> Result<(), AllocError> {
-    let line = format!(in alloc; "\n    load {name} {limit}")?;
-    calls.push_str(line.as_str())
-}
-
-/// Notes a bind.
-fn note_bind(alloc: Global, calls: &mut String, port: Port, name: &str) -> Result<(), AllocError> {
-    let line = format!(in alloc; "\n    bind {} {name}", port_word(port))?;
-    calls.push_str(line.as_str())
-}
-
-/// Notes a put of so many octets.
-fn note_put(alloc: Global, calls: &mut String, port: Port, count: usize) -> Result<(), AllocError> {
-    let line = format!(in alloc; "\n    put {} {count}", port_word(port))?;
-    calls.push_str(line.as_str())
 }
 
 impl Outside for Recorder {
@@ -76,21 +56,21 @@ impl Outside for Recorder {
     ghost calls = { λ _. None };
 
     fn load(&mut self, alloc: Global, name: &str, limit: u64) -> Result<Vec<u8>, LoadFault> {
-        if note_load(self.alloc, &mut self.calls, name, limit).is_err() {
+        if write!(self.calls, "\n    load {name} {limit}").is_err() {
             return Err(LoadFault::Memory);
         }
         self.outside.load(alloc, name, limit)
     }
 
     fn bind(&mut self, port: Port, name: &str) -> Result<(), PutFault> {
-        if note_bind(self.alloc, &mut self.calls, port, name).is_err() {
+        if write!(self.calls, "\n    bind {} {name}", port_word(port)).is_err() {
             return Err(PutFault::Memory);
         }
         self.outside.bind(port, name)
     }
 
     fn put(&mut self, port: Port, piece: &[u8]) -> Result<(), PutFault> {
-        if note_put(self.alloc, &mut self.calls, port, piece.len()).is_err() {
+        if write!(self.calls, "\n    put {} {}", port_word(port), piece.len()).is_err() {
             return Err(PutFault::Memory);
         }
         self.outside.put(port, piece)

@@ -1,14 +1,18 @@
-//! A case is `WORDS | SCRIPT | FILE_A | FILE_B | ORDER | FAILS | SHOWN`.
+//! A run of the program that a case tells: `WORDS | SCRIPT | FILE_A | FILE_B | ORDER | FAILS | SHOWN`.
 //!
 //! `WORDS` are those before the five names `script a b to-b to-a`, or `-` for none; a first word `messages` is none of them: then
 //! the lines of both files go as messages. In the script `;` stands for LF. A file's
-//! octets are told as `content.rt` says. `ORDER` is what the name `log` holds: `-` where there is no such content, `log` for
+//! octets are told as `files.rt` says. `ORDER` is what the name `log` holds: `-` where there is no such content, `log` for
 //! the log of the last case whose words began with `--mode serial`, or `log` and edits of it, as `order.rt` says. `FAILS` is `-`, or
 //! the number of the call of the outside that fails, and how many octets it keeps of what it is to put. `SHOWN` is
 //! `sums`, `read` or `calls`.
 
+use crate::case::Case;
+use crate::fails::failing;
+use crate::fields::CaseFault;
+use crate::files::{content, lines_in};
+use crate::listed::words_of;
 use crate::order::edited;
-use case_fields::{CaseFault, content, failing, lines_in, word_at};
 use outside_kit::{MemoryOutside, NamedFile};
 use std::alloc::{AllocError, Global};
 
@@ -23,9 +27,9 @@ pub enum Shown {
     Calls,
 }
 
-/// The fields of a case.
+/// A run: the words of its command line, and what its names hold.
 #[derive(Clone, Copy)]
-pub struct Case<'a> {
+pub struct Task<'a> {
     words: &'a str,
     /// Whether the lines of both files go as messages.
     pub has_messages: bool,
@@ -34,41 +38,39 @@ pub struct Case<'a> {
     file_b: &'a str,
     order: &'a str,
     fails: &'a str,
+    /// What is shown of it.
     pub shown: Shown,
 }
 
-impl<'a> Case<'a> {
-    /// The case that a line tells.
-    pub fn read(alloc: Global, line: &'a str) -> Result<Self, CaseFault> {
-        let fields: Vec<&'a str> = line.split(" | ").collect(alloc)?;
-        let fields = fields.as_slice();
-        let (words, has_messages) = behind_messages(word_at(fields, 0)?);
-        Ok(Case {
-            words,
-            has_messages,
-            script: word_at(fields, 1)?,
-            file_a: word_at(fields, 2)?,
-            file_b: word_at(fields, 3)?,
-            order: word_at(fields, 4)?,
-            fails: word_at(fields, 5)?,
-            shown: shown_of(word_at(fields, 6)?)?,
-        })
+impl<'a> Task<'a> {
+    /// The run that the fields of a case tell.
+    pub fn read(case: &mut Case<'a>) -> Self {
+        let words = case.word();
+        let behind = words.strip_prefix("messages ");
+        Task {
+            words: behind.unwrap_or(words),
+            has_messages: behind.is_some(),
+            script: case.word(),
+            file_a: case.word(),
+            file_b: case.word(),
+            order: case.word(),
+            fails: case.word(),
+            shown: shown_of(case),
+        }
     }
 
-    /// The case of a run by threads, of which a line tells `SCRIPT | FILE_A | FILE_B` behind its first field.
-    pub fn by_threads(alloc: Global, line: &'a str) -> Result<Self, CaseFault> {
-        let fields: Vec<&'a str> = line.split(" | ").collect(alloc)?;
-        let fields = fields.as_slice();
-        Ok(Case {
+    /// The run by threads that the next fields of a case tell: `SCRIPT | FILE_A | FILE_B`.
+    pub fn by_threads(case: &mut Case<'a>) -> Self {
+        Task {
             words: "--mode run",
             has_messages: false,
-            script: word_at(fields, 1)?,
-            file_a: word_at(fields, 2)?,
-            file_b: word_at(fields, 3)?,
+            script: case.word(),
+            file_a: case.word(),
+            file_b: case.word(),
             order: "-",
             fails: "-",
             shown: Shown::Read,
-        })
+        }
     }
 
     /// Whether later cases may make the steps of its log again.
@@ -78,12 +80,9 @@ impl<'a> Case<'a> {
 
     /// The words of the command line.
     pub fn words(&self, alloc: Global) -> Result<Vec<String>, AllocError> {
-        let mut words = Vec::new(alloc);
-        if self.words != "-" {
-            push_words(alloc, &mut words, self.words)?;
-        }
-        push_words(alloc, &mut words, "script a b to-b to-a")?;
-        Ok(words)
+        let words = if self.words == "-" { "" } else { self.words };
+        let told = format!(in alloc; "{words} script a b to-b to-a")?;
+        words_of(alloc, told.trim_start())
     }
 
     /// The outside that the case tells of, where `log` is that of the last serial case.
@@ -100,29 +99,16 @@ impl<'a> Case<'a> {
     }
 }
 
-/// The words behind a first word `messages`, and whether it is there.
-fn behind_messages(words: &str) -> (&str, bool) {
-    match words.strip_prefix("messages ") {
-        Some(behind) => (behind, true),
-        None => (words, false),
+fn shown_of(case: &mut Case<'_>) -> Shown {
+    match case.word() {
+        "sums" => Shown::Sums,
+        "read" => Shown::Read,
+        "calls" => Shown::Calls,
+        _ => {
+            case.refuse();
+            Shown::Sums
+        }
     }
-}
-
-fn shown_of(field: &str) -> Result<Shown, CaseFault> {
-    match field {
-        "sums" => Ok(Shown::Sums),
-        "read" => Ok(Shown::Read),
-        "calls" => Ok(Shown::Calls),
-        _ => Err(CaseFault::Form),
-    }
-}
-
-/// Puts each word of a text at the end of the words.
-fn push_words(alloc: Global, words: &mut Vec<String>, text: &str) -> Result<(), AllocError> {
-    for word in text.split(' ') {
-        words.push(String::from_str(alloc, word)?)?;
-    }
-    Ok(())
 }
 
 fn push_file(

@@ -1,0 +1,69 @@
+//! `link STEP ..: SCRIPT`: what the link of path 0 answers: `send:SIDE:TICK:OCTETS` the number of the segment, `due` the next copy
+//! as `TICK/SIDE/NUMBER`, or `None`, and `deliver` its octets; at `cut` all that is under way is lost.
+
+ghost use Rattle.std.specs.Prelude.{◌<◌, ◌^◌, IsSome};
+
+use crate::steps::{Steps, put_steps};
+use case_fields::Case;
+use link_model::{Due, Link};
+use sides::Side;
+
+pub fn link(case: &mut Case<'_>, mut link: Link) {
+    put_steps(case, &mut link);
+}
+
+impl Steps for Link {
+    fn step(&mut self, case: &mut Case<'_>, name: &str) {
+        match name {
+            "send" => send(case, self),
+            "due" => put_due(case, self.due()),
+            "deliver" => deliver(case, self),
+            "cut" => {
+                self.cut();
+                case.put("cut");
+            }
+            _ => case.refuse(),
+        }
+    }
+}
+
+fn send(case: &mut Case<'_>, link: &mut Link) {
+    let from = match case.word() {
+        "a" => Side::A,
+        "b" => Side::B,
+        _ => return case.refuse(),
+    };
+    let now: u32 = case.number();
+    let octets = case.octets();
+    match link.send(from, octets.as_slice(), u64::from(now)) {
+        Ok(number) => case.tell(&number),
+        Err(_) => case.fail(),
+    }
+}
+
+fn put_due(case: &mut Case<'_>, due: Option<Due>) {
+    match due {
+        Some(
+            Due {
+                tick,
+                to: Side::A,
+                copy,
+            },
+        ) => case.put_numbers("/a/", &[tick, copy]),
+        Some(
+            Due {
+                tick,
+                to: Side::B,
+                copy,
+            },
+        ) => case.put_numbers("/b/", &[tick, copy]),
+        None => case.put("None"),
+    }
+}
+
+fn deliver(case: &mut Case<'_>, link: &mut Link) {
+    match link.due() {
+        Some(due) => case.put_digits(link.deliver(&due).as_slice()),
+        None => case.refuse(),
+    }
+}

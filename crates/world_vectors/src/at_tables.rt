@@ -1,0 +1,206 @@
+//! Rounds by threads over six books at their tables: `tables BUFFER STAMP STAMP STAMP`, and behind each ` then ` a round.
+//!
+//! A case tells the octets that a side buffers, the stamps that the actors 0, 1 and 2 know, and of each round what each actor asks
+//! A's send book in its turn, and how often: `write`, `close` or `go_identity` and a number, three times. The books of each round are
+//! those that the round before left. Shown is how each round ended, and of A's send book its entries in all and of the actors 0, 1 and 2,
+//! its stamps, its last reply, how many octets are written, and whether more may be; and how many entries there are elsewhere.
+ghost use Rattle.std.specs.Prelude.{◌≡◌, IfOk};
+ghost use Rattle.ruled_desk.specs.WholeRounds.{AreActors};
+
+use crate::caller::{Caller, Errand};
+use actor_desk::{Books, Crew, Notes};
+use case_fields::Case;
+use octet_text::Text;
+use outside_kit::OpenGate;
+use ruled_desk::round_at_tables;
+use send_book::{SendBook, SendCall, SendReply};
+use stamped_book::{Book, Pass, Refusal, Stamped};
+use std::alloc::AllocError;
+use std::sync::Wait;
+use std::thread::Threads;
+
+/// Puts the answer to a line.
+pub fn at_tables<'a, R: Threads + Wait + Sync>(rt: &R, case: &mut Case<'a>, line: &'a str) {
+    let Some((opening, rounds)) = line.split_once(" then ") else {
+        return case.refuse();
+    };
+    case.read(opening, " ");
+    case.word();
+    let buffer: u64 = case.number();
+    let known = [case.number(), case.number(), case.number()];
+    if buffer < 1 || buffer > 1_048_576 {
+        return case.refuse();
+    }
+    case.put(line);
+    case.put("\n  rounds");
+    match Books::open(case.alloc, buffer, 0, 0) {
+        Ok(books) => {
+            let books = after_rounds(rt, case, rounds, known, books);
+            put_books(case, &books);
+        }
+        Err(_) => case.fail(),
+    }
+}
+
+/// All rounds: the books after them.
+fn after_rounds<'a, R: Threads + Wait + Sync>(
+    rt: &R,
+    case: &mut Case<'a>,
+    rounds: &'a str,
+    known: [u64; 3],
+    books: Books,
+) -> Books {
+    let mut books = books;
+    let mut known = known;
+    for round in rounds.split(" then ") {
+        case.read(round, " ");
+        books = after_round(rt, case, &mut known, books);
+    }
+    books
+}
+
+/// A round: the books after it.
+fn after_round<R: Threads + Wait + Sync>(
+    rt: &R,
+    case: &mut Case<'_>,
+    known: &mut [u64; 3],
+    books: Books,
+) -> Books {
+    match crew_of(case, known) {
+        Ok(mut crew) => {
+            let (ended, books) = round_at_tables(rt, case.alloc, &mut crew, books, &OpenGate);
+            case.put(end_word(ended));
+            *known = [stamp_of(&crew, 0), stamp_of(&crew, 1), stamp_of(&crew, 2)];
+            books
+        }
+        Err(_) => {
+            case.fail();
+            books
+        }
+    }
+}
+
+/// The three actors of a round, with what they know.
+fn crew_of(case: &mut Case<'_>, known: &[u64; 3]) -> Result<Vec<Crew<Caller>>, AllocError>
+    ensures { IfOk result (λ crew. AreActors 0 crew.items) }
+{
+    let first = actor_of(case, 0, known[0]);
+    let second = actor_of(case, 1, known[1]);
+    let third = actor_of(case, 2, known[2]);
+    Ok(vec![in case.alloc; first, second, third]?)
+}
+
+/// Who asks what the next fields tell, with its stamp.
+fn actor_of(case: &mut Case<'_>, actor: u8, stamp: u64) -> Crew<Caller>
+    ensures { result.pass.actor ≡ actor }
+{
+    let errand = match case.word() {
+        "write" => Errand::Write,
+        "close" => Errand::Close,
+        _ => Errand::GoIdentity,
+    };
+    Crew {
+        member: Caller {
+            errand,
+            left: case.number(),
+        },
+        pass: Pass { actor, stamp },
+        list: Notes::new(case.alloc),
+        refused: None,
+    }
+}
+
+/// The stamp that an actor knows.
+fn stamp_of(crew: &[Crew<Caller>], actor: usize) -> u64 {
+    match crew.get(actor) {
+        Some(crew) => crew.pass.stamp,
+        None => 0,
+    }
+}
+
+/// How a round ended, as a word with a blank before it.
+fn end_word(ended: Result<(), Refusal>) -> &'static str {
+    match ended {
+        Ok(()) => " ok",
+        Err(Refusal::Memory) => " memory",
+        Err(Refusal::Stamps) => " stamps",
+    }
+}
+
+/// Puts A's send book, and how many entries there are elsewhere, on two lines with LF before each.
+fn put_books(case: &mut Case<'_>, books: &Books) {
+    put_journal(case, &books.send_a);
+    put_written(case, books.send_a.book());
+    let elsewhere = books.send_b.journal().len() as u64
+        + books.reassembly_a.journal().len() as u64
+        + books.reassembly_b.journal().len() as u64
+        + books.control_a.journal().len() as u64
+        + books.control_b.journal().len() as u64;
+    case.put(", entries elsewhere ");
+    case.say(&elsewhere);
+}
+
+/// How many entries of the journal are an actor's.
+fn made_by(book: &Stamped<SendBook>, actor: u8) -> u64 {
+    book.journal()
+        .iter()
+        .filter(|entry| entry.actor == actor)
+        .count() as u64
+}
+
+/// Whether each stamp is above the one before.
+fn rises(book: &Stamped<SendBook>) -> bool {
+    let mut last = 0;
+    for entry in book.journal() {
+        if entry.stamp <= last {
+            return false;
+        }
+        last = entry.stamp;
+    }
+    true
+}
+
+fn put_journal(case: &mut Case<'_>, book: &Stamped<SendBook>) {
+    case.put("\n    entries ");
+    case.say(&book.journal().len());
+    case.put(" (");
+    case.put_numbers(
+        ", ",
+        &[made_by(book, 0), made_by(book, 1), made_by(book, 2)],
+    );
+    case.put("), rising ");
+    case.say(&rises(book));
+    case.put(", last stamp ");
+    case.say(&book.last_stamp());
+    case.put(", last reply ");
+    case.put(match book.journal().last() {
+        Some(entry) => reply_word(&entry.reply),
+        None => "none",
+    });
+}
+
+/// A reply of the book, as a word.
+fn reply_word(reply: &SendReply) -> &'static str {
+    match reply {
+        SendReply::Taken(_) => "taken",
+        SendReply::Closed => "closed",
+        _ => "another",
+    }
+}
+
+/// Puts how many octets are written, and whether more may be.
+fn put_written(case: &mut Case<'_>, book: &SendBook) {
+    let past = SendCall::AckIn {
+        next: 1 << 62,
+        window: 0,
+    };
+    case.put("\n    written ");
+    if let Ok(SendReply::AckFuture { written }) = book.answer(&past) {
+        case.say(&written);
+    }
+    let nothing = SendCall::Write {
+        bytes: Text::new(case.alloc),
+    };
+    case.put(", open ");
+    case.say(&matches!(book.answer(&nothing), Ok(SendReply::Taken(_))));
+}
