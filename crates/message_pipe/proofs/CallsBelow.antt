@@ -1,7 +1,7 @@
 -- The calls on the outside below, by those that are made above, one more after the other.
 use Rattle.std.proofs.Common.{◌≡◌, refl, sym, ◌∙◌, ap, subst, ℕ, ◌+◌, ◌<◌, ◌≤◌, ◌^◌, Bool, true, false, List, [], ◌∷◌, ◌++◌, length, drop, Option, Some, None, inl, inr, append_assoc, append-nil}
 use Rattle.std.specs.Prelude.{Result, Ok, Err, OnOk, OnErr, is_ok}
-use Rattle.std.proofs.lemmas.List.{drop-append-le}
+use Rattle.std.proofs.lemmas.List.{drop-append-le, map-append}
 use Rattle.outside_kit.specs.declared.port.Port.{Port}
 use Rattle.outside_kit.specs.declared.port.Port.TheVariants.{ReadByA, ReadByB, Log}
 use Rattle.outside_kit.specs.declared.outside.PutFault.{PutFault}
@@ -28,12 +28,10 @@ added_then first second (Some before) (Some between) (Some after) a b =
 -- ---- the puts of messages
 
 puts_more : (to : Port) (messages : List (List ℕ)) (message : List ℕ) → puts_of to (messages ++ message ∷ []) ≡ puts_of to messages ++ Put to (line_of message) ∷ []
-puts_more to [] message = refl
-puts_more to (first ∷ messages) message = ap (λ calls. Put to (line_of first) ∷ calls) (puts_more to messages message)
+puts_more to messages message = map-append (λ m. Put to (line_of m)) messages (message ∷ [])
 
 all_more : (plan : List Call) (call : Call) → all_made (plan ++ call ∷ []) ≡ all_made plan ++ made true call ∷ []
-all_more [] call = refl
-all_more (first ∷ plan) call = ap (λ calls. made true first ∷ calls) (all_more plan call)
+all_more plan call = map-append (made true) plan (call ∷ [])
 
 first_of_all : (plan more : List Call) → AreFirstMade (plan ++ more) (all_made plan)
 first_of_all [] [] = tt

@@ -1,5 +1,6 @@
 -- Each put below for a reader is one message.
 use Rattle.std.proofs.Common.{◌≡◌, refl, sym, ◌∙◌, ap, subst, ℕ, Bool, List, [], ◌∷◌, ◌++◌, map, None, append_assoc, append-nil}
+use Rattle.std.proofs.lemmas.List.{map-append}
 use Rattle.outside_kit.specs.declared.port.Port.TheVariants.{ReadByA, ReadByB, Log}
 use Rattle.outside_kit.specs.Calls.{Call, Made, Load, Bind, Put}
 use Rattle.message_pipe.specs.Frames.{frames, HaveFrames, first_message}
@@ -16,10 +17,6 @@ pub record Stand (pieces : Pieces) (now : Readers) : Type 0 where
 nothing_yet : AreMessages nothing_passed []
 nothing_yet = record { messages = []; have = tt; octets_are = refl; no_more = refl; pieces_are = refl }
 
-map-both : (messages more : List (List ℕ)) → map line_of (messages ++ more) ≡ map line_of messages ++ map line_of more
-map-both [] more = refl
-map-both (message ∷ messages) more = ap (λ l. line_of message ∷ l) (map-both messages more)
-
 -- messages more
 more_messages : (was now : Passed) (pieces : List (List ℕ)) (piece : List ℕ) (messages : List (List ℕ)) → AreMessages was pieces → HaveFrames messages → now.octets ≡ was.octets ++ piece
     → was.behind ++ piece ≡ frames messages ++ now.behind → first_message now.behind ≡ None → AreMessages now (pieces ++ map line_of messages)
@@ -29,7 +26,7 @@ more_messages was now pieces piece messages h have octets frames_are no_more = r
   octets_are = octets ∙ (ap (λ o. o ++ piece) h.octets_are ∙ (append_assoc (frames h.messages) was.behind piece
       ∙ (ap (λ rest. frames h.messages ++ rest) frames_are ∙ (sym (append_assoc (frames h.messages) (frames messages) now.behind) ∙ ap (λ front. front ++ now.behind) (sym (frames-append h.messages messages))))));
   no_more = no_more;
-  pieces_are = ap (λ l. l ++ map line_of messages) h.pieces_are ∙ sym (map-both h.messages messages);
+  pieces_are = ap (λ l. l ++ map line_of messages) h.pieces_are ∙ sym (map-append line_of h.messages messages);
 }
 
 -- behind puts for one reader
