@@ -75,14 +75,16 @@ fn put_first(case: &mut Case<'_>, marks: &RangeMarks<u8>) {
 }
 
 fn put_runs(case: &mut Case<'_>, marks: &RangeMarks<u8>) {
-    let mut before = "";
+    let mut first = true;
     for run in marks.runs() {
-        case.put(before);
+        if !first {
+            case.put(",");
+        }
+        first = false;
         case.say(&run.from);
         case.put("-");
         case.say(&run.to);
         case.put("=");
         case.say(&run.mark);
-        before = ",";
     }
 }

@@ -82,10 +82,12 @@ fn put_lines(case: &mut Case<'_>, text: &[u8]) {
 }
 
 fn put_between(case: &mut Case<'_>, text: &str) {
-    let mut before = "";
+    let mut first = true;
     for line in text.lines() {
-        case.put(before);
+        if !first {
+            case.put(";");
+        }
+        first = false;
         case.put(line);
-        before = ";";
     }
 }
