@@ -8,10 +8,10 @@ use Rattle.sides.specs.Side.{peer}
 use Rattle.path_segments.specs.Laws.{window_told}
 use Rattle.send_book.specs.Steps.{is_future, fin_after, after_ack}
 use Rattle.path_agenda.specs.declared.duty.Duty.{Duty}
-use Rattle.path_rules.specs.Ends.{PathEnd}
-use Rattle.path_rules.specs.State.{Profile}
-use Rattle.path_rules.specs.StreamEnds.{after_acked}
-use Rattle.path_rules.specs.Treating.{covered_by}
+use Rattle.path_core.specs.End.{PathEnd}
+use Rattle.path_core.specs.Profile.{Profile}
+use Rattle.path_core.specs.DataFin.{after_acked}
+use Rattle.path_core.specs.DssIn.{covered_by}
 use Rattle.pace.specs.Lane.{Setting, Telling, Lane, all_left}
 use Rattle.pace.specs.Rules.{hears_ack}
 use Rattle.pace.specs.Going.{Going}

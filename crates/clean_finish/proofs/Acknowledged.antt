@@ -7,9 +7,11 @@ use Rattle.send_book.specs.State.{Sending as SendBook}
 use Rattle.send_book.specs.declared.mark.ByteMark.TheVariants.{Acked}
 use Rattle.send_book.specs.Steps.{is_future, fin_after, after_ack}
 use Rattle.path_agenda.specs.declared.duty.Duty.{Duty}
-use Rattle.path_rules.specs.declared.modes.Modes.{Modes}
-use Rattle.path_rules.specs.Ends.{Sending, Treated, PathEnd}
-use Rattle.path_rules.specs.State.{Profile}
+use Rattle.path_core.specs.declared.modes.Modes.{Modes}
+use Rattle.path_core.specs.Sending.{Sending}
+use Rattle.path_core.specs.Treated.{Treated}
+use Rattle.path_core.specs.End.{PathEnd}
+use Rattle.path_core.specs.Profile.{Profile}
 use Rattle.pace.specs.Lane.{Setting, Copy, Lane, Sender}
 use Rattle.pace.specs.Rules.{hears_ack}
 use Rattle.pace.specs.Moves.{MayHearAck}

@@ -10,9 +10,9 @@ use Rattle.path_agenda.specs.declared.duty.AskDuty.TheVariants as ask_duties
 use Rattle.path_agenda.specs.declared.duty.SendDuty.TheVariants as send_duties
 use Rattle.path_agenda.specs.declared.duty.StepDuty.TheVariants as step_duties
 use Rattle.path_agenda.specs.Agenda.{syn_ack_came}
-use Rattle.path_rules.specs.Ends.{PathEnd}
-use Rattle.path_rules.specs.State.{Profile}
-use Rattle.path_rules.specs.Values.{Carried}
+use Rattle.path_core.specs.End.{PathEnd}
+use Rattle.path_core.specs.Profile.{Profile}
+use Rattle.path_core.specs.Values.{Carried}
 use Rattle.pace.specs.Lane.{Setting, Copy, Lane}
 use Rattle.pace.specs.Rules.{hears_data, rested}
 use Rattle.pace.specs.Moves.{MayHearData, IsBefore}
@@ -21,8 +21,7 @@ use Rattle.clean_finish.specs.Reading.{ReaderIs, end_known}
 use Rattle.clean_finish.specs.Segments.{Sent, Keys, copy_in}
 use Rattle.clean_finish.specs.Shows.{AreTaken, Hand, WayIs}
 use Rattle.clean_finish.specs.Running.{Has, StageIs, HasNotBegun, Half, Facing}
-use Rattle.clean_finish.proofs.AnswerHeard.{answer_at, heard_own}
-use Rattle.clean_finish.proofs.AnswerHeard.{end_after as heard_end}
+use Rattle.clean_finish.proofs.AnswerHeard.{answer_at, heard_own, end_after as heard_end}
 use Rattle.clean_finish.proofs.Hands.{in_hand, way_arrives, way_brought}
 use Rattle.clean_finish.proofs.Passing.{stands_then}
 use Rattle.clean_finish.proofs.SynArrived.{last, not_last, done, all_settled}

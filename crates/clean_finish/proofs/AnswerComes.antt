@@ -18,12 +18,12 @@ use Rattle.stream_apps.specs.Apps.{AppState}
 use Rattle.path_agenda.specs.declared.duty.Duty.TheVariants as duties
 use Rattle.path_agenda.specs.declared.duty.StepDuty.TheVariants as step_duties
 use Rattle.path_agenda.specs.Agenda.{syn_ack_came}
-use Rattle.path_rules.specs.Arriving.{copy_of, held_of, reset_for}
-use Rattle.path_rules.specs.Ends.{PathEnd}
-use Rattle.path_rules.specs.Events.{copy_taken}
-use Rattle.path_rules.specs.Standing.{is_connected}
-use Rattle.path_rules.specs.State.{PathState, goes_on}
-use Rattle.path_rules.specs.Values.{Carried, values}
+use Rattle.path_core.specs.Arrival.{copy_of, reset_for, copy_taken}
+use Rattle.path_core.specs.DssIn.{held_of}
+use Rattle.path_core.specs.End.{PathEnd}
+use Rattle.path_core.specs.Standing.{is_connected}
+use Rattle.path_core.specs.State.{PathState, goes_on}
+use Rattle.path_core.specs.Values.{Carried, values}
 use Rattle.world_laws.specs.Openings.{PathPlan, Start}
 use Rattle.pace.specs.Lane.{Setting, Copy, Lane, all_left}
 use Rattle.pace.specs.Lists.{In}

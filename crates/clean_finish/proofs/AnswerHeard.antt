@@ -17,9 +17,10 @@ use Rattle.subflow_tcp.specs.State.{EndState}
 use Rattle.subflow_tcp.specs.Taking.{after_hearing, after_payload, after_new_ack, after_acknowledgement, after_telling, after_occupying, told_by_syn, is_fin_acked}
 use Rattle.subflow_tcp.proofs.WindowGrowth.{acknowledged_grows}
 use Rattle.path_agenda.specs.declared.duty.Duty.{Duty}
-use Rattle.path_rules.specs.Arriving.{copy_of, copy_judged, items_of, hint_of, treated_of, with_held}
-use Rattle.path_rules.specs.Ends.{PathEnd}
-use Rattle.path_rules.specs.State.{Profile}
+use Rattle.path_core.specs.Arrival.{copy_of, copy_judged, treated_of, with_held}
+use Rattle.path_core.specs.OptionsIn.{items_of, hint_of}
+use Rattle.path_core.specs.End.{PathEnd}
+use Rattle.path_core.specs.Profile.{Profile}
 use Rattle.pace.specs.Lane.{Setting, Lane}
 use Rattle.pace.specs.Rules.{hears_data, rested}
 use Rattle.clean_finish.specs.Segments.{Sent, Keys, copy_in, said}

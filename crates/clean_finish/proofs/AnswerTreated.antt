@@ -11,10 +11,10 @@ use Rattle.path_agenda.specs.declared.duty.AskDuty.TheVariants as ask_duties
 use Rattle.path_agenda.specs.declared.duty.SendDuty.TheVariants as send_duties
 use Rattle.path_agenda.specs.Agenda.{emission}
 use Rattle.path_agenda.specs.Items.{key_heard}
-use Rattle.path_rules.specs.Opening.{syn_window_ask, peer_key_ask, answered_peer_key, live_ask}
-use Rattle.path_rules.specs.Standing.{is_connected}
-use Rattle.path_rules.specs.State.{PathState, with_agenda}
-use Rattle.path_rules.specs.Values.{Carried}
+use Rattle.path_core.specs.MpCapable.{syn_window_ask, peer_key_ask, answered_peer_key, live_ask}
+use Rattle.path_core.specs.Standing.{is_connected}
+use Rattle.path_core.specs.State.{PathState, with_agenda}
+use Rattle.path_core.specs.Values.{Carried}
 use Rattle.world_laws.specs.Openings.{PathPlan, Start}
 use Rattle.pace.specs.Lane.{Setting, Telling, Lane, all_left}
 use Rattle.pace.specs.Going.{Going}

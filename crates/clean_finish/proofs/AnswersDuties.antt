@@ -24,19 +24,19 @@ use Rattle.path_agenda.specs.declared.duty.StepDuty.TheVariants as step_duties
 use Rattle.path_agenda.specs.declared.heard.Heard.{Heard}
 use Rattle.path_agenda.specs.declared.notice.OwnNotice.{OwnNotice}
 use Rattle.path_segments.specs.Laws.{window_told}
-use Rattle.path_rules.specs.Addressing.{is_note_due}
-use Rattle.path_rules.specs.Duties.{stands, ask_for, answered}
-use Rattle.path_rules.specs.Emission.{is_syn_due}
+use Rattle.path_core.specs.Addresses.{is_note_due}
+use Rattle.path_core.specs.Duties.{stands, ask_for, answered}
+use Rattle.path_core.specs.Emission.{is_syn_due}
 use Rattle.path_store.specs.declared.infinite_mapping.InfiniteMapping.{InfiniteMapping}
-use Rattle.path_rules.specs.Ends.{PathEnd}
-use Rattle.path_rules.specs.Infinite.{fin_place}
+use Rattle.path_core.specs.End.{PathEnd}
+use Rattle.path_core.specs.Modes.{fin_place}
 use Rattle.path_store.specs.InfiniteMappings.{fin_under}
-use Rattle.path_rules.specs.FastClosing.{is_fast_close_due, is_silent, leaves_silently, resets_noted}
-use Rattle.path_rules.specs.Passing.{place_passed, plain_fin}
-use Rattle.path_rules.specs.Standing.{is_connected, may_note}
-use Rattle.path_rules.specs.State.{PathState, with_agenda}
-use Rattle.path_rules.specs.Treating.{item_of, item_stands}
-use Rattle.path_rules.specs.Values.{Carried, values}
+use Rattle.path_core.specs.FastClose.{is_fast_close_due, is_silent, leaves_silently, resets_noted}
+use Rattle.path_core.specs.DataFin.{place_passed, plain_fin}
+use Rattle.path_core.specs.Standing.{is_connected, may_note}
+use Rattle.path_core.specs.State.{PathState, with_agenda}
+use Rattle.path_core.specs.Treating.{item_of, item_stands}
+use Rattle.path_core.specs.Values.{Carried, values}
 use Rattle.world_laws.specs.Openings.{PathPlan, Start}
 use Rattle.pace.specs.Lane.{Setting, Lane, all_left}
 use Rattle.pace.specs.Going.{Going}

@@ -22,7 +22,7 @@ use Rattle.stream_apps.specs.declared.duty.AppDuty.{AppDuty}
 use Rattle.stream_apps.specs.declared.duty.AppDuty.TheVariants.{Write, Close, Read, End, FastClose, AbortSend, AbortReceive}
 use Rattle.stream_apps.specs.AppSteps.{offered, app_stands, app_ask, app_takes}
 use Rattle.stream_apps.specs.Turns.{FirstAppStands}
-use Rattle.path_rules.specs.Values.{Carried}
+use Rattle.path_core.specs.Values.{Carried}
 use Rattle.world_laws.specs.Openings.{PathPlan, Start}
 use Rattle.world_laws.specs.StampedBooks.{answer_to}
 use Rattle.world_laws.proofs.Worlds.Casts.{Cast, Fare, after_a, after_b}

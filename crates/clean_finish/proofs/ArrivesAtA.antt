@@ -11,11 +11,10 @@ use Rattle.actor_desk.specs.Desk.{SixBooks}
 use Rattle.stream_apps.specs.Apps.{AppState}
 use Rattle.path_agenda.specs.declared.duty.Duty.TheVariants as duties
 use Rattle.path_agenda.specs.declared.duty.StepDuty.TheVariants as step_duties
-use Rattle.path_rules.specs.Arriving.{copy_of}
-use Rattle.path_rules.specs.Events.{copy_taken}
-use Rattle.path_rules.specs.Joins.{is_joined}
-use Rattle.path_rules.specs.State.{PathState}
-use Rattle.path_rules.specs.Values.{Carried, values}
+use Rattle.path_core.specs.Arrival.{copy_of, copy_taken}
+use Rattle.path_core.specs.MpJoin.{is_joined}
+use Rattle.path_core.specs.State.{PathState}
+use Rattle.path_core.specs.Values.{Carried, values}
 use Rattle.world_laws.specs.Openings.{PathPlan, Start}
 use Rattle.pace.specs.Lane.{Setting, Copy, Lane, all_left}
 use Rattle.pace.specs.Going.{Going}

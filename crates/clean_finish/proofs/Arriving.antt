@@ -10,8 +10,8 @@ use Rattle.link_model.specs.Order.{AreInOrder}
 use Rattle.link_model.specs.State.{LinkState}
 use Rattle.link_model.specs.Steps.{next_number}
 use Rattle.link_model.proofs.Order.{earliest}
-use Rattle.path_rules.specs.State.{Profile}
-use Rattle.path_rules.specs.Values.{Carried}
+use Rattle.path_core.specs.Profile.{Profile}
+use Rattle.path_core.specs.Values.{Carried}
 use Rattle.pace.specs.Lane.{Setting, Copy, Sender, Receiver}
 use Rattle.pace.specs.Lists.{first_at, Timed}
 use Rattle.clean_finish.specs.Segments.{Sent, Keys, copy_in, FliesAs, FlyAs}

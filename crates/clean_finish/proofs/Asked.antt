@@ -9,9 +9,9 @@ use Rattle.actor_desk.specs.declared.ask.Reply.TheVariants as replies
 use Rattle.path_agenda.specs.declared.duty.Duty.{Duty}
 use Rattle.path_agenda.specs.declared.duty.Duty.TheVariants as duties
 use Rattle.path_agenda.specs.declared.duty.AskDuty.TheVariants as ask_duties
-use Rattle.path_rules.specs.Ends.{PathEnd}
-use Rattle.path_rules.specs.Standing.{after_ack_out}
-use Rattle.path_rules.specs.State.{Profile}
+use Rattle.path_core.specs.End.{PathEnd}
+use Rattle.path_core.specs.Standing.{after_ack_out}
+use Rattle.path_core.specs.Profile.{Profile}
 use Rattle.pace.specs.Lane.{Setting, Lane, all_left}
 use Rattle.pace.specs.Rules.{asked_out}
 use Rattle.pace.specs.Going.{Going}

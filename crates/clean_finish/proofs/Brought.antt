@@ -11,10 +11,12 @@ use Rattle.path_agenda.specs.declared.duty.AskDuty.TheVariants as ask_duties
 use Rattle.path_agenda.specs.declared.duty.SendDuty.TheVariants as send_duties
 use Rattle.path_agenda.specs.declared.duty.SilentDuty.TheVariants as silent_duties
 use Rattle.path_agenda.specs.declared.duty.StepDuty.TheVariants as step_duties
-use Rattle.path_rules.specs.declared.modes.Modes.{Modes}
-use Rattle.path_rules.specs.Ends.{PathEnd, Sending, Treated}
+use Rattle.path_core.specs.declared.modes.Modes.{Modes}
+use Rattle.path_core.specs.End.{PathEnd}
+use Rattle.path_core.specs.Sending.{Sending}
+use Rattle.path_core.specs.Treated.{Treated}
 use Rattle.path_store.specs.Receiving.{Receiving}
-use Rattle.path_rules.specs.State.{Profile}
+use Rattle.path_core.specs.Profile.{Profile}
 use Rattle.pace.specs.Lane.{Setting, Copy, Lane, Stage}
 use Rattle.pace.specs.Rules.{hears_data}
 use Rattle.pace.specs.Moves.{MayHearData}

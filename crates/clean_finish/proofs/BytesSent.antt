@@ -16,10 +16,11 @@ use Rattle.subflow_tcp.specs.States.{is_opening}
 use Rattle.path_agenda.specs.declared.duty.Duty.{Duty}
 use Rattle.path_agenda.specs.declared.duty.Duty.TheVariants as duties
 use Rattle.path_agenda.specs.declared.duty.StepDuty.TheVariants as step_duties
-use Rattle.path_rules.specs.Ends.{PathEnd}
-use Rattle.path_rules.specs.OptionsOut.{mapping_of, place_numbered, checksum_told, is_first_piece, record_said}
-use Rattle.path_rules.specs.State.{Profile}
-use Rattle.path_rules.specs.Values.{Carried}
+use Rattle.path_core.specs.End.{PathEnd}
+use Rattle.path_core.specs.DssOut.{mapping_of, place_numbered, checksum_told, is_first_piece}
+use Rattle.path_core.specs.OptionsOut.{record_said}
+use Rattle.path_core.specs.Profile.{Profile}
+use Rattle.path_core.specs.Values.{Carried}
 use Rattle.actor_desk.specs.Words.{pick, is_nil}
 use Rattle.world_laws.proofs.Lanes.Doing.{place_is}
 use Rattle.pace.specs.Lane.{Setting, Telling, Lane, all_left}

@@ -29,11 +29,13 @@ use Rattle.path_agenda.specs.declared.duty.StepDuty.TheVariants as step_duties
 use Rattle.path_agenda.specs.Agenda.{copy_came}
 use Rattle.path_agenda.specs.Items.{place_in_first, wants_ack}
 use Rattle.path_agenda.specs.declared.heard.Heard.{Heard}
-use Rattle.path_rules.specs.Arriving.{after_copy, copy_judged, edge_held, has_data_ack, held_of, hint_of, is_plain_ack, octets_acked, owing_if}
-use Rattle.path_rules.specs.Joins.{is_joined}
-use Rattle.path_rules.specs.Standing.{is_connected}
-use Rattle.path_rules.specs.State.{Profile}
-use Rattle.path_rules.specs.Values.{Carried}
+use Rattle.path_core.specs.Arrival.{after_copy, copy_judged, owing_if}
+use Rattle.path_core.specs.OptionsIn.{edge_held, has_data_ack, hint_of, is_plain_ack, octets_acked}
+use Rattle.path_core.specs.DssIn.{held_of}
+use Rattle.path_core.specs.MpJoin.{is_joined}
+use Rattle.path_core.specs.Standing.{is_connected}
+use Rattle.path_core.specs.Profile.{Profile}
+use Rattle.path_core.specs.Values.{Carried}
 use Rattle.pace.specs.Lane.{Setting, Telling, Copy, Lane, all_left}
 use Rattle.pace.specs.Lists.{Chain, In, repeated}
 use Rattle.pace.proofs.Lists.{chain_le}

@@ -14,12 +14,12 @@ use Rattle.path_agenda.specs.declared.duty.Duty.TheVariants as duties
 use Rattle.path_agenda.specs.declared.duty.StepDuty.TheVariants as step_duties
 use Rattle.path_agenda.specs.declared.duty.AskDuty.TheVariants as ask_duties
 use Rattle.path_agenda.specs.Agenda.{copy_came, heard_and, payload_came}
-use Rattle.path_rules.specs.Arriving.{held_of, reset_for}
-use Rattle.path_rules.specs.Ends.{PathEnd}
-use Rattle.path_rules.specs.Events.{copy_taken}
-use Rattle.path_rules.specs.Joins.{is_joined}
-use Rattle.path_rules.specs.State.{PathState, goes_on}
-use Rattle.path_rules.specs.Values.{Carried, values}
+use Rattle.path_core.specs.DssIn.{held_of}
+use Rattle.path_core.specs.Arrival.{reset_for, copy_taken}
+use Rattle.path_core.specs.End.{PathEnd}
+use Rattle.path_core.specs.MpJoin.{is_joined}
+use Rattle.path_core.specs.State.{PathState, goes_on}
+use Rattle.path_core.specs.Values.{Carried, values}
 use Rattle.world_laws.specs.Openings.{PathPlan, Start}
 use Rattle.pace.specs.Lane.{Setting, Lane, all_left}
 use Rattle.pace.specs.Going.{Going}

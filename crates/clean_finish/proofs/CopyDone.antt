@@ -6,7 +6,7 @@ use Rattle.sides.specs.Side.{peer}
 use Rattle.path_agenda.specs.declared.duty.Duty.{Duty}
 use Rattle.path_agenda.specs.declared.duty.Duty.TheVariants as duties
 use Rattle.path_agenda.specs.declared.duty.SendDuty.TheVariants as send_duties
-use Rattle.path_rules.specs.State.{Profile}
+use Rattle.path_core.specs.Profile.{Profile}
 use Rattle.pace.specs.Lane.{Setting, Lane, Stage}
 use Rattle.clean_finish.specs.Segments.{Sent, Keys}
 use Rattle.clean_finish.specs.Shows.{Hand, brings_still, EndIs, HeardIs, WayIs, last_told, row_seen}

@@ -11,9 +11,9 @@ use Rattle.subflow_tcp.specs.declared.verdicts.Meaning.TheVariants as means
 use Rattle.subflow_tcp.specs.States.{is_half_open}
 use Rattle.subflow_tcp.specs.Taking.{first_fin}
 use Rattle.actor_desk.specs.Words.{is_nil}
-use Rattle.path_rules.specs.Arriving.{edge_held, has_data_ack}
-use Rattle.path_rules.specs.Standing.{is_connected}
-use Rattle.path_rules.specs.State.{Profile}
+use Rattle.path_core.specs.OptionsIn.{edge_held, has_data_ack}
+use Rattle.path_core.specs.Standing.{is_connected}
+use Rattle.path_core.specs.Profile.{Profile}
 use Rattle.clean_finish.specs.Segments.{Sent, Keys, Brings, is_opening, is_subflow_end, shows_keys, is_third, is_piece, octets_of, said, CountsAs}
 use Rattle.clean_finish.specs.Segments.Brings.{OpensSubflow, ShowsKeys, FirstPiece, Piece, Acknowledges, EndsStream, EndsSubflow}
 use Rattle.clean_finish.specs.Shows.{IsPhase}

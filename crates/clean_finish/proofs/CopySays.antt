@@ -14,11 +14,12 @@ use Rattle.path_agenda.specs.declared.heard.Heard.{Heard}
 use Rattle.path_agenda.specs.declared.heard.Heard.TheVariants as says
 use Rattle.path_agenda.specs.Items.{wants_ack}
 use Rattle.mptcp_options.specs.declared.capable.CapableKeys.TheVariants.{WithData}
-use Rattle.path_rules.specs.Arriving.{copy_of, items_of, is_mapping, mapping_items, held_of, held_if, key_held, checksum_heard}
-use Rattle.path_rules.specs.Deliver.{kept_of}
-use Rattle.path_rules.specs.Joins.{is_joined}
-use Rattle.path_rules.specs.OptionsOut.{mapping_of, bare_mapping, checksum_in, checksum_told}
-use Rattle.path_rules.specs.State.{Profile}
+use Rattle.path_core.specs.Arrival.{copy_of}
+use Rattle.path_core.specs.OptionsIn.{items_of}
+use Rattle.path_core.specs.DssIn.{is_mapping, mapping_items, held_of, held_if, key_held, checksum_heard, kept_of}
+use Rattle.path_core.specs.MpJoin.{is_joined}
+use Rattle.path_core.specs.DssOut.{mapping_of, bare_mapping, checksum_in, checksum_told}
+use Rattle.path_core.specs.Profile.{Profile}
 use Rattle.clean_finish.specs.Segments.{Sent, Keys, Brings, is_opening, shows_keys, is_owed, octets_of, said, CountsAs, BringsAs}
 use Rattle.clean_finish.specs.Segments.Brings.{OpensSubflow, ShowsKeys, FirstPiece, Piece, Acknowledges, EndsStream, EndsSubflow}
 use Rattle.clean_finish.specs.Running.{heard_by, kept_piece, kept_in}

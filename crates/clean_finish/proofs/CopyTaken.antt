@@ -10,11 +10,13 @@ use Rattle.path_segments.specs.Laws.{meant}
 use Rattle.path_segments.specs.Heard.{HeardSegment}
 use Rattle.subflow_tcp.specs.declared.verdicts.Meaning.{Meaning}
 use Rattle.subflow_tcp.specs.Judging.{meaning_of}
-use Rattle.path_rules.specs.Arriving.{copy_of, copy_judged, held_of, items_of, reset_for, options_heard, judged_of, taken_as, template_by, template_of}
-use Rattle.path_rules.specs.Events.{at_tick, heard_in, copy_heard, copy_taken, told_at}
-use Rattle.path_rules.specs.Joins.{is_joined}
-use Rattle.path_rules.specs.State.{PathState, end_at, goes_on}
-use Rattle.path_rules.specs.Values.{Carried, carried_by, as_arrived, values}
+use Rattle.path_core.specs.Arrival.{copy_of, copy_judged, reset_for, template_by, template_of, heard_in, copy_heard, copy_taken, told_at}
+use Rattle.path_core.specs.DssIn.{held_of}
+use Rattle.path_core.specs.OptionsIn.{items_of, options_heard}
+use Rattle.path_core.specs.Judged.{judged_of, taken_as}
+use Rattle.path_core.specs.State.{at_tick, PathState, end_at, goes_on}
+use Rattle.path_core.specs.MpJoin.{is_joined}
+use Rattle.path_core.specs.Values.{Carried, carried_by, as_arrived, values}
 use Rattle.clean_finish.specs.Machine.{HeadArrives}
 use Rattle.clean_finish.proofs.Links.{head_arrives}
 

@@ -15,12 +15,12 @@ use Rattle.stream_apps.specs.AppSteps.{app_ask, start_of_app}
 use Rattle.stream_apps.specs.Starts.{fast_close_of, untouched, first_app_turn}
 use Rattle.path_agenda.specs.Agenda.{start_of_turn}
 use Rattle.path_agenda.specs.declared.duty.Duty.{Duty}
-use Rattle.path_rules.specs.Duties.{ask_for}
-use Rattle.path_rules.specs.State.{PathState, with_agenda}
-use Rattle.path_rules.specs.Steps.{answers}
-use Rattle.path_rules.specs.Starts.{waiting_path}
-use Rattle.path_rules.specs.Turns.{IsSettled}
-use Rattle.path_rules.specs.Values.{Carried, values}
+use Rattle.path_core.specs.Duties.{ask_for}
+use Rattle.path_core.specs.State.{PathState, with_agenda}
+use Rattle.path_core.specs.Steps.{answers}
+use Rattle.path_core.specs.Start.{waiting_path}
+use Rattle.path_core.specs.Turns.{IsSettled}
+use Rattle.path_core.specs.Values.{Carried, values}
 use Rattle.world_laws.specs.Openings.{PathPlan, Start, path_begins, opened_world}
 use Rattle.world_laws.specs.StampedBooks.{answer_to}
 use Rattle.world_laws.specs.Worlds.{WorldState, Turn, note_of, all_over, greatest, world_step, end_round, world_run, AreLawful}

@@ -9,11 +9,12 @@ use Rattle.send_book.specs.Steps.{is_future, fin_after, after_ack}
 use Rattle.subflow_send.specs.Records.{Record}
 use Rattle.path_agenda.specs.declared.duty.Duty.{Duty}
 use Rattle.path_store.specs.declared.granted_piece.GrantedPiece.{GrantedPiece}
-use Rattle.path_rules.specs.Ends.{PathEnd, Sending}
-use Rattle.path_rules.specs.State.{Profile}
-use Rattle.path_rules.specs.StreamEnds.{after_acked, is_data_fin_news, is_news}
+use Rattle.path_core.specs.End.{PathEnd}
+use Rattle.path_core.specs.Sending.{Sending}
+use Rattle.path_core.specs.Profile.{Profile}
+use Rattle.path_core.specs.DataFin.{after_acked, is_data_fin_news, is_news}
 use Rattle.path_store.specs.Granted.{is_newly_heard, is_open}
-use Rattle.path_rules.specs.Treating.{covered_by}
+use Rattle.path_core.specs.DssIn.{covered_by}
 use Rattle.pace.specs.Lane.{Setting, Copy, Lane, Sender, all_left}
 use Rattle.pace.specs.Lists.{In}
 use Rattle.pace.specs.Going.{Going, Covers, may_tell}

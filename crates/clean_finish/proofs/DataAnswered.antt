@@ -26,12 +26,13 @@ use Rattle.stream_apps.specs.Apps.{AppState}
 use Rattle.path_agenda.specs.declared.duty.Duty.{Duty}
 use Rattle.path_agenda.specs.declared.duty.Duty.TheVariants as duties
 use Rattle.path_agenda.specs.declared.duty.StepDuty.TheVariants as step_duties
-use Rattle.path_rules.specs.Emission.{first_unsent, fits, payload_size, data_stands, data_ask, grant_in, answered_grant, answered_data}
-use Rattle.path_rules.specs.Handover.{having_sent, sent_on}
-use Rattle.path_rules.specs.OptionsOut.{mapping_of, record_or_ack, is_first_piece}
-use Rattle.path_rules.specs.State.{PathState, with_agenda}
-use Rattle.path_rules.specs.StreamEnds.{is_shut}
-use Rattle.path_rules.specs.Values.{Carried, carried_by, stripped, altered, values}
+use Rattle.path_core.specs.Emission.{first_unsent, fits, payload_size, data_stands, data_ask, grant_in, answered_grant, answered_data}
+use Rattle.path_core.specs.Handover.{having_sent, sent_on}
+use Rattle.path_core.specs.DssOut.{mapping_of, is_first_piece}
+use Rattle.path_core.specs.OptionsOut.{record_or_ack}
+use Rattle.path_core.specs.State.{PathState, with_agenda}
+use Rattle.path_core.specs.DataFin.{is_shut}
+use Rattle.path_core.specs.Values.{Carried, carried_by, stripped, altered, values}
 use Rattle.world_laws.specs.Openings.{PathPlan, Start}
 use Rattle.pace.specs.Lane.{Setting, Lane, Sender, all_left}
 use Rattle.pace.specs.Going.{Going}

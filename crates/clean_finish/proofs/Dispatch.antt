@@ -1,6 +1,6 @@
 -- All duties of a path over a clean link go on.
 use Rattle.std.proofs.Common.{sym, subst}
-use Rattle.path_rules.specs.State.{Profile}
+use Rattle.path_core.specs.Profile.{Profile}
 use Rattle.world_laws.specs.Openings.{PathPlan, Start, path_begins}
 use Rattle.pace.specs.Lane.{Setting}
 use Rattle.clean_finish.specs.Running.{IsSetting}

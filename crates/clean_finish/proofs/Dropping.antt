@@ -9,7 +9,7 @@ use Rattle.path_agenda.specs.declared.duty.AskDuty.TheVariants as ask_duties
 use Rattle.path_agenda.specs.declared.duty.SendDuty.TheVariants as send_duties
 use Rattle.path_agenda.specs.declared.duty.SilentDuty.TheVariants as silent_duties
 use Rattle.path_agenda.specs.declared.duty.StepDuty.TheVariants as step_duties
-use Rattle.path_rules.specs.Ends.{PathEnd}
+use Rattle.path_core.specs.End.{PathEnd}
 use Rattle.pace.specs.Lane.{Setting, Sender, Receiver, Stage}
 use Rattle.clean_finish.specs.Running.{Has, StageIs, IsSettledSoon, HasNotBegun}
 

@@ -20,13 +20,14 @@ use Rattle.path_agenda.specs.declared.duty.AskDuty.TheVariants as ask_duties
 use Rattle.path_agenda.specs.declared.duty.StepDuty.TheVariants as step_duties
 use Rattle.fallback_state.specs.Modes.{reads_mappings}
 use Rattle.path_store.specs.declared.infinite_mapping.InfiniteMapping.{InfiniteMapping}
-use Rattle.path_rules.specs.Deliver.{Piece, after_check, failing_by, forgotten_by, infinite_piece, mapped_piece, mapping_here, next_piece, piece_by, plain_piece, some_piece}
-use Rattle.path_rules.specs.Ends.{PathEnd}
-use Rattle.path_rules.specs.FailedChecks.{check_failed_stands}
+use Rattle.path_store.specs.Passing.{Piece, some_piece}
+use Rattle.path_core.specs.Deliver.{after_check, failing_by, forgotten_by, infinite_piece, mapped_piece, mapping_here, next_piece, piece_by, plain_piece, answered_piece, is_placed, piece_ask}
+use Rattle.path_core.specs.End.{PathEnd}
+use Rattle.path_core.specs.Fallback.{check_failed_stands}
 use Rattle.path_store.specs.InfiniteMappings.{covers}
-use Rattle.path_rules.specs.Passing.{answered_piece, is_placed, piece_ask}
-use Rattle.path_rules.specs.State.{PathState, Profile, with_agenda, with_end}
-use Rattle.path_rules.specs.Values.{Carried}
+use Rattle.path_core.specs.State.{PathState, with_agenda, with_end}
+use Rattle.path_core.specs.Profile.{Profile}
+use Rattle.path_core.specs.Values.{Carried}
 use Rattle.world_laws.specs.Openings.{PathPlan, Start}
 use Rattle.pace.specs.Lane.{Setting, Lane, all_left}
 use Rattle.pace.specs.Going.{Going}

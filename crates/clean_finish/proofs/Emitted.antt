@@ -11,8 +11,8 @@ use Rattle.subflow_tcp.specs.State.{is_at_limit}
 use Rattle.subflow_tcp.specs.States.{may_finish}
 use Rattle.subflow_tcp.specs.Segments.{one_if}
 use Rattle.path_agenda.specs.declared.duty.Duty.{Duty}
-use Rattle.path_rules.specs.Emission.{first_unsent, data_stands, may_send_data, payload_size}
-use Rattle.path_rules.specs.State.{Profile}
+use Rattle.path_core.specs.Emission.{first_unsent, data_stands, may_send_data, payload_size}
+use Rattle.path_core.specs.Profile.{Profile}
 use Rattle.pace.specs.Lane.{Setting, Lane, all_left}
 use Rattle.pace.specs.Going.{Going}
 use Rattle.pace.specs.Moves.{HasEmitted}

@@ -16,14 +16,14 @@ use Rattle.path_agenda.specs.declared.duty.Duty.TheVariants as duties
 use Rattle.path_agenda.specs.declared.duty.AskDuty.TheVariants as ask_duties
 use Rattle.path_agenda.specs.declared.duty.StepDuty.TheVariants as step_duties
 use Rattle.path_store.specs.declared.mapped_data_fin.MappedDataFin.{MappedDataFin}
-use Rattle.path_rules.specs.Deliver.{after_pieces, breaks_by_unmapped, fins_and, mapping_here, times_unmapped, with_data_fin_reached}
+use Rattle.path_core.specs.Deliver.{after_pieces, breaks_by_unmapped, fins_and, mapping_here, times_unmapped, with_data_fin_reached}
 use Rattle.path_store.specs.Receiving.{data_fin_reached}
-use Rattle.path_rules.specs.Ends.{PathEnd}
-use Rattle.path_rules.specs.Infinite.{receives_plainly}
-use Rattle.path_rules.specs.Passing.{answered_fin_heard, data_fin_of, fin_ask, is_fin_set}
-use Rattle.path_rules.specs.State.{PathState, with_agenda, with_end}
-use Rattle.path_rules.specs.Values.{Carried}
-use Rattle.path_rules.specs.Words.{item_at}
+use Rattle.path_core.specs.End.{PathEnd}
+use Rattle.path_core.specs.Modes.{receives_plainly}
+use Rattle.path_core.specs.DataFin.{answered_fin_heard, data_fin_of, fin_ask, is_fin_set}
+use Rattle.path_core.specs.State.{PathState, with_agenda, with_end}
+use Rattle.path_core.specs.Values.{Carried}
+use Rattle.path_core.specs.Choices.{item_at}
 use Rattle.world_laws.specs.Openings.{PathPlan, Start}
 use Rattle.pace.specs.Lane.{Setting, Lane, all_left}
 use Rattle.pace.specs.Going.{Going}

@@ -14,13 +14,13 @@ use Rattle.path_agenda.specs.declared.duty.Duty.{Duty}
 use Rattle.path_agenda.specs.declared.duty.Duty.TheVariants as duties
 use Rattle.path_agenda.specs.declared.duty.SendDuty.TheVariants as send_duties
 use Rattle.path_agenda.specs.declared.duty.StepDuty.TheVariants as step_duties
-use Rattle.path_rules.specs.Ends.{PathEnd}
-use Rattle.path_rules.specs.Infinite.{sends_plainly}
-use Rattle.path_rules.specs.OptionsOut.{ack_said}
-use Rattle.path_rules.specs.StreamEnds.{is_data_fin_due}
-use Rattle.path_rules.specs.Standing.{is_connected}
-use Rattle.path_rules.specs.State.{Profile}
-use Rattle.path_rules.specs.Values.{Carried}
+use Rattle.path_core.specs.End.{PathEnd}
+use Rattle.path_core.specs.Modes.{sends_plainly}
+use Rattle.path_core.specs.OptionsOut.{ack_said}
+use Rattle.path_core.specs.DataFin.{is_data_fin_due}
+use Rattle.path_core.specs.Standing.{is_connected}
+use Rattle.path_core.specs.Profile.{Profile}
+use Rattle.path_core.specs.Values.{Carried}
 use Rattle.actor_desk.specs.Words.{pick}
 use Rattle.pace.specs.Lane.{Setting, Telling, Copy, Lane, Stage, is_whole, all_left}
 use Rattle.pace.specs.Rules.{is_same, repeats}

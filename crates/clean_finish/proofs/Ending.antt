@@ -6,10 +6,10 @@ use Rattle.sides.specs.declared.side.Side.TheVariants.{A}
 use Rattle.subflow_tcp.specs.declared.dues.Due.{Due}
 use Rattle.subflow_tcp.specs.declared.segments.Occasion.TheVariants as to_send
 use Rattle.path_agenda.specs.declared.duty.Duty.{Duty}
-use Rattle.path_rules.specs.StreamEnds.{with_data_fin_sent}
-use Rattle.path_rules.specs.Ends.{PathEnd}
-use Rattle.path_rules.specs.Handover.{having_sent}
-use Rattle.path_rules.specs.State.{Profile}
+use Rattle.path_core.specs.DataFin.{with_data_fin_sent}
+use Rattle.path_core.specs.End.{PathEnd}
+use Rattle.path_core.specs.Handover.{having_sent}
+use Rattle.path_core.specs.Profile.{Profile}
 use Rattle.actor_desk.specs.Words.{pick}
 use Rattle.pace.specs.Lane.{Setting, Lane}
 use Rattle.clean_finish.specs.Segments.{Sent, Keys, said, data_fin_of, octets_of}

@@ -7,7 +7,7 @@ use Rattle.control_book.specs.Control.{Control}
 use Rattle.control_book.specs.Registry.{with_phase}
 use Rattle.control_book.specs.Steps.{after_live}
 use Rattle.path_agenda.specs.declared.duty.Duty.{Duty}
-use Rattle.path_rules.specs.State.{Profile}
+use Rattle.path_core.specs.Profile.{Profile}
 use Rattle.pace.specs.Lane.{Setting, Lane}
 use Rattle.clean_finish.specs.Segments.{Keys}
 use Rattle.clean_finish.specs.Shows.{ControlIs}

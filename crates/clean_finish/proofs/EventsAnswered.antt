@@ -11,10 +11,11 @@ use Rattle.path_agenda.specs.declared.duty.Duty.{Duty}
 use Rattle.path_agenda.specs.declared.duty.Duty.TheVariants as duties
 use Rattle.path_agenda.specs.declared.duty.StepDuty.TheVariants as step_duties
 use Rattle.path_agenda.specs.Agenda.{rest_of_turn}
-use Rattle.path_rules.specs.declared.event.Event.{Event}
-use Rattle.path_rules.specs.Events.{next_event, step_for, copy_taken, happens_if}
-use Rattle.path_rules.specs.State.{PathState, path_of, with_agenda}
-use Rattle.path_rules.specs.Values.{Carried, values}
+use Rattle.path_core.specs.declared.events.Event.{Event}
+use Rattle.path_core.specs.Events.{next_event, step_for, happens_if}
+use Rattle.path_core.specs.Arrival.{copy_taken}
+use Rattle.path_core.specs.State.{PathState, path_of, with_agenda}
+use Rattle.path_core.specs.Values.{Carried, values}
 use Rattle.world_laws.specs.Openings.{PathPlan, Start}
 use Rattle.pace.specs.Lane.{Setting, Lane, all_left}
 use Rattle.pace.specs.Going.{Going}

@@ -10,10 +10,10 @@ use Rattle.fallback_state.specs.Modes.{is_starting}
 use Rattle.fallback_state.specs.Table.{after_sure_sign, goes, stays}
 use Rattle.actor_desk.specs.declared.ask.Reply.{Reply}
 use Rattle.actor_desk.specs.declared.ask.Reply.TheVariants as replies
-use Rattle.path_rules.specs.declared.modes.Modes.{Modes}
-use Rattle.path_rules.specs.Fallback.{fell_duties, mode_in}
-use Rattle.path_rules.specs.State.{PathState, left}
-use Rattle.path_rules.specs.Values.{Carried}
+use Rattle.path_core.specs.declared.modes.Modes.{Modes}
+use Rattle.path_core.specs.Fallback.{fell_duties, mode_in}
+use Rattle.path_core.specs.State.{PathState, left}
+use Rattle.path_core.specs.Values.{Carried}
 use Rattle.pace.specs.Lane.{Sender, Receiver}
 use Rattle.clean_finish.specs.Segments.{Keys}
 use Rattle.clean_finish.specs.Shows.{ControlIs, ModesAre}

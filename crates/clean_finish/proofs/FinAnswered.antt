@@ -11,13 +11,12 @@ use Rattle.stream_apps.specs.Apps.{AppState}
 use Rattle.path_agenda.specs.declared.duty.Duty.{Duty}
 use Rattle.path_agenda.specs.declared.duty.Duty.TheVariants as duties
 use Rattle.path_agenda.specs.declared.duty.SendDuty.TheVariants as send_duties
-use Rattle.path_rules.specs.Handover.{with_told, sent_on}
+use Rattle.path_core.specs.Handover.{with_told, sent_on}
 use Rattle.subflow_tcp.specs.Closing.{after_finishing}
 use Rattle.subflow_tcp.specs.Emitting.{after_sending}
-use Rattle.path_rules.specs.StreamEnds.{is_fin_due}
-use Rattle.path_rules.specs.Emission.{answered_fin}
-use Rattle.path_rules.specs.State.{PathState, with_agenda}
-use Rattle.path_rules.specs.Values.{Carried, carried_by, stripped, altered, values}
+use Rattle.path_core.specs.DataFin.{is_fin_due, answered_fin}
+use Rattle.path_core.specs.State.{PathState, with_agenda}
+use Rattle.path_core.specs.Values.{Carried, carried_by, stripped, altered, values}
 use Rattle.world_laws.specs.Openings.{PathPlan, Start}
 use Rattle.pace.specs.Lane.{Setting, Lane, all_left}
 use Rattle.pace.specs.Going.{Going}

@@ -14,8 +14,8 @@ use Rattle.path_agenda.specs.declared.duty.AskDuty.TheVariants as ask_duties
 use Rattle.path_agenda.specs.declared.duty.SendDuty.TheVariants as send_duties
 use Rattle.path_agenda.specs.declared.duty.SilentDuty.TheVariants as silent_duties
 use Rattle.path_agenda.specs.declared.duty.StepDuty.TheVariants as step_duties
-use Rattle.path_rules.specs.Ends.{PathEnd}
-use Rattle.path_rules.specs.State.{Profile}
+use Rattle.path_core.specs.End.{PathEnd}
+use Rattle.path_core.specs.Profile.{Profile}
 use Rattle.pace.specs.Lane.{Setting, Lane}
 use Rattle.clean_finish.specs.Books.{ReceiverIs}
 use Rattle.clean_finish.specs.Reading.{ReaderShows, ReaderIs, end_known}

@@ -24,7 +24,7 @@ use Rattle.path_agenda.specs.Agenda.{start_of_turn}
 use Rattle.stream_apps.specs.Apps.{AppState}
 use Rattle.stream_apps.specs.AppSteps.{start_of_app}
 use Rattle.stream_apps.specs.Starts.{first_app_turn}
-use Rattle.path_rules.specs.Ends.{opening_end}
+use Rattle.path_core.specs.End.{opening_end}
 use Rattle.world_laws.specs.Openings.{PathPlan, Start}
 use Rattle.world_laws.proofs.Worlds.Casts.{first_cast, new_walker}
 use Rattle.pace.specs.Lane.{Setting, Lane, Writer, Reader, all_left}

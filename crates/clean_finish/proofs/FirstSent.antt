@@ -13,10 +13,11 @@ use Rattle.path_agenda.specs.declared.duty.Duty.TheVariants as duties
 use Rattle.path_agenda.specs.declared.duty.StepDuty.TheVariants as step_duties
 use Rattle.mptcp_options.specs.declared.capable.CapableKeys.TheVariants.{WithData}
 use Rattle.path_segments.specs.declared.segment.PathOption.TheVariants.{Capable}
-use Rattle.path_rules.specs.Ends.{PathEnd}
-use Rattle.path_rules.specs.OptionsOut.{mapping_of, checksum_told, is_first_piece, record_said}
-use Rattle.path_rules.specs.State.{Profile}
-use Rattle.path_rules.specs.Values.{Carried}
+use Rattle.path_core.specs.End.{PathEnd}
+use Rattle.path_core.specs.DssOut.{mapping_of, checksum_told, is_first_piece}
+use Rattle.path_core.specs.OptionsOut.{record_said}
+use Rattle.path_core.specs.Profile.{Profile}
+use Rattle.path_core.specs.Values.{Carried}
 use Rattle.pace.specs.Lane.{Setting, Lane, is_whole, all_left}
 use Rattle.pace.specs.Rules.{is_same}
 use Rattle.pace.specs.Going.{Going, pending}

@@ -17,10 +17,10 @@ use Rattle.subflow_send.specs.Sendings.{never_sent}
 use Rattle.subflow_send.proofs.Whole.{Tile-push}
 use Rattle.subflow_tcp.specs.Sizes.{room}
 use Rattle.path_agenda.specs.declared.duty.Duty.{Duty}
-use Rattle.path_rules.specs.Emission.{first_unsent, granted_at, with_piece}
-use Rattle.path_rules.specs.Ends.{PathEnd}
-use Rattle.path_rules.specs.OptionsOut.{mapping_of}
-use Rattle.path_rules.specs.State.{Profile}
+use Rattle.path_core.specs.Emission.{first_unsent, granted_at, with_piece}
+use Rattle.path_core.specs.End.{PathEnd}
+use Rattle.path_core.specs.DssOut.{mapping_of}
+use Rattle.path_core.specs.Profile.{Profile}
 use Rattle.pace.specs.Lane.{Setting, Lane}
 use Rattle.clean_finish.specs.Machine.{IsPiece}
 use Rattle.clean_finish.specs.Segments.{Keys}

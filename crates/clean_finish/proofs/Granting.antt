@@ -11,9 +11,9 @@ use Rattle.subflow_tcp.specs.Segments.{one_if}
 use Rattle.path_agenda.specs.declared.duty.Duty.{Duty}
 use Rattle.path_agenda.specs.declared.duty.Duty.TheVariants as duties
 use Rattle.path_agenda.specs.declared.duty.StepDuty.TheVariants as step_duties
-use Rattle.path_rules.specs.Emission.{payload_size, may_send_data, may_ask}
-use Rattle.path_rules.specs.State.{Profile}
-use Rattle.path_rules.specs.StreamEnds.{is_shut}
+use Rattle.path_core.specs.Emission.{payload_size, may_send_data, may_ask}
+use Rattle.path_core.specs.Profile.{Profile}
+use Rattle.path_core.specs.DataFin.{is_shut}
 use Rattle.pace.specs.Lane.{Setting, Lane, all_left}
 use Rattle.pace.specs.Going.{Going}
 use Rattle.pace.specs.Moves.{MayRefuse}

@@ -3,8 +3,8 @@
 use Rattle.std.proofs.Common.{◌≡◌, refl, sym, subst, ap, ◌∙◌, ℕ, ◌+◌, ◌≤◌, Bool, true, false, Option, Some, None, List, [], ◌∷◌, ◌++◌, length, map, arith}
 use Rattle.sides.specs.declared.side.Side.{Side}
 use Rattle.link_model.specs.declared.flight.Flight.{Flight}
-use Rattle.path_rules.specs.State.{Profile}
-use Rattle.path_rules.specs.Values.{Carried}
+use Rattle.path_core.specs.Profile.{Profile}
+use Rattle.path_core.specs.Values.{Carried}
 use Rattle.pace.specs.Lane.{Setting, Copy, Sender, Receiver}
 use Rattle.clean_finish.specs.Segments.{Sent, Keys, copy_in, octets_of, FlyAs, Follow, Rise, edge_after, low_after, control_after, keys_after}
 use Rattle.clean_finish.specs.Shows.{Hand, brings_in, tells_in, WayIs}

@@ -17,10 +17,11 @@ use Rattle.path_agenda.specs.declared.duty.AskDuty.TheVariants as ask_duties
 use Rattle.path_agenda.specs.declared.duty.StepDuty.TheVariants as step_duties
 use Rattle.path_agenda.specs.declared.heard.Heard.{Heard}
 use Rattle.path_agenda.specs.declared.heard.Heard.TheVariants as says
-use Rattle.path_rules.specs.Ends.{PathEnd}
-use Rattle.path_rules.specs.State.{PathState, goes_on, with_agenda}
-use Rattle.path_rules.specs.Treating.{answered_ack, answered_item, item_ask, item_of}
-use Rattle.path_rules.specs.Values.{Carried, values}
+use Rattle.path_core.specs.End.{PathEnd}
+use Rattle.path_core.specs.State.{PathState, goes_on, with_agenda}
+use Rattle.path_core.specs.DssIn.{answered_ack}
+use Rattle.path_core.specs.Treating.{answered_item, item_ask, item_of}
+use Rattle.path_core.specs.Values.{Carried, values}
 use Rattle.world_laws.specs.Openings.{PathPlan, Start}
 use Rattle.pace.specs.Lane.{Setting, Lane, all_left}
 use Rattle.pace.specs.Going.{Going}

@@ -13,11 +13,11 @@ use Rattle.path_agenda.specs.declared.duty.StepDuty.TheVariants as step_duties
 use Rattle.path_agenda.specs.declared.heard.Heard.{Heard}
 use Rattle.path_agenda.specs.declared.heard.Heard.TheVariants as says
 use Rattle.path_agenda.specs.Items.{keys_heard}
-use Rattle.path_rules.specs.Ends.{PathEnd}
-use Rattle.path_rules.specs.Opening.{is_opened_by_keys, is_opened_plainly, live_ask}
-use Rattle.path_rules.specs.State.{PathState, with_agenda, with_end}
-use Rattle.path_rules.specs.Treating.{item_of, item_passed, item_stands}
-use Rattle.path_rules.specs.Values.{Carried}
+use Rattle.path_core.specs.End.{PathEnd}
+use Rattle.path_core.specs.MpCapable.{is_opened_by_keys, is_opened_plainly, live_ask}
+use Rattle.path_core.specs.State.{PathState, with_agenda, with_end}
+use Rattle.path_core.specs.Treating.{item_of, item_passed, item_stands}
+use Rattle.path_core.specs.Values.{Carried}
 use Rattle.world_laws.specs.Openings.{PathPlan, Start}
 use Rattle.pace.specs.Lane.{Setting, Lane, all_left}
 use Rattle.pace.specs.Going.{Going}

@@ -11,12 +11,13 @@ use Rattle.path_agenda.specs.declared.duty.Duty.{Duty}
 use Rattle.path_agenda.specs.declared.duty.Duty.TheVariants as duties
 use Rattle.path_agenda.specs.declared.duty.StepDuty.TheVariants as step_duties
 use Rattle.path_agenda.specs.declared.heard.Heard.TheVariants as says
-use Rattle.path_rules.specs.declared.modes.Modes.{Modes}
-use Rattle.path_rules.specs.Ends.{PathEnd}
-use Rattle.path_rules.specs.Fallback.{fell_ask, mode_in}
-use Rattle.path_rules.specs.State.{PathState, goes_on, with_agenda, with_end}
-use Rattle.path_rules.specs.Treating.{answered_heard, answered_mapping, heard_passed, mapping_ask}
-use Rattle.path_rules.specs.Values.{Carried, values}
+use Rattle.path_core.specs.declared.modes.Modes.{Modes}
+use Rattle.path_core.specs.End.{PathEnd}
+use Rattle.path_core.specs.Fallback.{fell_ask, mode_in}
+use Rattle.path_core.specs.State.{PathState, goes_on, with_agenda, with_end}
+use Rattle.path_core.specs.Treating.{answered_heard, heard_passed}
+use Rattle.path_core.specs.DssIn.{answered_mapping, mapping_ask}
+use Rattle.path_core.specs.Values.{Carried, values}
 use Rattle.world_laws.specs.Openings.{PathPlan, Start}
 use Rattle.pace.specs.Lane.{Setting, Lane, all_left}
 use Rattle.pace.specs.Going.{Going}

@@ -10,9 +10,9 @@ use Rattle.path_agenda.specs.declared.duty.Duty.{Duty}
 use Rattle.path_agenda.specs.declared.heard.Heard.{Heard}
 use Rattle.path_agenda.specs.declared.heard.Heard.TheVariants as says
 use Rattle.path_store.specs.declared.mapped_data_fin.MappedDataFin.{MappedDataFin}
-use Rattle.path_rules.specs.Ends.{PathEnd}
-use Rattle.path_rules.specs.Treating.{item_of}
-use Rattle.path_rules.specs.Words.{item_at}
+use Rattle.path_core.specs.End.{PathEnd}
+use Rattle.path_core.specs.Treating.{item_of}
+use Rattle.path_core.specs.Choices.{item_at}
 use Rattle.clean_finish.specs.Segments.{Keys, Brings, is_opening, is_third, shows_keys}
 use Rattle.clean_finish.specs.Segments.Brings.{OpensSubflow, ShowsKeys, FirstPiece, Piece, Acknowledges, EndsStream, EndsSubflow}
 use Rattle.clean_finish.specs.Running.{Has, Bench, IsBetween, MapsAs, Treats, TreatsCopy, count_in, heard_by}

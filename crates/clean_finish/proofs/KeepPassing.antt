@@ -19,13 +19,15 @@ use Rattle.path_agenda.specs.declared.duty.AskDuty.TheVariants as ask_duties
 use Rattle.path_agenda.specs.declared.duty.SilentDuty.TheVariants as silent_duties
 use Rattle.path_agenda.specs.declared.duty.StepDuty.TheVariants as step_duties
 use Rattle.path_store.specs.declared.infinite_mapping.InfiniteMapping.{InfiniteMapping}
-use Rattle.path_rules.specs.Ends.{PathEnd}
-use Rattle.path_rules.specs.Infinite.{acknowledged_under, sends_plainly}
-use Rattle.path_rules.specs.Joins.{is_joined}
-use Rattle.path_rules.specs.State.{PathState, Profile, with_agenda, with_end}
-use Rattle.path_rules.specs.Treating.{after_keep, is_dropped, plain_ack_stands, plain_data_stands, subflow_ack_stands, with_plain_ack}
-use Rattle.path_rules.specs.Values.{Carried}
-use Rattle.path_rules.specs.Words.{is_side_a}
+use Rattle.path_core.specs.End.{PathEnd}
+use Rattle.path_core.specs.Modes.{acknowledged_under, sends_plainly}
+use Rattle.path_core.specs.MpJoin.{is_joined}
+use Rattle.path_core.specs.State.{PathState, with_agenda, with_end}
+use Rattle.path_core.specs.Profile.{Profile}
+use Rattle.path_core.specs.Deliver.{after_keep, is_dropped}
+use Rattle.path_core.specs.Fallback.{plain_ack_stands, plain_data_stands, subflow_ack_stands, with_plain_ack}
+use Rattle.path_core.specs.Values.{Carried}
+use Rattle.path_core.specs.Choices.{is_side_a}
 use Rattle.path_store.specs.Counts.{one_more}
 use Rattle.world_laws.specs.Openings.{PathPlan, Start}
 use Rattle.pace.specs.Lane.{Setting, Lane, all_left}

@@ -16,11 +16,11 @@ use Rattle.path_agenda.specs.declared.duty.Duty.TheVariants as duties
 use Rattle.path_agenda.specs.declared.duty.AskDuty.TheVariants as ask_duties
 use Rattle.path_agenda.specs.declared.duty.SendDuty.TheVariants as send_duties
 use Rattle.path_agenda.specs.Agenda.{emission}
-use Rattle.path_rules.specs.Handover.{having_sent, sent_on}
-use Rattle.path_rules.specs.Passing.{rate_ask, answered_rate}
-use Rattle.path_rules.specs.Standing.{ack_out_ask, answered_ack_out, acknowledges}
-use Rattle.path_rules.specs.State.{PathState, with_agenda}
-use Rattle.path_rules.specs.Values.{Carried, carried_by, stripped, altered, values}
+use Rattle.path_core.specs.Handover.{having_sent, sent_on}
+use Rattle.path_core.specs.Rate.{rate_ask, answered_rate}
+use Rattle.path_core.specs.Standing.{ack_out_ask, answered_ack_out, acknowledges}
+use Rattle.path_core.specs.State.{PathState, with_agenda}
+use Rattle.path_core.specs.Values.{Carried, carried_by, stripped, altered, values}
 use Rattle.world_laws.specs.Openings.{PathPlan, Start}
 use Rattle.pace.specs.Lane.{Setting, Lane, all_left}
 use Rattle.pace.specs.Going.{Going}

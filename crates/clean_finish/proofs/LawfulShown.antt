@@ -3,8 +3,8 @@ use Rattle.std.proofs.Common.{◌≡◌, refl, sym, subst, ap, ◌∙◌, ℕ, z
 use Rattle.std.specs.List.{slice_get}
 use Rattle.sides.specs.declared.side.Side.TheVariants.{A, B}
 use Rattle.actor_desk.specs.declared.ask.Note.{Note}
-use Rattle.path_rules.specs.Octets.{octets}
-use Rattle.path_rules.specs.Values.{Carried, values}
+use Rattle.path_core.specs.Octets.{octets}
+use Rattle.path_core.specs.Values.{Carried, values}
 use Rattle.world_laws.specs.declared.member.Member.TheVariants.{App, Path}
 use Rattle.world_laws.specs.Actors.{Actor, ActorCrew, is_over}
 use Rattle.world_laws.specs.Fresh.{shown_member, shown_crew, shown_world}

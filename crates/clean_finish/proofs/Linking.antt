@@ -11,7 +11,7 @@ use Rattle.link_model.specs.State.{LinkState}
 use Rattle.link_model.specs.Steps.{next_number, after_send, changed}
 use Rattle.link_model.proofs.Order.{in_order_sent}
 use Rattle.link_model.proofs.Plain.{sent_last, sent_before_next}
-use Rattle.path_rules.specs.Values.{Carried}
+use Rattle.path_core.specs.Values.{Carried}
 use Rattle.clean_finish.specs.Machine.{copy_of}
 use Rattle.clean_finish.specs.Running.{LinkIs}
 use Rattle.clean_finish.proofs.Links.{going_with, sends_plainly}

@@ -19,10 +19,10 @@ use Rattle.path_agenda.specs.declared.duty.AskDuty.TheVariants as ask_duties
 use Rattle.path_agenda.specs.declared.duty.StepDuty.TheVariants as step_duties
 use Rattle.fallback_state.specs.declared.fall.Mode.{Mode}
 use Rattle.subflow_tcp.specs.States.{is_dead}
-use Rattle.path_rules.specs.Ends.{PathEnd}
-use Rattle.path_rules.specs.Noticing.{after_notice as after_noted}
-use Rattle.path_rules.specs.Standing.{after_look, may_note}
-use Rattle.path_rules.specs.State.{Profile}
+use Rattle.path_core.specs.End.{PathEnd}
+use Rattle.path_core.specs.Notices.{after_notice as after_noted}
+use Rattle.path_core.specs.Standing.{after_look, may_note}
+use Rattle.path_core.specs.Profile.{Profile}
 use Rattle.pace.specs.Lane.{Setting, Lane}
 use Rattle.clean_finish.specs.Segments.{Keys}
 use Rattle.clean_finish.specs.Shows.{IsPlainMode, NoticesAre, EndIs, ControlIs}

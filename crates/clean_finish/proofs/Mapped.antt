@@ -5,12 +5,13 @@ use Rattle.path_segments.specs.Options.{PlainOption}
 use Rattle.path_segments.specs.declared.segment.PathOption.TheVariants.{Dss}
 use Rattle.subflow_tcp.specs.Emitting.{ack_at}
 use Rattle.path_store.specs.declared.infinite_mapping.InfiniteMapping.{InfiniteMapping}
-use Rattle.path_rules.specs.declared.modes.Modes.{Modes}
-use Rattle.path_rules.specs.Ends.{PathEnd}
-use Rattle.path_rules.specs.Infinite.{receives_infinite, receives_plainly, sends_plainly}
+use Rattle.path_core.specs.declared.modes.Modes.{Modes}
+use Rattle.path_core.specs.End.{PathEnd}
+use Rattle.path_core.specs.Modes.{receives_infinite, receives_plainly, sends_plainly}
 use Rattle.path_store.specs.InfiniteMappings.{covers}
-use Rattle.path_rules.specs.OptionsOut.{ack_said, fail_beside, fail_options, opening_options, segment_of}
-use Rattle.path_rules.specs.State.{Profile}
+use Rattle.path_core.specs.OptionsOut.{ack_said, opening_options, segment_of}
+use Rattle.path_core.specs.DssOut.{fail_beside, fail_options}
+use Rattle.path_core.specs.Profile.{Profile}
 use Rattle.clean_finish.specs.Shows.{IsMapping}
 
 pub sends_mappings : (m : Modes) → IsMapping m → sends_plainly m ≡ false

@@ -12,9 +12,9 @@ use Rattle.dss_mapping.specs.Places.{with_run}
 use Rattle.dss_mapping.specs.Runs.{place_in}
 use Rattle.dss_mapping.proofs.PlacesOf.{get-with_run, behind}
 use Rattle.path_store.specs.declared.mapped_data_fin.MappedDataFin.{MappedDataFin}
-use Rattle.path_rules.specs.Deliver.{with_learned}
+use Rattle.path_core.specs.DssIn.{with_learned}
 use Rattle.path_store.specs.Receiving.{data_fin_behind}
-use Rattle.path_rules.specs.Ends.{PathEnd}
+use Rattle.path_core.specs.End.{PathEnd}
 
 module _ (v : Mappings) (edge : ℕ) (beyond : (p : ℕ) → edge ≤ p → place_of v.places p ≡ None) (tail : v.tail ≡ None) where
   none_at : (p : ℕ) → edge ≤ p → place_at v p ≡ None

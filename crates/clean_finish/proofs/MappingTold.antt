@@ -13,14 +13,16 @@ use Rattle.fallback_state.specs.declared.fall.Fall.{Fall}
 use Rattle.actor_desk.specs.Words.{pick}
 use Rattle.path_agenda.specs.declared.duty.Duty.{Duty}
 use Rattle.path_agenda.specs.declared.heard.Heard.TheVariants as says
-use Rattle.path_rules.specs.Breaking.{answered_break, break_ask}
-use Rattle.path_rules.specs.declared.modes.Modes.{Modes}
-use Rattle.path_rules.specs.Deliver.{fins_and, with_learned, with_skipped}
-use Rattle.path_rules.specs.Ends.{PathEnd}
-use Rattle.path_rules.specs.Fallback.{after_fell, fell_ask, fell_duties, mode_in}
-use Rattle.path_rules.specs.State.{PathState, Profile, end_at, goes_on, left}
-use Rattle.path_rules.specs.Treating.{answered_heard, answered_mapping, heard_passed, mapping_ask, with_data_fin}
-use Rattle.path_rules.specs.Values.{Carried, values}
+use Rattle.path_core.specs.Breaking.{answered_break, break_ask}
+use Rattle.path_core.specs.declared.modes.Modes.{Modes}
+use Rattle.path_core.specs.Deliver.{fins_and}
+use Rattle.path_core.specs.DssIn.{with_learned, with_skipped, answered_mapping, mapping_ask, with_data_fin}
+use Rattle.path_core.specs.End.{PathEnd}
+use Rattle.path_core.specs.Fallback.{after_fell, fell_ask, fell_duties, mode_in}
+use Rattle.path_core.specs.State.{PathState, end_at, goes_on, left}
+use Rattle.path_core.specs.Profile.{Profile}
+use Rattle.path_core.specs.Treating.{answered_heard, heard_passed}
+use Rattle.path_core.specs.Values.{Carried, values}
 use Rattle.pace.specs.Lane.{Setting, Lane, all_left}
 use Rattle.pace.specs.Going.{Going}
 use Rattle.clean_finish.specs.Segments.{Sent, Keys, Follow, octets_of}

@@ -8,11 +8,12 @@ use Rattle.sides.specs.declared.side.Side.{Side}
 use Rattle.sides.specs.declared.side.Side.TheVariants.{A, B}
 use Rattle.link_model.specs.declared.flight.Flight.{Flight}
 use Rattle.link_model.specs.Steps.{next_due, due_of}
-use Rattle.path_rules.specs.declared.event.Event.{Event}
-use Rattle.path_rules.specs.declared.event.Event.TheVariants.{Arrives}
-use Rattle.path_rules.specs.Events.{tick_of, earlier, before, next_join, next_line, next_copy, next_fire, next_event}
-use Rattle.path_rules.specs.State.{PathState}
-use Rattle.path_rules.specs.Values.{Carried}
+use Rattle.path_core.specs.declared.events.Event.{Event}
+use Rattle.path_core.specs.declared.events.Event.TheVariants.{Arrives}
+use Rattle.path_core.specs.Events.{tick_of, earlier, before, next_join, next_line, next_copy, next_event}
+use Rattle.path_core.specs.Timer.{next_fire}
+use Rattle.path_core.specs.State.{PathState}
+use Rattle.path_core.specs.Values.{Carried}
 
 -- the copy that arrives, and those behind it
 pub record IsCopy (p : PathState Carried) (event : Event) : Type 0 where

@@ -13,12 +13,12 @@ use Rattle.path_agenda.specs.declared.duty.Duty.TheVariants as duties
 use Rattle.path_agenda.specs.declared.duty.SendDuty.TheVariants as send_duties
 use Rattle.path_agenda.specs.declared.duty.StepDuty.TheVariants as step_duties
 use Rattle.subflow_tcp.specs.declared.segments.Occasion.TheVariants as to_send
-use Rattle.path_rules.specs.Emission.{first_unsent}
-use Rattle.path_rules.specs.Handover.{having_sent}
-use Rattle.path_rules.specs.Ends.{PathEnd}
-use Rattle.path_rules.specs.OptionsOut.{record_or_ack}
-use Rattle.path_rules.specs.State.{Profile}
-use Rattle.path_rules.specs.Values.{Carried}
+use Rattle.path_core.specs.Emission.{first_unsent}
+use Rattle.path_core.specs.Handover.{having_sent}
+use Rattle.path_core.specs.End.{PathEnd}
+use Rattle.path_core.specs.OptionsOut.{record_or_ack}
+use Rattle.path_core.specs.Profile.{Profile}
+use Rattle.path_core.specs.Values.{Carried}
 use Rattle.pace.specs.Lane.{Setting, Telling, Copy, Lane, Stage, is_whole, all_left}
 use Rattle.pace.specs.Rules.{sent_by, said_by, repeats}
 use Rattle.pace.specs.Going.{Going, pending}

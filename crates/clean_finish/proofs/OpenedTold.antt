@@ -18,10 +18,10 @@ use Rattle.path_agenda.specs.declared.duty.AskDuty.TheVariants as ask_duties
 use Rattle.path_agenda.specs.declared.heard.Heard.{Heard}
 use Rattle.path_agenda.specs.declared.keys.KeyPair.{KeyPair}
 use Rattle.path_agenda.specs.Items.{keys_heard}
-use Rattle.path_rules.specs.Ends.{PathEnd}
-use Rattle.path_rules.specs.Opening.{answered_opened, is_opened_by_keys, is_opened_plainly, opened_ask}
-use Rattle.path_rules.specs.State.{PathState, with_agenda, with_end}
-use Rattle.path_rules.specs.Values.{Carried}
+use Rattle.path_core.specs.End.{PathEnd}
+use Rattle.path_core.specs.MpCapable.{answered_opened, is_opened_by_keys, is_opened_plainly, opened_ask}
+use Rattle.path_core.specs.State.{PathState, with_agenda, with_end}
+use Rattle.path_core.specs.Values.{Carried}
 use Rattle.world_laws.specs.Openings.{PathPlan, Start}
 use Rattle.pace.specs.Lane.{Setting, Lane, Sender, all_left}
 use Rattle.pace.specs.Going.{Going}

@@ -7,8 +7,8 @@ use Rattle.subflow_tcp.specs.declared.handshake.State.{State}
 use Rattle.subflow_tcp.specs.declared.handshake.State.TheVariants.{Dead}
 use Rattle.subflow_tcp.specs.States.{is_closed_to_segments, is_dead}
 use Rattle.subflow_tcp.specs.Segments.{one_if}
-use Rattle.path_rules.specs.Events.{is_dead_or_listening}
-use Rattle.path_rules.specs.Values.{Carried}
+use Rattle.path_core.specs.Events.{is_dead_or_listening}
+use Rattle.path_core.specs.Values.{Carried}
 use Rattle.world_laws.specs.declared.outcome.Outcome.TheVariants.{Going, Delivered}
 use Rattle.world_laws.specs.Openings.{PathPlan, Start}
 use Rattle.world_laws.specs.Outcomes.{are_all_dead, outcome_by, outcome_of, tells_abort, tells_end, was_told}

@@ -10,9 +10,10 @@ use Rattle.dss_checksum.specs.Checksum.{dss_checksum}
 use Rattle.subflow_recv.specs.Receiving.{filled}
 use Rattle.subflow_tcp.specs.State.{EndState}
 use Rattle.actor_desk.specs.Words.{is_nil}
-use Rattle.path_rules.specs.Deliver.{Piece, count_in, piece_in, is_whole, is_right, some_piece, checked_piece, piece_by}
-use Rattle.path_rules.specs.OptionsOut.{bare_mapping}
-use Rattle.path_rules.specs.State.{Profile}
+use Rattle.path_store.specs.Passing.{Piece, count_in, some_piece}
+use Rattle.path_core.specs.Deliver.{piece_in, is_whole, is_right, checked_piece, piece_by}
+use Rattle.path_core.specs.DssOut.{bare_mapping}
+use Rattle.path_core.specs.Profile.{Profile}
 use Rattle.clean_finish.specs.Segments.{Sent}
 use Rattle.clean_finish.specs.Running.{kept_piece}
 use Rattle.clean_finish.proofs.Whole.{filled_some}

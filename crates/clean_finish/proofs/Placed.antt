@@ -10,10 +10,10 @@ use Rattle.path_agenda.specs.declared.duty.Duty.TheVariants as duties
 use Rattle.path_agenda.specs.declared.duty.AskDuty.TheVariants as ask_duties
 use Rattle.path_agenda.specs.declared.duty.SendDuty.TheVariants as send_duties
 use Rattle.path_agenda.specs.declared.duty.StepDuty.TheVariants as step_duties
-use Rattle.path_rules.specs.Deliver.{Piece, after_piece}
-use Rattle.path_rules.specs.Ends.{PathEnd}
-use Rattle.path_rules.specs.Passing.{having_asked}
-use Rattle.path_rules.specs.State.{Profile}
+use Rattle.path_store.specs.Passing.{Piece}
+use Rattle.path_core.specs.Deliver.{after_piece, having_asked}
+use Rattle.path_core.specs.End.{PathEnd}
+use Rattle.path_core.specs.Profile.{Profile}
 use Rattle.pace.specs.Lane.{Setting, Lane, all_left}
 use Rattle.pace.specs.Lists.{Chain}
 use Rattle.pace.specs.Going.{Going}

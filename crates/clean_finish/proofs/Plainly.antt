@@ -12,11 +12,11 @@ use Rattle.path_agenda.specs.declared.duty.AskDuty.TheVariants as ask_duties
 use Rattle.path_agenda.specs.declared.duty.SendDuty.TheVariants as send_duties
 use Rattle.path_agenda.specs.declared.duty.SilentDuty.TheVariants as silent_duties
 use Rattle.path_agenda.specs.declared.duty.StepDuty.TheVariants as step_duties
-use Rattle.path_rules.specs.StreamEnds.{is_data_fin_due}
-use Rattle.path_rules.specs.Emission.{first_unsent, data_stands}
-use Rattle.path_rules.specs.Standing.{is_update_due}
-use Rattle.path_rules.specs.State.{PathState, with_agenda}
-use Rattle.path_rules.specs.Values.{Carried}
+use Rattle.path_core.specs.DataFin.{is_data_fin_due}
+use Rattle.path_core.specs.Emission.{first_unsent, data_stands}
+use Rattle.path_core.specs.Standing.{is_update_due}
+use Rattle.path_core.specs.State.{PathState, with_agenda}
+use Rattle.path_core.specs.Values.{Carried}
 use Rattle.world_laws.specs.Openings.{PathPlan, Start}
 use Rattle.pace.specs.Lane.{Setting, Lane, all_left}
 use Rattle.pace.specs.Going.{Going}

@@ -11,10 +11,10 @@ use Rattle.subflow_tcp.specs.Segments.{one_if}
 use Rattle.path_agenda.specs.declared.duty.Duty.{Duty}
 use Rattle.path_agenda.specs.declared.duty.Duty.TheVariants as duties
 use Rattle.path_agenda.specs.declared.duty.AskDuty.TheVariants as ask_duties
-use Rattle.path_rules.specs.StreamEnds.{is_data_fin_due}
-use Rattle.path_rules.specs.Infinite.{sends_plainly}
-use Rattle.path_rules.specs.Standing.{is_connected, has_grown, is_update_due}
-use Rattle.path_rules.specs.State.{Profile}
+use Rattle.path_core.specs.DataFin.{is_data_fin_due}
+use Rattle.path_core.specs.Modes.{sends_plainly}
+use Rattle.path_core.specs.Standing.{is_connected, has_grown, is_update_due}
+use Rattle.path_core.specs.Profile.{Profile}
 use Rattle.pace.specs.Lane.{Setting, Lane, all_left}
 use Rattle.pace.specs.Going.{Going}
 use Rattle.clean_finish.specs.Segments.{Keys}

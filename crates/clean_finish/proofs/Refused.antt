@@ -12,10 +12,10 @@ use Rattle.path_agenda.specs.declared.duty.Duty.{Duty}
 use Rattle.path_agenda.specs.declared.duty.Duty.TheVariants as duties
 use Rattle.path_agenda.specs.declared.duty.SendDuty.TheVariants as send_duties
 use Rattle.path_agenda.specs.declared.duty.StepDuty.TheVariants as step_duties
-use Rattle.path_rules.specs.Ends.{PathEnd}
-use Rattle.path_rules.specs.State.{Profile}
-use Rattle.path_rules.specs.StreamEnds.{after_refusal, is_shut}
-use Rattle.path_rules.specs.Words.{told_last}
+use Rattle.path_core.specs.End.{PathEnd}
+use Rattle.path_core.specs.Profile.{Profile}
+use Rattle.path_core.specs.DataFin.{after_refusal, is_shut}
+use Rattle.path_core.specs.Choices.{told_last}
 use Rattle.pace.specs.Lane.{Setting, Lane, Stage}
 use Rattle.pace.specs.Rules.{refused_by}
 use Rattle.pace.specs.Moves.{MayRefuse, IsBefore}

@@ -19,11 +19,11 @@ use Rattle.path_agenda.specs.declared.duty.Duty.TheVariants as duties
 use Rattle.path_agenda.specs.declared.duty.SendDuty.TheVariants as send_duties
 use Rattle.path_agenda.specs.declared.duty.SilentDuty.TheVariants as silent_duties
 use Rattle.path_store.specs.declared.granted_piece.GrantedPiece.{GrantedPiece}
-use Rattle.path_rules.specs.StreamEnds.{is_waiting, is_data_fin_owed}
-use Rattle.path_rules.specs.Emission.{after_timer}
-use Rattle.path_rules.specs.Ends.{PathEnd}
-use Rattle.path_rules.specs.Infinite.{sends_plainly}
-use Rattle.path_rules.specs.State.{Profile}
+use Rattle.path_core.specs.DataFin.{is_waiting, is_data_fin_owed}
+use Rattle.path_core.specs.Timer.{after_timer}
+use Rattle.path_core.specs.End.{PathEnd}
+use Rattle.path_core.specs.Modes.{sends_plainly}
+use Rattle.path_core.specs.Profile.{Profile}
 use Rattle.pace.specs.Lane.{Setting, Lane, Sender, all_left}
 use Rattle.pace.specs.Rules.{tick_or, settled_by}
 use Rattle.pace.specs.Going.{Going, Reason}

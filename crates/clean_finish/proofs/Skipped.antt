@@ -7,7 +7,7 @@ use Rattle.sides.specs.Side.{peer}
 use Rattle.path_agenda.specs.declared.duty.Duty.{Duty}
 use Rattle.path_agenda.specs.declared.duty.Duty.TheVariants as duties
 use Rattle.path_agenda.specs.declared.duty.StepDuty.TheVariants as step_duties
-use Rattle.path_rules.specs.State.{Profile}
+use Rattle.path_core.specs.Profile.{Profile}
 use Rattle.pace.specs.Lane.{Setting, Copy, Lane}
 use Rattle.pace.specs.Rules.{skipped as lane_skipped}
 use Rattle.pace.specs.Moves.{MaySkip}

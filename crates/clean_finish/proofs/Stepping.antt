@@ -6,11 +6,11 @@ use Rattle.actor_desk.specs.Books.{books_in, after_entry}
 use Rattle.actor_desk.specs.Desk.{SixBooks, reply_of, after_ask}
 use Rattle.stream_apps.specs.Apps.{AppState}
 use Rattle.path_agenda.specs.declared.duty.Duty.{Duty}
-use Rattle.path_rules.specs.Duties.{stands, ask_for, passed, answered}
-use Rattle.path_rules.specs.State.{PathState, with_agenda}
-use Rattle.path_rules.specs.Steps.{settled, answers}
-use Rattle.path_rules.specs.Turns.{FirstStands}
-use Rattle.path_rules.specs.Values.{Carried, values}
+use Rattle.path_core.specs.Duties.{stands, ask_for, passed, answered}
+use Rattle.path_core.specs.State.{PathState, with_agenda}
+use Rattle.path_core.specs.Steps.{settled, answers}
+use Rattle.path_core.specs.Turns.{FirstStands}
+use Rattle.path_core.specs.Values.{Carried, values}
 use Rattle.world_laws.specs.Openings.{PathPlan, Start}
 use Rattle.world_laws.specs.StampedBooks.{answer_to}
 use Rattle.world_laws.proofs.Worlds.Casts.{Walker, Cast, after_path}

@@ -9,11 +9,11 @@ use Rattle.stream_apps.specs.Apps.{AppState}
 use Rattle.path_agenda.specs.declared.duty.Duty.{Duty}
 use Rattle.path_agenda.specs.declared.duty.Duty.TheVariants as duties
 use Rattle.path_agenda.specs.declared.duty.AskDuty.TheVariants as ask_duties
-use Rattle.path_rules.specs.declared.modes.Modes.{Modes}
-use Rattle.path_rules.specs.Ends.{PathEnd}
-use Rattle.path_rules.specs.Fallback.{answered_fell, fell_ask, mode_in}
-use Rattle.path_rules.specs.State.{PathState, with_agenda, with_end}
-use Rattle.path_rules.specs.Values.{Carried}
+use Rattle.path_core.specs.declared.modes.Modes.{Modes}
+use Rattle.path_core.specs.End.{PathEnd}
+use Rattle.path_core.specs.Fallback.{answered_fell, fell_ask, mode_in}
+use Rattle.path_core.specs.State.{PathState, with_agenda, with_end}
+use Rattle.path_core.specs.Values.{Carried}
 use Rattle.world_laws.specs.Openings.{PathPlan, Start}
 use Rattle.pace.specs.Lane.{Setting, Lane, all_left}
 use Rattle.pace.specs.Going.{Going}

@@ -18,11 +18,11 @@ use Rattle.path_agenda.specs.declared.duty.AskDuty.TheVariants as ask_duties
 use Rattle.path_agenda.specs.declared.duty.SendDuty.TheVariants as send_duties
 use Rattle.path_agenda.specs.declared.duty.StepDuty.TheVariants as step_duties
 use Rattle.path_agenda.specs.Agenda.{emission}
-use Rattle.path_rules.specs.Ends.{PathEnd}
-use Rattle.path_rules.specs.Opening.{syn_window_ask, answered_syn_ack, is_plain_syn}
-use Rattle.path_rules.specs.Handover.{having_sent, sent_on}
-use Rattle.path_rules.specs.State.{PathState, with_agenda}
-use Rattle.path_rules.specs.Values.{Carried, carried_by, stripped, altered, values}
+use Rattle.path_core.specs.End.{PathEnd}
+use Rattle.path_core.specs.MpCapable.{syn_window_ask, answered_syn_ack, is_plain_syn}
+use Rattle.path_core.specs.Handover.{having_sent, sent_on}
+use Rattle.path_core.specs.State.{PathState, with_agenda}
+use Rattle.path_core.specs.Values.{Carried, carried_by, stripped, altered, values}
 use Rattle.world_laws.specs.Openings.{PathPlan, Start}
 use Rattle.pace.specs.Lane.{Setting, Telling, Lane, Sender, all_left}
 use Rattle.pace.specs.Going.{Going}

@@ -13,10 +13,10 @@ use Rattle.path_agenda.specs.declared.duty.AskDuty.TheVariants as ask_duties
 use Rattle.path_agenda.specs.declared.duty.SendDuty.TheVariants as send_duties
 use Rattle.path_agenda.specs.declared.duty.StepDuty.TheVariants as step_duties
 use Rattle.path_agenda.specs.Agenda.{syn_came}
-use Rattle.path_rules.specs.Ends.{PathEnd}
-use Rattle.path_rules.specs.Standing.{is_connected}
-use Rattle.path_rules.specs.State.{Profile}
-use Rattle.path_rules.specs.Values.{Carried}
+use Rattle.path_core.specs.End.{PathEnd}
+use Rattle.path_core.specs.Standing.{is_connected}
+use Rattle.path_core.specs.Profile.{Profile}
+use Rattle.path_core.specs.Values.{Carried}
 use Rattle.pace.specs.Lane.{Setting, Copy, Lane}
 use Rattle.pace.specs.Rules.{hears_data}
 use Rattle.pace.specs.Moves.{MayHearData, IsBefore}
@@ -28,8 +28,7 @@ use Rattle.clean_finish.specs.Running.{Has, StageIs, IsSettledSoon, HasNotBegun,
 use Rattle.clean_finish.proofs.Dropping.{differ, kind}
 use Rattle.clean_finish.proofs.Hands.{in_hand, way_arrives, way_brought}
 use Rattle.clean_finish.proofs.Passing.{stands_then}
-use Rattle.clean_finish.proofs.SynHeard.{syn_at, heard_own}
-use Rattle.clean_finish.proofs.SynHeard.{end_after as heard_end}
+use Rattle.clean_finish.proofs.SynHeard.{syn_at, heard_own, end_after as heard_end}
 
 abbrev pub last : List Duty
 last = (duties.Step step_duties.Events) ∷ duties.End ∷ []

@@ -19,11 +19,11 @@ use Rattle.path_agenda.specs.declared.duty.Duty.{Duty}
 use Rattle.path_agenda.specs.declared.duty.Duty.TheVariants as duties
 use Rattle.path_agenda.specs.declared.duty.AskDuty.TheVariants as ask_duties
 use Rattle.path_agenda.specs.declared.duty.SendDuty.TheVariants as send_duties
-use Rattle.path_rules.specs.Emission.{first_unsent, is_syn_due, answered_syn}
-use Rattle.path_rules.specs.Handover.{having_sent, sent_on}
-use Rattle.path_rules.specs.Standing.{is_connected}
-use Rattle.path_rules.specs.State.{PathState, with_agenda}
-use Rattle.path_rules.specs.Values.{Carried, carried_by, stripped, altered, values}
+use Rattle.path_core.specs.Emission.{first_unsent, is_syn_due, answered_syn}
+use Rattle.path_core.specs.Handover.{having_sent, sent_on}
+use Rattle.path_core.specs.Standing.{is_connected}
+use Rattle.path_core.specs.State.{PathState, with_agenda}
+use Rattle.path_core.specs.Values.{Carried, carried_by, stripped, altered, values}
 use Rattle.world_laws.specs.Openings.{PathPlan, Start}
 use Rattle.pace.specs.Lane.{Setting, Lane, all_left}
 use Rattle.pace.specs.Going.{Going}

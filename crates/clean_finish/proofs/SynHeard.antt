@@ -7,10 +7,10 @@ use Rattle.subflow_tcp.specs.declared.handshake.State.TheVariants.{Listen}
 use Rattle.subflow_tcp.specs.declared.segments.Outgoing.{Outgoing}
 use Rattle.subflow_tcp.specs.declared.verdicts.Meaning.TheVariants as means
 use Rattle.path_agenda.specs.declared.duty.Duty.{Duty}
-use Rattle.path_rules.specs.Arriving.{copy_judged}
-use Rattle.path_rules.specs.Ends.{PathEnd}
-use Rattle.path_rules.specs.Standing.{is_connected}
-use Rattle.path_rules.specs.State.{Profile}
+use Rattle.path_core.specs.Arrival.{copy_judged}
+use Rattle.path_core.specs.End.{PathEnd}
+use Rattle.path_core.specs.Standing.{is_connected}
+use Rattle.path_core.specs.Profile.{Profile}
 use Rattle.pace.specs.Lane.{Setting, Lane}
 use Rattle.pace.specs.Rules.{hears_data, repeats, next_row}
 use Rattle.clean_finish.specs.Segments.{Sent, Keys, copy_in, said}

@@ -14,10 +14,11 @@ use Rattle.path_agenda.specs.declared.duty.Duty.{Duty}
 use Rattle.path_agenda.specs.declared.duty.Duty.TheVariants as duties
 use Rattle.path_agenda.specs.declared.duty.AskDuty.TheVariants as ask_duties
 use Rattle.path_agenda.specs.declared.duty.SendDuty.TheVariants as send_duties
-use Rattle.path_rules.specs.Emission.{first_unsent, is_syn_due}
-use Rattle.path_rules.specs.Ends.{PathEnd}
-use Rattle.path_rules.specs.State.{PathState, Profile, with_agenda}
-use Rattle.path_rules.specs.Values.{Carried}
+use Rattle.path_core.specs.Emission.{first_unsent, is_syn_due}
+use Rattle.path_core.specs.End.{PathEnd}
+use Rattle.path_core.specs.State.{PathState, with_agenda}
+use Rattle.path_core.specs.Profile.{Profile}
+use Rattle.path_core.specs.Values.{Carried}
 use Rattle.world_laws.specs.Openings.{PathPlan, Start}
 use Rattle.pace.specs.Lane.{Setting, Lane, Sender, Receiver}
 use Rattle.clean_finish.specs.Segments.{Keys}

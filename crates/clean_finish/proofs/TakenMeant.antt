@@ -11,8 +11,8 @@ use Rattle.subflow_tcp.specs.Judging.{is_in_window, ends_in_window, is_at_right_
 use Rattle.subflow_tcp.specs.Segments.{Copy as SubflowCopy, occupied}
 use Rattle.subflow_tcp.specs.State.{EndState}
 use Rattle.subflow_tcp.specs.States.{is_half_open}
-use Rattle.path_rules.specs.Arriving.{copy_of}
-use Rattle.path_rules.specs.State.{Profile}
+use Rattle.path_core.specs.Arrival.{copy_of}
+use Rattle.path_core.specs.Profile.{Profile}
 use Rattle.clean_finish.specs.Segments.{Sent, Keys, Brings, is_opening, acknowledged_by, position_of, said}
 use Rattle.clean_finish.specs.Segments.Brings.{OpensSubflow, ShowsKeys, FirstPiece, Piece, Acknowledges, EndsStream, EndsSubflow}
 use Rattle.clean_finish.specs.Shows.{IsOpen, IsPhase}

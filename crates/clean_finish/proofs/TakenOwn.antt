@@ -23,9 +23,10 @@ use Rattle.actor_desk.specs.Words.{is_nil}
 use Rattle.path_agenda.specs.declared.duty.Duty.{Duty}
 use Rattle.path_agenda.specs.declared.heard.Heard.{Heard}
 use Rattle.path_agenda.specs.Items.{place_in_first, wants_ack}
-use Rattle.path_rules.specs.Arriving.{copy_of, items_of, hint_of, treated_of, with_held}
-use Rattle.path_rules.specs.Ends.{PathEnd}
-use Rattle.path_rules.specs.State.{Profile}
+use Rattle.path_core.specs.Arrival.{copy_of, treated_of, with_held}
+use Rattle.path_core.specs.OptionsIn.{items_of, hint_of}
+use Rattle.path_core.specs.End.{PathEnd}
+use Rattle.path_core.specs.Profile.{Profile}
 use Rattle.pace.specs.Lane.{Setting, Lane}
 use Rattle.clean_finish.specs.Machine.{seen_timer}
 use Rattle.clean_finish.specs.Segments.{Sent, Keys, octets_of, dss_from, position_of, said, AcknowledgesAs}

@@ -13,8 +13,9 @@ use Rattle.subflow_tcp.specs.Taking.{is_empty, is_duplicate}
 use Rattle.path_agenda.specs.declared.heard.Heard.{Heard}
 use Rattle.path_agenda.specs.declared.heard.Heard.TheVariants as says
 use Rattle.path_agenda.specs.Items.{place_in_first}
-use Rattle.path_rules.specs.Arriving.{items_of, is_mapping}
-use Rattle.path_rules.specs.State.{Profile}
+use Rattle.path_core.specs.OptionsIn.{items_of}
+use Rattle.path_core.specs.DssIn.{is_mapping}
+use Rattle.path_core.specs.Profile.{Profile}
 use Rattle.pace.specs.Lane.{Telling, Sender}
 use Rattle.pace.specs.Rules.{is_same}
 use Rattle.clean_finish.specs.Segments.{Sent, Keys, Brings, shows_keys, is_opening, is_solid, is_subflow_end, octets_of, dss_from, said, TellsAs}

@@ -10,8 +10,9 @@ use Rattle.dss_mapping.specs.Mappings.{Mappings}
 use Rattle.subflow_recv.specs.Receiving.{Receiving as SubflowReceiving}
 use Rattle.path_agenda.specs.declared.duty.Duty.{Duty}
 use Rattle.path_store.specs.declared.mapped_data_fin.MappedDataFin.{MappedDataFin}
-use Rattle.path_rules.specs.Ends.{PathEnd, Treated}
-use Rattle.path_rules.specs.State.{Profile}
+use Rattle.path_core.specs.End.{PathEnd}
+use Rattle.path_core.specs.Treated.{Treated}
+use Rattle.path_core.specs.Profile.{Profile}
 use Rattle.pace.specs.Lane.{Setting, Lane}
 use Rattle.clean_finish.specs.Books.{ReceiverIs}
 use Rattle.clean_finish.specs.Reading.{ReaderShows, ReaderIs, end_known}

@@ -6,7 +6,7 @@ use Rattle.sides.specs.Side.{peer}
 use Rattle.path_segments.specs.Laws.{window_told}
 use Rattle.subflow_tcp.specs.declared.handshake.State.{State}
 use Rattle.path_agenda.specs.declared.duty.Duty.{Duty}
-use Rattle.path_rules.specs.State.{Profile}
+use Rattle.path_core.specs.Profile.{Profile}
 use Rattle.actor_desk.specs.Words.{pick}
 use Rattle.pace.specs.Lane.{Setting, Telling, Lane, data_ack, is_whole, all_left}
 use Rattle.pace.specs.Going.{Going, Covers, may_tell}

@@ -17,12 +17,13 @@ use Rattle.path_agenda.specs.declared.duty.SendDuty.TheVariants as send_duties
 use Rattle.path_agenda.specs.declared.duty.SilentDuty.TheVariants as silent_duties
 use Rattle.path_agenda.specs.declared.duty.StepDuty.TheVariants as step_duties
 use Rattle.path_agenda.specs.Agenda.{emission}
-use Rattle.path_rules.specs.Ends.{PathEnd}
-use Rattle.path_rules.specs.OptionsOut.{ack_said}
-use Rattle.path_rules.specs.Handover.{having_sent, sent_on}
-use Rattle.path_rules.specs.Standing.{acknowledges}
-use Rattle.path_rules.specs.State.{PathState, Profile, with_agenda}
-use Rattle.path_rules.specs.Values.{Carried, carried_by, stripped, altered, values}
+use Rattle.path_core.specs.End.{PathEnd}
+use Rattle.path_core.specs.OptionsOut.{ack_said}
+use Rattle.path_core.specs.Handover.{having_sent, sent_on}
+use Rattle.path_core.specs.Standing.{acknowledges}
+use Rattle.path_core.specs.State.{PathState, with_agenda}
+use Rattle.path_core.specs.Profile.{Profile}
+use Rattle.path_core.specs.Values.{Carried, carried_by, stripped, altered, values}
 use Rattle.world_laws.specs.Openings.{PathPlan, Start}
 use Rattle.pace.specs.Lane.{Setting, Copy, Lane, Stage, data_ack, is_whole, all_left}
 use Rattle.pace.specs.Rules.{is_same, repeats}

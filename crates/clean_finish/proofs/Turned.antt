@@ -3,8 +3,8 @@ use Rattle.std.proofs.Common.{◌≡◌, subst}
 use Rattle.sides.specs.declared.side.Side.TheVariants.{A, B}
 use Rattle.actor_desk.specs.Desk.{SixBooks}
 use Rattle.stream_apps.specs.Apps.{AppState}
-use Rattle.path_rules.specs.State.{PathState}
-use Rattle.path_rules.specs.Values.{Carried}
+use Rattle.path_core.specs.State.{PathState}
+use Rattle.path_core.specs.Values.{Carried}
 use Rattle.pace.specs.Lane.{Setting, Lane}
 use Rattle.clean_finish.specs.Segments.{Keys}
 use Rattle.clean_finish.specs.Shows.{ControlIs}

@@ -12,11 +12,11 @@ use Rattle.path_agenda.specs.declared.duty.Duty.{Duty}
 use Rattle.path_agenda.specs.declared.duty.Duty.TheVariants as duties
 use Rattle.path_agenda.specs.declared.duty.SendDuty.TheVariants as send_duties
 use Rattle.path_agenda.specs.declared.duty.StepDuty.TheVariants as step_duties
-use Rattle.path_rules.specs.Ends.{PathEnd}
-use Rattle.path_rules.specs.OptionsOut.{ack_said}
-use Rattle.path_rules.specs.Standing.{is_connected, has_grown, is_update_due}
-use Rattle.path_rules.specs.State.{Profile}
-use Rattle.path_rules.specs.Values.{Carried}
+use Rattle.path_core.specs.End.{PathEnd}
+use Rattle.path_core.specs.OptionsOut.{ack_said}
+use Rattle.path_core.specs.Standing.{is_connected, has_grown, is_update_due}
+use Rattle.path_core.specs.Profile.{Profile}
+use Rattle.path_core.specs.Values.{Carried}
 use Rattle.actor_desk.specs.Words.{pick}
 use Rattle.pace.specs.Lane.{Setting, Lane, Stage, is_whole, all_left}
 use Rattle.pace.specs.Going.{Going, pending}

@@ -16,10 +16,12 @@ use Rattle.stream_apps.specs.Apps.{AppState}
 use Rattle.path_agenda.specs.declared.duty.Duty.{Duty}
 use Rattle.path_agenda.specs.declared.duty.Duty.TheVariants as duties
 use Rattle.path_agenda.specs.declared.duty.StepDuty.TheVariants as step_duties
-use Rattle.path_rules.specs.declared.event.Event.{Event}
-use Rattle.path_rules.specs.Events.{tick_of, earlier, before, next_join, next_line, next_copy, next_fire, next_event}
-use Rattle.path_rules.specs.State.{PathState, Profile, with_agenda}
-use Rattle.path_rules.specs.Values.{Carried}
+use Rattle.path_core.specs.declared.events.Event.{Event}
+use Rattle.path_core.specs.Events.{tick_of, earlier, before, next_join, next_line, next_copy, next_event}
+use Rattle.path_core.specs.Timer.{next_fire}
+use Rattle.path_core.specs.State.{PathState, with_agenda}
+use Rattle.path_core.specs.Profile.{Profile}
+use Rattle.path_core.specs.Values.{Carried}
 use Rattle.world_laws.specs.Openings.{PathPlan, Start}
 use Rattle.pace.specs.Lane.{Setting, Copy, Lane, Sender, Receiver, Stage}
 use Rattle.pace.specs.Lists.{first_at}

@@ -2,7 +2,7 @@
 use Rattle.std.specs.Prelude.{ℕ, suc, ◌≡◌, ◌≤◌, ◌⊎◌, List, [], ◌∷◌, length, Some}
 use Rattle.link_script.specs.declared.script.Script.{Script}
 use Rattle.link_script.specs.Scripts.{HasRanges}
-use Rattle.path_rules.specs.Octets.{octets}
+use Rattle.path_core.specs.Octets.{octets}
 use Rattle.world_laws.specs.declared.outcome.Outcome.{Outcome}
 use Rattle.world_laws.specs.declared.outcome.Outcome.TheVariants.{Going, Delivered}
 use Rattle.world_laws.specs.Openings.{opened_world, start_of}

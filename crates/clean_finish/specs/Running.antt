@@ -35,15 +35,16 @@ use Rattle.path_agenda.specs.declared.duty.AskDuty.TheVariants as ask_duties
 use Rattle.path_agenda.specs.declared.duty.SendDuty.TheVariants as send_duties
 use Rattle.path_agenda.specs.declared.duty.SilentDuty.TheVariants as silent_duties
 use Rattle.path_agenda.specs.declared.duty.StepDuty.TheVariants as step_duties
-use Rattle.path_rules.specs.Deliver.{kept_of}
-use Rattle.path_rules.specs.Starts.{PathStart}
-use Rattle.path_rules.specs.Emission.{first_unsent}
-use Rattle.path_rules.specs.Ends.{PathEnd}
+use Rattle.path_core.specs.DssIn.{kept_of}
+use Rattle.path_core.specs.Start.{PathStart}
+use Rattle.path_core.specs.Emission.{first_unsent}
+use Rattle.path_core.specs.End.{PathEnd}
 use Rattle.path_store.specs.declared.mapped_data_fin.MappedDataFin.{MappedDataFin}
-use Rattle.path_rules.specs.OptionsOut.{mapping_of, bare_mapping, checksum_in}
-use Rattle.path_rules.specs.Words.{item_at}
-use Rattle.path_rules.specs.State.{PathState, Profile, end_at}
-use Rattle.path_rules.specs.Values.{Carried, values}
+use Rattle.path_core.specs.DssOut.{mapping_of, bare_mapping, checksum_in}
+use Rattle.path_core.specs.Choices.{item_at}
+use Rattle.path_core.specs.State.{PathState, end_at}
+use Rattle.path_core.specs.Profile.{Profile}
+use Rattle.path_core.specs.Values.{Carried, values}
 use Rattle.world_laws.specs.Openings.{PathPlan, Start, path_begins, opened_world}
 use Rattle.world_laws.specs.Worlds.{Turn, world_run}
 use Rattle.world_laws.proofs.Worlds.Casts.{Walker, Cast, world_of}

@@ -11,9 +11,9 @@ use Rattle.path_segments.specs.Laws.{window_told}
 use Rattle.path_segments.specs.Options.{PlainOption}
 use Rattle.path_segments.specs.Spelled.{PlainSegment}
 use Rattle.actor_desk.specs.Words.{is_nil}
-use Rattle.path_rules.specs.OptionsOut.{mapping_of, bare_mapping, checksum_in, checksum_told}
-use Rattle.path_rules.specs.State.{Profile}
-use Rattle.path_rules.specs.Values.{Carried, carried_by}
+use Rattle.path_core.specs.DssOut.{mapping_of, bare_mapping, checksum_in, checksum_told}
+use Rattle.path_core.specs.Profile.{Profile}
+use Rattle.path_core.specs.Values.{Carried, carried_by}
 use Rattle.pace.specs.Lane.{Telling, Copy}
 
 -- What a segment brings, beside what it acknowledges: a SYN; A's keys, without bytes and with the first ones (RFC

@@ -31,12 +31,14 @@ use Rattle.subflow_tcp.specs.Segments.{one_if}
 use Rattle.actor_desk.specs.Words.{pick, tail_of}
 use Rattle.path_store.specs.declared.granted_piece.GrantedPiece.{GrantedPiece}
 use Rattle.path_store.specs.declared.mapped_data_fin.MappedDataFin.{MappedDataFin}
-use Rattle.path_rules.specs.declared.modes.Modes.{Modes}
-use Rattle.path_rules.specs.Ends.{PathEnd, Sending, Notices}
+use Rattle.path_core.specs.declared.modes.Modes.{Modes}
+use Rattle.path_core.specs.End.{PathEnd}
+use Rattle.path_core.specs.Sending.{Sending}
+use Rattle.path_core.specs.Notices.{Notices}
 use Rattle.path_store.specs.Receiving.{Receiving}
-use Rattle.path_rules.specs.Standing.{is_connected}
-use Rattle.path_rules.specs.State.{Profile}
-use Rattle.path_rules.specs.Values.{Carried}
+use Rattle.path_core.specs.Standing.{is_connected}
+use Rattle.path_core.specs.Profile.{Profile}
+use Rattle.path_core.specs.Values.{Carried}
 use Rattle.pace.specs.Lane.{Setting, Telling, Copy, Sender, Receiver}
 use Rattle.pace.specs.Rules.{repeats, next_row}
 use Rattle.clean_finish.specs.Machine.{IsLong, IsPiece, seen_timer}

@@ -9,7 +9,7 @@ use Rattle.world_core.specs.Steps.{StampRises, is_made, stamp_at}
 use Rattle.world_core.specs.declared.stepped.Stepped.{Stepped}
 use Rattle.world_core.specs.Kept.{standing}
 use Rattle.run_log.specs.declared.turn.Turn.TheVariants.{Step}
-use Rattle.path_rules.specs.Octets.{octets}
+use Rattle.path_core.specs.Octets.{octets}
 use Rattle.world_laws.specs.Worlds.{is_going, world_step}
 use Rattle.connection_table.specs.ManyRounds.{Changes, EachRound, Made, Runs, StepMade}
 use Rattle.connection_table.specs.Routes.{home_of}

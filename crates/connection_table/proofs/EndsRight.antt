@@ -9,7 +9,7 @@ use Rattle.octet_text.specs.Prefix.{IsPrefix}
 use Rattle.link_script.specs.declared.script.ScriptLine.{ScriptLine}
 use Rattle.link_script.specs.declared.script.ScriptLine.TheVariants as happens
 use Rattle.run_outside.specs.declared.input.Input.{Input}
-use Rattle.path_rules.specs.Octets.{octets}
+use Rattle.path_core.specs.Octets.{octets}
 use Rattle.world_core.specs.Rounds.{after_rounds}
 use Rattle.world_laws.specs.declared.outcome.Outcome.{Outcome}
 use Rattle.world_laws.specs.declared.outcome.Outcome.TheVariants.{Going, Delivered}

@@ -10,8 +10,8 @@ use Rattle.link_script.specs.declared.script.Script.{Script}
 use Rattle.link_script.specs.declared.script.PathLine.{PathLine}
 use Rattle.actor_desk.specs.declared.ask.Ask.{Ask}
 use Rattle.actor_desk.specs.declared.ask.Reply.{Reply}
-use Rattle.path_rules.specs.Octets.{octets}
-use Rattle.path_rules.specs.State.{PathState}
+use Rattle.path_core.specs.Octets.{octets}
+use Rattle.path_core.specs.State.{PathState}
 use Rattle.run_outside.specs.declared.input.Input.{Input}
 use Rattle.world_core.specs.Kept.{standing}
 use Rattle.world_core.specs.Logged.{turn_of, all_turns}

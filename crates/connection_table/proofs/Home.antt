@@ -5,7 +5,7 @@ use Rattle.std.specs.List.{slice_get}
 use Rattle.std.proofs.lemmas.Option.{same_Some}
 use Rattle.sides.specs.declared.side.Side.{Side}
 use Rattle.sides.specs.declared.side.Side.TheVariants.{A, B}
-use Rattle.path_rules.specs.Looking.{Arrived, next_arrival}
+use Rattle.path_core.specs.Looking.{Arrived, next_arrival}
 use Rattle.world_core.specs.Looking.{crew_path, listens_at, member_path}
 use Rattle.world_core.specs.Logged.{all_turns}
 use Rattle.world_laws.specs.declared.member.Member.TheVariants.{App, Path}

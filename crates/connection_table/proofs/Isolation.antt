@@ -4,7 +4,7 @@ use Rattle.std.specs.Prelude.{◌==◌, IsSomeAnd}
 use Rattle.std.proofs.lemmas.Bool.{eq-eqb, eqb-true, false≢true}
 use Rattle.std.proofs.lemmas.Option.{same_Some}
 use Rattle.run_log.specs.declared.turn.Turn.TheVariants.{Step, Round}
-use Rattle.path_rules.specs.Octets.{octets}
+use Rattle.path_core.specs.Octets.{octets}
 use Rattle.run_outside.specs.declared.input.Input.{Input}
 use Rattle.stream_lanes.proofs.Lists.{in_append, in_more, in_one, in_set, set_other}
 use Rattle.world_core.specs.Kept.{standing}

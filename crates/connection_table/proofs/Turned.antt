@@ -3,7 +3,7 @@ use Rattle.std.proofs.Common.{◌≡◌, refl, sym, ◌∙◌, ap, subst, ℕ, �
 use Rattle.std.proofs.lemmas.Bool.{false≢true}
 use Rattle.run_log.specs.declared.turn.Turn as noted
 use Rattle.run_log.specs.declared.turn.Turn.TheVariants.{Step, Round}
-use Rattle.path_rules.specs.Octets.{octets}
+use Rattle.path_core.specs.Octets.{octets}
 use Rattle.run_outside.specs.declared.input.Input.{Input}
 use Rattle.world_core.specs.Kept.{Kept, standing}
 use Rattle.world_laws.specs.Worlds.{all_over, end_round, is_going, world_step}

@@ -1,7 +1,7 @@
 -- Calls on a table of connections, one after the other, and what each connection makes of its own.
 use Rattle.std.specs.Prelude.{ℕ, ◌≡◌, ◌<◌, ◌==◌, if◌then◌else◌, List, [], ◌∷◌, ◌++◌, length, Option, Some, None, IsSomeAnd}
 use Rattle.world_core.specs.Logged.{all_turns}
-use Rattle.path_rules.specs.Octets.{octets}
+use Rattle.path_core.specs.Octets.{octets}
 use Rattle.run_outside.specs.declared.input.Input.{Input}
 use Rattle.world_laws.specs.PlainScripts.{IsShortScript}
 use Rattle.world_laws.specs.Worlds.{world_run}

@@ -1,7 +1,7 @@
 -- Serial rounds of the connections of a table.
 use Rattle.std.specs.Prelude.{ℕ, ◌≡◌, Bool, List, IsSomeAnd}
 use Rattle.std.specs.List.{AllZip}
-use Rattle.path_rules.specs.Octets.{octets}
+use Rattle.path_core.specs.Octets.{octets}
 use Rattle.world_core.specs.Rounds.{RoundTo, TurnsTo, after_rounds}
 use Rattle.world_core.specs.Steps.{StampRises}
 use Rattle.world_laws.specs.Outcomes.{outcome_of}

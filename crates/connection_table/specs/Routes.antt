@@ -2,8 +2,8 @@
 use Rattle.std.specs.Prelude.{ℕ, ◌≡◌, if◌then◌else◌, List, Option, Some, None, option_and_then}
 use Rattle.sides.specs.declared.side.Side.{Side}
 use Rattle.sides.specs.declared.side.Side.TheVariants.{A, B}
-use Rattle.path_rules.specs.Looking.{Arrived, next_arrival}
-use Rattle.path_rules.specs.State.{PathState}
+use Rattle.path_core.specs.Looking.{Arrived, next_arrival}
+use Rattle.path_core.specs.State.{PathState}
 use Rattle.world_core.specs.Looking.{arriving_at, listens_at, path_at}
 use Rattle.world_laws.specs.Actors.{ActorCrew}
 use Rattle.join_handshake.specs.declared.hearing.JoinSyn.{JoinSyn}

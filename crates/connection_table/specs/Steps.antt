@@ -1,7 +1,7 @@
 -- Turns of a connection.
 use Rattle.std.specs.Prelude.{ℕ, ◌≡◌, ◌&&◌, Bool, true, not, if◌then◌else◌, [], ◌∷◌, ◌++◌}
 use Rattle.run_log.specs.declared.turn.Turn.TheVariants.{Step, Round}
-use Rattle.path_rules.specs.Octets.{octets}
+use Rattle.path_core.specs.Octets.{octets}
 use Rattle.world_core.specs.Cuts.{ShowsAs}
 use Rattle.world_core.specs.Kept.{standing}
 use Rattle.world_laws.specs.Worlds.{world_step, is_going, all_over, end_round}

@@ -4,8 +4,8 @@ use Rattle.std.specs.List.{list_any}
 use Rattle.run_log.specs.declared.turn.Turn as noted
 use Rattle.link_script.specs.declared.script.Script.{Script}
 use Rattle.key_material.specs.KeyDigest.{token_of}
-use Rattle.path_rules.specs.Octets.{octets}
-use Rattle.path_rules.specs.Starts.{key_of}
+use Rattle.path_core.specs.Octets.{octets}
+use Rattle.path_core.specs.Start.{key_of}
 use Rattle.run_outside.specs.declared.input.Input.{Input}
 use Rattle.world_core.specs.Kept.{Kept, standing}
 use Rattle.world_core.specs.Logged.{all_turns}

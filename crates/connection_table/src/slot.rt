@@ -2,7 +2,7 @@
 
 ghost use Rattle.std.specs.Prelude.{◌≡◌, ◌⊎◌, option_map, IfOk, OnOk, OnErr};
 ghost use Rattle.link_script.specs.Scripts.{HasRanges};
-ghost use Rattle.path_rules.specs.Looking.{shown_arriving};
+ghost use Rattle.path_core.specs.Looking.{shown_arriving};
 ghost use Rattle.world_core.specs.Steps.{StampRises, is_made, next_note, stepped_by};
 ghost use Rattle.world_laws.specs.Worlds.{is_going};
 ghost use Rattle.connection_table.specs.Routes.{arriving_in};

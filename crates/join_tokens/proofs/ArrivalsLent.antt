@@ -21,26 +21,28 @@ use Rattle.path_agenda.specs.declared.heard.Heard.TheVariants as says
 use Rattle.path_agenda.specs.declared.keys.KeyPair.{KeyPair}
 use Rattle.path_agenda.specs.Items.{key_heard, keys_heard}
 use Rattle.fallback_state.specs.declared.fall.Event.TheVariants as events
-use Rattle.path_rules.specs.declared.event.Event.{Event}
-use Rattle.path_rules.specs.declared.event.Event.TheVariants as happenings
-use Rattle.path_rules.specs.Breaking.{reset_of, break_ask}
-use Rattle.path_rules.specs.Deliver.{Piece}
-use Rattle.path_rules.specs.Duties.{ask_for}
-use Rattle.path_rules.specs.Emission.{first_unsent, data_ask}
-use Rattle.path_rules.specs.Events.{before, earliest, next_event, step_for, tick_of}
-use Rattle.path_rules.specs.Fallback.{fell_ask}
-use Rattle.path_rules.specs.Handover.{sends}
-use Rattle.path_rules.specs.InfiniteSending.{may_go_infinite}
-use Rattle.path_rules.specs.Joining.{join_heard_ask, asked_at}
-use Rattle.path_rules.specs.Looking.{Arrived, arrived, arrived_as, copy_arriving, first_arrival, next_arrival}
-use Rattle.path_rules.specs.Octets.{octets}
-use Rattle.path_rules.specs.Opening.{peer_key_ask, opened_ask}
-use Rattle.path_rules.specs.Passing.{piece_of, piece_ask, data_fin_of, fin_ask, plain_fin, rate_ask}
-use Rattle.path_rules.specs.Standing.{ack_out_ask}
-use Rattle.path_rules.specs.State.{PathState, end_at, path_of}
-use Rattle.path_rules.specs.Steps.{asks_first, asks_of}
-use Rattle.path_rules.specs.Treating.{is_clash, item_of, item_ask, breaks_by_ack, plain_next, plain_ack_in}
-use Rattle.path_rules.proofs.Happening.{can_happen}
+use Rattle.path_core.specs.declared.events.Event.{Event}
+use Rattle.path_core.specs.declared.events.Event.TheVariants as happenings
+use Rattle.path_core.specs.Breaking.{reset_of, break_ask}
+use Rattle.path_store.specs.Passing.{Piece}
+use Rattle.path_core.specs.Duties.{ask_for}
+use Rattle.path_core.specs.Emission.{first_unsent, data_ask}
+use Rattle.path_core.specs.Events.{before, earliest, next_event, step_for, tick_of}
+use Rattle.path_core.specs.Fallback.{fell_ask, may_go_infinite, breaks_by_ack, plain_next, plain_ack_in}
+use Rattle.path_core.specs.Handover.{sends}
+use Rattle.path_core.specs.MpJoin.{join_heard_ask, asked_at}
+use Rattle.path_core.specs.Looking.{Arrived, arrived, arrived_as, copy_arriving, first_arrival, next_arrival}
+use Rattle.path_core.specs.Octets.{octets}
+use Rattle.path_core.specs.MpCapable.{peer_key_ask, opened_ask}
+use Rattle.path_core.specs.Deliver.{piece_of, piece_ask}
+use Rattle.path_core.specs.DataFin.{data_fin_of, fin_ask, plain_fin}
+use Rattle.path_core.specs.Rate.{rate_ask}
+use Rattle.path_core.specs.Standing.{ack_out_ask}
+use Rattle.path_core.specs.State.{PathState, end_at, path_of}
+use Rattle.path_core.specs.Steps.{asks_first, asks_of}
+use Rattle.path_core.specs.DssIn.{is_clash}
+use Rattle.path_core.specs.Treating.{item_of, item_ask}
+use Rattle.path_core.proofs.Happening.{can_happen}
 use Rattle.join_tokens.specs.Arrivals.{EachArrivalIsLent, takes_a_copy}
 
 -- ---- asks that take no copy

@@ -12,13 +12,13 @@ use Rattle.link_model.specs.Steps.{arriving}
 use Rattle.path_agenda.specs.declared.duty.Duty.{Duty}
 use Rattle.path_agenda.specs.declared.duty.Duty.TheVariants as duties
 use Rattle.path_agenda.specs.declared.duty.StepDuty.TheVariants as steps_of
-use Rattle.path_rules.specs.declared.event.Event.{Event}
-use Rattle.path_rules.specs.declared.event.Event.TheVariants as happenings
-use Rattle.path_rules.specs.Arriving.{expected_by}
-use Rattle.path_rules.specs.Events.{heard_in, next_event}
-use Rattle.path_rules.specs.Looking.{Arrived, arrived, arrived_as, copy_arriving, first_arrival}
-use Rattle.path_rules.specs.Octets.{octets}
-use Rattle.path_rules.specs.State.{PathState, end_at, path_of}
+use Rattle.path_core.specs.declared.events.Event.{Event}
+use Rattle.path_core.specs.declared.events.Event.TheVariants as happenings
+use Rattle.path_core.specs.Arrival.{expected_by, heard_in}
+use Rattle.path_core.specs.Events.{next_event}
+use Rattle.path_core.specs.Looking.{Arrived, arrived, arrived_as, copy_arriving, first_arrival}
+use Rattle.path_core.specs.Octets.{octets}
+use Rattle.path_core.specs.State.{PathState, end_at, path_of}
 use Rattle.world_laws.specs.declared.member.Member.TheVariants.{App, Path}
 use Rattle.world_laws.specs.Actors.{Actor}
 use Rattle.join_route.specs.Routing.{join_token}

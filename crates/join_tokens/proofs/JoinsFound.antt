@@ -32,19 +32,20 @@ use Rattle.actor_desk.specs.Words.{is_nil}
 use Rattle.path_agenda.specs.declared.duty.Duty.{Duty}
 use Rattle.path_agenda.specs.declared.duty.Duty.TheVariants as duties
 use Rattle.path_agenda.specs.declared.duty.StepDuty.TheVariants as steps_of
-use Rattle.path_rules.specs.declared.event.Event.{Event}
-use Rattle.path_rules.specs.declared.event.Event.TheVariants as happenings
-use Rattle.path_rules.specs.Arriving.{expected_by, items_in, items_of}
-use Rattle.path_rules.specs.Events.{next_event}
-use Rattle.path_rules.specs.Joins.{is_joined, join_asked}
-use Rattle.path_rules.specs.Looking.{Arrived, arrived_as, copy_arriving, first_arrival}
-use Rattle.path_rules.specs.Octets.{made, octets}
-use Rattle.path_rules.specs.Shown.{octets_of, shown_path, IsFarReset, IsFreshCopy, NextIsFresh}
-use Rattle.path_rules.specs.State.{PathState, end_at, path_of}
-use Rattle.path_rules.specs.Values.{Carried, as_arrived, values}
-use Rattle.path_rules.proofs.CopiesRead.{near_read, far_read}
-use Rattle.path_rules.proofs.FarResets.{unplaced}
-use Rattle.path_rules.proofs.Showing.{same_event}
+use Rattle.path_core.specs.declared.events.Event.{Event}
+use Rattle.path_core.specs.declared.events.Event.TheVariants as happenings
+use Rattle.path_core.specs.Arrival.{expected_by}
+use Rattle.path_core.specs.OptionsIn.{items_in, items_of}
+use Rattle.path_core.specs.Events.{next_event}
+use Rattle.path_core.specs.MpJoin.{is_joined, join_asked}
+use Rattle.path_core.specs.Looking.{Arrived, arrived_as, copy_arriving, first_arrival}
+use Rattle.path_core.specs.Octets.{made, octets}
+use Rattle.path_core.specs.Shown.{octets_of, shown_path, IsFarReset, IsFreshCopy, NextIsFresh}
+use Rattle.path_core.specs.State.{PathState, end_at, path_of}
+use Rattle.path_core.specs.Values.{Carried, as_arrived, values}
+use Rattle.path_core.proofs.CopiesRead.{near_read, far_read}
+use Rattle.path_core.proofs.FarResets.{unplaced}
+use Rattle.path_core.proofs.Showing.{same_event}
 use Rattle.stream_lanes.proofs.Lists.{in_map}
 use Rattle.world_laws.specs.declared.member.Member.TheVariants.{App, Path}
 use Rattle.world_laws.specs.Actors.{Actor, ActorCrew}

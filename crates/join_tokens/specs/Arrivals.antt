@@ -3,10 +3,10 @@ use Rattle.std.specs.Prelude.{ℕ, ◌≡◌, Bool, true, false, is_some, Option
 use Rattle.actor_desk.specs.declared.ask.Ask.{Ask}
 use Rattle.actor_desk.specs.declared.ask.Ask.TheVariants as asks
 use Rattle.actor_desk.specs.declared.ask.LocalStep.TheVariants as steps
-use Rattle.path_rules.specs.Looking.{next_arrival}
-use Rattle.path_rules.specs.Octets.{octets}
-use Rattle.path_rules.specs.State.{PathState}
-use Rattle.path_rules.specs.Steps.{asks_of}
+use Rattle.path_core.specs.Looking.{next_arrival}
+use Rattle.path_core.specs.Octets.{octets}
+use Rattle.path_core.specs.State.{PathState}
+use Rattle.path_core.specs.Steps.{asks_of}
 
 abbrev pub takes_a_copy : Option Ask → Bool
 takes_a_copy (Some (asks.Local (steps.Arrive to copy))) = true

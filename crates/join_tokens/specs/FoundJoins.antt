@@ -3,11 +3,12 @@ use Rattle.std.specs.Prelude.{ℕ, ◌≡◌, true, Some, None, List, slice_get}
 use Rattle.sides.specs.declared.side.Side.TheVariants.{A, B}
 use Rattle.join_handshake.specs.declared.hearing.JoinSyn.{JoinSyn}
 use Rattle.path_segments.specs.Heard.{HeardSegment}
-use Rattle.path_rules.specs.Arriving.{expected_by, items_of}
-use Rattle.path_rules.specs.Joins.{is_joined, join_asked}
-use Rattle.path_rules.specs.Looking.{Arrived, next_arrival}
-use Rattle.path_rules.specs.Octets.{octets}
-use Rattle.path_rules.specs.State.{PathState, end_at}
+use Rattle.path_core.specs.Arrival.{expected_by}
+use Rattle.path_core.specs.OptionsIn.{items_of}
+use Rattle.path_core.specs.MpJoin.{is_joined, join_asked}
+use Rattle.path_core.specs.Looking.{Arrived, next_arrival}
+use Rattle.path_core.specs.Octets.{octets}
+use Rattle.path_core.specs.State.{PathState, end_at}
 use Rattle.join_route.specs.Routing.{join_token}
 use Rattle.world_laws.specs.declared.member.Member.TheVariants.{App, Path}
 use Rattle.world_laws.specs.Actors.{Actor, ActorCrew}

@@ -5,13 +5,14 @@ use Rattle.sides.specs.declared.side.Side.TheVariants.{B}
 use Rattle.key_material.specs.KeyDigest.{token_of}
 use Rattle.link_model.specs.declared.flight.Due.{Due}
 use Rattle.link_model.specs.Steps.{arriving}
-use Rattle.path_rules.specs.declared.event.Event.TheVariants.{Arrives}
-use Rattle.path_rules.specs.Codec.{Codec}
-use Rattle.path_rules.specs.Events.{heard_in, next_event}
-use Rattle.path_rules.specs.Looking.{Arrived, next_arrival}
-use Rattle.path_rules.specs.Octets.{octets}
-use Rattle.path_rules.specs.State.{PathState}
-use Rattle.path_rules.specs.Values.{values}
+use Rattle.path_core.specs.declared.events.Event.TheVariants.{Arrives}
+use Rattle.path_core.specs.Codec.{Codec}
+use Rattle.path_core.specs.Arrival.{heard_in}
+use Rattle.path_core.specs.Events.{next_event}
+use Rattle.path_core.specs.Looking.{Arrived, next_arrival}
+use Rattle.path_core.specs.Octets.{octets}
+use Rattle.path_core.specs.State.{PathState}
+use Rattle.path_core.specs.Values.{values}
 use Rattle.join_route.specs.Routing.{join_token}
 use Rattle.join_route.specs.Tokens.{AllShowToken}
 use Rattle.world_laws.specs.declared.member.Member.TheVariants.{App, Path}

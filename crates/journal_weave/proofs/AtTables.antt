@@ -14,7 +14,7 @@ use Rattle.actor_desk.specs.declared.ask.Note.{Note}
 use Rattle.actor_desk.specs.Books.{StampedBooks}
 use Rattle.actor_desk.specs.Journals.{send_note, reassembly_note, control_note}
 use Rattle.actor_desk.specs.Noted.{notes_in}
-use Rattle.path_rules.specs.Octets.{octets}
+use Rattle.path_core.specs.Octets.{octets}
 use Rattle.actor_turn.specs.Extending.{Extends}
 use Rattle.actor_turn.specs.Turns.{AreSteps}
 use Rattle.ruled_desk.specs.Gaining.{IsGained, by_book, list_at}

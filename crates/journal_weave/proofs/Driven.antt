@@ -1,6 +1,6 @@
 -- The woven order makes what was made.
 use Rattle.std.proofs.Common.{◌≡◌, sym, subst}
-use Rattle.path_rules.specs.Codec.{Codec}
+use Rattle.path_core.specs.Codec.{Codec}
 use Rattle.world_laws.specs.Weaving.{steps_by}
 use Rattle.world_laws.specs.Worlds.{AreLawful, world_run}
 use Rattle.world_laws.proofs.Weaving.WholeRounds.{woven_does}

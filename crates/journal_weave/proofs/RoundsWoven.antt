@@ -4,7 +4,7 @@ use Rattle.std.specs.List.{slice_get, slice_index_or}
 use Rattle.stream_lanes.specs.Words.{Every}
 use Rattle.actor_desk.specs.Books.{StampedBooks}
 use Rattle.actor_desk.specs.Journals.{ArePaired, order_of}
-use Rattle.path_rules.specs.Octets.{octets}
+use Rattle.path_core.specs.Octets.{octets}
 use Rattle.ruled_desk.specs.Gaining.{StaysPaired}
 use Rattle.ruled_desk.specs.WholeRounds.{AreActors, IsWholeRound}
 use Rattle.world_laws.specs.Actors.{ActorCrew, member_asks, member_takes}

@@ -1,7 +1,7 @@
 -- That the woven order makes of the world what was made.
 use Rattle.std.specs.Prelude.{ℕ, ◌≡◌, List}
 use Rattle.actor_desk.specs.Journals.{ArePaired, order_of}
-use Rattle.path_rules.specs.Codec.{Codec}
+use Rattle.path_core.specs.Codec.{Codec}
 use Rattle.world_laws.specs.Fine.{lists_of}
 use Rattle.world_laws.specs.StampedBooks.{journals_of}
 use Rattle.world_laws.specs.Weaving.{AllStepped, Begins, BooksGrew, steps_by}

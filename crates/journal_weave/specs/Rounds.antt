@@ -3,7 +3,7 @@ use Rattle.std.specs.Prelude.{ℕ, ◌≡◌, ◌<◌, length, true, Option, Som
 use Rattle.std.specs.List.{slice_index_or}
 use Rattle.actor_desk.specs.declared.actor.Crew.{Crew}
 use Rattle.actor_desk.specs.Journals.{order_of}
-use Rattle.path_rules.specs.Octets.{octets}
+use Rattle.path_core.specs.Octets.{octets}
 use Rattle.actor_turn.specs.Turns.{Turned}
 use Rattle.world_laws.specs.Actors.{ActorCrew, member_asks, member_takes}
 use Rattle.world_laws.specs.Fine.{lists_of}

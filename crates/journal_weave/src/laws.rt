@@ -1,6 +1,6 @@
 //! What holds of every woven order, as clauses of functions that do nothing.
-ghost use Rattle.path_rules.specs.Octets.{octets};
-ghost use Rattle.path_rules.specs.Values.{values};
+ghost use Rattle.path_core.specs.Octets.{octets};
+ghost use Rattle.path_core.specs.Values.{values};
 ghost use Rattle.journal_weave.specs.Laws.{WovenOrderDoes};
 
 /// A law: the steps of the order that `weave` answers are lawful, and drive the world at the round's beginning to exactly the

@@ -5,7 +5,7 @@ use Rattle.std.proofs.lemmas.List.{length-map}
 use Rattle.actor_desk.specs.declared.ask.Note.{Note}
 use Rattle.stream_lanes.proofs.Lists.{set_other}
 use Rattle.actor_desk.specs.declared.ask.Ask.{Ask}
-use Rattle.path_rules.specs.Octets.{octets}
+use Rattle.path_core.specs.Octets.{octets}
 use Rattle.world_laws.specs.Actors.{ActorCrew, member_asks, is_over}
 use Rattle.world_laws.specs.Serial.{after_steps, IsTurn, AreTurns, after_turns}
 use Rattle.world_laws.specs.Worlds.{crew_after, asked, stepped, world_step, goes, is_going, all_over, greatest}

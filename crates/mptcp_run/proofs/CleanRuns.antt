@@ -10,7 +10,7 @@ use Rattle.link_script.proofs.ReadRanges.{read_has_ranges}
 use Rattle.clean_finish.specs.Bound.{enough}
 use Rattle.clean_finish.specs.Finish.{rounds_in}
 use Rattle.clean_finish.proofs.Finished.{clean_scripts_finish, clean_scripts_go_on}
-use Rattle.path_rules.specs.Octets.{octets}
+use Rattle.path_core.specs.Octets.{octets}
 use Rattle.run_words.specs.Lines.{Line, Work, run, serial, replay, bench}
 use Rattle.run_outside.specs.declared.status.Named.TheVariants as input
 use Rattle.run_outside.specs.declared.status.Status.{Status}

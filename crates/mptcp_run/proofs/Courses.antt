@@ -1,6 +1,6 @@
 -- The turns of a course, from what the rounds or turns of a loop come to.
 use Rattle.std.proofs.Common.{◌≡◌, refl, sym, ◌∙◌, ap, subst, ℕ, zero, suc, Bool, true, false, inl, List, [], ◌∷◌, ◌++◌, length, Option, arith}
-use Rattle.path_rules.specs.Octets.{octets}
+use Rattle.path_core.specs.Octets.{octets}
 use Rattle.world_laws.specs.Outcomes.{outcome_of}
 use Rattle.world_laws.specs.Serial.{goes_on, OneOf, round_and, steps_and, after_steps, after_turns, AreRounds, IsSerial}
 use Rattle.world_laws.specs.Worlds.{Turn, world_step, end_round, world_run}

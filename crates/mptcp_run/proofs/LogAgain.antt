@@ -13,7 +13,7 @@ use Rattle.run_log.specs.Fitting.{NoteFits}
 use Rattle.run_log.specs.Laws.{HasRowsInRange, CanBeLogged, log_behind}
 use Rattle.run_log.specs.Lines.{ended, opening_lines, round_lines, rounds_lines, outcome_text}
 use Rattle.run_log.proofs.LogReads.{reads_to_its_turns}
-use Rattle.path_rules.specs.Octets.{octets}
+use Rattle.path_core.specs.Octets.{octets}
 use Rattle.world_laws.specs.Actors.{ActorCrew}
 use Rattle.world_laws.specs.Fine.{lists_of}
 use Rattle.world_laws.specs.Openings.{Start, opened_world}

@@ -4,7 +4,7 @@ use Rattle.actor_desk.specs.declared.ask.Note.{Note}
 use Rattle.actor_desk.specs.Journals.{order_of}
 use Rattle.run_log.specs.declared.turn.Turn as log_turn
 use Rattle.run_log.specs.Laws.{turns_of_round, turns_of}
-use Rattle.path_rules.specs.Octets.{octets}
+use Rattle.path_core.specs.Octets.{octets}
 use Rattle.world_laws.specs.Fine.{IsFine, lists_of}
 use Rattle.world_laws.specs.Weaving.{steps_by, woven}
 use Rattle.world_laws.specs.Worlds.{Turn, world_step, all_over, end_round, greatest, world_run, AreLawful}

@@ -5,8 +5,8 @@ use Rattle.outside_kit.specs.declared.port.Port.{Port}
 use Rattle.outside_kit.specs.declared.port.Port.TheVariants.{ReadByA, ReadByB, Log}
 use Rattle.sides.specs.declared.side.Side.TheVariants.{A, B}
 use Rattle.actor_desk.specs.declared.ask.Note.{Note}
-use Rattle.path_rules.specs.Octets.{octets}
-use Rattle.path_rules.specs.Starts.{drawn_of}
+use Rattle.path_core.specs.Octets.{octets}
+use Rattle.path_core.specs.Start.{drawn_of}
 use Rattle.link_script.specs.declared.script.PathLine.{PathLine}
 use Rattle.link_script.specs.declared.script.Script.{Script}
 use Rattle.world_laws.specs.Openings.{Start, PathPlan, plans_from, paths_from, opened_world, start_of}

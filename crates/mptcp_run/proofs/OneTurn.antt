@@ -2,7 +2,7 @@
 use Rattle.std.proofs.Common.{◌≡◌, refl, sym, subst, ℕ, List, Option, Result, OnOk, IfErr, inl}
 use Rattle.std.proofs.lemmas.Result.{on_ok_weaker}
 use Rattle.outside_kit.specs.declared.port.Port.{Port}
-use Rattle.path_rules.specs.Octets.{octets}
+use Rattle.path_core.specs.Octets.{octets}
 use Rattle.run_log.specs.declared.turn.Turn as log_turn
 use Rattle.run_log.specs.declared.turn.Turn.TheVariants as logged
 use Rattle.world_core.specs.Kept.{Kept, standing}

@@ -5,7 +5,7 @@ use Rattle.std.proofs.lemmas.List.{append_assoc, append-nil}
 use Rattle.outside_kit.specs.Outside.{HoldsAfter}
 use Rattle.sides.specs.declared.side.Side.TheVariants.{A, B}
 use Rattle.octet_text.specs.Prefix.{IsPrefix}
-use Rattle.path_rules.specs.Octets.{octets}
+use Rattle.path_core.specs.Octets.{octets}
 use Rattle.world_laws.specs.AbortCause.{PeerStopped}
 use Rattle.world_laws.specs.Openings.{start_of}
 use Rattle.world_laws.specs.Outcomes.{outcome_by, outcome_of, output_of, tells_abort, tells_end, was_told, notes_of}

@@ -2,7 +2,7 @@
 use Rattle.std.proofs.Common.{◌≡◌, refl, sym, ◌∙◌, ap, subst, ℕ, Bool, true, false, not, ◌&&◌, inr, List, [], ◌∷◌, map, length, Result, Ok, Err, IfErr, OnErr, Option}
 use Rattle.std.proofs.lemmas.List.{length-map}
 use Rattle.outside_kit.specs.declared.port.Port.{Port}
-use Rattle.path_rules.specs.Octets.{octets}
+use Rattle.path_core.specs.Octets.{octets}
 use Rattle.world_core.specs.Kept.{Kept, standing}
 use Rattle.world_laws.specs.Actors.{ActorCrew}
 use Rattle.world_laws.specs.Fine.{lists_of}

@@ -5,7 +5,7 @@ use Rattle.std.proofs.lemmas.List.{length-append}
 use Rattle.std.proofs.lemmas.Option.{same_Some}
 use Rattle.actor_desk.specs.declared.ask.Note.{Note}
 use Rattle.actor_desk.specs.declared.ask.Reply.{Reply}
-use Rattle.path_rules.specs.Octets.{octets}
+use Rattle.path_core.specs.Octets.{octets}
 use Rattle.actor_turn.specs.Turns.{Turned, member_after}
 use Rattle.world_laws.specs.Actors.{Actor, ActorCrew, member_asks, member_takes}
 use Rattle.world_laws.specs.declared.member.Member.TheVariants.{App, Path}

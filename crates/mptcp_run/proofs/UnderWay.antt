@@ -8,7 +8,7 @@ use Rattle.stream_lanes.proofs.Lists.{Every-nil, Every-map, Every-push, in_map, 
 use Rattle.actor_desk.specs.declared.ask.Ask.{Ask}
 use Rattle.actor_desk.specs.declared.ask.Note.{Note}
 use Rattle.actor_desk.specs.Books.{StampedBooks}
-use Rattle.path_rules.specs.Octets.{octets}
+use Rattle.path_core.specs.Octets.{octets}
 use Rattle.world_laws.specs.Actors.{ActorCrew, member_asks}
 use Rattle.world_laws.specs.Fine.{IsFine, lists_of}
 use Rattle.link_script.specs.declared.script.PathLine.{PathLine}

@@ -16,7 +16,7 @@ use Rattle.stream_apps.specs.Apps.{AppState}
 use Rattle.stream_apps.specs.AppSteps.{start_of_app, is_due, a_round_less, app_stands, app_settled, app_answers, app_asks_first, app_takes, fresh_turn, app_next_round}
 use Rattle.stream_apps.specs.Starts.{fast_close_of, rounds_before, untouched, first_app_turn}
 use Rattle.stream_lanes.proofs.Lists.{in_set, in_map}
-use Rattle.path_rules.specs.Octets.{octets}
+use Rattle.path_core.specs.Octets.{octets}
 use Rattle.world_laws.specs.AbortCause.{asks_fast_close, note_asks_fast_close, PeerStopped}
 use Rattle.world_laws.specs.Actors.{ActorCrew, member_asks, member_takes, member_next}
 use Rattle.world_laws.specs.StampedBooks.{answer_to}

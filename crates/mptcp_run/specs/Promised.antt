@@ -15,7 +15,7 @@ use Rattle.world_laws.specs.Openings.{start_of}
 use Rattle.world_laws.specs.PlainScripts.{AltersNone, IsPlainScript, IsShortScript, KeepsAllPromises, KeepsAnyway, KeepsChecked, IsShownOfValues}
 use Rattle.world_laws.specs.RoundDone.{EndsOnTime, RoundIsDone, round_of}
 use Rattle.world_laws.specs.Worlds.{Turn, all_over}
-use Rattle.path_rules.specs.Octets.{octets}
+use Rattle.path_core.specs.Octets.{octets}
 use Rattle.run_outside.specs.declared.status.Status.{Status}
 use Rattle.run_outside.specs.declared.status.Status.TheVariants.{Delivered, Aborted}
 use Rattle.mptcp_run.specs.Ends.{HoldsSomeRounds, HoldsToLine}

@@ -11,8 +11,8 @@ use Rattle.run_log.specs.declared.outcome.Outcome as log_outcome
 use Rattle.std.specs.Fmt.{decimal}
 use Rattle.std.specs.List.{sum}
 use Rattle.run_log.specs.Lines.{ended, opening_lines, outcome_text, outcome_word}
-use Rattle.path_rules.specs.Octets.{octets}
-use Rattle.path_rules.specs.Starts.{drawn_of}
+use Rattle.path_core.specs.Octets.{octets}
+use Rattle.path_core.specs.Start.{drawn_of}
 use Rattle.world_laws.specs.declared.outcome.Outcome.{Outcome}
 use Rattle.world_laws.specs.declared.outcome.Outcome.TheVariants as outcome
 use Rattle.world_laws.specs.Fine.{lists_of}

@@ -1,7 +1,7 @@
 -- Rounds in which the steps of all actors stand by stamp, then actor, whoever made them: the turns that a log tells.
 use Rattle.std.specs.Prelude.{ℕ, zero, suc, ◌≡◌, List, [], ◌∷◌, ◌++◌, map}
 use Rattle.actor_desk.specs.declared.ask.Note.{Note}
-use Rattle.path_rules.specs.Octets.{octets}
+use Rattle.path_core.specs.Octets.{octets}
 use Rattle.world_laws.specs.Outcomes.{outcome_of}
 use Rattle.world_laws.specs.Serial.{goes_on, OneOf}
 use Rattle.world_laws.specs.Weaving.{steps_by}

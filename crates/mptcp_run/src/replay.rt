@@ -1,7 +1,7 @@
 //! The steps of a log, in its order.
 
 ghost use Rattle.std.specs.Prelude.{◌≡◌, ◌+◌, ◌-◌, ◌^◌, ◌≤◌, ◌<◌, length, true, IfErr, OnOk};
-ghost use Rattle.path_rules.specs.Octets.{octets};
+ghost use Rattle.path_core.specs.Octets.{octets};
 ghost use Rattle.world_core.specs.Kept.{standing};
 ghost use Rattle.world_core.specs.Logged.{turn_of, all_turns};
 ghost use Rattle.world_laws.specs.Worlds.{is_going, world_step, IsLawfulTurn, after_turn};

@@ -1,7 +1,7 @@
 //! Rounds in which the actors take whole turns, one after the other.
 
 ghost use Rattle.std.specs.Prelude.{◌≡◌, ◌+◌, ◌-◌, ◌^◌, ◌<◌, length, IfErr, OnOk};
-ghost use Rattle.path_rules.specs.Octets.{octets};
+ghost use Rattle.path_core.specs.Octets.{octets};
 ghost use Rattle.world_core.specs.Rounds.{RoundTo};
 ghost use Rattle.run_outside.specs.Calling.{OnlyPuts};
 ghost use Rattle.mptcp_run.specs.Making.{RoundMade, RoundStops};

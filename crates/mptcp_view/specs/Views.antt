@@ -14,8 +14,8 @@ use Rattle.link_trace.specs.Lines.{lines_of}
 use Rattle.link_trace.specs.Tables.{summary_of}
 use Rattle.link_trace.specs.declared.carried.Base.{Base}
 use Rattle.link_trace.specs.declared.sent.Sent.{Sent}
-use Rattle.path_rules.specs.Octets.{octets}
-use Rattle.path_rules.specs.Starts.{key_of}
+use Rattle.path_core.specs.Octets.{octets}
+use Rattle.path_core.specs.Start.{key_of}
 use Rattle.pcap_text.specs.Blocks.{capture_text}
 use Rattle.run_log.specs.declared.turn.Turn as logged
 use Rattle.run_outside.specs.Inputs.{AreWithinLimits, IsLoggedFault, content_of, opening_count}

@@ -5,7 +5,7 @@ ghost use Rattle.outside_kit.specs.Calls as call;
 ghost use Rattle.outside_kit.specs.Outside.{HoldsAfter, HoldsPrefix};
 ghost use Rattle.outside_kit.specs.declared.port.Port.{Port};
 ghost use Rattle.link_script.specs.Scripts.{HasRanges};
-ghost use Rattle.path_rules.specs.Octets.{octets};
+ghost use Rattle.path_core.specs.Octets.{octets};
 ghost use Rattle.link_trace.specs.Carrying.{all_carried};
 ghost use Rattle.run_trace.specs.Initials.{initials_in};
 ghost use Rattle.run_trace.specs.Trace.{place_of, trace_of};

@@ -3,11 +3,11 @@ use Rattle.std.proofs.Common.{◌≡◌, refl, sym, ap, subst, ◌∙◌, Bool, 
 use Rattle.actor_desk.specs.Words.{tail_of}
 use Rattle.actor_desk.specs.declared.ask.Reply.{Reply}
 use Rattle.path_agenda.specs.declared.duty.Duty.{Duty}
-use Rattle.path_rules.specs.Codec.{Codec}
-use Rattle.path_rules.specs.Duties.{stands, ask_for, passed, answered}
-use Rattle.path_rules.specs.Replies.{asks_bytes, asks_bytes_first, needs_memory, needs_memory_first}
-use Rattle.path_rules.specs.State.{PathState, with_agenda}
-use Rattle.path_rules.specs.Steps.{settled, settles_down, passable, passable_of, asks_first, answers}
+use Rattle.path_core.specs.Codec.{Codec}
+use Rattle.path_core.specs.Duties.{stands, ask_for, passed, answered}
+use Rattle.path_core.specs.Replies.{asks_bytes, asks_bytes_first, needs_memory, needs_memory_first}
+use Rattle.path_core.specs.State.{PathState, with_agenda}
+use Rattle.path_core.specs.Steps.{settled, settles_down, passable, passable_of, asks_first, answers}
 use Rattle.path_agenda.specs.Words.{first_of}
 use Rattle.path_core.proofs.Settling.{passes_anyway, settles_anyway}
 

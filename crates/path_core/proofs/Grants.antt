@@ -6,11 +6,12 @@ use Rattle.sides.specs.declared.side.Side.{Side}
 use Rattle.subflow_send.specs.Records.{Record}
 use Rattle.subflow_tcp.specs.State.{EndState, is_at_limit}
 use Rattle.subflow_tcp.specs.States.{may_finish}
-use Rattle.path_rules.specs.StreamEnds.{is_fin_due}
-use Rattle.path_rules.specs.Emission.{may_ask, data_stands}
-use Rattle.path_rules.specs.Ends.{PathEnd}
-use Rattle.path_rules.specs.State.{PathState, Profile}
-use Rattle.path_rules.specs.Turns.{TakesTime}
+use Rattle.path_core.specs.DataFin.{is_fin_due}
+use Rattle.path_core.specs.Emission.{may_ask, data_stands}
+use Rattle.path_core.specs.End.{PathEnd}
+use Rattle.path_core.specs.State.{PathState}
+use Rattle.path_core.specs.Profile.{Profile}
+use Rattle.path_core.specs.Turns.{TakesTime}
 
 first_true : (a b : Bool) → (a && b) ≡ true → a ≡ true
 first_true true b is = refl

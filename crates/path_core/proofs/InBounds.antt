@@ -20,12 +20,12 @@ use Rattle.linked_increase.specs.declared.rows.Row.{Row}
 use Rattle.linked_increase.specs.Paths.{IsInRange}
 use Rattle.actor_desk.specs.Kinds.{IsOfKind}
 use Rattle.actor_desk.specs.Bounds.{IsBounded, TakesReply}
-use Rattle.path_rules.specs.Replies.{IsAckBounded, AreRowsInRange, IsGrantSendable, IsGrantFit}
-use Rattle.path_rules.specs.Duties.{ask_for}
-use Rattle.path_rules.specs.Emission.{first_unsent, grant_ask, grant_in, data_ask}
-use Rattle.path_rules.specs.Octets.{octets}
-use Rattle.path_rules.specs.State.{PathState, end_at}
-use Rattle.path_rules.specs.Steps.{asks_first}
+use Rattle.path_core.specs.Replies.{IsAckBounded, AreRowsInRange, IsGrantSendable, IsGrantFit}
+use Rattle.path_core.specs.Duties.{ask_for}
+use Rattle.path_core.specs.Emission.{first_unsent, grant_ask, grant_in, data_ask}
+use Rattle.path_core.specs.Octets.{octets}
+use Rattle.path_core.specs.State.{PathState, end_at}
+use Rattle.path_core.specs.Steps.{asks_first}
 
 pub acks_bounded : (x : Option Ask) (r : Reply) → TakesReply x r → IsAckBounded r
 acks_bounded None r takes = absurd takes

@@ -1,7 +1,7 @@
 -- The line of a path is the one at its place.
 use Rattle.std.proofs.Common.{◌≡◌, refl, ℕ, zero, suc, ◌<◌, List, [], ◌∷◌, length, get_or, arith}
 use Rattle.link_script.specs.declared.script.PathLine.{PathLine}
-use Rattle.path_rules.specs.Starts.{line_of}
+use Rattle.path_core.specs.Start.{line_of}
 
 pub line_at : (path : ℕ) (lines : List PathLine) (d : PathLine) → path < length lines → get_or lines path d ≡ line_of path lines
 line_at path [] d within = absurd (omega (arith, within))

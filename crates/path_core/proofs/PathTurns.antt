@@ -1,12 +1,12 @@
 -- The turns of a path whose first duty comes to something.
 use Rattle.std.proofs.Common.{◌≡◌, refl, ℕ, ◌+◌, Bool, true, false, if◌then◌else◌, is_none, Some, None, List, [], ◌∷◌}
 use Rattle.path_agenda.specs.declared.duty.Duty.{Duty}
-use Rattle.path_rules.specs.Duties.{stands}
-use Rattle.path_rules.specs.Octets.{octets}
-use Rattle.path_rules.specs.State.{PathState}
-use Rattle.path_rules.specs.Steps.{passable, passable_of, next_round}
-use Rattle.path_rules.specs.Turns.{Ends, FirstStands, TakesTime}
-use Rattle.path_rules.proofs.TurnEnds.{turn_ends, begun_ends}
+use Rattle.path_core.specs.Duties.{stands}
+use Rattle.path_core.specs.Octets.{octets}
+use Rattle.path_core.specs.State.{PathState}
+use Rattle.path_core.specs.Steps.{passable, passable_of, next_round}
+use Rattle.path_core.specs.Turns.{Ends, FirstStands, TakesTime}
+use Rattle.path_core.proofs.TurnEnds.{turn_ends, begun_ends}
 
 first_stands : {C : Type 0} (ds : List Duty) (p : PathState C) → is_none (passable_of ds p) ≡ true → FirstStands ds p
 first_stands [] p none = tt

@@ -1,26 +1,65 @@
-//! How an end dies: by a break, by its sixth expiry, by the peer's reset (RFC 8684, section 3.6).
+//! How an end dies: by a break, by its sixth expiry, by a line of the script; and the reset that refuses a path (RFC 8684,
+//! section 3.6).
 
-ghost use Rattle.std.specs.Prelude.{◌≡◌, Some, None, OnOk, OnErr};
+ghost use Rattle.std.specs.Prelude.{◌≡◌, ◌-◌, false, if◌then◌else◌, ◌++◌, [], Some, ◌∷◌, None, OnOk, OnErr};
+ghost use Rattle.subflow_tcp.specs.States.{is_dead};
 ghost use Rattle.actor_desk.specs.Kinds.{CanBeAsked};
-ghost use Rattle.path_agenda.specs.Agenda.{leaves};
+ghost use Rattle.path_agenda.specs.Agenda.{leaves, rest_of_turn};
 ghost use Rattle.path_agenda.specs.Words.{replaced};
 ghost use Rattle.path_agenda.specs.declared.duty.Duty.TheVariants as duties;
 ghost use Rattle.path_agenda.specs.declared.duty.AskDuty.TheVariants as ask_duties;
-ghost use Rattle.path_rules.specs.Breaking.{reset_on, break_ask, answered_break, return_ask, dead_ask};
-ghost use Rattle.path_rules.specs.Octets.{octets};
-ghost use Rattle.path_rules.specs.Replies.{IsAckBounded};
+ghost use Rattle.sides.specs.declared.side.Side.TheVariants.{A, B};
+ghost use Rattle.path_core.specs.Breaking.{died_unless_dead, reset_on, break_ask, answered_break, return_ask, dead_ask, path_died};
+ghost use Rattle.path_core.specs.Octets.{octets};
+ghost use Rattle.path_core.specs.Replies.{IsAckBounded};
 
-use crate::machine::Machine;
+use crate::end::PathEnd;
+use crate::said::SegmentKind;
 use crate::standing::ack_out_ask;
+use crate::state::PathState;
 use actor_desk::{Ask, Reply};
 use control_book::ControlCall;
-use path_agenda::{Agenda, AskDuty, Duty};
-use path_rules::SegmentKind;
+use path_agenda::{Agenda, AskDuty, Duty, StepDuty};
 use send_book::SendCall;
 use sides::Side;
 use std::alloc::AllocError;
 
-impl Machine {
+/// An error specific to Multipath TCP.
+pub(crate) const MPTCP_SPECIFIC: u8 = 1;
+
+/// A middlebox interferes.
+pub(crate) const MIDDLEBOX: u8 = 6;
+
+/// Each end that wasn't dead leaves.
+fn all_leave(a_is_dead: bool, b_is_dead: bool) -> Agenda
+    ensures { result ≡
+        (if a_is_dead then [] else duties.Ask (ask_duties.Leave A) ∷ []) ++
+        ((if b_is_dead then [] else duties.Ask (ask_duties.Leave B) ∷ []) ++ rest_of_turn) }
+{
+    let (a, b) = (
+        Duty::Ask(AskDuty::Leave(Side::A)),
+        Duty::Ask(AskDuty::Leave(Side::B)),
+    );
+    match (a_is_dead, b_is_dead) {
+        (false, false) => Agenda::of(&[a, b, Duty::Step(StepDuty::Events), Duty::End]),
+        (false, true) => Agenda::of(&[a, Duty::Step(StepDuty::Events), Duty::End]),
+        (true, false) => Agenda::of(&[b, Duty::Step(StepDuty::Events), Duty::End]),
+        (true, true) => Agenda::rest_of_turn(),
+    }
+}
+
+impl PathEnd {
+    /// Nothing is sent, kept or awaited any more, unless it was dead before.
+    pub(crate) fn die_unless_dead(&mut self)
+        ensures { self.new ≡ died_unless_dead self.old }
+    {
+        if !self.is_dead() {
+            self.die();
+        }
+    }
+}
+
+impl PathState {
     /// What the end holds is given back.
     pub(crate) fn return_ask(&self, side: Side) -> Ask
         ensures value { result ≡ return_ask side self.now }
@@ -104,5 +143,16 @@ impl Machine {
             return Ok(());
         }
         self.send_reset(side, Some(reason))
+    }
+
+    /// The path dies: what is under way is lost, and both ends die, A's first.
+    pub(crate) fn die(&mut self)
+        ensures { self.new ≡ path_died self.old }
+    {
+        let agenda = all_leave(self.a.is_dead(), self.b.is_dead());
+        self.link.cut();
+        self.a.die_unless_dead();
+        self.b.die_unless_dead();
+        self.sets_about(agenda);
     }
 }

@@ -1,28 +1,42 @@
 //! What happens on a path by itself: its join, lines of the script, copies that arrive, timers that run out.
 
-ghost use Rattle.std.specs.Prelude.{◌≡◌, ◌&&◌, ◌∷◌, ◌++◌, ◌<◌, ◌-◌, [], false, if◌then◌else◌, IfSome, IsOk, OnOk, OnErr};
+ghost use Rattle.std.specs.Prelude.{◌≡◌, ◌-◌, ◌<◌, ◌&&◌, false, [], IsOk, OnOk, IfSome, OnErr};
 ghost use Rattle.actor_desk.specs.Kinds.{CanBeAsked};
 ghost use Rattle.actor_desk.specs.Words.{tail_of};
 ghost use Rattle.link_model.specs.Steps.{next_due};
 ghost use Rattle.sides.specs.declared.side.Side.TheVariants.{A, B};
 ghost use Rattle.subflow_tcp.specs.States.{is_dead};
-ghost use Rattle.path_agenda.specs.declared.duty.Duty.TheVariants as duties;
-ghost use Rattle.path_agenda.specs.declared.duty.AskDuty.TheVariants as ask_duties;
-ghost use Rattle.path_rules.specs.declared.event.Event.TheVariants as event;
 ghost use Rattle.path_agenda.specs.Agenda.{rest_of_turn};
-ghost use Rattle.path_rules.specs.Replies.{notes_by, event_needs_memory};
-ghost use Rattle.path_rules.specs.Events.{is_dead_or_listening, is_dead_path, next_join, next_line, next_copy, next_fire, earlier, earliest, before, next_event, step_for, path_died, line_taken, timer_fired, at_tick, joins_at_tick, happens_if, CanHappen};
-ghost use Rattle.path_rules.specs.Octets.{octets};
-ghost use Rattle.path_rules.specs.State.{end_at, path_of};
+ghost use Rattle.path_core.specs.Events.{tick_of, step_of, earlier, is_dead_or_listening, is_dead_path, next_join, next_line, next_copy, earliest, next_event, step_for, line_taken, happens_if, CanHappen};
+ghost use Rattle.path_core.specs.declared.events.Event.TheVariants as event;
+ghost use Rattle.path_core.specs.Replies.{notes_by, event_needs_memory};
+ghost use Rattle.path_core.specs.Timer.{next_fire};
+ghost use Rattle.path_core.specs.State.{at_tick, path_of};
+ghost use Rattle.path_core.specs.MpJoin.{joins_at_tick};
+ghost use Rattle.path_core.specs.Octets.{octets};
 
-use crate::machine::Machine;
+use crate::mp_join::join_begin_ask;
+use crate::state::PathState;
 use actor_desk::{Ask, LocalStep, Reply};
-use path_agenda::{Agenda, AskDuty, Duty, StepDuty};
-use path_rules::Event;
+use link_model::Due;
+use path_agenda::Agenda;
 use path_store::{LineAction, LineLeft};
 use sides::Side;
 use std::alloc::AllocError;
 use subflow_tcp::State;
+
+/// What happens on a path by itself, at a tick.
+#[derive(Clone, Copy)]
+pub enum Event {
+    /// A joins the path to the connection, at this tick.
+    Joins(u64),
+    /// A line comes due.
+    Takes(LineLeft),
+    /// A copy arrives.
+    Arrives(Due),
+    /// A timer runs out, at this tick.
+    Fires(Side, u64),
+}
 
 /// The earlier of two events; at one tick the first.
 fn earlier(first: Option<Event>, second: Option<Event>) -> Option<Event>
@@ -41,25 +55,38 @@ fn earlier(first: Option<Event>, second: Option<Event>) -> Option<Event>
     }
 }
 
-/// Each end that wasn't dead leaves.
-fn all_leave(a_is_dead: bool, b_is_dead: bool) -> Agenda
-    ensures { result ≡
-        (if a_is_dead then [] else duties.Ask (ask_duties.Leave A) ∷ []) ++
-        ((if b_is_dead then [] else duties.Ask (ask_duties.Leave B) ∷ []) ++ rest_of_turn) }
-{
-    let (a, b) = (
-        Duty::Ask(AskDuty::Leave(Side::A)),
-        Duty::Ask(AskDuty::Leave(Side::B)),
-    );
-    match (a_is_dead, b_is_dead) {
-        (false, false) => Agenda::of(&[a, b, Duty::Step(StepDuty::Events), Duty::End]),
-        (false, true) => Agenda::of(&[a, Duty::Step(StepDuty::Events), Duty::End]),
-        (true, false) => Agenda::of(&[b, Duty::Step(StepDuty::Events), Duty::End]),
-        (true, true) => Agenda::rest_of_turn(),
+impl Event {
+    /// The tick at which it happens.
+    pub fn tick(self) -> u64
+        ensures { result ≡ tick_of self }
+    {
+        match self {
+            Event::Joins(tick) => tick,
+            Event::Takes(line) => line.tick,
+            Event::Arrives(due) => due.tick,
+            Event::Fires(_, tick) => tick,
+        }
+    }
+
+    /// Its step on the path of this number, which is below 16.
+    pub fn step(self, path: u8) -> Ask
+        requires { path < 16 }
+        ensures value { result ≡ step_of path self }
+        ensures able { CanBeAsked result }
+    {
+        match self {
+            Event::Joins(_) => join_begin_ask(path),
+            Event::Takes(line) => Ask::Local(LocalStep::Line(line.number)),
+            Event::Arrives(due) => Ask::Local(LocalStep::Arrive {
+                to: due.to,
+                copy: due.copy,
+            }),
+            Event::Fires(side, _) => Ask::Local(LocalStep::Fire(side)),
+        }
     }
 }
 
-impl Machine {
+impl PathState {
     /// Whether A's end is dead, and B's end is dead or was never reached.
     pub(crate) fn is_dead(&self) -> bool
         ensures { result ≡ is_dead_path self.now }
@@ -94,13 +121,6 @@ impl Machine {
         Some(Event::Arrives(self.link.due()?))
     }
 
-    /// The timer of a side runs out.
-    fn next_fire(&self, side: Side) -> Option<Event>
-        ensures { result ≡ next_fire side (end_at side self.now).tcp.timing.timer }
-    {
-        Some(Event::Fires(side, self.end(side).tcp.timer()?))
-    }
-
     /// The earliest event. At one tick the join comes before lines, lines before copies, and copies before timers, that of A
     /// first.
     fn earliest(&self) -> Option<Event>
@@ -112,7 +132,7 @@ impl Machine {
     }
 
     /// The earliest event before the round's end.
-    #[tactic(auto, using(path_rules::proofs::Happening::can_happen))]
+    #[tactic(auto, using(crate::proofs::Happening::can_happen))]
     pub(crate) fn next_event(&self) -> Option<Event>
         ensures value { result ≡ next_event self.now }
         ensures can { IfSome result (λ event. CanHappen event self.now) }
@@ -134,17 +154,6 @@ impl Machine {
             Some(event) => event.step(self.number()),
             None => Ask::Local(LocalStep::End),
         }
-    }
-
-    /// The path dies: what is under way is lost, and both ends die, A's first.
-    fn die(&mut self)
-        ensures { self.new ≡ path_died self.old }
-    {
-        let agenda = all_leave(self.a.is_dead(), self.b.is_dead());
-        self.link.cut();
-        self.a.die_unless_dead();
-        self.b.die_unless_dead();
-        self.sets_about(agenda);
     }
 
     /// The tick is that of the first line, which is taken.
@@ -196,20 +205,6 @@ impl Machine {
     {
         self.clock.reach(tick);
         self.join_at_tick(reply);
-    }
-
-    /// The timer of a side runs out at this tick.
-    fn fire(&mut self, side: Side, tick: u64)
-        requires { CanHappen (event.Fires side tick) self.old }
-        ensures { self.new ≡ timer_fired side (at_tick tick self.old) }
-    {
-        self.clock.reach(tick);
-        let now = self.clock.now();
-        if self.end_mut(side).fire(now) {
-            self.sets_about(Agenda::expired_for_ever(side));
-        } else {
-            self.sets_about(Agenda::expired(side));
-        }
     }
 
     /// The earliest event before the round's end happens. At an error all is as it was.

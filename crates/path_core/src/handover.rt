@@ -1,19 +1,25 @@
 //! Handing a segment to the link: the step that tells it, and what it makes of the end and of the link.
 
-ghost use Rattle.std.specs.Prelude.{◌≡◌, ◌≤◌, ◌+◌, ◌^◌, true, is_none, IfOk, IsOk, OnOk, OnErr};
+ghost use Rattle.std.specs.Prelude.{◌+◌, ◌≡◌, ◌≤◌, ◌^◌, true, is_none, IsOk, IfOk, OnOk, OnErr};
+ghost use Rattle.path_segments.specs.Laws.{window_told};
+ghost use Rattle.subflow_tcp.specs.Emitting.{after_sending};
 ghost use Rattle.actor_desk.specs.Kinds.{CanBeAsked};
 ghost use Rattle.link_model.specs.Octets.{after_octets};
 ghost use Rattle.segment_wire.specs.Reading.{segment_meaning};
 ghost use Rattle.segment_wire.specs.Paths.{addresses_from};
-ghost use Rattle.path_rules.specs.Octets.{octets, made};
-ghost use Rattle.path_rules.specs.Said.{plain_said, said_by, sent_kind, CanBeSaid};
-ghost use Rattle.path_rules.specs.Handover.{edge_told, with_mapping_told, sends, sent_on, handed};
-ghost use Rattle.path_rules.specs.State.{end_at, left, path_of, with_agenda};
-ghost use Rattle.path_rules.specs.Steps.{passable, settles_down};
+ghost use Rattle.path_core.specs.Said.{plain_said, said_by, sent_kind, CanBeSaid};
+ghost use Rattle.path_core.specs.Handover.{end_of, least, edge_told, has_mapping, with_mapping_told, sends, sent_on, handed};
+ghost use Rattle.path_core.specs.declared.modes.Modes.{Modes};
+ghost use Rattle.path_core.specs.Octets.{octets, made};
+ghost use Rattle.path_core.specs.State.{end_at, left, path_of, with_agenda};
+ghost use Rattle.path_core.specs.Steps.{passable, settles_down};
 
-use crate::machine::Machine;
+use crate::end::PathEnd;
+use crate::modes::Modes;
+use crate::said::{Said, SegmentKind};
+use crate::state::PathState;
 use actor_desk::{Ask, LocalStep};
-use path_rules::{Modes, Said, SegmentKind};
+use seq_units::Pos;
 use sides::Side;
 use std::alloc::AllocError;
 use subflow_tcp::Occasion;
@@ -26,7 +32,89 @@ pub(crate) struct Handed {
     pub modes: Modes,
 }
 
-impl Machine {
+/// The position behind a segment of data or FIN.
+fn end_of(said: &Said<'_>) -> Pos
+    ensures { result ≡ end_of (plain_said said.now) }
+{
+    let fin = if said.outgoing.fin { 1 } else { 0 };
+    said.outgoing
+        .position
+        .saturating_add(said.payload.len() as u64 + fin)
+}
+
+/// The least of several positions.
+pub(crate) fn least(known: Option<Pos>, position: Pos) -> Option<Pos>
+    ensures { result ≡ least known position }
+{
+    match known {
+        Some(known) => Some(known.min(position)),
+        None => Some(position),
+    }
+}
+
+/// The window in octets as a hearer reads it: a SYN tells it up to 65,535, all others in steps of 32 (RFC 7323).
+pub(crate) fn window_told(syn: bool, window: u32) -> u32
+    ensures value { result ≡ window_told syn window }
+    ensures bound { result ≤ window }
+{
+    if syn {
+        window.min(65_535)
+    } else {
+        window / 32 * 32
+    }
+}
+
+impl PathEnd {
+    /// The edge of the window that a segment of the end tells, a place of the peer's stream; for a reset, which tells none, the
+    /// one told last.
+    pub(crate) fn edge_told(&self, said: &Said<'_>) -> u64
+        ensures value { result ≡ edge_told (plain_said said.now) self.now }
+        ensures bound { said.now.window ≤ 2 ^ 20 → result ≤ 2 ^ 62 + 2 ^ 21 }
+    {
+        if said.outgoing.rst {
+            return self.receiving.told_edge();
+        }
+        let window = window_told(said.outgoing.syn, said.window);
+        self.receiving.next() + u64::from(window)
+    }
+
+    /// A segment with data or FIN has an infinite mapping, as long as that is owed.
+    fn has_mapping(&self, said: &Said<'_>) -> bool
+        ensures { result ≡ has_mapping (plain_said said.now) self.now }
+    {
+        let some = said.outgoing.fin || !said.payload.is_empty();
+        self.modes.sends_plainly() && self.owes_mapping() && some
+    }
+
+    /// What the end knows after a segment: of those that had the owed infinite mapping the least end is kept (RFC 8684, section
+    /// 3.7).
+    pub(crate) fn modes_after(&self, said: &Said<'_>) -> Modes
+        ensures { result ≡ (with_mapping_told (plain_said said.now) self.now).modes }
+    {
+        let mut modes = self.modes;
+        if self.has_mapping(said) {
+            modes.mapped_to = least(modes.mapped_to, end_of(said));
+        }
+        modes
+    }
+
+    /// A segment was sent on this occasion at this tick; it told this edge of the window, at most 2^62 + 2^21, and this is known
+    /// after it (`edge_told`, `modes_after`).
+    pub(crate) fn having_sent(&mut self, occasion: Occasion, now: u64, told_edge: u64, modes: Modes)
+        requires { told_edge ≤ 2 ^ 62 + 2 ^ 21 }
+        ensures { self.new ≡ record self.old {
+          receiving = record self.old.receiving { told_edge = told_edge };
+          modes = modes;
+          tcp = after_sending occasion now self.old.tcp;
+        } }
+    {
+        self.receiving.tell_edge(told_edge);
+        self.modes = modes;
+        self.tcp.sent(occasion, now);
+    }
+}
+
+impl PathState {
     /// The segment of this kind that the end of a side sends.
     fn said(&self, side: Side, kind: SegmentKind) -> Said<'_>
         ensures value { plain_said result ≡
@@ -52,7 +140,7 @@ impl Machine {
     }
 
     /// The octets of the segment of this kind, which mean that segment.
-    #[tactic(auto, using(path_rules::proofs::SegmentsTold::made_whole))]
+    #[tactic(auto, using(crate::proofs::SegmentsTold::made_whole))]
     pub(crate) fn octets_of(&self, side: Side, kind: SegmentKind) -> Result<Vec<u8>, AllocError>
         ensures value { IfOk result (λ text. text.items ≡
             made self.now.profile.spelling side

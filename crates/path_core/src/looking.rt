@@ -1,22 +1,57 @@
 //! What the next step of a path hands to its link, and what it takes from it.
 
-ghost use Rattle.std.specs.Prelude.{◌≡◌, Some, option_map, IfOk, IfSome, IsSome};
+ghost use Rattle.std.specs.Prelude.{◌≡◌, Some, IsSome, IfOk, option_map, IfSome};
 ghost use Rattle.link_model.specs.Fate.{segment_fate};
 ghost use Rattle.link_model.specs.Steps.{arriving, next_number};
-ghost use Rattle.path_rules.specs.Emission.{first_unsent};
-ghost use Rattle.path_rules.specs.Events.{next_event};
-ghost use Rattle.path_rules.specs.Looking.{ack_sends, broken_by, arrived, copy_arriving, departing, departing_as, duty_sends, first_sends, heard_sends, mapping_sends, next_arrival, send_of, shown_arriving, step_sends, unsent_sends, IsSegmentOn};
-ghost use Rattle.path_rules.specs.State.{end_at, path_of};
-ghost use Rattle.path_rules.specs.Treating.{item_of};
+ghost use Rattle.path_core.specs.Looking.{send_of, ack_sends, broken_by, arrived, copy_arriving, departing, departing_as, duty_sends, first_sends, heard_sends, mapping_sends, next_arrival, shown_arriving, step_sends, unsent_sends, IsSegmentOn};
+ghost use Rattle.path_core.specs.Emission.{first_unsent};
+ghost use Rattle.path_core.specs.Events.{next_event};
+ghost use Rattle.path_core.specs.State.{end_at, path_of};
+ghost use Rattle.path_core.specs.Treating.{item_of};
 
-use crate::machine::Machine;
+use crate::breaking::{MIDDLEBOX, MPTCP_SPECIFIC};
+use crate::events::Event;
+use crate::said::SegmentKind;
+use crate::state::PathState;
 use link_model::{Due, SegmentFate};
 use octet_text::Text;
 use path_agenda::{Duty, Heard, SendDuty, StepDuty};
-use path_rules::{Arriving, Departing, Event, MIDDLEBOX, MPTCP_SPECIFIC, SegmentKind, ToSend};
-use segment_wire::addresses_from;
+use segment_wire::{Addresses, addresses_from};
 use sides::Side;
 use std::alloc::AllocError;
+
+/// A segment that the next step of a path hands to its link.
+#[derive(Drop)]
+pub struct Departing {
+    /// The side that sends it.
+    pub from: Side,
+    /// Its number in its direction, the first being 1.
+    pub number: u64,
+    /// Its octets, as the link takes them.
+    pub octets: Text,
+    /// What becomes of it.
+    pub fate: SegmentFate,
+}
+
+/// A copy that arrives by the next step of a path.
+#[derive(Clone, Copy)]
+pub struct Arriving<'a> {
+    /// The side that it goes to.
+    pub to: Side,
+    /// Its octets, as they arrive.
+    pub octets: &'a [u8],
+    /// The addresses between which it went.
+    pub addresses: Addresses,
+}
+
+/// Which segment the end of a side sends.
+#[derive(Clone, Copy)]
+pub(crate) struct ToSend {
+    /// The side of the end.
+    pub from: Side,
+    /// Which segment it is.
+    pub kind: SegmentKind,
+}
 
 /// The segment of this kind, which this side sends.
 fn to_send(from: Side, kind: SegmentKind) -> ToSend
@@ -54,7 +89,7 @@ pub(crate) fn send_of(duty: SendDuty) -> ToSend
     }
 }
 
-impl Machine {
+impl PathState {
     /// What the first step of a break sends: the reset, unless what is to be acknowledged is asked once more.
     fn broken_by(&self, side: Side, reason: u8) -> Option<ToSend>
         ensures { result ≡ broken_by side reason self.now }
@@ -195,7 +230,7 @@ impl Machine {
     }
 
     /// A copy as it arrives.
-    #[tactic(auto, using(path_rules::proofs::SegmentsTold::arrived_is))]
+    #[tactic(auto, using(crate::proofs::SegmentsTold::arrived_is))]
     fn arriving_as(&self, due: &Due) -> Arriving<'_>
         requires { IsSome (arriving due.now self.now.link) }
         ensures { Some (shown_arriving result) ≡ arrived due.now self.now }

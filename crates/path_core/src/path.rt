@@ -1,24 +1,24 @@
 //! A path of a connection: it makes steps, and each turn of it ends.
 
-ghost use Rattle.std.specs.Prelude.{◌≡◌, ◌<◌, ◌≤◌, ◌*◌, ◌^◌, [], false, length, option_map, IfOk, IfSome, IsOk, OnOk, OnErr};
+ghost use Rattle.std.specs.Prelude.{◌≡◌, ◌*◌, ◌<◌, ◌≤◌, ◌^◌, false, [], None, IsOk, IfOk, length, option_map, OnOk, IfSome, OnErr};
 ghost use Rattle.actor_desk.specs.Bounds.{TakesReply};
 ghost use Rattle.actor_desk.specs.Kinds.{CanBeAsked};
 ghost use Rattle.link_model.specs.Octets.{after_octets};
 ghost use Rattle.link_script.specs.Scripts.{HasRanges};
-ghost use Rattle.path_rules.specs.Events.{is_dead_path};
-ghost use Rattle.path_rules.specs.Joining.{is_listening};
-ghost use Rattle.path_rules.specs.Looking.{departing, next_arrival, shown_arriving, smoothed_rtt, congestion_window, IsSegmentOn, IsTold};
-ghost use Rattle.path_rules.specs.Octets.{octets};
-ghost use Rattle.path_rules.specs.Replies.{asks_bytes_first, needs_memory_first};
-ghost use Rattle.path_rules.specs.Starts.{first_turn_of};
-ghost use Rattle.path_rules.specs.State.{end_at, path_of, has_ended};
-ghost use Rattle.path_rules.specs.Steps.{settles_down, asks_of, takes, next_round};
-ghost use Rattle.path_rules.specs.Turns.{Ends};
+ghost use Rattle.path_core.specs.Events.{is_dead_path};
+ghost use Rattle.path_core.specs.MpJoin.{is_listening};
+ghost use Rattle.path_core.specs.Looking.{departing, next_arrival, shown_arriving, smoothed_rtt, congestion_window, IsSegmentOn, IsTold};
+ghost use Rattle.path_core.specs.Octets.{octets};
+ghost use Rattle.path_core.specs.Replies.{asks_bytes_first, needs_memory_first};
+ghost use Rattle.path_core.specs.Start.{first_turn_of};
+ghost use Rattle.path_core.specs.State.{end_at, path_of, has_ended};
+ghost use Rattle.path_core.specs.Steps.{settles_down, asks_of, takes, next_round};
+ghost use Rattle.path_core.specs.Turns.{Ends};
 
-use crate::machine::Machine;
-use actor_desk::{Ask, Reply};
+use crate::looking::{Arriving, Departing};
+use crate::state::PathState;
+use actor_desk::{Actor, Ask, Reply};
 use link_script::Script;
-use path_rules::{Arriving, Departing};
 use sides::Side;
 use std::alloc::{AllocError, Global};
 use std::marker::Model;
@@ -28,24 +28,24 @@ use subflow_tcp::State;
 /// segment. A segment is on its way for a tick or longer, and so a timeout is.
 #[derive(Drop)]
 pub struct Path {
-    machine: Machine,
+    state: PathState,
 }
 
 impl Model for Path {
     ghost use Rattle.std.specs.Prelude.{ℕ, ◌≡◌, true, is_none, List};
     ghost use Rattle.std.specs.Coded.{codes};
     ghost use Rattle.dss_mapping.specs.Mappings.{mappings_code};
-    ghost use Rattle.path_rules.specs.State.{PathState};
-    ghost use Rattle.path_rules.specs.Steps.{passable};
-    ghost use Rattle.path_rules.specs.Turns.{TakesTime};
+    ghost use Rattle.path_core.specs.State.{PathState};
+    ghost use Rattle.path_core.specs.Steps.{passable};
+    ghost use Rattle.path_core.specs.Turns.{TakesTime};
 
     ghost Value = { PathState (List ℕ) };
 
     ghost coded = { Prim.hlevel (codes, mappings_code) };
 
-    ghost view = { λ p. p.machine };
+    ghost view = { λ p. p.state };
 
-    ghost invariant = { λ p. (is_none (passable p.machine) ≡ true) × TakesTime p.machine };
+    ghost invariant = { λ p. (is_none (passable p.state) ≡ true) × TakesTime p.state };
 }
 
 impl Path {
@@ -60,9 +60,9 @@ impl Path {
         requires path { path < length script.now.paths }
         ensures { IfOk result (λ first. first ≡ first_turn_of script.now path) }
     {
-        let machine = Machine::new(alloc, script, path)?;
-        machine.takes_time();
-        Ok(Path { machine })
+        let state = PathState::new(alloc, script, path)?;
+        state.takes_time();
+        Ok(Path { state })
     }
 
     /// Its turn ends, whatever replies of the asked kind come, and so does the turn that the next round begins.
@@ -70,8 +70,8 @@ impl Path {
         ensures turn { Ends octets self.now }
         ensures round { Ends octets (next_round self.now) }
     {
-        // For the proof: the invariant of the machine.
-        let _machine = &self.machine;
+        // For the proof: the invariant of the state.
+        let _state = &self.state;
     }
 
     /// The number of the path, below 16.
@@ -79,28 +79,28 @@ impl Path {
         ensures value { result ≡ path_of self.now }
         ensures bound { result < 16 }
     {
-        self.machine.number()
+        self.state.number()
     }
 
     /// Whether its turn has ended.
     pub fn has_ended(&self) -> bool
         ensures { result ≡ has_ended self.now }
     {
-        self.machine.agenda.first().is_none()
+        self.state.agenda.first().is_none()
     }
 
     /// The first tick after its round, in ticks of a millisecond. The first round ends at 100.
     pub fn round_end(&self) -> u64
         ensures { result ≡ self.now.until }
     {
-        self.machine.clock.until()
+        self.state.clock.until()
     }
 
     /// The tick at which it is, in ticks of a millisecond from the run's beginning.
     pub fn tick(&self) -> u64
         ensures { result ≡ self.now.clock }
     {
-        self.machine.clock.now()
+        self.state.clock.now()
     }
 
     /// SRTT of a side's end, the smoothed round-trip time, in whole ticks of a millisecond, rounded down: at most a minute, and
@@ -109,7 +109,7 @@ impl Path {
         ensures value { result ≡ smoothed_rtt side self.now }
         ensures bound { IfSome result (λ srtt. srtt ≤ 60000) }
     {
-        self.machine.end(side).tcp.smoothed_rtt()
+        self.state.end(side).tcp.smoothed_rtt()
     }
 
     /// cwnd of a side's end, the congestion window, in octets: at most 2^20 (RFC 5681, section 3.1).
@@ -117,7 +117,7 @@ impl Path {
         ensures value { result ≡ congestion_window side self.now }
         ensures bound { result ≤ 2 ^ 20 }
     {
-        self.machine.end(side).tcp.congestion_window()
+        self.state.end(side).tcp.congestion_window()
     }
 
     /// The segment that its next step hands to the link, if it hands one, which the step tells. The path stays as it is.
@@ -130,28 +130,28 @@ impl Path {
         ensures told { IfOk result (λ d. IsTold d self.now) }
         ensures whole { IfOk result (λ d. IfSome d (IsSegmentOn (path_of self.now))) }
     {
-        self.machine.outgoing()
+        self.state.outgoing()
     }
 
     /// The copy that arrives by its next step, if one does, lent as it arrives. Takes no memory.
     pub fn arriving(&self) -> Option<Arriving<'_>>
         ensures { option_map shown_arriving result ≡ next_arrival self.now }
     {
-        self.machine.arriving()
+        self.state.arriving()
     }
 
     /// Whether a side's end listens: no SYN has come to it, so that what comes goes to its listener.
     pub fn is_listening(&self, side: Side) -> bool
         ensures { result ≡ is_listening (end_at side self.now).tcp.state }
     {
-        matches!(self.machine.end(side).tcp.state(), State::Listen)
+        matches!(self.state.end(side).tcp.state(), State::Listen)
     }
 
     /// Whether A's end is dead, and B's end is dead or was never reached.
     pub fn is_dead(&self) -> bool
         ensures { result ≡ is_dead_path self.now }
     {
-        self.machine.is_dead()
+        self.state.is_dead()
     }
 
     /// What it asks: nothing where its turn ended. Only an ask that carries bytes takes memory.
@@ -164,7 +164,7 @@ impl Path {
         ensures able { IfOk result (λ ask. IfSome ask CanBeAsked) }
         ensures plain { asks_bytes_first self.now.agenda ≡ false → IsOk result }
     {
-        self.machine.ask()
+        self.state.ask()
     }
 
     /// Takes the reply to what it asked last. The turn hasn't ended, and the reply is one that the ask can have.
@@ -180,8 +180,8 @@ impl Path {
         ensures plain { needs_memory_first self.old.agenda reply.now self.old ≡ false →
             IsOk result }
     {
-        let taken = self.machine.take(reply);
-        self.machine.takes_time();
+        let taken = self.state.take(reply);
+        self.state.takes_time();
         taken
     }
 
@@ -192,8 +192,8 @@ impl Path {
         requires rounds { self.old.until ≤ 100 * 2 ^ 57 }
         ensures { self.new ≡ next_round self.old }
     {
-        self.machine.next_round();
-        self.machine.takes_time();
+        self.state.next_round();
+        self.state.takes_time();
     }
 
     /// The link takes octets from a side at the path's tick, as a segment that the side's end doesn't know of. So a test
@@ -209,8 +209,43 @@ impl Path {
             { link = after_octets from octets.now self.old.clock self.old.link })) }
         ensures err { OnErr result (self.new ≡ self.old) }
     {
-        let taken = self.machine.inject(from, octets);
-        self.machine.takes_time();
+        let taken = self.state.inject(from, octets);
+        self.state.takes_time();
         taken
+    }
+}
+
+impl Actor for Path {
+    ghost asks = { asks_of octets };
+
+    ghost takes = { takes octets };
+
+    ghost next = { next_round };
+
+    // fewer than 2^57 rounds were begun
+    ghost can_begin = { λ path. path.until ≤ 100 * 2 ^ 57 };
+
+    fn ask(&self, _alloc: Global) -> Result<Option<Ask>, AllocError>
+        ensures ask { IfOk result (λ ask. ask ≡ asks_of octets self.now) }
+        ensures able { IfOk result (λ ask. IfSome ask CanBeAsked) }
+    {
+        Path::ask(self)
+    }
+
+    fn take(&mut self, reply: &Reply) -> Result<(), AllocError>
+        requires { TakesReply (asks_of octets self.old) reply.now }
+        ensures ok { OnOk result (self.new ≡ takes octets reply.now self.old) }
+        ensures err { OnErr result (self.new ≡ self.old) }
+    {
+        Path::take(self, reply)
+    }
+
+    #[tactic(auto, using(crate::proofs::FirstDuty::none_asked))]
+    fn next_round(&mut self)
+        requires over { asks_of octets self.old ≡ None }
+        requires rounds { self.old.until ≤ 100 * 2 ^ 57 }
+        ensures { self.new ≡ next_round self.old }
+    {
+        Path::next_round(self);
     }
 }

@@ -3,16 +3,16 @@
 ghost use Rattle.std.specs.Prelude.{◌≡◌, ◌≤◌, ◌*◌, ◌^◌, true, false, is_none, IfOk, IfSome, IsOk, OnOk, OnErr};
 ghost use Rattle.actor_desk.specs.Bounds.{TakesReply};
 ghost use Rattle.actor_desk.specs.Kinds.{CanBeAsked};
-ghost use Rattle.path_rules.specs.Octets.{octets};
-ghost use Rattle.path_rules.specs.Replies.{IsAckBounded, AreRowsInRange, asks_bytes_first, needs_memory_first};
-ghost use Rattle.path_rules.specs.Steps.{passable, settles_down, answers, asks_of, takes, next_round};
+ghost use Rattle.path_core.specs.Octets.{octets};
+ghost use Rattle.path_core.specs.Replies.{IsAckBounded, AreRowsInRange, asks_bytes_first, needs_memory_first};
+ghost use Rattle.path_core.specs.Steps.{passable, settles_down, answers, asks_of, takes, next_round};
 
-use crate::machine::Machine;
+use crate::state::PathState;
 use actor_desk::{Ask, Reply};
 use path_agenda::{Agenda, Duty};
 use std::alloc::AllocError;
 
-impl Machine {
+impl PathState {
     /// The first duty, where it comes to nothing.
     fn passable(&self) -> Option<Duty>
         ensures { result ≡ passable self.now }

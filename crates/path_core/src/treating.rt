@@ -1,47 +1,102 @@
-//! The things that a copy's options say, one after the other: each is told to a book, or treated in silence (RFC 8684, section 3.3).
+//! The things that a copy's options say, one after the other: each is told to a book, or treated in silence (RFC 8684, section
+//! 3.3).
 
-ghost use Rattle.std.specs.Prelude.{◌≡◌, ◌<◌, ◌≤◌, ◌^◌, ◌&&◌, Some, OnOk, OnErr};
-ghost use Rattle.actor_desk.specs.Kinds.{CanBeAsked};
-ghost use Rattle.fallback_state.specs.declared.fall.Event.TheVariants as events;
+ghost use Rattle.std.specs.Prelude.{◌≡◌, ◌<◌, ◌&&◌, Some, OnOk, IfSome, OnErr};
 ghost use Rattle.path_agenda.specs.Items.{IsFair};
-ghost use Rattle.path_rules.specs.Octets.{octets};
-ghost use Rattle.path_rules.specs.Opening.{after_keys};
-ghost use Rattle.path_rules.specs.Replies.{IsAckBounded};
-ghost use Rattle.path_rules.specs.State.{end_at, goes_on, left};
-ghost use Rattle.path_rules.specs.Fallback.{after_fell, fell_duties};
-ghost use Rattle.path_rules.specs.Treating.{is_clash, mapping_ask, heard_ask, is_acked, answered_ack, answered_mapping, with_data_fin, answered_heard, item_ask, answered_item, item_of};
+ghost use Rattle.actor_desk.specs.Kinds.{CanBeAsked};
+ghost use Rattle.path_core.specs.DssIn.{counts, is_clash, mapping_ask};
+ghost use Rattle.path_core.specs.Treating.{heard_stands, heard_passed, item_stands, item_passed, item_of, heard_ask, answered_heard, item_ask, answered_item};
+ghost use Rattle.path_core.specs.Octets.{octets};
+ghost use Rattle.path_core.specs.Replies.{IsAckBounded};
+ghost use Rattle.path_core.specs.State.{end_at};
 
-use crate::machine::Machine;
-use crate::opening::keys_ask;
+use crate::end::PathEnd;
+use crate::mp_capable::keys_ask;
+use crate::state::PathState;
 use actor_desk::{Ask, LocalStep, Reply};
 use control_book::ControlCall;
-use fallback_state::Event;
-use path_agenda::{AskDuty, Duty, Heard, KeyPair};
-use path_rules::MPTCP_SPECIFIC;
-use send_book::{SendCall, SendReply};
+use fallback_state::{Event, Mode};
+use path_agenda::{Heard, KeyPair};
+use send_book::SendCall;
 use sides::Side;
 use std::alloc::AllocError;
 
-/// A Data ACK was taken.
-fn is_acked(reply: &Reply) -> bool
-    ensures { result ≡ is_acked reply.now }
-{
-    matches!(reply, Reply::Send(SendReply::Acked { .. }))
-}
-
-impl Machine {
-    /// What a mapping asks.
-    fn mapping_ask(&self, side: Side) -> Ask
-        ensures value { result ≡ mapping_ask octets side self.now }
-        ensures able { CanBeAsked result }
+impl PathEnd {
+    /// A thing that was heard comes to something.
+    fn heard_stands(&self, item: Heard) -> bool
+        ensures { result ≡ heard_stands item self.now }
     {
-        if self.end(side).is_clash() {
-            self.break_ask(side, MPTCP_SPECIFIC)
-        } else {
-            self.fell_ask(side, Event::MappingHeard)
+        let starting = self.modes.mode == Mode::Starting;
+        match item {
+            Heard::Dss | Heard::PeerKey { .. } | Heard::Join { .. } => false,
+            Heard::DataAck { .. } => self.modes.own_infinite.is_none(),
+            Heard::Fail => self.modes.mode.writes_mappings(),
+            Heard::Notice { .. } => true,
+            Heard::FastClose { .. } => true,
+            Heard::Mapping { .. } => self.counts() && (self.is_clash() || starting),
+            Heard::DataFin { .. } => self.counts() && starting,
+            Heard::InfiniteMapping { .. } => self.counts() && self.modes.mode.reads_mappings(),
+            Heard::Keys { .. } => !self.treated.keys_told,
         }
     }
 
+    /// The thing of this number; after a fallback nothing more is heard.
+    pub(crate) fn item(&self, index: u8) -> Option<Heard>
+        ensures value { result ≡ item_of index self.now }
+        ensures fair { IfSome result IsFair }
+    {
+        if self.modes.identity {
+            None
+        } else {
+            self.treated.item(index)
+        }
+    }
+
+    /// The thing of this number comes to something.
+    pub(crate) fn item_stands(&self, index: u8) -> bool
+        ensures { result ≡ item_stands (item_of index self.now) self.now }
+    {
+        match self.item(index) {
+            Some(item) => self.heard_stands(item),
+            None => false,
+        }
+    }
+
+    /// What is passed in silence.
+    fn pass_heard(&mut self, side: Side, item: Heard)
+        requires { IsFair item }
+        ensures { self.new ≡ heard_passed side item self.old }
+    {
+        match item {
+            Heard::Dss => self.pass_dss(side),
+            Heard::DataAck { next, .. } => self.hear_data_ack(next),
+            Heard::Mapping { .. } => self.pass_mapping(),
+            Heard::DataFin { place } => {
+                if self.counts() {
+                    self.treated.note_data_fin(place);
+                }
+            }
+            Heard::InfiniteMapping { .. }
+            | Heard::PeerKey { .. }
+            | Heard::Keys { .. }
+            | Heard::Join { .. }
+            | Heard::Notice { .. }
+            | Heard::Fail
+            | Heard::FastClose { .. } => {}
+        }
+    }
+
+    /// The thing of this number is passed in silence.
+    pub(crate) fn pass_item(&mut self, side: Side, index: u8)
+        ensures { self.new ≡ item_passed side (item_of index self.old) self.old }
+    {
+        if let Some(item) = self.item(index) {
+            self.pass_heard(side, item);
+        }
+    }
+}
+
+impl PathState {
     /// What a thing that was heard asks.
     fn heard_ask(&self, side: Side, item: Heard) -> Ask
         requires { IsFair item }
@@ -74,59 +129,6 @@ impl Machine {
             Some(item) => self.heard_ask(side, item),
             None => Ask::Local(LocalStep::End),
         }
-    }
-
-    /// A Data ACK that was taken and covers something is told next.
-    fn answer_ack(&mut self, side: Side, next: u64, reply: &Reply)
-        requires { next < 2 ^ 62 }
-        ensures { self.new ≡ answered_ack side next reply.now self.old }
-    {
-        self.end_mut(side).take_ack_reply(next, reply);
-        if is_acked(reply) && 0 < next {
-            self.turns_to(Duty::Ask(AskDuty::AckHeard(side)));
-        } else {
-            self.done();
-        }
-    }
-
-    /// A mapping that clashes breaks the path, any other is learned. At an error all is as it was.
-    fn answer_mapping(&mut self, side: Side, reply: &Reply) -> Result<(), AllocError>
-        requires { IsAckBounded reply.now }
-        ensures ok { OnOk result (self.new ≡ answered_mapping octets side reply.now self.old) }
-        ensures err { OnErr result (self.new ≡ self.old) }
-    {
-        if self.end(side).is_clash() {
-            return self.answer_break(side, MPTCP_SPECIFIC, reply);
-        }
-        self.end_mut(side)
-            .take_fell_reply(Event::MappingHeard, reply);
-        self.end_mut(side).receiving.learn_held();
-        self.go_by_verdict(side, reply);
-        Ok(())
-    }
-
-    /// The end of the stream is told later.
-    fn answer_data_fin(&mut self, side: Side, place: u64, reply: &Reply)
-        requires { place ≤ 2 ^ 62 }
-        ensures { self.new ≡
-            goes_on side
-            (with_data_fin place (after_fell events.MappingHeard reply.now (end_at side self.old)))
-            (fell_duties side reply.now self.old) self.old }
-    {
-        self.end_mut(side)
-            .take_fell_reply(Event::MappingHeard, reply);
-        self.end_mut(side).treated.note_data_fin(place);
-        self.go_by_verdict(side, reply);
-    }
-
-    /// Both keys were told.
-    fn answer_keys(&mut self, side: Side, keys: KeyPair, reply: &Reply)
-        ensures { self.new ≡
-            goes_on side (after_keys reply.now (Some keys) (end_at side self.old)) (left self.old)
-            self.old }
-    {
-        self.end_mut(side).take_keys_reply(reply, Some(keys));
-        self.done();
     }
 
     /// What the reply to a thing that was heard makes of the path. At an error all is as it was.

@@ -13,16 +13,17 @@ use Rattle.path_agenda.specs.declared.duty.AskDuty.TheVariants as ask_duties
 use Rattle.path_agenda.specs.declared.duty.SilentDuty.TheVariants as silent_duties
 use Rattle.path_agenda.specs.declared.duty.StepDuty.TheVariants as step_duties
 use Rattle.path_agenda.specs.declared.heard.Heard.{Heard}
-use Rattle.path_rules.specs.Codec.{Codec}
-use Rattle.path_rules.specs.Duties.{passed, answered}
-use Rattle.path_rules.specs.Events.{tick_of, earliest, before, next_event, join_begun, after_line, at_tick, copy_heard, heard_in, happens_if}
+use Rattle.path_core.specs.Codec.{Codec}
+use Rattle.path_core.specs.Duties.{passed, answered}
+use Rattle.path_core.specs.Events.{tick_of, earliest, before, next_event, after_line, happens_if}
+use Rattle.path_core.specs.MpJoin.{join_begun, is_never}
+use Rattle.path_core.specs.State.{at_tick, PathState}
+use Rattle.path_core.specs.Arrival.{copy_heard, heard_in}
 use Rattle.path_store.specs.declared.lines.LineAction.{LineAction}
 use Rattle.path_store.specs.declared.lines.LineAction.TheVariants as actions
-use Rattle.path_rules.specs.declared.event.Event.{Event}
-use Rattle.path_rules.specs.declared.event.Event.TheVariants as happenings
-use Rattle.path_rules.specs.Joining.{is_never}
-use Rattle.path_rules.specs.State.{PathState}
-use Rattle.path_rules.specs.Steps.{answers, takes, begins_turn}
+use Rattle.path_core.specs.declared.events.Event.{Event}
+use Rattle.path_core.specs.declared.events.Event.TheVariants as happenings
+use Rattle.path_core.specs.Steps.{answers, takes, begins_turn}
 use Rattle.link_model.specs.Steps.{arriving, after_delivery}
 use Rattle.world_laws.specs.Writes.{Writes, OnlyAt, PathView, writes, side_of}
 use Rattle.world_laws.proofs.Writes.Paths.{writes_no_more}

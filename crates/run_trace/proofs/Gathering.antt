@@ -3,7 +3,7 @@ use Rattle.std.proofs.Common.{◌≡◌, ◌∙◌, inl, inr, ℕ, suc, ◌+◌,
 use Rattle.std.proofs.lemmas.List.{append-nil}
 use Rattle.std.proofs.lemmas.List.Elements.{All-append, All-cons, All-nil}
 use mathlib.Core.List.{append_assoc}
-use Rattle.path_rules.specs.Octets.{octets}
+use Rattle.path_core.specs.Octets.{octets}
 use Rattle.link_trace.specs.declared.sent.Sent.{Sent}
 use Rattle.world_laws.specs.Worlds.{AreLawful, IsLawfulTurn, Turn, WorldState, after_turn, world_run}
 use Rattle.world_core.specs.Kept.{Kept}

@@ -3,9 +3,9 @@ use Rattle.std.proofs.Common.{◌≡◌, refl, sym, ap, subst, ◌∙◌, ℕ, z
 use Rattle.std.proofs.lemmas.Option.{same_Some}
 use Rattle.actor_desk.specs.declared.ask.Ask.{Ask}
 use Rattle.actor_desk.specs.declared.ask.Reply.{Reply}
-use Rattle.path_rules.specs.Octets.{octets}
-use Rattle.path_rules.specs.Starts.{first_turn, waiting_path}
-use Rattle.path_rules.specs.State.{PathState, path_of}
+use Rattle.path_core.specs.Octets.{octets}
+use Rattle.path_core.specs.Start.{first_turn, waiting_path}
+use Rattle.path_core.specs.State.{PathState, path_of}
 use Rattle.world_laws.proofs.Rounds.Frame.{takes_keeps, first_keeps}
 use Rattle.world_laws.specs.Actors.{Actor, ActorCrew, member_asks, member_takes, member_next}
 use Rattle.world_laws.specs.declared.member.Member.TheVariants.{App, Path}

@@ -3,7 +3,7 @@ use Rattle.std.proofs.Common.{◌≡◌, refl, ◌∙◌, ap, ℕ, zero, suc, �
 use Rattle.std.specs.Prelude.{option_map}
 use Rattle.std.specs.Option.{option_to_list}
 use Rattle.link_trace.specs.declared.rows.Rates.{Rates}
-use Rattle.path_rules.specs.State.{PathState}
+use Rattle.path_core.specs.State.{PathState}
 use Rattle.world_core.specs.Looking.{path_at}
 use Rattle.world_laws.specs.Actors.{ActorCrew}
 use Rattle.run_trace.specs.Rates.{rates_in, rates_of}

@@ -10,12 +10,12 @@ use Rattle.actor_desk.specs.declared.ask.Ask.{Ask}
 use Rattle.actor_desk.specs.declared.ask.Ask.TheVariants as asks
 use Rattle.actor_desk.specs.declared.ask.LocalStep.TheVariants as steps
 use Rattle.actor_desk.specs.declared.ask.Note.{Note}
-use Rattle.path_rules.proofs.SegmentsTold.{each_segment_is_told, outgoing_told}
-use Rattle.path_rules.specs.declared.looking.Departing.{Departing}
-use Rattle.path_rules.specs.Looking.{HandsOrTellsNone, IsTold, departing, departing_as, first_sends, step_told, tells_a_segment}
-use Rattle.path_rules.specs.Octets.{octets}
-use Rattle.path_rules.specs.State.{PathState, path_of}
-use Rattle.path_rules.specs.Steps.{asks_of}
+use Rattle.path_core.proofs.SegmentsTold.{each_segment_is_told, outgoing_told}
+use Rattle.path_core.specs.declared.looking.Departing.{Departing}
+use Rattle.path_core.specs.Looking.{HandsOrTellsNone, IsTold, departing, departing_as, first_sends, step_told, tells_a_segment}
+use Rattle.path_core.specs.Octets.{octets}
+use Rattle.path_core.specs.State.{PathState, path_of}
+use Rattle.path_core.specs.Steps.{asks_of}
 use Rattle.stream_apps.specs.Apps.{AppState}
 use Rattle.stream_apps.specs.AppSteps.{app_ask, app_asks_first, app_asks_of}
 use Rattle.stream_apps.specs.declared.duty.AppDuty.{AppDuty}

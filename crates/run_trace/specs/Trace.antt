@@ -1,10 +1,10 @@
 -- The trace of turns: the segments that they hand to the links, in order.
 use Rattle.std.specs.Prelude.{◌≡◌, ◌⊎◌, IsOk, ℕ, zero, suc, Bool, true, false, Option, option_map, option_and_then, List, [], ◌∷◌, ◌++◌, take}
 use Rattle.std.specs.Option.{option_to_list}
-use Rattle.path_rules.specs.Looking.{departing}
-use Rattle.path_rules.specs.declared.looking.Departing.{Departing}
-use Rattle.path_rules.specs.Octets.{octets}
-use Rattle.path_rules.specs.State.{PathState, path_of}
+use Rattle.path_core.specs.Looking.{departing}
+use Rattle.path_core.specs.declared.looking.Departing.{Departing}
+use Rattle.path_core.specs.Octets.{octets}
+use Rattle.path_core.specs.State.{PathState, path_of}
 use Rattle.segment_wire.specs.Reading.{segment_meaning}
 use Rattle.segment_wire.specs.Paths.{addresses_from}
 use Rattle.run_trace.specs.declared.making.TraceFault.{TraceFault}

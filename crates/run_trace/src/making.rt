@@ -2,7 +2,7 @@
 
 ghost use Rattle.std.specs.Prelude.{◌≡◌, ◌<◌, ◌^◌, ◌++◌, false, OnOk, OnErr, IfOk, IfErr, All};
 ghost use Rattle.std.specs.Option.{option_to_list};
-ghost use Rattle.path_rules.specs.Octets.{octets};
+ghost use Rattle.path_core.specs.Octets.{octets};
 ghost use Rattle.world_core.specs.Kept.{standing};
 ghost use Rattle.world_core.specs.Logged.{turn_of, all_turns};
 ghost use Rattle.world_laws.specs.Worlds.{AreLawful, after_turn, is_going, world_run, world_step};

@@ -47,34 +47,37 @@ use Rattle.path_agenda.specs.declared.duty.StepDuty.TheVariants as step_duties
 use Rattle.path_agenda.specs.declared.heard.Heard.{Heard}
 use Rattle.path_agenda.specs.declared.heard.Heard.TheVariants as says
 use Rattle.path_agenda.specs.declared.keys.KeyPair.{KeyPair}
-use Rattle.path_rules.specs.FastClosing.{is_stopped_by}
-use Rattle.path_rules.specs.declared.event.Event.{Event}
-use Rattle.path_rules.specs.declared.event.Event.TheVariants as happenings
-use Rattle.path_rules.specs.declared.judged.Judged.{Judged}
-use Rattle.path_rules.specs.declared.judged.Judged.TheVariants as judged
-use Rattle.path_rules.specs.Arriving.{after_judged, copy_judged, copy_of, held_of, hint_of, is_forged, is_passed_over, items_of, judged_in, judged_of, options_heard, owes_by, owing_if, reset_for, taken_as, template_of, with_payload}
-use Rattle.path_rules.specs.Breaking.{reset_of, reset_on, answered_break}
-use Rattle.path_rules.specs.Codec.{Codec}
-use Rattle.path_rules.specs.Duties.{stands, passed, answered}
-use Rattle.path_rules.specs.Emission.{Grant, after_timer, fin_segment_of, grant_in, answered_grant, answered_data, first_unsent, having_sent_fin}
-use Rattle.path_rules.specs.Ends.{PathEnd}
-use Rattle.path_rules.specs.Events.{next_event, heard_in, at_tick, died, died_unless_dead, after_line, copy_heard, happens_if, join_begun, timer_fired, template_fired, never_joined, with_priority}
+use Rattle.path_core.specs.FastClose.{is_stopped_by}
+use Rattle.path_core.specs.declared.events.Event.{Event}
+use Rattle.path_core.specs.declared.events.Event.TheVariants as happenings
+use Rattle.path_core.specs.declared.judged.Judged.{Judged}
+use Rattle.path_core.specs.declared.judged.Judged.TheVariants as judged
+use Rattle.path_core.specs.Arrival.{after_judged, copy_judged, copy_of, judged_in, owing_if, reset_for, template_of, with_payload, heard_in, copy_heard}
+use Rattle.path_core.specs.DssIn.{held_of, with_learned, with_skipped, counts, is_clash, with_acked, with_data_fin}
+use Rattle.path_core.specs.OptionsIn.{hint_of, items_of, options_heard, owes_by}
+use Rattle.path_core.specs.Judged.{is_forged, is_passed_over, judged_of, taken_as}
+use Rattle.path_core.specs.Breaking.{reset_of, reset_on, answered_break, died_unless_dead, refusal_of}
+use Rattle.path_core.specs.Codec.{Codec}
+use Rattle.path_core.specs.Duties.{stands, passed, answered}
+use Rattle.path_core.specs.Emission.{Grant, grant_in, answered_grant, answered_data, first_unsent, answer_occasion, answer_of, resend_occasion, dead_answer, resend_of}
+use Rattle.path_core.specs.Timer.{after_timer, timer_fired, template_fired}
+use Rattle.path_core.specs.DataFin.{fin_segment_of, having_sent_fin, after_pass_fin, answered_fin_heard, answered_plain_fin, is_fin_set}
+use Rattle.path_core.specs.End.{PathEnd, died}
+use Rattle.path_core.specs.Events.{next_event, after_line, happens_if}
+use Rattle.path_core.specs.State.{at_tick, PathState, end_at, goes_on, left, with_agenda, with_end}
+use Rattle.path_core.specs.MpJoin.{join_begun, never_joined, asked_at, is_listening, is_never, join_taken, joined_by, keys_begun, opened_by, syn_alone, with_mode_refused, is_joined, join_answer, join_asked}
+use Rattle.path_core.specs.Addresses.{with_priority, after_peer_notice}
 use Rattle.path_store.specs.declared.lines.LineAction.{LineAction}
 use Rattle.path_store.specs.declared.lines.LineAction.TheVariants as actions
-use Rattle.path_rules.specs.Fallback.{after_fell, fell_duties, answered_fell}
-use Rattle.path_rules.specs.InfiniteSending.{with_infinite}
-use Rattle.path_rules.specs.Joining.{asked_at, is_listening, is_never, join_taken, joined_by, keys_begun, opened_by, refusal_of, syn_alone, with_mode_refused}
-use Rattle.path_rules.specs.Joins.{is_joined, join_answer, join_asked}
-use Rattle.path_rules.specs.Opening.{after_keys, answered_opened, answered_peer_key, with_peer_key}
-use Rattle.path_rules.specs.Passing.{after_pass_fin, answer_occasion, answer_of, resend_occasion, answered_fin_heard, answered_plain_fin, answered_piece, dead_answer, is_fin_set, is_placed, piece_of, resend_of}
-use Rattle.path_rules.specs.Deliver.{Piece, after_check, after_pieces, mapping_here, is_wrong, with_learned, with_skipped, forgotten_by}
-use Rattle.path_rules.specs.OptionsOut.{syn_ack_said}
-use Rattle.path_rules.specs.Handover.{having_sent, sent_on}
-use Rattle.path_rules.specs.Standing.{after_ack_out, answered_ack_out}
-use Rattle.path_rules.specs.State.{PathState, end_at, goes_on, left, with_agenda, with_end}
-use Rattle.path_rules.specs.Steps.{settled, answers, takes, begins_turn}
-use Rattle.path_rules.specs.Treating.{after_keep, answered_heard, answered_item, answered_plain_ack, breaks_by_ack, counts, is_clash, is_dropped, item_of, item_passed, with_acked, with_data_fin, with_plain_ack}
-use Rattle.path_rules.specs.Addressing.{after_peer_notice}
+use Rattle.path_core.specs.Fallback.{after_fell, fell_duties, answered_fell, with_infinite, answered_plain_ack, breaks_by_ack, with_plain_ack}
+use Rattle.path_core.specs.MpCapable.{after_keys, answered_opened, answered_peer_key, with_peer_key}
+use Rattle.path_core.specs.Deliver.{answered_piece, is_placed, piece_of, after_check, after_pieces, mapping_here, is_wrong, forgotten_by, after_keep, is_dropped}
+use Rattle.path_store.specs.Passing.{Piece}
+use Rattle.path_core.specs.OptionsOut.{syn_ack_said}
+use Rattle.path_core.specs.Handover.{having_sent, sent_on}
+use Rattle.path_core.specs.Standing.{after_ack_out, answered_ack_out}
+use Rattle.path_core.specs.Steps.{settled, answers, takes, begins_turn}
+use Rattle.path_core.specs.Treating.{answered_heard, answered_item, item_of, item_passed}
 use Rattle.world_laws.proofs.Falls.FailedChecks.{check_failed_so, checked_so, fail_answered_so, fail_heard_so, failed_so, infinite_came_so, infinite_so}
 
 -- ---- an end of a subflow

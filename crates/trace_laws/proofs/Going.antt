@@ -35,16 +35,16 @@ use Rattle.path_agenda.specs.declared.duty.Duty.{Duty}
 use Rattle.path_agenda.specs.declared.duty.Duty.TheVariants as duties
 use Rattle.path_agenda.specs.declared.duty.AskDuty.TheVariants as ask_duties
 use Rattle.path_agenda.specs.declared.duty.StepDuty.TheVariants as step_duties
-use Rattle.path_rules.specs.Duties.{ask_for, stands}
-use Rattle.path_rules.specs.Emission.{data_ask, data_stands, first_unsent, may_ask, payload_size}
-use Rattle.path_rules.specs.Looking.{departing_as, first_sends}
-use Rattle.path_rules.specs.Octets.{octets}
-use Rattle.path_rules.specs.Starts.{PathStart, first_state, first_turn, waiting_path}
-use Rattle.path_rules.specs.State.{PathState, end_at, path_of, with_agenda}
-use Rattle.path_rules.specs.Steps.{answers, asks_first, asks_of, takes}
-use Rattle.path_rules.specs.Treating.{item_of}
-use Rattle.path_rules.specs.Turns.{FirstStands, IsSettled}
-use Rattle.path_rules.specs.Values.{Carried, values}
+use Rattle.path_core.specs.Duties.{ask_for, stands}
+use Rattle.path_core.specs.Emission.{data_ask, data_stands, first_unsent, may_ask, payload_size}
+use Rattle.path_core.specs.Looking.{departing_as, first_sends}
+use Rattle.path_core.specs.Octets.{octets}
+use Rattle.path_core.specs.Start.{PathStart, first_state, first_turn, waiting_path}
+use Rattle.path_core.specs.State.{PathState, end_at, path_of, with_agenda}
+use Rattle.path_core.specs.Steps.{answers, asks_first, asks_of, takes}
+use Rattle.path_core.specs.Treating.{item_of}
+use Rattle.path_core.specs.Turns.{FirstStands, IsSettled}
+use Rattle.path_core.specs.Values.{Carried, values}
 use Rattle.subflow_send.specs.Records.{Record}
 use Rattle.subflow_tcp.specs.States.{may_finish}
 use Rattle.link_script.specs.declared.script.ScriptLine.{ScriptLine}

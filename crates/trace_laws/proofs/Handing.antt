@@ -25,16 +25,18 @@ use Rattle.actor_desk.specs.declared.ask.Reply.TheVariants as replies
 use Rattle.path_agenda.specs.declared.duty.Duty.{Duty}
 use Rattle.path_agenda.specs.declared.duty.Duty.TheVariants as duties
 use Rattle.path_agenda.specs.declared.duty.StepDuty.TheVariants as step_duties
-use Rattle.path_rules.specs.declared.looking.Departing.{Departing}
-use Rattle.path_rules.specs.Duties.{passed, stands}
-use Rattle.path_rules.specs.Emission.{answered_data, data_stands, first_unsent, fits, granted, may_ask, may_send_data, payload_size}
-use Rattle.path_rules.specs.Ends.{PathEnd}
-use Rattle.path_rules.specs.Looking.{departing, departing_as, first_sends, unsent_sends}
-use Rattle.path_rules.specs.Octets.{made, octets, sum_of}
-use Rattle.path_rules.specs.OptionsOut.{mapping_of, record_or_ack}
+use Rattle.path_core.specs.declared.looking.Departing.{Departing}
+use Rattle.path_core.specs.Duties.{passed, stands}
+use Rattle.path_core.specs.Emission.{answered_data, data_stands, first_unsent, fits, granted, may_ask, may_send_data, payload_size}
+use Rattle.path_core.specs.End.{PathEnd}
+use Rattle.path_core.specs.Looking.{departing, departing_as, first_sends, unsent_sends}
+use Rattle.path_core.specs.Octets.{made, octets, sum_of}
+use Rattle.path_core.specs.DssOut.{mapping_of}
+use Rattle.path_core.specs.OptionsOut.{record_or_ack}
 use Rattle.path_segments.specs.Spelling.{whole_number}
-use Rattle.path_rules.specs.State.{PathState, Profile, end_at, goes_on, with_agenda}
-use Rattle.path_rules.specs.Steps.{answers, settled, settles_down, takes}
+use Rattle.path_core.specs.State.{PathState, end_at, goes_on, with_agenda}
+use Rattle.path_core.specs.Profile.{Profile}
+use Rattle.path_core.specs.Steps.{answers, settled, settles_down, takes}
 use Rattle.link_trace.specs.declared.sent.Sent.{Sent}
 use Rattle.run_trace.specs.Trace.{sent_as, sent_by}
 use Rattle.trace_laws.specs.Sending.{payload_in}

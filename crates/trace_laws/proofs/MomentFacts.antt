@@ -33,17 +33,19 @@ use Rattle.link_trace.specs.Carrying.{carried_in, carried_of, initial_at, initia
 use Rattle.link_trace.specs.FirstOctets.{EndsBy}
 use Rattle.link_trace.specs.Meanings.{meaning_in}
 use Rattle.path_store.specs.declared.infinite_mapping.InfiniteMapping.{InfiniteMapping}
-use Rattle.path_rules.specs.declared.looking.Departing.{Departing}
+use Rattle.path_core.specs.declared.looking.Departing.{Departing}
 use Rattle.path_agenda.specs.declared.duty.Duty.{Duty}
-use Rattle.path_rules.specs.Emission.{first_unsent}
-use Rattle.path_rules.specs.Ends.{PathEnd}
-use Rattle.path_rules.specs.Looking.{departing, departing_as, first_sends}
-use Rattle.path_rules.specs.Octets.{made, octets}
-use Rattle.path_rules.specs.OptionsOut.{is_first_piece, place_numbered, record_or_ack, record_said}
-use Rattle.path_rules.specs.Shown.{shown_path}
-use Rattle.path_rules.specs.State.{PathState, Profile, end_at, path_of}
-use Rattle.path_rules.specs.Values.{Carried, values}
-use Rattle.path_rules.specs.Words.{is_side_a}
+use Rattle.path_core.specs.Emission.{first_unsent}
+use Rattle.path_core.specs.End.{PathEnd}
+use Rattle.path_core.specs.Looking.{departing, departing_as, first_sends}
+use Rattle.path_core.specs.Octets.{made, octets}
+use Rattle.path_core.specs.DssOut.{is_first_piece, place_numbered}
+use Rattle.path_core.specs.OptionsOut.{record_or_ack, record_said}
+use Rattle.path_core.specs.Shown.{shown_path}
+use Rattle.path_core.specs.State.{PathState, end_at, path_of}
+use Rattle.path_core.specs.Profile.{Profile}
+use Rattle.path_core.specs.Values.{Carried, values}
+use Rattle.path_core.specs.Choices.{is_side_a}
 use Rattle.run_trace.specs.Initials.{initials_of, plan_initials}
 use Rattle.run_trace.specs.Trace.{sent_as, sent_at, sent_by, sent_next, trace_of}
 use Rattle.world_core.specs.Looking.{crew_path, member_path}

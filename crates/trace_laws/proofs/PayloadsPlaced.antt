@@ -36,11 +36,13 @@ use Rattle.link_trace.specs.FirstOctets.{EndsBy}
 use Rattle.link_trace.specs.Meanings.{meaning_in}
 use Rattle.path_agenda.specs.Words.{first_of}
 use Rattle.path_store.specs.declared.infinite_mapping.InfiniteMapping.{InfiniteMapping}
-use Rattle.path_rules.specs.declared.looking.Departing.{Departing}
-use Rattle.path_rules.specs.Emission.{first_unsent}
-use Rattle.path_rules.specs.Ends.{PathEnd}
-use Rattle.path_rules.specs.Looking.{broken_by, departing_as, duty_sends, heard_sends, unsent_sends}
-use Rattle.path_rules.specs.Treating.{breaks_by_ack, is_clash, item_of}
+use Rattle.path_core.specs.declared.looking.Departing.{Departing}
+use Rattle.path_core.specs.Emission.{first_unsent, ack_resent, answer_said, first_record, resend_said}
+use Rattle.path_core.specs.End.{PathEnd}
+use Rattle.path_core.specs.Looking.{broken_by, departing_as, duty_sends, heard_sends, unsent_sends}
+use Rattle.path_core.specs.Fallback.{breaks_by_ack}
+use Rattle.path_core.specs.DssIn.{is_clash}
+use Rattle.path_core.specs.Treating.{item_of}
 use Rattle.path_agenda.specs.declared.duty.Duty.{Duty}
 use Rattle.path_agenda.specs.declared.duty.Duty.TheVariants as duties
 use Rattle.path_agenda.specs.declared.duty.SendDuty.TheVariants as sends_of
@@ -48,16 +50,17 @@ use Rattle.path_agenda.specs.declared.duty.StepDuty.TheVariants as steps_of
 use Rattle.path_agenda.specs.declared.heard.Heard.{Heard}
 use Rattle.path_agenda.specs.declared.heard.Heard.TheVariants as says
 use Rattle.link_trace.specs.declared.carried.Carried.{Carried}
-use Rattle.path_rules.specs.Octets.{made, octets}
-use Rattle.path_rules.specs.OptionsOut.{ack_said, carried_said, checksum_told, first_piece_options, infinite_or, is_first_piece, mapped_options, noted_said, owes_mapping, piece_mapping, piece_options, place_numbered, plain_options, record_options, record_or_ack, record_said, reset_said, syn_ack_said}
-use Rattle.path_rules.specs.Passing.{ack_resent, answer_said, first_record, resend_said}
-use Rattle.path_rules.specs.StreamEnds.{is_data_fin_owed}
+use Rattle.path_core.specs.Octets.{made, octets}
+use Rattle.path_core.specs.OptionsOut.{ack_said, carried_said, noted_said, record_options, record_or_ack, record_said, reset_said, syn_ack_said}
+use Rattle.path_core.specs.DssOut.{checksum_told, first_piece_options, infinite_or, is_first_piece, mapped_options, owes_mapping, piece_mapping, piece_options, place_numbered, plain_options}
+use Rattle.path_core.specs.DataFin.{is_data_fin_owed}
 use Rattle.path_agenda.specs.declared.notice.OwnNotice.{OwnNotice}
 use Rattle.path_segments.specs.declared.segment.PathMapping.TheVariants.{Infinite}
 use Rattle.path_segments.specs.declared.segment.PathOption.TheVariants.{Capable, Dss}
 use Rattle.mptcp_options.specs.declared.capable.CapableKeys.TheVariants.{WithData}
-use Rattle.path_rules.specs.Said.{said_by}
-use Rattle.path_rules.specs.State.{PathState, Profile, end_at, path_of}
+use Rattle.path_core.specs.Said.{said_by}
+use Rattle.path_core.specs.State.{PathState, end_at, path_of}
+use Rattle.path_core.specs.Profile.{Profile}
 use Rattle.run_trace.specs.Initials.{initials_of}
 use Rattle.run_trace.specs.Trace.{sent_as}
 use Rattle.world_laws.specs.Openings.{Start}

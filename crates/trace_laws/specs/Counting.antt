@@ -7,7 +7,7 @@ use Rattle.link_trace.specs.declared.carried.Carried.{Carried}
 use Rattle.link_trace.specs.declared.rows.Rates.{Rates}
 use Rattle.link_trace.specs.Carrying.{all_carried, base_of}
 use Rattle.link_trace.specs.Rows.{capped, first_octets_from, rows_of}
-use Rattle.path_rules.specs.Octets.{octets}
+use Rattle.path_core.specs.Octets.{octets}
 use Rattle.run_trace.specs.Initials.{initials_of}
 use Rattle.run_trace.specs.Trace.{trace_of}
 use Rattle.world_laws.specs.declared.outcome.Outcome.TheVariants.{Delivered}

@@ -5,7 +5,7 @@ use Rattle.segment_wire.specs.Reading.{header_len}
 use Rattle.stream_lanes.specs.Words.{Has}
 use Rattle.actor_desk.specs.Words.{pick}
 use Rattle.link_trace.specs.declared.sent.Sent.{Sent}
-use Rattle.path_rules.specs.Octets.{octets}
+use Rattle.path_core.specs.Octets.{octets}
 use Rattle.run_trace.specs.Trace.{trace_of}
 use Rattle.world_laws.specs.declared.outcome.Outcome.TheVariants.{Delivered}
 use Rattle.world_laws.specs.Openings.{Start, opened_world}

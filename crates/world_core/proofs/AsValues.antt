@@ -1,6 +1,6 @@
 -- A step over octets is the step over values, shown in octets.
 use Rattle.std.proofs.Common.{◌≡◌, ◌∙◌, ap, ℕ, [], ◌∷◌, List}
-use Rattle.path_rules.specs.Octets.{octets}
+use Rattle.path_core.specs.Octets.{octets}
 use Rattle.world_laws.specs.Worlds.{WorldState, Turn, world_step, end_round}
 use Rattle.world_laws.proofs.Worlds.Carrying.{run_same}
 use Rattle.world_core.specs.AsValues.{StepsAsValues, EndsAsValues}

@@ -1,6 +1,6 @@
 -- Where memory is wanting amid steps in a given order, a turn or a round.
 use Rattle.std.proofs.Common.{◌≡◌, refl, sym, subst, ℕ, suc, ◌+◌, ◌<◌, true, List, [], ◌∷◌, take, replicate, Result, Ok, Err, OnErr, arith}
-use Rattle.path_rules.specs.Codec.{Codec}
+use Rattle.path_core.specs.Codec.{Codec}
 use Rattle.world_laws.specs.Serial.{TurnTo}
 use Rattle.world_laws.specs.Worlds.{WorldState, is_going, world_step, RunTo}
 use Rattle.world_core.specs.Cuts.{ShowsAs, RunCut, TurnCut, TurnsCut}

@@ -4,9 +4,9 @@ use Rattle.std.proofs.lemmas.Bool.{both_ways}
 use Rattle.std.proofs.lemmas.List.{length-map}
 use Rattle.std.specs.List.{slice_get, slice_index_or}
 use Rattle.actor_desk.specs.Words.{is_nil}
-use Rattle.path_rules.specs.Starts.{waiting_path}
-use Rattle.path_rules.specs.State.{PathState}
-use Rattle.path_rules.specs.Steps.{begins_turn}
+use Rattle.path_core.specs.Start.{waiting_path}
+use Rattle.path_core.specs.State.{PathState}
+use Rattle.path_core.specs.Steps.{begins_turn}
 use Rattle.stream_lanes.proofs.Lists.{in_map}
 use Rattle.world_laws.specs.Actors.{Actor, ActorCrew, member_next, is_over}
 use Rattle.world_laws.specs.declared.member.Member.TheVariants.{App, Path}

@@ -1,6 +1,6 @@
 -- A step of an actor leaves a world in its round, and the end of a round begins the next, above the greatest stamp.
 use Rattle.std.proofs.Common.{◌≡◌, refl, sym, ◌∙◌, ap, subst, ℕ, Bool, true, false, if◌then◌else◌, List, [], ◌∷◌, ◌++◌, map}
-use Rattle.path_rules.specs.Octets.{octets}
+use Rattle.path_core.specs.Octets.{octets}
 use Rattle.world_laws.specs.Fine.{top_after}
 use Rattle.world_laws.specs.Weaving.{steps_by}
 use Rattle.world_laws.specs.Worlds.{WorldState, Turn, all_over, greatest, begins, world_step, end_round, world_run}

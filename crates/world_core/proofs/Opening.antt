@@ -3,7 +3,7 @@ use Rattle.std.proofs.Common.{◌≡◌, refl, sym, ◌∙◌, ap, ℕ, zero, su
 use Rattle.link_script.specs.declared.script.PathLine.{PathLine}
 use Rattle.link_script.specs.declared.script.Script.{Script}
 use Rattle.link_model.specs.Steps.{delay_of}
-use Rattle.path_rules.specs.Starts.{drawn_of, first_turn, first_turn_of, join_of, line_of, path_start, profile_of}
+use Rattle.path_core.specs.Start.{drawn_of, first_turn, first_turn_of, join_of, line_of, path_start, profile_of}
 use Rattle.world_laws.specs.Actors.{ActorCrew}
 use Rattle.world_laws.specs.declared.member.Member.TheVariants.{Path}
 use Rattle.world_laws.specs.Openings.{new_crew, opened_world, path_begins, paths_from, plan_of, plans_from, start_of}

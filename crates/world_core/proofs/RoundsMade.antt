@@ -1,6 +1,6 @@
 -- Turns and rounds, one after the other.
 use Rattle.std.proofs.Common.{◌≡◌, refl, sym, ◌∙◌, ap, subst, ℕ, suc, true, false, [], ◌∷◌}
-use Rattle.path_rules.specs.Codec.{Codec}
+use Rattle.path_core.specs.Codec.{Codec}
 use Rattle.world_laws.specs.Serial.{TurnTo, AreTurns, after_turns}
 use Rattle.world_laws.specs.Worlds.{WorldState, is_going, world_step, end_round}
 use Rattle.world_core.specs.Rounds.{TurnsFrom, TurnsTo, RoundTo}

@@ -1,6 +1,6 @@
 -- A connection whose links carry octets, beside one whose links carry segments as values.
 use Rattle.std.specs.Prelude.{ℕ, ◌≡◌, List}
-use Rattle.path_rules.specs.Values.{Carried, values}
+use Rattle.path_core.specs.Values.{Carried, values}
 use Rattle.world_laws.specs.Fresh.{shown_world, IsFreshTurn}
 use Rattle.world_laws.specs.Worlds.{WorldState, Turn, world_step, end_round}
 

@@ -1,7 +1,7 @@
 -- A world as its values have it: its state, and whether it failed for want of memory.
 use Rattle.std.specs.Prelude.{ℕ, ◌≡◌, ◌<◌, Bool, true, false, List, [], length}
 use Rattle.stream_lanes.specs.Words.{Every}
-use Rattle.path_rules.specs.Octets.{octets}
+use Rattle.path_core.specs.Octets.{octets}
 use Rattle.world_laws.specs.Fine.{IsFine}
 use Rattle.world_laws.specs.Weaving.{steps_by}
 use Rattle.world_laws.specs.Worlds.{WorldState, all_over, greatest, end_round, world_run}

@@ -1,10 +1,10 @@
 -- The paths among the actors, what is about to arrive on them, and what is about to be sent.
 use Rattle.std.specs.Prelude.{ℕ, Bool, false, Option, Some, None, option_and_then, List, slice_get}
 use Rattle.sides.specs.declared.side.Side.TheVariants.{B}
-use Rattle.path_rules.specs.declared.looking.Departing.{Departing}
-use Rattle.path_rules.specs.Joining.{is_listening}
-use Rattle.path_rules.specs.Looking.{Arrived, departing, next_arrival}
-use Rattle.path_rules.specs.State.{PathState, end_at}
+use Rattle.path_core.specs.declared.looking.Departing.{Departing}
+use Rattle.path_core.specs.MpJoin.{is_listening}
+use Rattle.path_core.specs.Looking.{Arrived, departing, next_arrival}
+use Rattle.path_core.specs.State.{PathState, end_at}
 use Rattle.world_laws.specs.Actors.{Actor, ActorCrew}
 use Rattle.world_laws.specs.declared.member.Member.TheVariants.{App, Path}
 

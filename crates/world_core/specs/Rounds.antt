@@ -1,6 +1,6 @@
 -- A round: each actor's turn in order of number, and its end.
 use Rattle.std.specs.Prelude.{ℕ, ◌≡◌, List, [], ◌∷◌, length}
-use Rattle.path_rules.specs.Codec.{Codec}
+use Rattle.path_core.specs.Codec.{Codec}
 use Rattle.world_laws.specs.Serial.{AreTurns, after_turns, after_round}
 use Rattle.world_laws.specs.Worlds.{WorldState}
 

@@ -2,7 +2,7 @@
 use Rattle.std.specs.Prelude.{ℕ, ◌^◌, ◌<◌, ◌≡◌, Bool, true, false, Option, Some, None, List, slice_get}
 use Rattle.actor_desk.specs.declared.ask.Ask.{Ask}
 use Rattle.actor_desk.specs.declared.ask.Note.{Note}
-use Rattle.path_rules.specs.Octets.{octets}
+use Rattle.path_core.specs.Octets.{octets}
 use Rattle.stamped_book.specs.declared.stamped.Pass.{Pass}
 use Rattle.world_laws.specs.Actors.{ActorCrew, member_asks}
 use Rattle.actor_desk.specs.Books.{StampedBooks, after_entry}

@@ -3,7 +3,7 @@
 ghost use Rattle.std.specs.Prelude.{◌≡◌, ◌^◌, ◌<◌, ◌++◌, [], ◌∷◌, length, false, Some, IfOk, IfSome, OnOk, OnErr, option_map};
 ghost use Rattle.std.specs.List.{slice_get};
 ghost use Rattle.actor_desk.specs.declared.ask.Note.{Note};
-ghost use Rattle.path_rules.specs.Octets.{octets};
+ghost use Rattle.path_core.specs.Octets.{octets};
 ghost use Rattle.world_core.specs.Hearing.{told_in, told_of};
 ghost use Rattle.world_core.specs.Steps.{GoesUp, note_if, crew_if, books_if};
 ghost use Rattle.actor_desk.specs.Bounds.{TakesReply};

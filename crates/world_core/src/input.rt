@@ -2,7 +2,7 @@
 
 ghost use Rattle.std.specs.Prelude.{◌≡◌, ◌<◌, length, IfOk};
 ghost use Rattle.link_script.specs.Scripts.{HasRanges};
-ghost use Rattle.path_rules.specs.Starts.{key_of, first_turn_of};
+ghost use Rattle.path_core.specs.Start.{key_of, first_turn_of};
 ghost use Rattle.stream_apps.specs.Starts.{fast_close_of, first_app_turn};
 ghost use Rattle.world_core.specs.Kept.{standing};
 ghost use Rattle.world_laws.specs.declared.member.Member.TheVariants as members;

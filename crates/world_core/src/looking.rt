@@ -1,7 +1,7 @@
 //! The paths of a connection, and what is about to arrive on them.
 
 ghost use Rattle.std.specs.Prelude.{◌≡◌, option_map};
-ghost use Rattle.path_rules.specs.Looking.{shown_arriving};
+ghost use Rattle.path_core.specs.Looking.{shown_arriving};
 ghost use Rattle.world_core.specs.Looking.{arriving_at, listens_at, member_path, path_at};
 
 use crate::member::{Crew, Member};

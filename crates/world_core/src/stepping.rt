@@ -1,7 +1,7 @@
 //! The steps of a connection.
 
 ghost use Rattle.std.specs.Prelude.{◌≡◌, ◌^◌, ◌<◌, length, true, false, is_some, None, IfOk, OnOk, OnErr, option_map};
-ghost use Rattle.path_rules.specs.Octets.{octets};
+ghost use Rattle.path_core.specs.Octets.{octets};
 ghost use Rattle.world_core.specs.AsValues.{StepsAsValues};
 ghost use Rattle.world_core.specs.Hearing.{ShowsTheSame, heard_by, heard_report};
 ghost use Rattle.world_core.specs.Kept.{IsSound, standing, world};

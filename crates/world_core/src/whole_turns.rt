@@ -1,7 +1,7 @@
 //! Whole turns in order of number, and rounds of them.
 
 ghost use Rattle.std.specs.Prelude.{◌≡◌, false, true, OnOk, OnErr};
-ghost use Rattle.path_rules.specs.Octets.{octets};
+ghost use Rattle.path_core.specs.Octets.{octets};
 ghost use Rattle.world_core.specs.Cuts.{RoundCut, TurnCut};
 ghost use Rattle.world_core.specs.Rounds.{RoundTo, TurnsTo};
 ghost use Rattle.world_laws.specs.Serial.{TurnTo};

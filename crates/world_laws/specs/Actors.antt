@@ -6,9 +6,9 @@ use Rattle.actor_desk.specs.declared.ask.Reply.{Reply}
 use Rattle.actor_desk.specs.Words.{is_nil}
 use Rattle.stream_apps.specs.Apps.{AppState}
 use Rattle.stream_apps.specs.AppSteps.{app_asks_of, app_takes, app_next_round}
-use Rattle.path_rules.specs.Codec.{Codec}
-use Rattle.path_rules.specs.State.{PathState}
-use Rattle.path_rules.specs.Steps.{asks_of, takes, next_round}
+use Rattle.path_core.specs.Codec.{Codec}
+use Rattle.path_core.specs.State.{PathState}
+use Rattle.path_core.specs.Steps.{asks_of, takes, next_round}
 use Rattle.world_laws.specs.declared.member.Member.{Member}
 use Rattle.world_laws.specs.declared.member.Member.TheVariants.{App, Path}
 use Rattle.world_laws.specs.Members.{of_kind, within_kind}

@@ -5,7 +5,7 @@ use Rattle.sides.specs.declared.side.Side.{Side}
 use Rattle.dss_mapping.specs.Learning.{clashes}
 use Rattle.dss_mapping.specs.Mappings.{Mappings}
 use Rattle.stream_lanes.specs.Words.{Every}
-use Rattle.path_rules.specs.State.{end_at}
+use Rattle.path_core.specs.State.{end_at}
 use Rattle.world_laws.specs.declared.member.Member.TheVariants.{App, Path}
 use Rattle.world_laws.specs.Actors.{Actor, ActorCrew}
 use Rattle.world_laws.specs.Worlds.{WorldState}

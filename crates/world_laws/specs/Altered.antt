@@ -5,9 +5,9 @@ use Rattle.sides.specs.declared.side.Side.TheVariants.{A, B}
 use Rattle.send_book.specs.State.{acked_len}
 use Rattle.reassembly_book.specs.State.{received}
 use Rattle.stream_lanes.specs.Laws.{flattened}
-use Rattle.path_rules.specs.Values.{Carried, values}
-use Rattle.path_rules.specs.Codec.{Codec}
-use Rattle.path_rules.specs.Octets.{octets}
+use Rattle.path_core.specs.Values.{Carried, values}
+use Rattle.path_core.specs.Codec.{Codec}
+use Rattle.path_core.specs.Octets.{octets}
 use Rattle.world_laws.specs.Openings.{Start, opened_world}
 use Rattle.world_laws.specs.Outcomes.{output_of}
 use Rattle.world_laws.specs.Promises.{written_by, arrived_at, was_told_end, HasRoom, NumbersFit}

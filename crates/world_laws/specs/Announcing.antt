@@ -21,7 +21,7 @@ use Rattle.actor_desk.specs.declared.ask.Reply.{Reply}
 use Rattle.actor_desk.specs.declared.ask.Reply.TheVariants as replies
 use Rattle.actor_desk.specs.Books.{StampedBooks}
 use Rattle.actor_desk.specs.Journals.{control_note}
-use Rattle.path_rules.specs.Looking.{first_sends, segment_sent}
+use Rattle.path_core.specs.Looking.{first_sends, segment_sent}
 use Rattle.world_laws.specs.declared.member.Member.TheVariants.{App, Path}
 use Rattle.world_laws.specs.AbortCause.{control_journal}
 use Rattle.world_laws.specs.Actors.{Actor, ActorCrew}

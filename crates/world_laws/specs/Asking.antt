@@ -17,8 +17,8 @@ use Rattle.path_agenda.specs.declared.duty.AskDuty.{AskDuty}
 use Rattle.path_agenda.specs.declared.duty.AskDuty.TheVariants as ask_duties
 use Rattle.path_agenda.specs.declared.duty.StepDuty.{StepDuty}
 use Rattle.path_agenda.specs.declared.duty.StepDuty.TheVariants as step_duties
-use Rattle.path_rules.specs.Emission.{payload_size}
-use Rattle.path_rules.specs.State.{PathState, path_of}
+use Rattle.path_core.specs.Emission.{payload_size}
+use Rattle.path_core.specs.State.{PathState, path_of}
 
 -- which kinds of asks
 pub record May : Type 0 where

@@ -23,7 +23,7 @@ use Rattle.actor_desk.specs.declared.ask.Ask.TheVariants.{Control}
 use Rattle.actor_desk.specs.declared.ask.Note.{Note}
 use Rattle.actor_desk.specs.Books.{books_in}
 use Rattle.actor_desk.specs.Desk.{control_of}
-use Rattle.path_rules.specs.Values.{Carried}
+use Rattle.path_core.specs.Values.{Carried}
 use Rattle.world_laws.specs.declared.member.Member.TheVariants.{App, Path}
 use Rattle.world_laws.specs.Actors.{Actor, ActorCrew}
 use Rattle.world_laws.specs.Outcomes.{notes_at}

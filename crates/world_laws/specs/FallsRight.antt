@@ -13,10 +13,11 @@ use Rattle.stream_lanes.specs.Words.{Every}
 use Rattle.actor_desk.specs.declared.ask.Note.{Note}
 use Rattle.actor_desk.specs.Books.{books_in}
 use Rattle.actor_desk.specs.Desk.{control_of}
-use Rattle.path_rules.specs.Codec.{Codec}
-use Rattle.path_rules.specs.Ends.{PathEnd}
-use Rattle.path_rules.specs.OptionsOut.{place_numbered}
-use Rattle.path_rules.specs.State.{Profile, end_at}
+use Rattle.path_core.specs.Codec.{Codec}
+use Rattle.path_core.specs.End.{PathEnd}
+use Rattle.path_core.specs.DssOut.{place_numbered}
+use Rattle.path_core.specs.Profile.{Profile}
+use Rattle.path_core.specs.State.{end_at}
 use Rattle.world_laws.specs.declared.member.Member.TheVariants.{App, Path}
 use Rattle.world_laws.specs.Actors.{Actor, ActorCrew}
 use Rattle.world_laws.specs.ModesSoFar.{was_ever}

@@ -1,9 +1,9 @@
 -- Lists of turns in which each copy that arrives is fresh: it can be said, and its numbers are near those that its end expects,
 -- but for the position of a reset far ahead. And each segment that is altered on its way can be said.
 use Rattle.std.specs.Prelude.{ℕ, Option, Some, None, List, [], ◌∷◌, slice_get, map}
-use Rattle.path_rules.specs.State.{PathState}
-use Rattle.path_rules.specs.Shown.{shown_path, NextIsFresh, SentCanBeAltered}
-use Rattle.path_rules.specs.Values.{Carried, values}
+use Rattle.path_core.specs.State.{PathState}
+use Rattle.path_core.specs.Shown.{shown_path, NextIsFresh, SentCanBeAltered}
+use Rattle.path_core.specs.Values.{Carried, values}
 use Rattle.world_laws.specs.declared.member.Member.TheVariants.{App, Path}
 use Rattle.world_laws.specs.Actors.{Actor, ActorCrew}
 use Rattle.world_laws.specs.Worlds.{WorldState, Turn, after_turn}

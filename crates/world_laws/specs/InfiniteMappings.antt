@@ -15,14 +15,16 @@ use Rattle.subflow_send.specs.declared.record.RecordKind.{RecordKind}
 use Rattle.subflow_send.specs.declared.record.RecordKind.TheVariants.{Syn, Data, Fin}
 use Rattle.subflow_send.specs.Records.{Record}
 use Rattle.stream_lanes.specs.Words.{Every}
-use Rattle.path_rules.specs.declared.event.Event.TheVariants.{Arrives}
-use Rattle.path_rules.specs.Arriving.{HeardOption}
-use Rattle.path_rules.specs.Codec.{Codec}
-use Rattle.path_rules.specs.Ends.{PathEnd}
-use Rattle.path_rules.specs.Events.{heard_in, next_event}
-use Rattle.path_rules.specs.OptionsOut.{place_numbered}
-use Rattle.path_rules.specs.State.{PathState, Profile, end_at}
-use Rattle.path_rules.specs.Values.{Carried}
+use Rattle.path_core.specs.declared.events.Event.TheVariants.{Arrives}
+use Rattle.path_core.specs.DssIn.{HeardOption}
+use Rattle.path_core.specs.Codec.{Codec}
+use Rattle.path_core.specs.End.{PathEnd}
+use Rattle.path_core.specs.Arrival.{heard_in}
+use Rattle.path_core.specs.Events.{next_event}
+use Rattle.path_core.specs.DssOut.{place_numbered}
+use Rattle.path_core.specs.State.{PathState, end_at}
+use Rattle.path_core.specs.Profile.{Profile}
+use Rattle.path_core.specs.Values.{Carried}
 use Rattle.world_laws.specs.declared.member.Member.TheVariants.{App, Path}
 use Rattle.world_laws.specs.Actors.{Actor, ActorCrew}
 use Rattle.world_laws.specs.Worlds.{WorldState}

@@ -4,7 +4,7 @@ use Rattle.std.specs.Prelude.{ℕ, ◌≡◌, Bool, true, false, Some, List, sli
 use Rattle.std.specs.List.{list_any}
 use Rattle.sides.specs.declared.side.Side.TheVariants.{A}
 use Rattle.actor_desk.specs.declared.ask.Note.{Note}
-use Rattle.path_rules.specs.Joins.{is_joined}
+use Rattle.path_core.specs.MpJoin.{is_joined}
 use Rattle.world_laws.specs.declared.member.Member.TheVariants.{App, Path}
 use Rattle.world_laws.specs.Actors.{Actor, ActorCrew}
 use Rattle.world_laws.specs.RoundEnd.{asks_grant}

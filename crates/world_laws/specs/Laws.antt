@@ -4,10 +4,10 @@ use Rattle.octet_text.specs.Prefix.{IsPrefix}
 use Rattle.send_book.specs.State.{Sending}
 use Rattle.stream_lanes.specs.Words.{Every}
 use Rattle.actor_desk.specs.Books.{books_in}
-use Rattle.path_rules.specs.Codec.{Codec}
-use Rattle.path_rules.specs.Octets.{octets}
-use Rattle.path_rules.specs.Values.{Carried, values}
-use Rattle.path_rules.specs.Events.{next_event}
+use Rattle.path_core.specs.Codec.{Codec}
+use Rattle.path_core.specs.Octets.{octets}
+use Rattle.path_core.specs.Values.{Carried, values}
+use Rattle.path_core.specs.Events.{next_event}
 use Rattle.world_laws.specs.declared.member.Member.TheVariants.{App, Path}
 use Rattle.world_laws.specs.Actors.{Actor, ActorCrew}
 use Rattle.world_laws.specs.Fresh.{AreFresh, shown_world}

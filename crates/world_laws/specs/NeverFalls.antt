@@ -10,14 +10,13 @@ use Rattle.link_model.specs.Steps.{lines_of}
 use Rattle.link_script.specs.declared.script.Script.{Script}
 use Rattle.link_script.specs.declared.script.ScriptLine.{ScriptLine}
 use Rattle.link_script.specs.declared.script.ScriptLine.TheVariants.{Strip, StripAll}
-use Rattle.path_rules.specs.Values.{Carried}
+use Rattle.path_core.specs.Values.{Carried, values}
 use Rattle.world_laws.specs.ModesSoFar.{was_ever}
 use Rattle.world_laws.specs.Openings.{Start, opened_world, start_of}
 use Rattle.world_laws.specs.PlainScripts.{IsPlainScript}
 use Rattle.world_laws.specs.Promises.{IsPlain, NumbersFit}
 use Rattle.world_laws.specs.Worlds.{WorldState, Turn, world_run}
-use Rattle.path_rules.specs.Octets.{octets}
-use Rattle.path_rules.specs.Values.{values}
+use Rattle.path_core.specs.Octets.{octets}
 
 -- lines that take no options away
 pub record StripsNothing (lines : List ScriptLine) : Type 0 where

@@ -9,7 +9,7 @@ use Rattle.key_material.specs.KeyDigest.{idsn_of}
 use Rattle.actor_desk.specs.Books.{unasked}
 use Rattle.actor_desk.specs.Desk.{opened_books}
 use Rattle.stream_apps.specs.Starts.{fast_close_of, first_app_turn}
-use Rattle.path_rules.specs.Starts.{PathStart, key_of, first_turn}
+use Rattle.path_core.specs.Start.{PathStart, key_of, first_turn}
 use Rattle.world_laws.specs.declared.member.Member.TheVariants.{App, Path}
 use Rattle.world_laws.specs.Actors.{Actor, ActorCrew}
 use Rattle.world_laws.specs.Worlds.{WorldState}

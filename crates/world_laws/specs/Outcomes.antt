@@ -6,7 +6,7 @@ use Rattle.sides.specs.declared.side.Side.TheVariants.{A, B}
 use Rattle.pipe_model.specs.declared.pipe.Pipe.{Pipe}
 use Rattle.send_book.specs.State.{acked_len}
 use Rattle.reassembly_book.specs.declared.call.ReassemblyReply.TheVariants as reassembly_replies
-use Rattle.path_rules.specs.Events.{is_dead_path}
+use Rattle.path_core.specs.Events.{is_dead_path}
 use Rattle.actor_desk.specs.declared.ask.Note.{Note}
 use Rattle.actor_desk.specs.declared.ask.Reply.{Reply}
 use Rattle.actor_desk.specs.declared.ask.Reply.TheVariants as replies

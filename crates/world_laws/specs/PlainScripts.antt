@@ -5,8 +5,8 @@ use Rattle.link_script.specs.declared.script.Script.{Script}
 use Rattle.link_script.specs.declared.script.ScriptLine.{ScriptLine}
 use Rattle.link_script.specs.declared.script.ScriptLine.TheVariants.{Alter}
 use Rattle.link_script.specs.Scripts.{HasRanges}
-use Rattle.path_rules.specs.Octets.{octets}
-use Rattle.path_rules.specs.Values.{values}
+use Rattle.path_core.specs.Octets.{octets}
+use Rattle.path_core.specs.Values.{values}
 use Rattle.world_laws.specs.AbortCause.{AbortsHaveCause}
 use Rattle.world_laws.specs.Altered.{BothKeepCount, FallsForGood, PlacedUntilTheFall, PrefixUntilTheFall}
 use Rattle.world_laws.specs.Announcing.{AnnouncementsEnd}

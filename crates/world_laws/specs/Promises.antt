@@ -16,10 +16,10 @@ use Rattle.actor_desk.specs.declared.ask.Reply.TheVariants as replies
 use Rattle.actor_desk.specs.Books.{books_in}
 use Rattle.actor_desk.specs.Desk.{send_of, reassembly_of}
 use Rattle.link_model.specs.Steps.{lines_of}
-use Rattle.path_rules.specs.Codec.{Codec}
-use Rattle.path_rules.specs.Octets.{octets}
-use Rattle.path_rules.specs.Shown.{AltersNothing}
-use Rattle.path_rules.specs.Values.{Carried, values}
+use Rattle.path_core.specs.Codec.{Codec}
+use Rattle.path_core.specs.Octets.{octets}
+use Rattle.path_core.specs.Shown.{AltersNothing}
+use Rattle.path_core.specs.Values.{Carried, values}
 use Rattle.world_laws.specs.Fresh.{AreFresh, shown_world}
 use Rattle.world_laws.specs.Openings.{Start, opened_world}
 use Rattle.world_laws.specs.Outcomes.{tells_end, was_told, notes_at, notes_of, output_of, pipe_of}

@@ -1,6 +1,6 @@
 -- The round that a run is in, and what is done at its end.
 use Rattle.std.specs.Prelude.{ℕ, ◌≡◌, ◌+◌, ◌*◌, true, if◌then◌else◌, Some, List, [], ◌∷◌, ◌++◌, slice_get}
-use Rattle.path_rules.specs.Codec.{Codec}
+use Rattle.path_core.specs.Codec.{Codec}
 use Rattle.world_laws.specs.declared.member.Member.TheVariants.{App, Path}
 use Rattle.world_laws.specs.Actors.{Actor, ActorCrew}
 use Rattle.world_laws.specs.Fine.{IsFine, top_after}

@@ -16,9 +16,9 @@ use Rattle.actor_desk.specs.declared.ask.Note.{Note}
 use Rattle.actor_desk.specs.declared.ask.Reply.{Reply}
 use Rattle.actor_desk.specs.declared.ask.Reply.TheVariants as replies
 use Rattle.actor_desk.specs.Words.{pick}
-use Rattle.path_rules.specs.Codec.{Codec}
-use Rattle.path_rules.specs.Emission.{may_ask}
-use Rattle.path_rules.specs.State.{PathState, end_at, path_of}
+use Rattle.path_core.specs.Codec.{Codec}
+use Rattle.path_core.specs.Emission.{may_ask}
+use Rattle.path_core.specs.State.{PathState, end_at, path_of}
 use Rattle.world_laws.specs.declared.member.Member.TheVariants.{App, Path}
 use Rattle.world_laws.specs.Actors.{Actor, ActorCrew}
 use Rattle.world_laws.specs.Openings.{Start, opened_world}

@@ -1,7 +1,7 @@
 -- Whole turns in order of number: in each round the actors go one after the other, each to the end of its turn, and the rounds
 -- end with the first whose outcome isn't Going, or after so many.
 use Rattle.std.specs.Prelude.{ℕ, zero, suc, ◌≡◌, Bool, true, false, List, [], ◌∷◌, length}
-use Rattle.path_rules.specs.Codec.{Codec}
+use Rattle.path_core.specs.Codec.{Codec}
 use Rattle.world_laws.specs.declared.outcome.Outcome.{Outcome}
 use Rattle.world_laws.specs.declared.outcome.Outcome.TheVariants.{Going}
 use Rattle.world_laws.specs.Outcomes.{outcome_of}

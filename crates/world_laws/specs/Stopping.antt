@@ -5,7 +5,7 @@ use Rattle.reassembly_book.specs.declared.call.ReassemblyReply.TheVariants.{Byte
 use Rattle.actor_desk.specs.declared.ask.Note.{Note}
 use Rattle.actor_desk.specs.declared.ask.Reply.{Reply}
 use Rattle.actor_desk.specs.declared.ask.Reply.TheVariants as replies
-use Rattle.path_rules.specs.Codec.{Codec}
+use Rattle.path_core.specs.Codec.{Codec}
 use Rattle.world_laws.specs.Outcomes.{notes_of, output_of}
 use Rattle.world_laws.specs.Promises.{arrived_at}
 use Rattle.world_laws.specs.Worlds.{WorldState, Turn, world_run}

@@ -1,7 +1,7 @@
 -- How many rounds a path has begun: each leaves its actor a step at least.
 use Rattle.std.specs.Prelude.{ℕ, ◌≡◌, ◌+◌, ◌*◌, ◌^◌, ◌≤◌, true, Some, length, slice_get}
 use Rattle.actor_desk.specs.Words.{is_nil}
-use Rattle.path_rules.specs.State.{PathState}
+use Rattle.path_core.specs.State.{PathState}
 use Rattle.world_laws.specs.declared.member.Member.TheVariants.{App, Path}
 use Rattle.world_laws.specs.Members.{HoldsOfKind}
 use Rattle.world_laws.specs.Actors.{Actor, ActorCrew}

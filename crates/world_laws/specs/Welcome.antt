@@ -5,14 +5,14 @@ use Rattle.path_segments.specs.Heard.{HeardSegment}
 use Rattle.actor_desk.specs.Words.{is_nil}
 use Rattle.link_model.specs.declared.flight.Due.{Due}
 use Rattle.link_model.specs.Steps.{arriving}
-use Rattle.path_rules.specs.declared.event.Event.TheVariants.{Arrives}
-use Rattle.path_rules.specs.declared.judged.Judged.{Judged}
-use Rattle.path_rules.specs.declared.judged.Judged.TheVariants.{As, Asks, Lacks, Forged}
-use Rattle.path_rules.specs.Arriving.{judged_in}
-use Rattle.path_rules.specs.Codec.{Codec}
-use Rattle.path_rules.specs.Events.{heard_in, next_event}
-use Rattle.path_rules.specs.Joins.{is_joined}
-use Rattle.path_rules.specs.State.{PathState, end_at}
+use Rattle.path_core.specs.declared.events.Event.TheVariants.{Arrives}
+use Rattle.path_core.specs.declared.judged.Judged.{Judged}
+use Rattle.path_core.specs.declared.judged.Judged.TheVariants.{As, Asks, Lacks, Forged}
+use Rattle.path_core.specs.Arrival.{judged_in, heard_in}
+use Rattle.path_core.specs.Codec.{Codec}
+use Rattle.path_core.specs.Events.{next_event}
+use Rattle.path_core.specs.MpJoin.{is_joined}
+use Rattle.path_core.specs.State.{PathState, end_at}
 use Rattle.world_laws.specs.declared.member.Member.TheVariants.{App, Path}
 use Rattle.world_laws.specs.Actors.{Actor, ActorCrew}
 use Rattle.world_laws.specs.Worlds.{WorldState}

@@ -4,7 +4,7 @@ use Rattle.stamped_book.specs.declared.stamped.Pass.{Pass}
 use Rattle.stamped_book.specs.Entering.{raised}
 use Rattle.actor_desk.specs.declared.ask.Ask.{Ask}
 use Rattle.actor_desk.specs.declared.ask.Note.{Note}
-use Rattle.path_rules.specs.Codec.{Codec}
+use Rattle.path_core.specs.Codec.{Codec}
 use Rattle.world_laws.specs.Actors.{ActorCrew, member_asks, member_takes, member_next, is_over}
 use Rattle.actor_desk.specs.Books.{StampedBooks, stamp_of, after_entry}
 use Rattle.world_laws.specs.StampedBooks.{answer_to}

@@ -29,8 +29,10 @@ use Rattle.path_store.specs.declared.granted_piece.GrantedPiece.{GrantedPiece}
 use Rattle.path_store.specs.declared.infinite_mapping.InfiniteMapping.{InfiniteMapping}
 use Rattle.path_store.specs.declared.lines.LineLeft.{LineLeft}
 use Rattle.path_store.specs.declared.mapped_data_fin.MappedDataFin.{MappedDataFin}
-use Rattle.path_rules.specs.Ends.{PathEnd, Treated, nothing_treated}
-use Rattle.path_rules.specs.State.{PathState, Profile, end_at, path_of}
+use Rattle.path_core.specs.End.{PathEnd}
+use Rattle.path_core.specs.Treated.{Treated, nothing_treated}
+use Rattle.path_core.specs.State.{PathState, end_at, path_of}
+use Rattle.path_core.specs.Profile.{Profile}
 
 -- ---- the parts
 

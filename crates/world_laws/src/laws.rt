@@ -21,8 +21,8 @@ ghost use Rattle.world_laws.specs.Stopping.{AbortIsLast};
 ghost use Rattle.world_laws.specs.Timely.{EachRoundHasAStep};
 ghost use Rattle.world_laws.specs.Welcome.{EachCopyIsWelcome};
 ghost use Rattle.world_laws.specs.Weaving.{RoundsWeave, StepsWeave, WovenDoes};
-ghost use Rattle.path_rules.specs.Octets.{octets};
-ghost use Rattle.path_rules.specs.Values.{values};
+ghost use Rattle.path_core.specs.Octets.{octets};
+ghost use Rattle.path_core.specs.Values.{values};
 
 /// A law: of all lists of whole turns in order of number there is at most one for a number of rounds.
 pub fn serial_is_one()

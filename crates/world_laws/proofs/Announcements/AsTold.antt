@@ -36,16 +36,16 @@ use Rattle.path_agenda.specs.declared.duty.SendDuty.TheVariants as send_duties
 use Rattle.path_agenda.specs.declared.duty.StepDuty.TheVariants as step_duties
 use Rattle.path_agenda.specs.declared.notice.OwnNotice.{OwnNotice}
 use Rattle.path_agenda.specs.declared.notice.OwnNotice.TheVariants as notes
-use Rattle.path_rules.specs.Codec.{Codec}
-use Rattle.path_rules.specs.Duties.{stands, ask_for, passed, answered}
-use Rattle.path_rules.specs.Ends.{PathEnd}
-use Rattle.path_rules.specs.Looking.{first_sends}
-use Rattle.path_rules.specs.Noticing.{after_notice}
-use Rattle.path_rules.specs.Standing.{may_note, after_look}
-use Rattle.path_rules.specs.Starts.{first_turn, waiting_path}
-use Rattle.path_rules.specs.State.{PathState, end_at, goes_on, with_agenda}
-use Rattle.path_rules.specs.Steps.{asks_of, asks_first, answers, settled, takes, begins_turn}
-use Rattle.path_rules.specs.Turns.{IsSettled}
+use Rattle.path_core.specs.Codec.{Codec}
+use Rattle.path_core.specs.Duties.{stands, ask_for, passed, answered}
+use Rattle.path_core.specs.End.{PathEnd}
+use Rattle.path_core.specs.Looking.{first_sends}
+use Rattle.path_core.specs.Notices.{after_notice}
+use Rattle.path_core.specs.Standing.{may_note, after_look}
+use Rattle.path_core.specs.Start.{first_turn, waiting_path}
+use Rattle.path_core.specs.State.{PathState, end_at, goes_on, with_agenda}
+use Rattle.path_core.specs.Steps.{asks_of, asks_first, answers, settled, takes, begins_turn}
+use Rattle.path_core.specs.Turns.{IsSettled}
 use Rattle.world_laws.specs.declared.member.Member.TheVariants.{App, Path}
 use Rattle.world_laws.specs.AbortCause.{control_journal}
 use Rattle.world_laws.specs.Actors.{Actor, ActorCrew, member_asks, member_takes, member_next, is_over}

@@ -1,7 +1,7 @@
 -- No step is answered that an announcement has a wrong HMAC, whatever the script does: only B announces addresses, once its book was
 -- told both keys, and A shows these once its own book has B's.
 use Rattle.std.proofs.Common.{refl, ℕ, true, List, [], ◌∷◌}
-use Rattle.path_rules.specs.Values.{Carried, values}
+use Rattle.path_core.specs.Values.{Carried, values}
 use Rattle.world_laws.specs.Laws.{Always}
 use Rattle.world_laws.specs.Openings.{opened_world}
 use Rattle.world_laws.specs.Promises.{AddressesAreRight, tells_bad_address}

@@ -24,35 +24,38 @@ use Rattle.path_agenda.specs.declared.duty.AskDuty.TheVariants as ask_duties
 use Rattle.path_agenda.specs.declared.duty.SendDuty.TheVariants as send_duties
 use Rattle.path_agenda.specs.declared.duty.SilentDuty.TheVariants as silent_duties
 use Rattle.path_agenda.specs.declared.duty.StepDuty.TheVariants as step_duties
-use Rattle.path_rules.specs.declared.event.Event.{Event}
-use Rattle.path_rules.specs.declared.event.Event.TheVariants as happening
+use Rattle.path_core.specs.declared.events.Event.{Event}
+use Rattle.path_core.specs.declared.events.Event.TheVariants as happening
 use Rattle.path_agenda.specs.declared.heard.Heard.{Heard}
 use Rattle.path_agenda.specs.declared.heard.Heard.TheVariants as says
 use Rattle.path_agenda.specs.declared.keys.KeyPair.{KeyPair}
 use Rattle.path_agenda.specs.Agenda.{start_of_turn, heard_and, payload_came, rest_of_turn, emission, resets, leaves, breaks, stops}
-use Rattle.path_rules.specs.Arriving.{items_of, judged_in, template_by, template_judged, options_heard}
-use Rattle.path_rules.specs.Breaking.{answered_break, reset_on}
-use Rattle.path_rules.specs.Codec.{Codec}
-use Rattle.path_rules.specs.Duties.{stands, ask_for, answered}
-use Rattle.path_rules.specs.Emission.{first_unsent, Grant, grant_in, answered_grant, answered_data, data_ask}
-use Rattle.path_rules.specs.declared.judged.Judged.{Judged}
-use Rattle.path_rules.specs.declared.judged.Judged.TheVariants as judged
-use Rattle.path_rules.specs.Events.{next_event, heard_in, at_tick, join_begun, after_line, copy_heard, template_fired, happens_if, never_joined}
+use Rattle.path_core.specs.OptionsIn.{items_of, options_heard}
+use Rattle.path_core.specs.Arrival.{judged_in, template_by, template_judged, heard_in, copy_heard}
+use Rattle.path_core.specs.Breaking.{answered_break, reset_on}
+use Rattle.path_core.specs.Codec.{Codec}
+use Rattle.path_core.specs.Duties.{stands, ask_for, answered}
+use Rattle.path_core.specs.Emission.{first_unsent, Grant, grant_in, answered_grant, answered_data, data_ask}
+use Rattle.path_core.specs.declared.judged.Judged.{Judged}
+use Rattle.path_core.specs.declared.judged.Judged.TheVariants as judged
+use Rattle.path_core.specs.Events.{next_event, after_line, happens_if}
+use Rattle.path_core.specs.State.{at_tick, PathState, end_at, with_agenda, goes_on, left}
+use Rattle.path_core.specs.MpJoin.{join_begun, never_joined, is_never, keys_begun, opened_by, asked_at, join_taken, is_joined}
+use Rattle.path_core.specs.Timer.{template_fired}
 use Rattle.path_store.specs.declared.lines.LineAction.{LineAction}
 use Rattle.path_store.specs.declared.lines.LineAction.TheVariants as actions
-use Rattle.path_rules.specs.Joining.{is_never, keys_begun, opened_by, asked_at, join_taken}
-use Rattle.path_rules.specs.Joins.{is_joined}
 use Rattle.join_handshake.specs.declared.hearing.JoinSyn.{JoinSyn}
-use Rattle.path_rules.specs.Passing.{piece_of, is_placed, answered_piece, is_fin_set, answered_fin_heard, answered_plain_fin}
-use Rattle.path_rules.specs.Deliver.{Piece, with_learned}
-use Rattle.path_rules.specs.Standing.{answered_ack_out}
-use Rattle.path_rules.specs.State.{PathState, end_at, with_agenda, goes_on, left}
+use Rattle.path_core.specs.Deliver.{piece_of, is_placed, answered_piece}
+use Rattle.path_core.specs.DataFin.{is_fin_set, answered_fin_heard, answered_plain_fin}
+use Rattle.path_store.specs.Passing.{Piece}
+use Rattle.path_core.specs.DssIn.{with_learned, is_clash, told_next, answered_mapping}
+use Rattle.path_core.specs.Standing.{answered_ack_out}
 use Rattle.path_agenda.specs.Words.{replaced}
 use Rattle.path_agenda.specs.Items.{key_heard, keys_heard}
-use Rattle.path_rules.specs.Treating.{is_clash, told_next, answered_mapping, answered_item, item_of, answered_plain_ack, breaks_by_ack, with_plain_ack}
-use Rattle.path_rules.specs.Opening.{answered_opened, answered_peer_key}
-use Rattle.path_rules.specs.Fallback.{after_fell, fell_duties}
-use Rattle.path_rules.specs.FastClosing.{is_stopped_by}
+use Rattle.path_core.specs.Treating.{answered_item, item_of}
+use Rattle.path_core.specs.Fallback.{answered_plain_ack, breaks_by_ack, with_plain_ack, after_fell, fell_duties}
+use Rattle.path_core.specs.MpCapable.{answered_opened, answered_peer_key}
+use Rattle.path_core.specs.FastClose.{is_stopped_by}
 use Rattle.world_laws.specs.Announcing.{ends_turn}
 use Rattle.world_laws.proofs.Announcements.ToBeNoted.{IsMild}
 use Rattle.world_laws.proofs.Falls.FailedChecks.{fail_answered_so}

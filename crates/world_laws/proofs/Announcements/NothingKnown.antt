@@ -7,7 +7,7 @@ use Rattle.path_agenda.specs.declared.heard.Heard.{Heard}
 use Rattle.path_agenda.specs.declared.heard.Heard.TheVariants as says
 use Rattle.path_agenda.specs.declared.notice.PeerNotice.{PeerNotice}
 use Rattle.path_agenda.specs.declared.notice.PeerNotice.TheVariants as notes
-use Rattle.path_rules.specs.Arriving.{address_items, item_removed}
+use Rattle.path_core.specs.Addresses.{address_items, item_removed}
 
 -- ids that are taken back
 pub removed_each : {P : Heard → Type 0} → ((id : ℕ) → P (says.Notice (notes.Removed id))) → (ids : List ℕ) → Every P (map item_removed ids)

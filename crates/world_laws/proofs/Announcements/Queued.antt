@@ -16,10 +16,10 @@ use Rattle.path_agenda.specs.declared.notice.OwnNotice.{OwnNotice}
 use Rattle.path_agenda.specs.declared.notice.OwnNotice.TheVariants as own
 use Rattle.path_agenda.specs.declared.notice.PeerNotice.{PeerNotice}
 use Rattle.path_agenda.specs.declared.notice.PeerNotice.TheVariants as peer
-use Rattle.path_rules.specs.Addressing.{is_kept, with_echo}
-use Rattle.path_rules.specs.Ends.{PathEnd, Notices}
-use Rattle.path_rules.specs.Noticing.{after_notice}
-use Rattle.path_rules.specs.Standing.{may_note, notices_told}
+use Rattle.path_core.specs.Addresses.{is_kept, with_echo}
+use Rattle.path_core.specs.End.{PathEnd}
+use Rattle.path_core.specs.Notices.{Notices, after_notice}
+use Rattle.path_core.specs.Standing.{may_note, notices_told}
 
 -- the address that is to be announced, as a side is told
 abbrev pub announced_in : Notice → Option ℕ

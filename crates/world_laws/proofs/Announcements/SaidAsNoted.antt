@@ -23,17 +23,20 @@ use Rattle.path_agenda.specs.declared.heard.Heard.TheVariants as says
 use Rattle.path_agenda.specs.declared.notice.OwnNotice.{OwnNotice}
 use Rattle.path_agenda.specs.declared.notice.OwnNotice.TheVariants as notes
 use Rattle.path_agenda.specs.Words.{first_of}
-use Rattle.path_rules.specs.Emission.{first_unsent}
-use Rattle.path_rules.specs.Ends.{PathEnd}
-use Rattle.path_rules.specs.Joins.{is_joined, join_options, third_options}
+use Rattle.path_core.specs.Emission.{first_unsent, first_record, answer_said, ack_resent, resend_said}
+use Rattle.path_core.specs.End.{PathEnd}
+use Rattle.path_core.specs.MpJoin.{is_joined, join_options, third_options}
 use Rattle.path_store.specs.declared.infinite_mapping.InfiniteMapping.{InfiniteMapping}
-use Rattle.path_rules.specs.Infinite.{receives_infinite}
-use Rattle.path_rules.specs.OptionsOut.{owes_mapping, plain_options, infinite_or, capable_options, syn_options, key_options, opening_options, fail_options, fail_beside, ack_options, is_first_piece, first_piece_options, mapped_options, piece_options, fin_options, record_options, broken_options, notice_option, ack_said, syn_ack_said, noted_said, carried_said, record_or_ack, fin_said, reset_said}
-use Rattle.path_rules.specs.Passing.{first_record, answer_said, ack_resent, resend_said}
-use Rattle.path_rules.specs.StreamEnds.{is_data_fin_owed}
-use Rattle.path_rules.specs.Looking.{first_sends, segment_sent, broken_by, heard_sends, unsent_sends, step_sends, send_of}
-use Rattle.path_rules.specs.State.{PathState, Profile, end_at}
-use Rattle.path_rules.specs.Treating.{is_clash, item_of, breaks_by_ack}
+use Rattle.path_core.specs.Modes.{receives_infinite}
+use Rattle.path_core.specs.DssOut.{owes_mapping, plain_options, infinite_or, fail_options, fail_beside, is_first_piece, first_piece_options, mapped_options, piece_options, fin_options}
+use Rattle.path_core.specs.OptionsOut.{capable_options, syn_options, key_options, opening_options, ack_options, record_options, broken_options, notice_option, ack_said, syn_ack_said, noted_said, carried_said, record_or_ack, fin_said, reset_said}
+use Rattle.path_core.specs.DataFin.{is_data_fin_owed}
+use Rattle.path_core.specs.Looking.{first_sends, segment_sent, broken_by, heard_sends, unsent_sends, step_sends, send_of}
+use Rattle.path_core.specs.State.{PathState, end_at}
+use Rattle.path_core.specs.Profile.{Profile}
+use Rattle.path_core.specs.DssIn.{is_clash}
+use Rattle.path_core.specs.Treating.{item_of}
+use Rattle.path_core.specs.Fallback.{breaks_by_ack}
 use Rattle.world_laws.specs.Announcing.{announces, is_announcement}
 use Rattle.world_laws.proofs.Announcements.ToBeNoted.{is_note, is_queued, is_noted}
 

@@ -9,7 +9,7 @@ use Rattle.sides.specs.declared.side.Side.TheVariants.{A, B}
 use Rattle.dss_mapping.specs.declared.kept.KeptMapping.{KeptMapping}
 use Rattle.link_model.specs.Steps.{arriving, after_delivery}
 use Rattle.subflow_send.specs.Records.{Record}
-use Rattle.subflow_tcp.specs.States.{is_dead}
+use Rattle.subflow_tcp.specs.States.{is_dead, after_finish}
 use Rattle.subflow_tcp.specs.declared.handshake.State.{State as EndPhase}
 use Rattle.subflow_tcp.specs.declared.handshake.State.TheVariants as phase
 use Rattle.actor_desk.specs.declared.ask.Reply.{Reply}
@@ -29,26 +29,28 @@ use Rattle.path_agenda.specs.declared.notice.OwnNotice.{OwnNotice}
 use Rattle.path_agenda.specs.declared.notice.OwnNotice.TheVariants as notes
 use Rattle.path_agenda.specs.declared.notice.PeerNotice.{PeerNotice}
 use Rattle.path_agenda.specs.declared.notice.PeerNotice.TheVariants as peer_notes
-use Rattle.path_rules.specs.Addressing.{is_kept, after_peer_notice, having_noted}
-use Rattle.path_rules.specs.Standing.{may_note, is_connected}
-use Rattle.subflow_tcp.specs.States.{after_finish}
-use Rattle.path_rules.specs.Arriving.{judged_in, options_heard, after_judged}
-use Rattle.path_rules.specs.Breaking.{answered_break}
-use Rattle.path_rules.specs.Codec.{Codec}
-use Rattle.path_rules.specs.declared.event.Event.{Event}
-use Rattle.path_rules.specs.declared.event.Event.TheVariants as happenings
-use Rattle.path_rules.specs.Duties.{stands, passed, answered}
-use Rattle.path_rules.specs.Emission.{having_sent_fin, Grant, grant_in, answered_grant, answered_data, first_unsent}
-use Rattle.path_rules.specs.Ends.{PathEnd}
-use Rattle.path_rules.specs.Events.{with_priority, next_event, after_line, at_tick, died, join_begun, copy_heard, heard_in, happens_if, told_at, never_joined}
+use Rattle.path_core.specs.Addresses.{is_kept, after_peer_notice, having_noted, with_priority}
+use Rattle.path_core.specs.Standing.{may_note, is_connected}
+use Rattle.path_core.specs.Arrival.{judged_in, after_judged, copy_heard, heard_in, told_at}
+use Rattle.path_core.specs.OptionsIn.{options_heard}
+use Rattle.path_core.specs.Breaking.{answered_break}
+use Rattle.path_core.specs.Codec.{Codec}
+use Rattle.path_core.specs.declared.events.Event.{Event}
+use Rattle.path_core.specs.declared.events.Event.TheVariants as happenings
+use Rattle.path_core.specs.Duties.{stands, passed, answered}
+use Rattle.path_core.specs.DataFin.{having_sent_fin}
+use Rattle.path_core.specs.Emission.{Grant, grant_in, answered_grant, answered_data, first_unsent}
+use Rattle.path_core.specs.End.{PathEnd, died}
+use Rattle.path_core.specs.Events.{next_event, after_line, happens_if}
+use Rattle.path_core.specs.State.{at_tick, PathState, end_at, goes_on, left, with_agenda}
+use Rattle.path_core.specs.MpJoin.{join_begun, never_joined, keys_begun, is_never, opened_by, is_joined}
 use Rattle.path_store.specs.declared.lines.LineAction.{LineAction}
 use Rattle.path_store.specs.declared.lines.LineAction.TheVariants as actions
-use Rattle.path_rules.specs.Joining.{keys_begun, is_never, opened_by}
-use Rattle.path_rules.specs.Joins.{is_joined}
-use Rattle.path_rules.specs.Deliver.{is_wrong, forgotten_by, mapping_here}
-use Rattle.path_rules.specs.State.{PathState, end_at, goes_on, left, with_agenda}
-use Rattle.path_rules.specs.Steps.{settled}
-use Rattle.path_rules.specs.Treating.{counts, is_clash, heard_passed, item_passed, answered_heard, answered_item, item_of, breaks_by_ack}
+use Rattle.path_core.specs.Deliver.{is_wrong, forgotten_by, mapping_here}
+use Rattle.path_core.specs.Steps.{settled}
+use Rattle.path_core.specs.DssIn.{counts, is_clash}
+use Rattle.path_core.specs.Treating.{heard_passed, item_passed, answered_heard, answered_item, item_of}
+use Rattle.path_core.specs.Fallback.{breaks_by_ack}
 use Rattle.world_laws.proofs.Falls.FailedChecks.{infinite_came_so, fail_answered_so}
 use Rattle.world_laws.proofs.Standby.OneDutyLooks.{MayNotLook}
 use Rattle.world_laws.specs.Writes.{EndView, Writes, OnlyAt, writes, side_of}

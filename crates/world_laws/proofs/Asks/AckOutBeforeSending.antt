@@ -33,31 +33,36 @@ use Rattle.path_agenda.specs.declared.duty.Duty.{Duty}
 use Rattle.path_agenda.specs.declared.heard.Heard.TheVariants as says
 use Rattle.path_agenda.specs.declared.heard.Heard.{Heard}
 use Rattle.path_agenda.specs.declared.keys.KeyPair.{KeyPair}
-use Rattle.path_rules.specs.Arriving.{items_of, judged_in, options_heard, after_judged, template_by, template_judged}
-use Rattle.path_rules.specs.Breaking.{answered_break, reset_on}
-use Rattle.path_rules.specs.Codec.{Codec}
-use Rattle.path_rules.specs.Duties.{stands, passed, answered}
-use Rattle.path_rules.specs.Emission.{Grant, grant_in, answered_grant, answered_data, first_unsent, after_timer}
-use Rattle.path_rules.specs.Ends.{PathEnd}
-use Rattle.path_rules.specs.Events.{next_event, after_line, at_tick, died, join_begun, copy_heard, heard_in, happens_if, told_at, died_unless_dead, template_fired, after_firing, never_joined, with_priority}
+use Rattle.path_core.specs.OptionsIn.{items_of, options_heard}
+use Rattle.path_core.specs.Arrival.{judged_in, after_judged, template_by, template_judged, copy_heard, heard_in, told_at}
+use Rattle.path_core.specs.Breaking.{answered_break, reset_on, died_unless_dead}
+use Rattle.path_core.specs.Codec.{Codec}
+use Rattle.path_core.specs.Duties.{stands, passed, answered}
+use Rattle.path_core.specs.Emission.{Grant, grant_in, answered_grant, answered_data, first_unsent}
+use Rattle.path_core.specs.Timer.{after_timer, template_fired, after_firing}
+use Rattle.path_core.specs.End.{PathEnd, died}
+use Rattle.path_core.specs.Events.{next_event, after_line, happens_if}
+use Rattle.path_core.specs.State.{at_tick, PathState, end_at, goes_on, with_agenda, left}
+use Rattle.path_core.specs.MpJoin.{join_begun, never_joined, keys_begun, is_never, opened_by, join_taken, asked_at, is_joined}
+use Rattle.path_core.specs.Addresses.{with_priority}
 use Rattle.path_store.specs.declared.lines.LineAction.{LineAction}
 use Rattle.path_store.specs.declared.lines.LineAction.TheVariants as actions
-use Rattle.path_rules.specs.Joining.{keys_begun, is_never, opened_by, join_taken, asked_at}
-use Rattle.path_rules.specs.Joins.{is_joined}
-use Rattle.path_rules.specs.Opening.{answered_peer_key, answered_opened}
-use Rattle.path_rules.specs.Passing.{answered_piece, is_placed, is_fin_set, piece_of, after_pass_fin, having_asked, refused, with_peer_data_fin, with_fin_told, answered_fin_heard, answered_plain_fin}
-use Rattle.path_rules.specs.Deliver.{Piece, is_wrong, forgotten_by, mapping_here, with_learned, with_skipped, after_check, after_pieces, after_piece}
-use Rattle.path_rules.specs.Standing.{after_ack_out, answered_ack_out}
-use Rattle.path_rules.specs.State.{PathState, end_at, goes_on, with_agenda, left}
-use Rattle.path_rules.specs.Steps.{settled, takes, next_round}
-use Rattle.path_rules.specs.Treating.{counts, is_clash, heard_passed, item_passed, answered_item, item_of, breaks_by_ack, after_fell, with_plain_ack, after_keep, with_data_fin, told_next, fell_duties, answered_fell, answered_plain_ack}
-use Rattle.path_rules.specs.declared.event.Event.TheVariants as happenings
-use Rattle.path_rules.specs.declared.event.Event.{Event}
-use Rattle.path_rules.specs.declared.judged.Judged.{Judged}
-use Rattle.path_rules.specs.declared.judged.Judged.TheVariants as judged
-use Rattle.path_rules.specs.Starts.{PathStart, waiting_path, first_turn}
-use Rattle.path_rules.specs.Values.{Carried, values}
-use Rattle.path_rules.specs.FastClosing.{is_stopped_by}
+use Rattle.path_core.specs.MpCapable.{answered_peer_key, answered_opened}
+use Rattle.path_core.specs.Deliver.{answered_piece, is_placed, piece_of, having_asked, refused, is_wrong, forgotten_by, mapping_here, after_check, after_pieces, after_piece, after_keep}
+use Rattle.path_core.specs.DataFin.{is_fin_set, after_pass_fin, with_peer_data_fin, with_fin_told, answered_fin_heard, answered_plain_fin}
+use Rattle.path_store.specs.Passing.{Piece}
+use Rattle.path_core.specs.DssIn.{with_learned, with_skipped, counts, is_clash, with_data_fin, told_next}
+use Rattle.path_core.specs.Standing.{after_ack_out, answered_ack_out}
+use Rattle.path_core.specs.Steps.{settled, takes, next_round}
+use Rattle.path_core.specs.Treating.{heard_passed, item_passed, answered_item, item_of}
+use Rattle.path_core.specs.Fallback.{breaks_by_ack, after_fell, with_plain_ack, fell_duties, answered_fell, answered_plain_ack, after_check_failed, with_infinite, after_fail_heard, after_infinite, breaks_by, in_identity, answered_identity}
+use Rattle.path_core.specs.declared.events.Event.TheVariants as happenings
+use Rattle.path_core.specs.declared.events.Event.{Event}
+use Rattle.path_core.specs.declared.judged.Judged.{Judged}
+use Rattle.path_core.specs.declared.judged.Judged.TheVariants as judged
+use Rattle.path_core.specs.Start.{PathStart, waiting_path, first_turn}
+use Rattle.path_core.specs.Values.{Carried, values}
+use Rattle.path_core.specs.FastClose.{is_stopped_by}
 use Rattle.world_laws.specs.declared.member.Member.TheVariants.{App, Path}
 use Rattle.world_laws.specs.Actors.{Actor, ActorCrew, member_takes, member_next, is_over}
 use Rattle.world_laws.specs.Openings.{Start, path_begins, opened_world}
@@ -67,10 +72,6 @@ use Rattle.world_laws.proofs.Asks.AckOutDuties.{is_asking, is_telling, is_shield
 use Rattle.world_laws.proofs.Falls.Verdicts.{fell_cases, told_cases}
 use Rattle.world_laws.proofs.Rounds.Lifting.{run_lifted, opened_lifted}
 use Rattle.world_laws.proofs.Falls.FailedChecks.{check_failed_so, fail_heard_so, infinite_came_so, fail_answered_so}
-use Rattle.path_rules.specs.FailedChecks.{after_check_failed}
-use Rattle.path_rules.specs.InfiniteSending.{with_infinite, after_fail_heard}
-use Rattle.path_rules.specs.InfiniteReceiving.{after_infinite}
-use Rattle.path_rules.specs.Fallback.{breaks_by, in_identity, answered_identity}
 use Rattle.world_laws.specs.Writes.{EndView, Writes, OnlyAt, writes, side_of}
 use Rattle.world_laws.proofs.Writes.Paths.{writes_no_more}
 use Rattle.world_laws.proofs.Writes.Steps.{both_ends, unwritten}

@@ -9,9 +9,9 @@ use Rattle.send_book.specs.Steps.{decision, given_by, is_future, is_gathered, af
 use Rattle.actor_desk.specs.declared.ask.Ask.{Ask}
 use Rattle.actor_desk.specs.declared.ask.Ask.TheVariants as asks
 use Rattle.path_agenda.specs.declared.duty.Duty.{Duty}
-use Rattle.path_rules.specs.Codec.{Codec}
-use Rattle.path_rules.specs.Duties.{ask_for}
-use Rattle.path_rules.specs.State.{PathState}
+use Rattle.path_core.specs.Codec.{Codec}
+use Rattle.path_core.specs.Duties.{ask_for}
+use Rattle.path_core.specs.State.{PathState}
 use Rattle.world_laws.proofs.Lanes.Applying.{Writes}
 use Rattle.world_laws.specs.Asking.{May, may, may_send, asking}
 use Rattle.world_laws.proofs.Writes.Asks.{asks_no_more}

@@ -12,10 +12,11 @@ use Rattle.path_agenda.specs.declared.duty.Duty.TheVariants as duties
 use Rattle.path_agenda.specs.declared.duty.AskDuty.TheVariants as ask_duties
 use Rattle.path_agenda.specs.declared.duty.StepDuty.TheVariants as step_duties
 use Rattle.path_agenda.specs.declared.heard.Heard.{Heard}
-use Rattle.path_rules.specs.Codec.{Codec}
-use Rattle.path_rules.specs.Duties.{ask_for}
-use Rattle.path_rules.specs.State.{PathState, end_at, path_of}
-use Rattle.path_rules.specs.Treating.{item_ask, subflow_ack_ask}
+use Rattle.path_core.specs.Codec.{Codec}
+use Rattle.path_core.specs.Duties.{ask_for}
+use Rattle.path_core.specs.State.{PathState, end_at, path_of}
+use Rattle.path_core.specs.Treating.{item_ask}
+use Rattle.path_core.specs.Fallback.{subflow_ack_ask}
 use Rattle.world_laws.proofs.Asks.SendBooks.{IsQuiet}
 use Rattle.world_laws.proofs.Falls.FailedChecks.{subflow_acks_so}
 use Rattle.world_laws.specs.Asking.{May, may, may_reassemble, asking, IsAsked, asks_of_steps}

@@ -22,7 +22,7 @@ use Rattle.stream_lanes.specs.Words.{Every}
 use Rattle.stream_lanes.proofs.Lists.{Every-append, in_take, in_drop, in_map, in_replicate}
 use Rattle.actor_desk.specs.declared.ask.Note.{Note}
 use Rattle.actor_desk.specs.declared.ask.Reply.TheVariants as replies
-use Rattle.path_rules.specs.Emission.{grant_in}
+use Rattle.path_core.specs.Emission.{grant_in}
 use Rattle.world_laws.specs.RoundEnd.{asks_grant}
 use Rattle.world_laws.specs.RoundNumbers.{taken_len, is_standby, standby_after, last_on_standby, last_asked, AskedForAll}
 use Rattle.world_laws.specs.RoundNumbers.AskedForAll.{Taken, Standby, Barred, Stopped}

@@ -34,14 +34,15 @@ use Rattle.path_agenda.specs.declared.duty.AskDuty.TheVariants as ask_duties
 use Rattle.path_agenda.specs.declared.duty.SendDuty.TheVariants as send_duties
 use Rattle.path_agenda.specs.declared.duty.SilentDuty.TheVariants as silent_duties
 use Rattle.path_agenda.specs.declared.duty.StepDuty.TheVariants as step_duties
-use Rattle.path_rules.specs.Duties.{stands, ask_for}
-use Rattle.path_rules.specs.Emission.{first_unsent, data_stands, data_ask}
-use Rattle.path_rules.specs.Octets.{octets}
-use Rattle.path_rules.specs.Shown.{shown_path}
-use Rattle.path_rules.specs.State.{PathState, Profile, end_at}
-use Rattle.path_rules.specs.Steps.{asks_first}
-use Rattle.path_rules.specs.Turns.{FirstStands}
-use Rattle.path_rules.specs.Values.{Carried, values}
+use Rattle.path_core.specs.Duties.{stands, ask_for}
+use Rattle.path_core.specs.Emission.{first_unsent, data_stands, data_ask}
+use Rattle.path_core.specs.Octets.{octets}
+use Rattle.path_core.specs.Shown.{shown_path}
+use Rattle.path_core.specs.State.{PathState, end_at}
+use Rattle.path_core.specs.Profile.{Profile}
+use Rattle.path_core.specs.Steps.{asks_first}
+use Rattle.path_core.specs.Turns.{FirstStands}
+use Rattle.path_core.specs.Values.{Carried, values}
 use Rattle.world_laws.specs.declared.member.Member.TheVariants.{App, Path}
 use Rattle.world_laws.specs.Actors.{Actor, ActorCrew, member_asks}
 use Rattle.world_laws.specs.FallsRight.{asks_bytes, has_fallen, is_fallen, is_stopped, IsAtPlace, EndIsPlain, FallsAreRight, FallsLast, PathIsPlain, PositionsArePlaces, PositionsWerePlaces}

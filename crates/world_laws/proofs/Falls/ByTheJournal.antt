@@ -19,7 +19,7 @@ use Rattle.actor_desk.specs.declared.ask.Ask.TheVariants as asks
 use Rattle.actor_desk.specs.Books.{StampedBooks, books_in, after_entry}
 use Rattle.actor_desk.specs.Desk.{control_of}
 use Rattle.actor_desk.specs.Words.{pick}
-use Rattle.path_rules.specs.Codec.{Codec}
+use Rattle.path_core.specs.Codec.{Codec}
 use Rattle.world_laws.specs.Actors.{ActorCrew, member_asks}
 use Rattle.world_laws.specs.ModesSoFar.{was_by, was_in}
 use Rattle.world_laws.specs.Worlds.{WorldState, Turn, asked, stepped, all_over, greatest, begins, after_turn, world_run}

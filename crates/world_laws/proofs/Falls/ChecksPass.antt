@@ -60,23 +60,28 @@ use Rattle.subflow_send.specs.Records.{Record}
 use Rattle.subflow_tcp.specs.declared.handshake.State.{State as EndPhase}
 use Rattle.subflow_tcp.specs.declared.handshake.State.TheVariants as phase
 use Rattle.subflow_tcp.specs.States.{may_finish}
-use Rattle.path_rules.specs.declared.event.Event.{Event}
-use Rattle.path_rules.specs.declared.event.Event.TheVariants as happening
-use Rattle.path_rules.specs.Addressing.{notice_call}
-use Rattle.path_rules.specs.Breaking.{break_ask, reset_of}
-use Rattle.path_rules.specs.Deliver.{Piece, failing_mapping}
-use Rattle.path_rules.specs.Duties.{ask_for, stands}
-use Rattle.path_rules.specs.Emission.{first_unsent, data_ask}
-use Rattle.path_rules.specs.Events.{next_event, step_for}
-use Rattle.path_rules.specs.Handover.{sends}
-use Rattle.path_rules.specs.Joining.{asked_at, join_heard_ask}
-use Rattle.path_rules.specs.Opening.{peer_key_ask, opened_ask}
-use Rattle.path_rules.specs.Passing.{piece_of, piece_ask, data_fin_of, fin_ask, rate_ask, plain_fin}
-use Rattle.path_rules.specs.State.{PathState, Profile, end_at, path_of}
-use Rattle.path_rules.specs.Steps.{asks_first}
-use Rattle.path_rules.specs.Treating.{is_clash, fell_ask, mapping_ask, item_ask, item_of, plain_ack_ask, breaks_by_ack}
-use Rattle.path_rules.specs.Turns.{FirstStands, IsSettled}
-use Rattle.path_rules.specs.Values.{Carried, values}
+use Rattle.path_core.specs.declared.events.Event.{Event}
+use Rattle.path_core.specs.declared.events.Event.TheVariants as happening
+use Rattle.path_core.specs.Addresses.{notice_call}
+use Rattle.path_core.specs.Breaking.{break_ask, reset_of}
+use Rattle.path_store.specs.Passing.{Piece}
+use Rattle.path_core.specs.Deliver.{failing_mapping, piece_of, piece_ask}
+use Rattle.path_core.specs.Duties.{ask_for, stands}
+use Rattle.path_core.specs.Emission.{first_unsent, data_ask}
+use Rattle.path_core.specs.Events.{next_event, step_for}
+use Rattle.path_core.specs.Handover.{sends}
+use Rattle.path_core.specs.MpJoin.{asked_at, join_heard_ask}
+use Rattle.path_core.specs.MpCapable.{peer_key_ask, opened_ask}
+use Rattle.path_core.specs.DataFin.{data_fin_of, fin_ask, plain_fin}
+use Rattle.path_core.specs.Rate.{rate_ask}
+use Rattle.path_core.specs.State.{PathState, end_at, path_of}
+use Rattle.path_core.specs.Profile.{Profile}
+use Rattle.path_core.specs.Steps.{asks_first}
+use Rattle.path_core.specs.DssIn.{is_clash, mapping_ask}
+use Rattle.path_core.specs.Fallback.{fell_ask, plain_ack_ask, breaks_by_ack}
+use Rattle.path_core.specs.Treating.{item_ask, item_of}
+use Rattle.path_core.specs.Turns.{FirstStands, IsSettled}
+use Rattle.path_core.specs.Values.{Carried, values}
 use Rattle.world_laws.specs.declared.member.Member.TheVariants.{App, Path}
 use Rattle.world_laws.specs.Actors.{Actor, ActorCrew, member_asks}
 use Rattle.world_laws.specs.ChecksPass.{tells_failure, note_tells_failure, ChecksPass, is_fail, TellsNoFailure, NoFailureIsTold}

@@ -27,25 +27,27 @@ use Rattle.path_agenda.specs.declared.duty.StepDuty.TheVariants as step_duties
 use Rattle.path_agenda.specs.declared.heard.Heard.{Heard}
 use Rattle.path_agenda.specs.declared.heard.Heard.TheVariants as says
 use Rattle.path_agenda.specs.declared.keys.KeyPair.{KeyPair}
-use Rattle.path_rules.specs.Arriving.{items_of, judged_in, taken_as, answered_in, cleared_in, with_answer, options_heard, asked_in, after_judged, HeardOption, with_held, held_of, after_join}
-use Rattle.path_rules.specs.Breaking.{answered_break}
-use Rattle.path_rules.specs.Codec.{Codec}
-use Rattle.path_rules.specs.declared.event.Event.{Event}
-use Rattle.path_rules.specs.declared.event.Event.TheVariants as happenings
-use Rattle.path_rules.specs.declared.modes.Modes.{Modes}
-use Rattle.path_rules.specs.Duties.{passed, answered}
-use Rattle.path_rules.specs.Ends.{PathEnd}
-use Rattle.path_rules.specs.Events.{next_event, after_line, at_tick, died, join_begun, copy_heard, heard_in, happens_if, told_at, never_joined}
+use Rattle.path_core.specs.OptionsIn.{items_of, options_heard}
+use Rattle.path_core.specs.Arrival.{judged_in, asked_in, after_judged, with_held, copy_heard, heard_in, told_at}
+use Rattle.path_core.specs.Judged.{taken_as, answered_in, cleared_in, with_answer, after_join}
+use Rattle.path_core.specs.DssIn.{HeardOption, held_of, counts, is_clash}
+use Rattle.path_core.specs.Breaking.{answered_break}
+use Rattle.path_core.specs.Codec.{Codec}
+use Rattle.path_core.specs.declared.events.Event.{Event}
+use Rattle.path_core.specs.declared.events.Event.TheVariants as happenings
+use Rattle.path_core.specs.declared.modes.Modes.{Modes}
+use Rattle.path_core.specs.Duties.{passed, answered}
+use Rattle.path_core.specs.End.{PathEnd, died}
+use Rattle.path_core.specs.Events.{next_event, after_line, happens_if}
+use Rattle.path_core.specs.State.{at_tick, PathState, end_at, goes_on}
+use Rattle.path_core.specs.MpJoin.{join_begun, never_joined, keys_begun, is_never, opened_by, is_joined, join_answer}
 use Rattle.path_store.specs.declared.lines.LineAction.{LineAction}
 use Rattle.path_store.specs.declared.lines.LineAction.TheVariants as actions
-use Rattle.path_rules.specs.Joining.{keys_begun, is_never, opened_by}
-use Rattle.path_rules.specs.Joins.{is_joined, join_answer}
-use Rattle.path_rules.specs.Opening.{keys_in, answered_opened}
-use Rattle.path_rules.specs.State.{PathState, end_at, goes_on}
-use Rattle.path_rules.specs.Steps.{takes, begins_turn, next_round}
-use Rattle.path_rules.specs.Treating.{counts, is_clash, heard_passed, item_passed, answered_heard, answered_item, item_of, after_fell}
-use Rattle.path_rules.specs.Words.{is_side_a}
-use Rattle.path_rules.specs.Fallback.{fell_in}
+use Rattle.path_core.specs.MpCapable.{keys_in, answered_opened}
+use Rattle.path_core.specs.Steps.{takes, begins_turn, next_round}
+use Rattle.path_core.specs.Treating.{heard_passed, item_passed, answered_heard, answered_item, item_of}
+use Rattle.path_core.specs.Fallback.{after_fell, fell_in}
+use Rattle.path_core.specs.Choices.{is_side_a}
 use Rattle.world_laws.proofs.Falls.FailedChecks.{infinite_came_so, fail_answered_so}
 use Rattle.world_laws.specs.Writes.{EndWrites, EndView, Only, Writes, OnlyAt, writes, side_of}
 use Rattle.world_laws.proofs.Writes.Ends.{fell_so}

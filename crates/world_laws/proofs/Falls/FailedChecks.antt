@@ -14,15 +14,11 @@ use Rattle.actor_desk.specs.declared.ask.LocalStep.TheVariants as steps
 use Rattle.actor_desk.specs.declared.ask.Reply.{Reply}
 use Rattle.actor_desk.specs.declared.ask.Reply.TheVariants as replies
 use Rattle.path_store.specs.declared.infinite_mapping.InfiniteMapping.{InfiniteMapping}
-use Rattle.path_rules.specs.Deliver.{is_wrong, failing_by, forgotten_by, mapping_here}
-use Rattle.path_rules.specs.Ends.{PathEnd}
-use Rattle.path_rules.specs.FailedChecks.{with_failure, after_check_failed}
-use Rattle.path_rules.specs.Fallback.{mode_in, fell_ask, after_fell, answered_fell}
-use Rattle.path_rules.specs.InfiniteReceiving.{is_infinite_receive, receiving_infinite, after_infinite}
-use Rattle.path_rules.specs.InfiniteSending.{is_infinite_send, sending_infinite, after_fail_heard, may_go_infinite, fail_ask, book_answered, answered_fail}
-use Rattle.path_rules.specs.State.{PathState, end_at, path_of}
-use Rattle.path_rules.specs.Treating.{plain_next, plain_ack_in, subflow_ack_ask}
-use Rattle.path_rules.specs.declared.modes.Modes.{Modes}
+use Rattle.path_core.specs.Deliver.{is_wrong, failing_by, forgotten_by, mapping_here}
+use Rattle.path_core.specs.End.{PathEnd}
+use Rattle.path_core.specs.Fallback.{with_failure, after_check_failed, mode_in, fell_ask, after_fell, answered_fell, is_infinite_receive, receiving_infinite, after_infinite, is_infinite_send, sending_infinite, after_fail_heard, may_go_infinite, fail_ask, book_answered, answered_fail, plain_next, plain_ack_in, subflow_ack_ask}
+use Rattle.path_core.specs.State.{PathState, end_at, path_of}
+use Rattle.path_core.specs.declared.modes.Modes.{Modes}
 
 -- ---- the ends
 

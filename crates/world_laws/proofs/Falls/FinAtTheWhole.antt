@@ -19,9 +19,9 @@ use Rattle.stream_lanes.proofs.Duos.{fallen_ab}
 use Rattle.stream_lanes.specs.Duo.{Modes}
 use Rattle.actor_desk.specs.Desk.{SixBooks, send_of, reassembly_of}
 use Rattle.actor_desk.specs.Words.{pick}
-use Rattle.path_rules.specs.StreamEnds.{is_all_granted}
+use Rattle.path_core.specs.DataFin.{is_all_granted}
 use Rattle.path_store.specs.Granted.{granted_to}
-use Rattle.path_rules.specs.Ends.{PathEnd}
+use Rattle.path_core.specs.End.{PathEnd}
 use Rattle.world_laws.proofs.Lanes.OfAWorld.{flags_of, Others, duo_at}
 use Rattle.world_laws.proofs.Lanes.Records.{every_first, every_rest}
 use Rattle.world_laws.proofs.Lanes.SentRecords.{IsPieceOf, RisesTo, SentShows}

@@ -14,10 +14,10 @@ use Rattle.path_agenda.specs.declared.duty.Duty.{Duty}
 use Rattle.path_agenda.specs.declared.duty.Duty.TheVariants as duties
 use Rattle.path_agenda.specs.declared.duty.AskDuty.TheVariants as ask_duties
 use Rattle.path_agenda.specs.declared.duty.StepDuty.TheVariants as step_duties
-use Rattle.path_rules.specs.State.{PathState, end_at}
-use Rattle.path_rules.specs.Steps.{asks_first}
-use Rattle.path_rules.specs.Treating.{item_ask, item_of}
-use Rattle.path_rules.specs.Values.{Carried, values}
+use Rattle.path_core.specs.State.{PathState, end_at}
+use Rattle.path_core.specs.Steps.{asks_first}
+use Rattle.path_core.specs.Treating.{item_ask, item_of}
+use Rattle.path_core.specs.Values.{Carried, values}
 use Rattle.world_laws.specs.declared.member.Member.TheVariants.{App, Path}
 use Rattle.world_laws.specs.Actors.{Actor, ActorCrew, member_asks}
 use Rattle.world_laws.specs.Altered.{is_fallback, fell_back}

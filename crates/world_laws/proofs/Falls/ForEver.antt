@@ -9,7 +9,7 @@ use Rattle.actor_desk.specs.declared.ask.Ask.{Ask}
 use Rattle.actor_desk.specs.declared.ask.Ask.TheVariants as asks
 use Rattle.actor_desk.specs.Books.{StampedBooks, books_in, after_entry}
 use Rattle.actor_desk.specs.Desk.{SixBooks, control_of, after_ask}
-use Rattle.path_rules.specs.Values.{Carried, values}
+use Rattle.path_core.specs.Values.{Carried, values}
 use Rattle.world_laws.specs.Actors.{ActorCrew, member_asks}
 use Rattle.world_laws.specs.FallsRight.{has_fallen}
 use Rattle.world_laws.specs.Openings.{Start, opened_world}

@@ -26,7 +26,7 @@ use Rattle.actor_desk.specs.declared.ask.Ask.{Ask}
 use Rattle.actor_desk.specs.declared.ask.Ask.TheVariants as asks
 use Rattle.actor_desk.specs.Books.{StampedBooks, books_in, after_entry}
 use Rattle.actor_desk.specs.Desk.{SixBooks, control_of, after_ask}
-use Rattle.path_rules.specs.Codec.{Codec}
+use Rattle.path_core.specs.Codec.{Codec}
 use Rattle.world_laws.specs.Actors.{ActorCrew, member_asks}
 use Rattle.world_laws.specs.Altered.{is_fallback, FallsForGood}
 use Rattle.world_laws.specs.Laws.{Always}

@@ -39,12 +39,13 @@ use Rattle.path_agenda.specs.declared.duty.Duty.TheVariants as duties
 use Rattle.path_agenda.specs.declared.duty.AskDuty.TheVariants as ask_duties
 use Rattle.path_store.specs.declared.granted_piece.GrantedPiece.{GrantedPiece}
 use Rattle.path_store.specs.declared.infinite_mapping.InfiniteMapping.{InfiniteMapping}
-use Rattle.path_rules.specs.Ends.{PathEnd}
+use Rattle.path_core.specs.End.{PathEnd}
 use Rattle.path_store.specs.InfiniteMappings.{place_under}
-use Rattle.path_rules.specs.InfiniteSending.{may_go_infinite, infinite_from, with_infinite, book_answered, sending_infinite}
+use Rattle.path_core.specs.Fallback.{may_go_infinite, infinite_from, with_infinite, book_answered, sending_infinite}
 use Rattle.path_store.specs.Granted.{is_tail, position_of}
-use Rattle.path_rules.specs.State.{PathState, Profile, end_at, goes_on, path_of}
-use Rattle.path_rules.specs.Values.{Carried}
+use Rattle.path_core.specs.State.{PathState, end_at, goes_on, path_of}
+use Rattle.path_core.specs.Profile.{Profile}
+use Rattle.path_core.specs.Values.{Carried}
 use Rattle.world_laws.proofs.Lanes.Answering.{IsReady, Steps, shows_at}
 use Rattle.world_laws.proofs.Lanes.Doing.{with_pair, with_pair_told, sends_own_pair, own_pair_goes, own_pair_told, hears_by_pair}
 use Rattle.world_laws.proofs.Lanes.Ending.{Did, did_nothing}

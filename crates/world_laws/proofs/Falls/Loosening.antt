@@ -25,10 +25,11 @@ use Rattle.actor_desk.specs.declared.ask.Ask.TheVariants as asks
 use Rattle.actor_desk.specs.declared.ask.Reply.TheVariants as replies
 use Rattle.actor_desk.specs.Desk.{SixBooks, control_of, after_ask, reply_of}
 use Rattle.actor_desk.specs.Words.{pick}
-use Rattle.path_rules.specs.Ends.{PathEnd}
-use Rattle.path_rules.specs.InfiniteReceiving.{is_infinite_receive, receiving_infinite}
-use Rattle.path_rules.specs.State.{PathState, Profile}
-use Rattle.path_rules.specs.Values.{Carried}
+use Rattle.path_core.specs.End.{PathEnd}
+use Rattle.path_core.specs.Fallback.{is_infinite_receive, receiving_infinite}
+use Rattle.path_core.specs.State.{PathState}
+use Rattle.path_core.specs.Profile.{Profile}
+use Rattle.path_core.specs.Values.{Carried}
 use Rattle.world_laws.specs.Altered.{is_fallback}
 use Rattle.world_laws.proofs.Lanes.Ending.{Did}
 use Rattle.world_laws.proofs.Falls.WhereASideStands.{is_plain, is_loose}

@@ -22,12 +22,12 @@ use Rattle.path_agenda.specs.declared.duty.Duty.{Duty}
 use Rattle.path_agenda.specs.declared.duty.Duty.TheVariants as duties
 use Rattle.path_agenda.specs.declared.duty.AskDuty.TheVariants as ask_duties
 use Rattle.path_agenda.specs.declared.duty.StepDuty.TheVariants as step_duties
-use Rattle.path_rules.specs.Codec.{Codec}
-use Rattle.path_rules.specs.Duties.{ask_for}
-use Rattle.path_rules.specs.Emission.{first_unsent, data_ask}
-use Rattle.path_rules.specs.Joins.{is_joined}
-use Rattle.path_rules.specs.State.{PathState, end_at, path_of}
-use Rattle.path_rules.specs.Treating.{item_of}
+use Rattle.path_core.specs.Codec.{Codec}
+use Rattle.path_core.specs.Duties.{ask_for}
+use Rattle.path_core.specs.Emission.{first_unsent, data_ask}
+use Rattle.path_core.specs.MpJoin.{is_joined}
+use Rattle.path_core.specs.State.{PathState, end_at, path_of}
+use Rattle.path_core.specs.Treating.{item_of}
 use Rattle.world_laws.proofs.Joins.AwakeAfterBegun.{Awake}
 use Rattle.world_laws.proofs.Falls.FailedChecks.{subflow_acks_so}
 use Rattle.world_laws.proofs.Falls.WhereASideStands.{fell_unjoined}

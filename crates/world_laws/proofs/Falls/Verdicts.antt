@@ -13,8 +13,8 @@ use Rattle.path_agenda.specs.Words.{replaced}
 use Rattle.path_agenda.specs.declared.duty.Duty.{Duty}
 use Rattle.path_agenda.specs.declared.duty.Duty.TheVariants as duties
 use Rattle.path_agenda.specs.declared.duty.AskDuty.TheVariants as ask_duties
-use Rattle.path_rules.specs.Fallback.{is_fall, breaks_by, fell_duties}
-use Rattle.path_rules.specs.State.{PathState, end_at, left}
+use Rattle.path_core.specs.Fallback.{is_fall, breaks_by, fell_duties}
+use Rattle.path_core.specs.State.{PathState, end_at, left}
 
 breaks_so : (P : List Duty → Type 0) (s : Side) (reason : ℕ) (asked : Bool) → P (breaks s reason) → P (resets s reason) → P (breaks_by asked s reason)
 breaks_so P s reason true broken reset = broken

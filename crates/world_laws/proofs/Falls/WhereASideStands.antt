@@ -21,7 +21,7 @@ use Rattle.control_book.specs.Registry.{sole as sole_path}
 use Rattle.control_book.specs.Replies as control
 use Rattle.control_book.specs.Steps as controlling
 use Rattle.actor_desk.specs.declared.ask.Reply.TheVariants as replies
-use Rattle.path_rules.specs.Fallback.{is_fall}
+use Rattle.path_core.specs.Fallback.{is_fall}
 
 -- ---- plain TCP
 

@@ -20,19 +20,18 @@ use Rattle.path_agenda.specs.declared.duty.Duty.TheVariants as duties
 use Rattle.path_agenda.specs.declared.duty.AskDuty.TheVariants as ask_duties
 use Rattle.path_agenda.specs.declared.duty.StepDuty.TheVariants as step_duties
 use Rattle.path_agenda.specs.declared.heard.Heard.TheVariants as says
-use Rattle.path_rules.specs.Words.{item_at}
-use Rattle.path_rules.specs.Joining.{asked_at}
-use Rattle.path_rules.specs.Joins.{is_joined}
-use Rattle.path_rules.specs.State.{PathState, end_at}
-use Rattle.path_rules.specs.Turns.{FirstStands}
-use Rattle.path_rules.specs.Values.{Carried, values}
+use Rattle.path_core.specs.Choices.{item_at}
+use Rattle.path_core.specs.MpJoin.{asked_at, is_joined}
+use Rattle.path_core.specs.State.{PathState, end_at}
+use Rattle.path_core.specs.Turns.{FirstStands}
+use Rattle.path_core.specs.Values.{Carried, values}
 use Rattle.subflow_tcp.specs.declared.handshake.State.{State as EndPhase}
 use Rattle.subflow_tcp.specs.declared.handshake.State.TheVariants as phase
 use Rattle.subflow_tcp.specs.States.{may_finish}
 use Rattle.world_laws.specs.declared.member.Member.TheVariants.{App, Path}
 use Rattle.world_laws.specs.Actors.{Actor, ActorCrew, member_asks, member_takes, member_next}
 use Rattle.world_laws.specs.Laws.{Always}
-use Rattle.path_rules.specs.Starts.{waiting_path}
+use Rattle.path_core.specs.Start.{waiting_path}
 use Rattle.world_laws.specs.Openings.{Start, path_begins, opened_world}
 use Rattle.world_laws.specs.Worlds.{WorldState, Turn, crew_after, asked, stepped, all_over, greatest, begins, after_turn, world_run}
 use Rattle.world_laws.proofs.Weaving.Journals.{books_after}

@@ -29,25 +29,29 @@ use Rattle.path_agenda.specs.declared.duty.AskDuty.TheVariants as ask_duties
 use Rattle.path_agenda.specs.declared.duty.SendDuty.TheVariants as send_duties
 use Rattle.path_agenda.specs.declared.duty.SilentDuty.TheVariants as silent_duties
 use Rattle.path_agenda.specs.declared.duty.StepDuty.TheVariants as step_duties
-use Rattle.path_rules.specs.declared.event.Event.{Event}
-use Rattle.path_rules.specs.declared.event.Event.TheVariants as happenings
+use Rattle.path_core.specs.declared.events.Event.{Event}
+use Rattle.path_core.specs.declared.events.Event.TheVariants as happenings
 use Rattle.path_agenda.specs.Agenda.{rest_of_turn, emission, leaves, start_of_turn}
 use Rattle.path_agenda.specs.Words.{replaced}
 use Rattle.path_store.specs.declared.lines.LineLeft.{LineLeft}
-use Rattle.path_rules.specs.StreamEnds.{is_waiting}
-use Rattle.path_rules.specs.Codec.{Codec}
-use Rattle.path_rules.specs.Duties.{stands, ask_for, passed, answered}
-use Rattle.path_rules.specs.Emission.{first_unsent, data_stands, data_ask, after_timer}
-use Rattle.path_rules.specs.Ends.{PathEnd}
-use Rattle.path_rules.specs.Events.{tick_of, next_join, next_line, next_copy, next_fire, earlier, before, next_event, step_for, died, died_unless_dead, leaves_unless_dead, join_begun, after_line, at_tick, happens, happens_if, never_joined, with_priority}
+use Rattle.path_core.specs.DataFin.{is_waiting}
+use Rattle.path_core.specs.Codec.{Codec}
+use Rattle.path_core.specs.Duties.{stands, ask_for, passed, answered}
+use Rattle.path_core.specs.Emission.{first_unsent, data_stands, data_ask}
+use Rattle.path_core.specs.Timer.{after_timer, next_fire}
+use Rattle.path_core.specs.End.{PathEnd, died}
+use Rattle.path_core.specs.Events.{tick_of, next_join, next_line, next_copy, earlier, before, next_event, step_for, after_line, happens, happens_if}
+use Rattle.path_core.specs.Breaking.{died_unless_dead, leaves_unless_dead}
+use Rattle.path_core.specs.MpJoin.{join_begun, never_joined, keys_begun, is_never, opened_by}
+use Rattle.path_core.specs.State.{at_tick, PathState, end_at, goes_on, with_end, with_agenda, left, path_of}
+use Rattle.path_core.specs.Addresses.{with_priority}
 use Rattle.path_store.specs.declared.lines.LineAction.{LineAction}
 use Rattle.path_store.specs.declared.lines.LineAction.TheVariants as actions
-use Rattle.path_rules.specs.Joining.{keys_begun, is_never, opened_by}
-use Rattle.path_rules.specs.Standing.{after_look, after_ack_out, is_connected, may_note}
-use Rattle.path_rules.specs.Starts.{PathStart, first_state, waiting_path, first_turn}
-use Rattle.path_rules.specs.State.{PathState, Profile, end_at, goes_on, with_end, with_agenda, left, path_of}
-use Rattle.path_rules.specs.Steps.{settled, settles_down, asks_first, asks_of, answers, takes, next_round}
-use Rattle.path_rules.specs.Turns.{FirstStands, IsSettled}
+use Rattle.path_core.specs.Standing.{after_look, after_ack_out, is_connected, may_note}
+use Rattle.path_core.specs.Start.{PathStart, first_state, waiting_path, first_turn}
+use Rattle.path_core.specs.Profile.{Profile}
+use Rattle.path_core.specs.Steps.{settled, settles_down, asks_first, asks_of, answers, takes, next_round}
+use Rattle.path_core.specs.Turns.{FirstStands, IsSettled}
 
 -- ---- an end
 

@@ -44,34 +44,37 @@ use Rattle.path_agenda.specs.declared.duty.StepDuty.TheVariants as step_duties
 use Rattle.path_agenda.specs.declared.heard.Heard.{Heard}
 use Rattle.path_agenda.specs.declared.heard.Heard.TheVariants as says
 use Rattle.path_agenda.specs.declared.keys.KeyPair.{KeyPair}
-use Rattle.path_rules.specs.declared.event.Event.{Event}
-use Rattle.path_rules.specs.declared.event.Event.TheVariants as happenings
-use Rattle.path_rules.specs.declared.judged.Judged.{Judged}
-use Rattle.path_rules.specs.declared.judged.Judged.TheVariants as judged
-use Rattle.path_rules.specs.declared.modes.Modes.{Modes}
-use Rattle.path_rules.specs.Arriving.{after_judged, answered_in, asked_in, cleared_in, copy_judged, copy_of, held_of, hint_of, items_of, judged_in, options_heard, owes_by, reset_for, taken_as, template_by, template_judged, template_of, with_answer, with_held, HeardOption}
-use Rattle.path_rules.specs.Breaking.{break_ask, reset_of, reset_on, answered_break}
-use Rattle.path_rules.specs.Codec.{Codec}
-use Rattle.path_rules.specs.Duties.{stands, passed, answered, ask_for}
-use Rattle.path_rules.specs.Emission.{Grant, after_timer, fin_segment_of, grant_in, answered_grant, answered_data, first_unsent, having_sent_fin}
-use Rattle.path_rules.specs.Ends.{PathEnd}
-use Rattle.path_rules.specs.Events.{next_event, step_for, heard_in, at_tick, died, after_line, copy_heard, happens_if, join_begun, timer_fired, template_fired, never_joined, with_priority}
+use Rattle.path_core.specs.declared.events.Event.{Event}
+use Rattle.path_core.specs.declared.events.Event.TheVariants as happenings
+use Rattle.path_core.specs.declared.judged.Judged.{Judged}
+use Rattle.path_core.specs.declared.judged.Judged.TheVariants as judged
+use Rattle.path_core.specs.declared.modes.Modes.{Modes}
+use Rattle.path_core.specs.Arrival.{after_judged, asked_in, copy_judged, copy_of, judged_in, reset_for, template_by, template_judged, template_of, with_held, heard_in, copy_heard}
+use Rattle.path_core.specs.Judged.{answered_in, cleared_in, taken_as, with_answer}
+use Rattle.path_core.specs.DssIn.{held_of, HeardOption, with_learned, with_skipped, counts, is_acked, is_clash, with_acked, with_data_fin}
+use Rattle.path_core.specs.OptionsIn.{hint_of, items_of, options_heard, owes_by}
+use Rattle.path_core.specs.Breaking.{break_ask, reset_of, reset_on, answered_break, refusal_of}
+use Rattle.path_core.specs.Codec.{Codec}
+use Rattle.path_core.specs.Duties.{stands, passed, answered, ask_for}
+use Rattle.path_core.specs.Emission.{Grant, grant_in, answered_grant, answered_data, first_unsent, answer_occasion, answer_of, resend_occasion, dead_answer, resend_of}
+use Rattle.path_core.specs.Timer.{after_timer, timer_fired, template_fired}
+use Rattle.path_core.specs.DataFin.{fin_segment_of, having_sent_fin, after_pass_fin, answered_fin_heard, answered_plain_fin, is_fin_set}
+use Rattle.path_core.specs.End.{PathEnd, died}
+use Rattle.path_core.specs.Events.{next_event, step_for, after_line, happens_if}
+use Rattle.path_core.specs.State.{at_tick, PathState, end_at, goes_on, left, path_of, with_agenda, with_end}
+use Rattle.path_core.specs.MpJoin.{join_begun, never_joined, asked_at, is_never, join_heard_ask, join_taken, keys_begun, opened_by, with_mode_refused, is_joined, join_answer}
+use Rattle.path_core.specs.Addresses.{with_priority, after_peer_notice}
 use Rattle.path_store.specs.declared.lines.LineAction.{LineAction}
 use Rattle.path_store.specs.declared.lines.LineAction.TheVariants as actions
-use Rattle.path_rules.specs.Fallback.{is_fall, fell_ask, fell_in, after_fell, fell_duties, answered_fell, in_identity}
-use Rattle.path_rules.specs.Joining.{asked_at, is_never, join_heard_ask, join_taken, keys_begun, opened_by, refusal_of, with_mode_refused}
-use Rattle.path_rules.specs.Joins.{is_joined, join_answer}
-use Rattle.path_rules.specs.Opening.{after_keys, keys_in, opened_ask, answered_opened, peer_key_ask, answered_peer_key, with_peer_key}
-use Rattle.path_rules.specs.Passing.{after_pass_fin, answer_occasion, answer_of, resend_occasion, answered_fin_heard, answered_plain_fin, answered_piece, dead_answer, is_fin_set, is_placed, piece_of, resend_of}
-use Rattle.path_rules.specs.Deliver.{Piece, after_check, after_pieces, mapping_here, is_wrong, with_learned, with_skipped, forgotten_by}
-use Rattle.path_rules.specs.Handover.{sent_on}
-use Rattle.path_rules.specs.InfiniteSending.{may_go_infinite, with_infinite, book_answered}
-use Rattle.path_rules.specs.Standing.{after_ack_out, after_look, answered_ack_out, modes_told}
-use Rattle.path_rules.specs.State.{PathState, end_at, goes_on, left, path_of, with_agenda, with_end}
-use Rattle.path_rules.specs.Steps.{settled, answers, asks_of, asks_first, takes, begins_turn}
-use Rattle.path_rules.specs.Treating.{heard_ask, item_ask, plain_ack_ask, after_keep, answered_heard, answered_item, answered_plain_ack, breaks_by_ack, counts, is_acked, is_clash, is_dropped, item_of, item_passed, with_acked, with_data_fin, with_plain_ack}
-use Rattle.path_rules.specs.FastClosing.{is_stopped_by}
-use Rattle.path_rules.specs.Addressing.{after_peer_notice}
+use Rattle.path_core.specs.Fallback.{is_fall, fell_ask, fell_in, after_fell, fell_duties, answered_fell, in_identity, may_go_infinite, with_infinite, book_answered, plain_ack_ask, answered_plain_ack, breaks_by_ack, with_plain_ack}
+use Rattle.path_core.specs.MpCapable.{after_keys, keys_in, opened_ask, answered_opened, peer_key_ask, answered_peer_key, with_peer_key}
+use Rattle.path_core.specs.Deliver.{answered_piece, is_placed, piece_of, after_check, after_pieces, mapping_here, is_wrong, forgotten_by, after_keep, is_dropped}
+use Rattle.path_store.specs.Passing.{Piece}
+use Rattle.path_core.specs.Handover.{sent_on}
+use Rattle.path_core.specs.Standing.{after_ack_out, after_look, answered_ack_out, modes_told}
+use Rattle.path_core.specs.Steps.{settled, answers, asks_of, asks_first, takes, begins_turn}
+use Rattle.path_core.specs.Treating.{heard_ask, item_ask, answered_heard, answered_item, item_of, item_passed}
+use Rattle.path_core.specs.FastClose.{is_stopped_by}
 use Rattle.world_laws.proofs.Falls.FailedChecks.{check_failed_so, checked_so, fail_heard_so, failed_so, infinite_came_so, infinite_so}
 use Rattle.world_laws.proofs.Falls.Verdicts.{fell_cases}
 use Rattle.world_laws.proofs.Keys.AreDrawn.{Known}

@@ -26,7 +26,7 @@ use Rattle.actor_desk.specs.declared.ask.Reply.TheVariants as replies
 use Rattle.actor_desk.specs.Books.{books_in, after_entry}
 use Rattle.actor_desk.specs.Desk.{SixBooks, reply_of, after_ask, control_of}
 use Rattle.stream_apps.specs.AppSteps.{app_ask}
-use Rattle.path_rules.specs.Joining.{keys_begun}
+use Rattle.path_core.specs.MpJoin.{keys_begun, is_joined}
 use Rattle.stream_lanes.proofs.Lists.{in_map}
 use Rattle.path_agenda.specs.Agenda.{start_of_turn}
 use Rattle.path_agenda.specs.declared.duty.Duty.{Duty}
@@ -35,15 +35,15 @@ use Rattle.path_agenda.specs.declared.duty.AskDuty.TheVariants as ask_duties
 use Rattle.path_agenda.specs.declared.duty.SendDuty.TheVariants as send_duties
 use Rattle.path_agenda.specs.declared.duty.SilentDuty.TheVariants as silent_duties
 use Rattle.path_agenda.specs.declared.duty.StepDuty.TheVariants as step_duties
-use Rattle.path_rules.specs.Codec.{Codec}
-use Rattle.path_rules.specs.Duties.{stands, ask_for}
-use Rattle.path_rules.specs.Emission.{first_unsent, payload_size, may_send_data, may_ask, data_stands, data_ask}
-use Rattle.path_rules.specs.Ends.{PathEnd}
-use Rattle.path_rules.specs.Joins.{is_joined}
-use Rattle.path_rules.specs.Starts.{waiting_path}
-use Rattle.path_rules.specs.State.{PathState, Profile, with_agenda, end_at}
-use Rattle.path_rules.specs.Steps.{answers, asks_first, takes}
-use Rattle.path_rules.specs.Turns.{FirstStands, IsSettled}
+use Rattle.path_core.specs.Codec.{Codec}
+use Rattle.path_core.specs.Duties.{stands, ask_for}
+use Rattle.path_core.specs.Emission.{first_unsent, payload_size, may_send_data, may_ask, data_stands, data_ask}
+use Rattle.path_core.specs.End.{PathEnd}
+use Rattle.path_core.specs.Start.{waiting_path}
+use Rattle.path_core.specs.State.{PathState, with_agenda, end_at}
+use Rattle.path_core.specs.Profile.{Profile}
+use Rattle.path_core.specs.Steps.{answers, asks_first, takes}
+use Rattle.path_core.specs.Turns.{FirstStands, IsSettled}
 use Rattle.world_laws.specs.JoinsWait.{asks_for_a, WaitsSo, JoinsWait}
 use Rattle.world_laws.specs.Laws.{Always}
 use Rattle.world_laws.specs.Openings.{PathPlan, Start, path_begins, opened_world}
@@ -65,7 +65,7 @@ use Rattle.world_laws.proofs.Rounds.GrantAtOneDuty.{MayNotAsk, ask_isn't, asks_n
 use Rattle.world_laws.proofs.Keys.ToldAreOwn.{FellBack, fell_stays}
 use Rattle.fallback_state.specs.Table.{fall_step}
 use Rattle.fallback_state.specs.declared.fall.Event.{Event as FallEvent}
-use Rattle.path_rules.specs.Fallback.{is_fall}
+use Rattle.path_core.specs.Fallback.{is_fall}
 
 -- ---- what a path asks
 

@@ -42,16 +42,18 @@ use Rattle.path_agenda.specs.declared.duty.StepDuty.TheVariants as step_duties
 use Rattle.path_agenda.specs.declared.heard.Heard.{Heard}
 use Rattle.path_agenda.specs.declared.heard.Heard.TheVariants as says
 use Rattle.path_agenda.specs.declared.keys.KeyPair.{KeyPair}
-use Rattle.path_rules.specs.Breaking.{break_ask, reset_of}
-use Rattle.path_rules.specs.Duties.{ask_for}
-use Rattle.path_rules.specs.Joins.{is_joined}
-use Rattle.path_rules.specs.Opening.{peer_key_ask, opened_ask}
-use Rattle.path_rules.specs.Handover.{sends}
-use Rattle.path_rules.specs.Standing.{ack_out_ask}
-use Rattle.path_rules.specs.Starts.{waiting_path}
-use Rattle.path_rules.specs.State.{PathState, end_at}
-use Rattle.path_rules.specs.Steps.{asks_first, asks_of}
-use Rattle.path_rules.specs.Treating.{breaks_by_ack, plain_ack_ask, is_clash, fell_ask, mapping_ask, item_ask, item_of}
+use Rattle.path_core.specs.Breaking.{break_ask, reset_of}
+use Rattle.path_core.specs.Duties.{ask_for}
+use Rattle.path_core.specs.MpJoin.{is_joined}
+use Rattle.path_core.specs.MpCapable.{peer_key_ask, opened_ask}
+use Rattle.path_core.specs.Handover.{sends}
+use Rattle.path_core.specs.Standing.{ack_out_ask}
+use Rattle.path_core.specs.Start.{waiting_path}
+use Rattle.path_core.specs.State.{PathState, end_at}
+use Rattle.path_core.specs.Steps.{asks_first, asks_of}
+use Rattle.path_core.specs.Fallback.{breaks_by_ack, plain_ack_ask, fell_ask}
+use Rattle.path_core.specs.DssIn.{is_clash, mapping_ask}
+use Rattle.path_core.specs.Treating.{item_ask, item_of}
 use Rattle.fallback_state.specs.declared.fall.Event.{Event as FallEvent}
 use Rattle.fallback_state.specs.declared.fall.Event.TheVariants as events
 use Rattle.fallback_state.specs.declared.fall.Fall.{Fall}
@@ -61,7 +63,7 @@ use Rattle.fallback_state.specs.declared.fall.Verdict.{Verdict}
 use Rattle.fallback_state.specs.declared.fall.Verdict.TheVariants.{Stay, SendFail}
 use Rattle.fallback_state.specs.Modes.{is_starting, is_identity, reads_mappings, writes_mappings, receiving, sending}
 use Rattle.fallback_state.specs.Table.{after_plain, is_failed_path, goes, stays, breaks, fall_step}
-use Rattle.path_rules.specs.Values.{Carried, values}
+use Rattle.path_core.specs.Values.{Carried, values}
 use Rattle.world_laws.specs.declared.member.Member.TheVariants.{App, Path}
 use Rattle.world_laws.specs.Actors.{Actor, ActorCrew, is_over, member_asks, member_takes, member_next}
 use Rattle.world_laws.specs.Openings.{PathPlan, Start, path_begins, new_path, opened_world}

@@ -19,7 +19,7 @@ use Rattle.join_handshake.specs.declared.hearing.JoinAnswer.{JoinAnswer}
 use Rattle.join_handshake.specs.declared.fault.JoinFault.TheVariants.{BadHmac}
 use Rattle.join_handshake.specs.Heard.{answer_heard, answer_taken, syn_heard, third_heard}
 use Rattle.path_segments.specs.declared.segment.PathOption.TheVariants.{Join}
-use Rattle.path_segments.specs.Laws.{meant, window_told}
+use Rattle.path_segments.specs.Laws.{meant, window_told, meant_option}
 use Rattle.path_segments.specs.Spelled.{PlainSegment}
 use Rattle.subflow_tcp.specs.declared.handshake.State.{State as EndPhase}
 use Rattle.subflow_tcp.specs.declared.handshake.State.TheVariants as phase
@@ -35,19 +35,19 @@ use Rattle.path_agenda.specs.declared.heard.Heard.{Heard}
 use Rattle.path_agenda.specs.declared.heard.Heard.TheVariants as says
 use Rattle.path_agenda.specs.declared.heard.JoinStep.{JoinStep}
 use Rattle.path_agenda.specs.declared.heard.JoinStep.TheVariants as step
-use Rattle.path_rules.specs.declared.judged.Judged.TheVariants as judged
-use Rattle.path_rules.specs.Arriving.{copy_of, is_forged, is_passed_over, items_in, items_of, join_judged, judged_in}
-use Rattle.path_rules.specs.Ends.{PathEnd}
-use Rattle.path_rules.specs.Events.{heard_in}
-use Rattle.path_rules.specs.Joins.{is_joined, is_hmac_right, is_third_right, join_answer, join_asked, join_value, peer_key_of, third_in}
-use Rattle.path_rules.specs.State.{PathState, end_at}
-use Rattle.path_rules.specs.Values.{Carried, as_arrived, values}
+use Rattle.path_core.specs.declared.judged.Judged.TheVariants as judged
+use Rattle.path_core.specs.Arrival.{copy_of, judged_in, heard_in}
+use Rattle.path_core.specs.Judged.{is_forged, is_passed_over, join_judged}
+use Rattle.path_core.specs.OptionsIn.{items_in, items_of}
+use Rattle.path_core.specs.End.{PathEnd}
+use Rattle.path_core.specs.MpJoin.{is_joined, is_hmac_right, is_third_right, join_answer, join_asked, join_value, peer_key_of, third_in}
+use Rattle.path_core.specs.State.{PathState, end_at}
+use Rattle.path_core.specs.Values.{Carried, as_arrived, values}
 use Rattle.actor_desk.specs.declared.ask.Ask.{Ask}
 use Rattle.actor_desk.specs.declared.ask.Reply.{Reply}
 use Rattle.actor_desk.specs.Books.{books_in}
 use Rattle.actor_desk.specs.Desk.{SixBooks, reply_of}
 use Rattle.actor_desk.specs.Words.{is_nil}
-use Rattle.path_segments.specs.Laws.{meant_option}
 use Rattle.path_segments.specs.Options.{PlainOption}
 use Rattle.path_segments.specs.Heard.{HeardSegment}
 use Rattle.stream_lanes.proofs.Lists.{Every-nil, in_set, in_map}
@@ -55,7 +55,7 @@ use Rattle.world_laws.specs.declared.member.Member.TheVariants.{App, Path}
 use Rattle.world_laws.specs.Actors.{Actor, ActorCrew, member_asks, member_takes, member_next}
 use Rattle.world_laws.specs.Laws.{Always}
 use Rattle.world_laws.specs.Openings.{PathPlan, Start, path_begins, new_path, opened_world}
-use Rattle.path_rules.specs.Starts.{waiting_path}
+use Rattle.path_core.specs.Start.{waiting_path}
 use Rattle.world_laws.specs.Welcome.{IsWelcome, NextIsWelcome, WelcomesNext, EachCopyIsWelcome}
 use Rattle.world_laws.specs.Worlds.{WorldState, Turn, crew_after, asked, stepped, all_over, greatest, begins, after_turn, world_run}
 use Rattle.world_laws.proofs.Joins.TokensAgree.{WorldMet, run_met, opened_met}

@@ -40,18 +40,19 @@ use Rattle.path_agenda.specs.declared.duty.Duty.{Duty}
 use Rattle.path_agenda.specs.declared.duty.Duty.TheVariants as duties
 use Rattle.path_agenda.specs.declared.duty.AskDuty.TheVariants as ask_duties
 use Rattle.path_agenda.specs.declared.duty.StepDuty.TheVariants as step_duties
-use Rattle.path_rules.specs.declared.judged.Judged.{Judged}
-use Rattle.path_rules.specs.declared.judged.Judged.TheVariants as judged
-use Rattle.path_rules.specs.Arriving.{items_of, owing_if, reset_for, taken_as, template_judged, with_payload}
-use Rattle.path_rules.specs.Ends.{PathEnd}
-use Rattle.path_rules.specs.Joins.{is_joined, join_options}
-use Rattle.path_rules.specs.Passing.{outgoing_or}
-use Rattle.path_rules.specs.OptionsOut.{ack_said, capable_options, record_options, record_or_ack, record_said, segment_of, syn_ack_said, syn_options}
-use Rattle.path_rules.specs.State.{Profile}
-use Rattle.path_rules.specs.Words.{is_side_a}
+use Rattle.path_core.specs.declared.judged.Judged.{Judged}
+use Rattle.path_core.specs.declared.judged.Judged.TheVariants as judged
+use Rattle.path_core.specs.OptionsIn.{items_of}
+use Rattle.path_core.specs.Arrival.{owing_if, reset_for, template_judged, with_payload}
+use Rattle.path_core.specs.Judged.{taken_as}
+use Rattle.path_core.specs.End.{PathEnd}
+use Rattle.path_core.specs.MpJoin.{is_joined, join_options}
+use Rattle.path_core.specs.Emission.{outgoing_or}
+use Rattle.path_core.specs.OptionsOut.{ack_said, capable_options, record_options, record_or_ack, record_said, segment_of, syn_ack_said, syn_options}
+use Rattle.path_core.specs.Profile.{Profile}
+use Rattle.path_core.specs.Choices.{is_side_a}
 use Rattle.path_agenda.specs.declared.heard.JoinStep.TheVariants as step
-use Rattle.world_laws.proofs.Keys.WhatWakes.{is_opens}
-use Rattle.world_laws.proofs.Keys.WhatWakes.{is_lively}
+use Rattle.world_laws.proofs.Keys.WhatWakes.{is_opens, is_lively}
 
 -- ---- states
 

@@ -33,15 +33,18 @@ use Rattle.path_agenda.specs.declared.heard.Heard.TheVariants as says
 use Rattle.path_agenda.specs.declared.notice.PeerNotice.{PeerNotice}
 use Rattle.path_agenda.specs.declared.notice.PeerNotice.TheVariants as notes
 use Rattle.world_laws.proofs.Announcements.NothingKnown.{removed_each}
-use Rattle.path_rules.specs.declared.modes.Modes.{Modes}
-use Rattle.path_rules.specs.Arriving.{address_items, options_heard, ack_items, is_mapping, mapping_items, data_fin_items, infinite_items, map_items, first_items, key_items, join_items, items_in, items_of}
-use Rattle.path_rules.specs.Ends.{PathEnd}
-use Rattle.path_rules.specs.Joins.{is_joined, peer_key_of, join_options, third_options}
+use Rattle.path_core.specs.declared.modes.Modes.{Modes}
+use Rattle.path_core.specs.Addresses.{address_items}
+use Rattle.path_core.specs.OptionsIn.{options_heard, items_in, items_of}
+use Rattle.path_core.specs.DssIn.{ack_items, is_mapping, mapping_items, data_fin_items, infinite_items, map_items, first_items}
+use Rattle.path_core.specs.MpCapable.{key_items}
+use Rattle.path_core.specs.MpJoin.{join_items, is_joined, peer_key_of, join_options, third_options}
+use Rattle.path_core.specs.End.{PathEnd}
 use Rattle.path_store.specs.declared.infinite_mapping.InfiniteMapping.{InfiniteMapping}
-use Rattle.path_rules.specs.Infinite.{receives_infinite}
-use Rattle.path_rules.specs.OptionsOut.{announcement, capable_options, syn_options, key_options, opening_options, ack_options, fail_options, fail_beside, data_fin_mapping, is_first_piece, first_piece_options, mapped_options, piece_options, infinite_or, piece_mapping, owes_mapping, plain_options, fin_options, record_options, reset_options, broken_options, reset_said, ack_said, carried_said, syn_ack_said, record_or_ack}
-use Rattle.path_rules.specs.State.{Profile}
-use Rattle.path_rules.specs.OptionsOut.{noted_said}
+use Rattle.path_core.specs.Modes.{receives_infinite}
+use Rattle.path_core.specs.OptionsOut.{announcement, capable_options, syn_options, key_options, opening_options, ack_options, record_options, reset_options, broken_options, reset_said, ack_said, carried_said, syn_ack_said, record_or_ack, noted_said}
+use Rattle.path_core.specs.DssOut.{fail_options, fail_beside, data_fin_mapping, is_first_piece, first_piece_options, mapped_options, piece_options, infinite_or, piece_mapping, owes_mapping, plain_options, fin_options}
+use Rattle.path_core.specs.Profile.{Profile}
 use Rattle.path_agenda.specs.declared.notice.OwnNotice.{OwnNotice}
 use Rattle.path_agenda.specs.declared.notice.OwnNotice.TheVariants as own_notes
 use Rattle.dss_mapping.specs.Mappings.{octets_in}

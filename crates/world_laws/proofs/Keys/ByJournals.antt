@@ -37,11 +37,11 @@ use Rattle.stream_apps.specs.declared.duty.AppDuty.TheVariants as app_duties
 use Rattle.stream_apps.specs.Apps.{AppState}
 use Rattle.stream_apps.specs.AppSteps.{app_ask}
 use Rattle.path_agenda.specs.declared.duty.Duty.{Duty}
-use Rattle.path_rules.specs.Duties.{ask_for}
-use Rattle.path_rules.specs.FastClosing.{is_stopped_by}
-use Rattle.path_rules.specs.State.{PathState}
-use Rattle.path_rules.specs.Steps.{asks_first}
-use Rattle.path_rules.specs.Values.{Carried, values}
+use Rattle.path_core.specs.Duties.{ask_for}
+use Rattle.path_core.specs.FastClose.{is_stopped_by}
+use Rattle.path_core.specs.State.{PathState}
+use Rattle.path_core.specs.Steps.{asks_first}
+use Rattle.path_core.specs.Values.{Carried, values}
 use Rattle.world_laws.specs.AbortCause.{asks_fast_close, note_asks_fast_close, accepts_fast_close, entry_accepts, control_journal}
 use Rattle.world_laws.specs.Openings.{Start, opened_world}
 use Rattle.world_laws.specs.Outcomes.{tells_abort, note_tells, was_told}
@@ -55,7 +55,7 @@ use Rattle.world_laws.proofs.Keys.AreDrawn.{Deed}
 use Rattle.fallback_state.specs.declared.fall.Event.{Event as FallEvent}
 use Rattle.fallback_state.specs.Modes.{is_identity}
 use Rattle.control_book.specs.Registry.{sole as sole_path}
-use Rattle.path_rules.specs.Fallback.{is_fall}
+use Rattle.path_core.specs.Fallback.{is_fall}
 use Rattle.world_laws.proofs.Falls.ByTheJournal.{Was, was_now, was_stays}
 use Rattle.world_laws.proofs.Falls.WhereASideStands.{row_falls}
 

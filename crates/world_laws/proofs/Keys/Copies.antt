@@ -24,16 +24,18 @@ use Rattle.subflow_tcp.specs.Judging.{meaning_of}
 use Rattle.stream_lanes.specs.Words.{Every}
 use Rattle.path_agenda.specs.declared.duty.Duty.{Duty}
 use Rattle.path_agenda.specs.declared.heard.Heard.{Heard}
-use Rattle.path_rules.specs.declared.judged.Judged.{Judged}
-use Rattle.path_rules.specs.declared.judged.Judged.TheVariants as judged
-use Rattle.path_rules.specs.declared.modes.Modes.{Modes}
+use Rattle.path_core.specs.declared.judged.Judged.{Judged}
+use Rattle.path_core.specs.declared.judged.Judged.TheVariants as judged
+use Rattle.path_core.specs.declared.modes.Modes.{Modes}
 use Rattle.path_agenda.specs.Agenda.{emission}
-use Rattle.path_rules.specs.Arriving.{template_by, HeardOption, options_heard, asked_in, answered_in, cleared_in, copy_judged, copy_of, held_of, hint_of, items_of, is_forged, is_passed_over, join_judged, judged_in, owes_by, reset_for, taken_as, template_judged, template_of, with_answer, with_held}
-use Rattle.path_rules.specs.Ends.{PathEnd}
-use Rattle.path_rules.specs.Events.{heard_at, heard_in, at_tick, copy_heard}
-use Rattle.path_rules.specs.Joins.{is_joined, join_answer, join_asked}
-use Rattle.path_rules.specs.State.{PathState, end_at, with_end, goes_on}
-use Rattle.path_rules.specs.Values.{Carried, as_arrived, values}
+use Rattle.path_core.specs.Arrival.{template_by, asked_in, copy_judged, copy_of, judged_in, reset_for, template_judged, template_of, with_held, heard_at, heard_in, copy_heard}
+use Rattle.path_core.specs.DssIn.{HeardOption, held_of}
+use Rattle.path_core.specs.OptionsIn.{options_heard, hint_of, items_of, owes_by}
+use Rattle.path_core.specs.Judged.{answered_in, cleared_in, is_forged, is_passed_over, join_judged, taken_as, with_answer}
+use Rattle.path_core.specs.End.{PathEnd}
+use Rattle.path_core.specs.State.{at_tick, PathState, end_at, with_end, goes_on}
+use Rattle.path_core.specs.MpJoin.{is_joined, join_answer, join_asked}
+use Rattle.path_core.specs.Values.{Carried, as_arrived, values}
 use Rattle.world_laws.proofs.Keys.Held.{VoiceIs, arrived_is, in_removed, FlightIs, AreKnown, PathIs, end_is, goes_by, agenda_is, AnswerIs, answer_is_right}
 use Rattle.world_laws.proofs.Keys.AreDrawn.{Deed, Secrets, of_b, is_past, known_in, SegmentIs, ItemIs, ModesAre, EndIs, Needs, Knows, met_needs, needs_key, same_knows, same_modes, heard_items_are}
 use Rattle.world_laws.proofs.Keys.WhatWakes.{is_up, is_lively, arrived_waits, held_past, copy_up, copy_past, WakesNone, joined_wakes_none, Voice, speaks, came_said, came_calm, came_goes_on, same_or_calm}

@@ -35,35 +35,38 @@ use Rattle.path_agenda.specs.declared.heard.Heard.{Heard}
 use Rattle.path_agenda.specs.declared.heard.Heard.TheVariants as says
 use Rattle.path_agenda.specs.declared.keys.KeyPair.{KeyPair}
 use Rattle.key_material.specs.declared.address.Address.{Address}
-use Rattle.path_rules.specs.Arriving.{HeardOption, ack_items, map_items, key_items, join_items, address_items, item_removed, items_in, items_of, judged_in, template_by, template_judged, options_heard}
-use Rattle.path_rules.specs.Breaking.{answered_break, reset_on}
-use Rattle.path_rules.specs.Codec.{Codec}
-use Rattle.path_rules.specs.declared.event.Event.{Event}
-use Rattle.path_rules.specs.declared.event.Event.TheVariants as happenings
-use Rattle.path_rules.specs.declared.judged.Judged.{Judged}
-use Rattle.path_rules.specs.declared.judged.Judged.TheVariants as judged
-use Rattle.path_rules.specs.Duties.{stands, passed, answered}
-use Rattle.path_rules.specs.Emission.{Grant, grant_in, answered_grant, answered_data, first_unsent}
-use Rattle.path_rules.specs.Ends.{PathEnd}
-use Rattle.path_rules.specs.Events.{next_event, after_line, at_tick, died, died_unless_dead, join_begun, copy_heard, heard_in, template_fired, happens_if}
+use Rattle.path_core.specs.DssIn.{HeardOption, ack_items, map_items, with_learned, with_skipped, counts, is_clash, told_next, with_data_fin}
+use Rattle.path_core.specs.MpCapable.{key_items, answered_peer_key, answered_opened}
+use Rattle.path_core.specs.MpJoin.{join_items, join_begun, keys_begun, is_never, opened_by, join_taken, asked_at, is_joined}
+use Rattle.path_core.specs.Addresses.{address_items, item_removed}
+use Rattle.path_core.specs.OptionsIn.{items_in, items_of, options_heard}
+use Rattle.path_core.specs.Arrival.{judged_in, template_by, template_judged, copy_heard, heard_in}
+use Rattle.path_core.specs.Breaking.{answered_break, reset_on, died_unless_dead}
+use Rattle.path_core.specs.Codec.{Codec}
+use Rattle.path_core.specs.declared.events.Event.{Event}
+use Rattle.path_core.specs.declared.events.Event.TheVariants as happenings
+use Rattle.path_core.specs.declared.judged.Judged.{Judged}
+use Rattle.path_core.specs.declared.judged.Judged.TheVariants as judged
+use Rattle.path_core.specs.Duties.{stands, passed, answered}
+use Rattle.path_core.specs.Emission.{Grant, grant_in, answered_grant, answered_data, first_unsent}
+use Rattle.path_core.specs.End.{PathEnd, died}
+use Rattle.path_core.specs.Events.{next_event, after_line, happens_if}
+use Rattle.path_core.specs.State.{at_tick, PathState, end_at, goes_on, with_end, with_agenda}
+use Rattle.path_core.specs.Timer.{template_fired}
 use Rattle.path_store.specs.declared.lines.LineAction.{LineAction}
 use Rattle.path_store.specs.declared.lines.LineAction.TheVariants as actions
-use Rattle.path_rules.specs.Joining.{keys_begun, is_never, opened_by, join_taken, asked_at}
-use Rattle.path_rules.specs.Joins.{is_joined}
-use Rattle.path_rules.specs.Passing.{answered_piece, is_placed, is_fin_set, answered_fin_heard, piece_of, answered_plain_fin}
-use Rattle.path_rules.specs.Deliver.{Piece, is_wrong, forgotten_by, with_learned, with_skipped, mapping_here}
-use Rattle.path_rules.specs.Standing.{answered_ack_out}
-use Rattle.path_rules.specs.State.{PathState, end_at, goes_on, with_end, with_agenda}
-use Rattle.path_rules.specs.Steps.{settled, answers, takes, begins_turn, next_round}
-use Rattle.path_rules.specs.Turns.{FirstStands, IsSettled}
-use Rattle.path_rules.specs.Treating.{item_stands, counts, is_clash, told_next, with_data_fin, item_passed, answered_item, item_of, after_fell, fell_duties, answered_fell, answered_plain_ack, breaks_by_ack, with_plain_ack}
-use Rattle.path_rules.specs.Words.{item_at}
-use Rattle.path_rules.specs.Opening.{answered_peer_key, answered_opened}
-use Rattle.path_rules.specs.FastClosing.{is_stopped_by}
+use Rattle.path_core.specs.Deliver.{answered_piece, is_placed, piece_of, is_wrong, forgotten_by, mapping_here}
+use Rattle.path_core.specs.DataFin.{is_fin_set, answered_fin_heard, answered_plain_fin}
+use Rattle.path_store.specs.Passing.{Piece}
+use Rattle.path_core.specs.Standing.{answered_ack_out}
+use Rattle.path_core.specs.Steps.{settled, answers, takes, begins_turn, next_round}
+use Rattle.path_core.specs.Turns.{FirstStands, IsSettled}
+use Rattle.path_core.specs.Treating.{item_stands, item_passed, answered_item, item_of}
+use Rattle.path_core.specs.Fallback.{after_fell, fell_duties, answered_fell, answered_plain_ack, breaks_by_ack, with_plain_ack, after_check_failed, after_fail_heard}
+use Rattle.path_core.specs.Choices.{item_at}
+use Rattle.path_core.specs.FastClose.{is_stopped_by}
 use Rattle.world_laws.proofs.Falls.ClearStays.{maybe_end, passed_clear, answered_clear, Stays}
 use Rattle.world_laws.proofs.Falls.Verdicts.{fell_cases}
-use Rattle.path_rules.specs.FailedChecks.{after_check_failed}
-use Rattle.path_rules.specs.InfiniteSending.{after_fail_heard}
 use Rattle.world_laws.proofs.Falls.FailedChecks.{check_failed_so, fail_heard_so, infinite_came_so, fail_answered_so}
 
 -- ---- what a copy says, in its order

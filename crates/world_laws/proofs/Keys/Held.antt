@@ -50,18 +50,18 @@ use Rattle.path_agenda.specs.declared.notice.OwnNotice.{OwnNotice}
 use Rattle.path_agenda.specs.declared.notice.OwnNotice.TheVariants as own_notes
 use Rattle.path_agenda.specs.declared.notice.PeerNotice.{PeerNotice}
 use Rattle.path_agenda.specs.declared.notice.PeerNotice.TheVariants as peer_notes
-use Rattle.path_rules.specs.declared.modes.Modes.{Modes}
-use Rattle.path_rules.specs.Ends.{PathEnd}
-use Rattle.path_rules.specs.Events.{died, died_unless_dead}
+use Rattle.path_core.specs.declared.modes.Modes.{Modes}
+use Rattle.path_core.specs.End.{PathEnd, died}
+use Rattle.path_core.specs.Breaking.{died_unless_dead}
 use Rattle.path_agenda.specs.Items.{is_of_step, join_heard, key_heard, keys_heard}
-use Rattle.path_rules.specs.Joining.{joined_by, opened_by, syn_alone, is_listening, with_mode_refused}
-use Rattle.path_rules.specs.Joins.{is_joined, join_answer, join_asked, join_value, peer_key_of}
-use Rattle.path_rules.specs.Opening.{after_keys, keys_in}
-use Rattle.path_rules.specs.Handover.{sent_on}
-use Rattle.path_rules.specs.Standing.{modes_told}
-use Rattle.path_rules.specs.State.{PathState, Profile, end_at, with_end, with_agenda, goes_on, left}
-use Rattle.path_rules.specs.Fallback.{mode_in, fell_in, after_fell}
-use Rattle.path_rules.specs.Values.{Carried, as_arrived, carried_by, stripped, altered, values}
+use Rattle.path_core.specs.MpJoin.{joined_by, opened_by, syn_alone, is_listening, with_mode_refused, is_joined, join_answer, join_asked, join_value, peer_key_of}
+use Rattle.path_core.specs.MpCapable.{after_keys, keys_in}
+use Rattle.path_core.specs.Handover.{sent_on}
+use Rattle.path_core.specs.Standing.{modes_told}
+use Rattle.path_core.specs.State.{PathState, end_at, with_end, with_agenda, goes_on, left}
+use Rattle.path_core.specs.Profile.{Profile}
+use Rattle.path_core.specs.Fallback.{mode_in, fell_in, after_fell}
+use Rattle.path_core.specs.Values.{Carried, as_arrived, carried_by, stripped, altered, values}
 use Rattle.join_handshake.specs.Heard.{answer_heard, answer_taken, syn_heard}
 use Rattle.world_laws.proofs.Keys.AreDrawn.{Deed, Secrets, KeysFor, AddressIs, NoteIs, PeerNoteIs, ShownBy, twice, of_b, told_in, is_past, known_in, OfB, IsFor, sure_if, drawn_key, drawn_nonce, JoinIs, OptionIs, SegmentIs, ItemIs, ModesAre, EndIs, HasMet, Knows, met_needs, same_knows, same_end}
 use Rattle.world_laws.proofs.Keys.WhatWakes.{NoWaking, Voice, is_said_by, speaks, tail_speaks}

@@ -43,28 +43,31 @@ use Rattle.path_agenda.specs.declared.duty.StepDuty.TheVariants as step_duties
 use Rattle.path_agenda.specs.declared.heard.Heard.{Heard}
 use Rattle.path_agenda.specs.declared.heard.Heard.TheVariants as says
 use Rattle.path_agenda.specs.declared.keys.KeyPair.{KeyPair}
-use Rattle.path_rules.specs.declared.event.Event.{Event}
-use Rattle.path_rules.specs.declared.event.Event.TheVariants as happenings
-use Rattle.path_rules.specs.declared.judged.Judged.TheVariants as judged
-use Rattle.path_rules.specs.declared.modes.Modes.{Modes}
-use Rattle.path_rules.specs.Arriving.{after_judged, asked_in, copy_judged, copy_of, held_of, hint_of, items_of, judged_in, options_heard, owes_by, reset_for, taken_as, template_of, HeardOption}
-use Rattle.path_rules.specs.Duties.{stands, passed}
-use Rattle.path_rules.specs.Emission.{after_timer}
-use Rattle.path_rules.specs.Ends.{PathEnd}
-use Rattle.path_rules.specs.Events.{heard_at, heard_in, at_tick, died, after_line, copy_heard, happens_if, join_begun, timer_fired, template_fired, never_joined, step_for, with_priority}
+use Rattle.path_core.specs.declared.events.Event.{Event}
+use Rattle.path_core.specs.declared.events.Event.TheVariants as happenings
+use Rattle.path_core.specs.declared.judged.Judged.TheVariants as judged
+use Rattle.path_core.specs.declared.modes.Modes.{Modes}
+use Rattle.path_core.specs.Arrival.{after_judged, asked_in, copy_judged, copy_of, judged_in, reset_for, template_of, heard_at, heard_in, copy_heard}
+use Rattle.path_core.specs.DssIn.{held_of, HeardOption, with_learned, with_skipped, counts, with_data_fin}
+use Rattle.path_core.specs.OptionsIn.{hint_of, items_of, options_heard, owes_by}
+use Rattle.path_core.specs.Judged.{taken_as}
+use Rattle.path_core.specs.Duties.{stands, passed}
+use Rattle.path_core.specs.Timer.{after_timer, timer_fired, template_fired}
+use Rattle.path_core.specs.End.{PathEnd, died}
+use Rattle.path_core.specs.State.{at_tick, PathState, end_at, goes_on, with_agenda, with_end, path_of}
+use Rattle.path_core.specs.Events.{after_line, happens_if, step_for}
+use Rattle.path_core.specs.MpJoin.{join_begun, never_joined, is_never, keys_begun, opened_by, mode_refused, is_joined}
+use Rattle.path_core.specs.Addresses.{with_priority}
 use Rattle.path_store.specs.declared.lines.LineAction.{LineAction}
 use Rattle.path_store.specs.declared.lines.LineAction.TheVariants as actions
-use Rattle.path_rules.specs.Joining.{is_never, keys_begun, opened_by, mode_refused}
-use Rattle.path_rules.specs.Joins.{is_joined}
-use Rattle.path_rules.specs.Passing.{after_pass_fin}
-use Rattle.path_rules.specs.Deliver.{after_check, after_pieces, mapping_here, is_wrong, with_learned, with_skipped, forgotten_by}
-use Rattle.path_rules.specs.Handover.{sent_on}
-use Rattle.path_rules.specs.Standing.{modes_told}
-use Rattle.path_rules.specs.State.{PathState, end_at, goes_on, with_agenda, with_end, path_of}
-use Rattle.path_rules.specs.Steps.{settled}
-use Rattle.path_rules.specs.Treating.{after_keep, counts, is_dropped, item_of, item_passed, mode_in, with_data_fin, with_plain_ack}
-use Rattle.path_rules.specs.Fallback.{fell_in}
-use Rattle.path_rules.specs.Values.{Carried, values}
+use Rattle.path_core.specs.DataFin.{after_pass_fin}
+use Rattle.path_core.specs.Deliver.{after_check, after_pieces, mapping_here, is_wrong, forgotten_by, after_keep, is_dropped}
+use Rattle.path_core.specs.Handover.{sent_on}
+use Rattle.path_core.specs.Standing.{modes_told}
+use Rattle.path_core.specs.Steps.{settled}
+use Rattle.path_core.specs.Treating.{item_of, item_passed}
+use Rattle.path_core.specs.Fallback.{mode_in, with_plain_ack, fell_in}
+use Rattle.path_core.specs.Values.{Carried, values}
 use Rattle.world_laws.proofs.Keys.AnswerHeardFirst.{is_met, passed_met_state, is_accepts, Fits, fits, is_calm, signs, Fewer, same_duties, tail_fewer, new_duties, b_template, arrived_state, unmet_stays, a_template, a_signs}
 
 -- ---- what is told

@@ -26,19 +26,21 @@ use Rattle.path_agenda.specs.declared.duty.StepDuty.TheVariants as step_duties
 use Rattle.path_agenda.specs.declared.heard.Heard.{Heard}
 use Rattle.path_agenda.specs.declared.heard.Heard.TheVariants as says
 use Rattle.path_agenda.specs.declared.keys.KeyPair.{KeyPair}
-use Rattle.path_rules.specs.Breaking.{reset_of, reset_on, answered_break}
-use Rattle.path_rules.specs.Duties.{answered, ask_for}
-use Rattle.path_rules.specs.Emission.{Grant, fin_segment_of, grant_in, answered_grant, answered_data, first_unsent, having_sent_fin}
-use Rattle.path_rules.specs.Ends.{PathEnd}
-use Rattle.path_rules.specs.Events.{next_event, died}
-use Rattle.path_rules.specs.Joining.{asked_at, refusal_of, join_taken, joined_by, keys_begun, with_mode_refused, join_heard_ask}
-use Rattle.path_rules.specs.Opening.{after_keys, keys_in, opened_ask, answered_opened, peer_key_ask, answered_peer_key, with_peer_key}
-use Rattle.path_rules.specs.Passing.{answer_occasion, answer_of, resend_occasion, answered_fin_heard, answered_plain_fin, answered_piece, dead_answer, is_fin_set, is_placed, piece_of, resend_of}
-use Rattle.path_rules.specs.Deliver.{Piece, with_learned}
-use Rattle.path_rules.specs.Handover.{having_sent, sent_on}
-use Rattle.path_rules.specs.Standing.{after_ack_out, after_look, answered_ack_out}
-use Rattle.path_rules.specs.State.{PathState, end_at, goes_on, left, path_of, with_agenda}
-use Rattle.path_rules.specs.declared.modes.Modes.{Modes}
+use Rattle.path_core.specs.Breaking.{reset_of, reset_on, answered_break, refusal_of, break_ask}
+use Rattle.path_core.specs.Duties.{answered, ask_for}
+use Rattle.path_core.specs.Emission.{Grant, grant_in, answered_grant, answered_data, first_unsent, answer_occasion, answer_of, resend_occasion, dead_answer, resend_of}
+use Rattle.path_core.specs.DataFin.{fin_segment_of, having_sent_fin, answered_fin_heard, answered_plain_fin, is_fin_set}
+use Rattle.path_core.specs.End.{PathEnd, died}
+use Rattle.path_core.specs.Events.{next_event}
+use Rattle.path_core.specs.MpJoin.{asked_at, join_taken, joined_by, keys_begun, with_mode_refused, join_heard_ask, is_listening, syn_alone}
+use Rattle.path_core.specs.MpCapable.{after_keys, keys_in, opened_ask, answered_opened, peer_key_ask, answered_peer_key, with_peer_key}
+use Rattle.path_core.specs.Deliver.{answered_piece, is_placed, piece_of}
+use Rattle.path_store.specs.Passing.{Piece}
+use Rattle.path_core.specs.DssIn.{with_learned, is_acked, is_clash, with_acked, with_data_fin}
+use Rattle.path_core.specs.Handover.{having_sent, sent_on}
+use Rattle.path_core.specs.Standing.{after_ack_out, after_look, answered_ack_out}
+use Rattle.path_core.specs.State.{PathState, end_at, goes_on, left, path_of, with_agenda}
+use Rattle.path_core.specs.declared.modes.Modes.{Modes}
 use Rattle.send_book.specs.declared.call.SendCall.TheVariants as send_calls
 use Rattle.fallback_state.specs.declared.fall.Event.{Event as FallEvent}
 use Rattle.fallback_state.specs.declared.fall.Event.TheVariants as fall
@@ -46,16 +48,13 @@ use Rattle.fallback_state.specs.Modes.{is_starting}
 use Rattle.control_book.specs.declared.call.ControlCall.{ControlCall}
 use Rattle.control_book.specs.declared.call.ControlCall.TheVariants as control_calls
 use Rattle.actor_desk.specs.declared.ask.Ask.TheVariants as asks
-use Rattle.path_rules.specs.Steps.{settled, answers, asks_of, asks_first, takes, begins_turn}
-use Rattle.path_rules.specs.Breaking.{break_ask}
-use Rattle.path_rules.specs.Fallback.{fell_ask, fell_in, after_fell, fell_duties, answered_fell, in_identity}
-use Rattle.path_rules.specs.InfiniteSending.{may_go_infinite, with_infinite, book_answered}
-use Rattle.path_rules.specs.Treating.{heard_ask, item_ask, plain_ack_ask, breaks_by_ack, with_plain_ack, answered_plain_ack, answered_heard, answered_item, is_acked, is_clash, item_of, with_acked, with_data_fin}
-use Rattle.path_rules.specs.Values.{Carried, values}
+use Rattle.path_core.specs.Steps.{settled, answers, asks_of, asks_first, takes, begins_turn}
+use Rattle.path_core.specs.Fallback.{fell_ask, fell_in, after_fell, fell_duties, answered_fell, in_identity, may_go_infinite, with_infinite, book_answered, plain_ack_ask, breaks_by_ack, with_plain_ack, answered_plain_ack}
+use Rattle.path_core.specs.Treating.{heard_ask, item_ask, answered_heard, answered_item, item_of}
+use Rattle.path_core.specs.Values.{Carried, values}
 use Rattle.subflow_tcp.specs.Taking.{after_syn, unkept}
-use Rattle.path_rules.specs.Joining.{is_listening, syn_alone}
-use Rattle.path_rules.specs.Addressing.{after_peer_notice}
-use Rattle.path_rules.specs.FastClosing.{is_stopped_by}
+use Rattle.path_core.specs.Addresses.{after_peer_notice}
+use Rattle.path_core.specs.FastClose.{is_stopped_by}
 use Rattle.subflow_tcp.specs.declared.handshake.State.{State as EndPhase}
 use Rattle.subflow_tcp.specs.declared.handshake.State.TheVariants as phase
 use Rattle.world_laws.proofs.Falls.FailedChecks.{check_failed_so, checked_so, fail_heard_so, failed_so, infinite_came_so, infinite_so}

@@ -40,45 +40,42 @@ use Rattle.path_agenda.specs.declared.duty.AskDuty.TheVariants as ask_duties
 use Rattle.path_agenda.specs.declared.duty.SendDuty.TheVariants as send_duties
 use Rattle.path_agenda.specs.declared.duty.SilentDuty.TheVariants as silent_duties
 use Rattle.path_agenda.specs.declared.duty.StepDuty.TheVariants as step_duties
-use Rattle.path_rules.specs.declared.event.Event.{Event}
-use Rattle.path_rules.specs.declared.event.Event.TheVariants as happenings
+use Rattle.path_core.specs.declared.events.Event.{Event}
+use Rattle.path_core.specs.declared.events.Event.TheVariants as happenings
 use Rattle.path_agenda.specs.declared.heard.Heard.{Heard}
 use Rattle.path_agenda.specs.declared.heard.Heard.TheVariants as says
 use Rattle.path_agenda.specs.declared.keys.KeyPair.{KeyPair}
-use Rattle.path_rules.specs.declared.modes.Modes.{Modes}
+use Rattle.path_core.specs.declared.modes.Modes.{Modes}
 use Rattle.path_agenda.specs.Agenda.{emission, leaves, resets, rest_of_turn, start_of_turn, stops}
-use Rattle.path_rules.specs.Breaking.{reset_of, reset_on, answered_break}
-use Rattle.path_rules.specs.StreamEnds.{is_data_fin_owed}
-use Rattle.path_rules.specs.Duties.{stands, passed, answered, ask_for}
-use Rattle.path_rules.specs.Emission.{Grant, grant_in, answered_grant, answered_data, first_unsent, fin_segment_of, data_stands, fits, after_timer, having_sent_fin}
-use Rattle.path_rules.specs.Ends.{PathEnd, Notices as OwnNotices}
-use Rattle.path_rules.specs.Noticing.{after_notice}
-use Rattle.path_rules.specs.Events.{next_event, step_for, at_tick, died, path_died, after_line, happens_if, join_begun, timer_fired, template_fired, never_joined, with_priority}
+use Rattle.path_core.specs.Breaking.{reset_of, reset_on, answered_break, path_died, refusal_of, break_ask}
+use Rattle.path_core.specs.DataFin.{is_data_fin_owed, fin_segment_of, having_sent_fin, after_pass_fin, is_fin_set, answered_fin_heard, answered_plain_fin}
+use Rattle.path_core.specs.Duties.{stands, passed, answered, ask_for}
+use Rattle.path_core.specs.Emission.{Grant, grant_in, answered_grant, answered_data, first_unsent, data_stands, fits, answer_occasion, resend_occasion, first_record, answer_of, resend_of}
+use Rattle.path_core.specs.Timer.{after_timer, timer_fired, template_fired}
+use Rattle.path_core.specs.End.{PathEnd, died}
+use Rattle.path_core.specs.Notices.{Notices as OwnNotices, after_notice}
+use Rattle.path_core.specs.Events.{next_event, step_for, after_line, happens_if}
+use Rattle.path_core.specs.State.{at_tick, PathState, end_at, with_end, with_agenda, goes_on, left, path_of}
+use Rattle.path_core.specs.MpJoin.{join_begun, never_joined, asked_at, is_never, join_heard_ask, join_taken, joined_by, keys_begun, opened_by, with_mode_refused, is_joined}
+use Rattle.path_core.specs.Addresses.{with_priority, is_note_due, having_noted, note_of, after_peer_notice, with_echo}
 use Rattle.path_store.specs.declared.lines.LineAction.{LineAction}
 use Rattle.path_store.specs.declared.lines.LineAction.TheVariants as actions
 use Rattle.path_agenda.specs.Items.{key_heard, keys_heard}
-use Rattle.path_agenda.specs.Words.{replaced}
-use Rattle.path_rules.specs.Joining.{asked_at, is_never, join_heard_ask, join_taken, joined_by, keys_begun, opened_by, refusal_of, with_mode_refused}
-use Rattle.path_rules.specs.Joins.{is_joined}
-use Rattle.path_rules.specs.Opening.{peer_key_ask, opened_ask, answered_peer_key, answered_opened}
-use Rattle.path_rules.specs.Passing.{after_pass_fin, is_placed, piece_of, answered_piece, is_fin_set, answered_fin_heard, answered_plain_fin, answer_occasion, resend_occasion, first_record, answer_of, resend_of}
-use Rattle.path_rules.specs.Deliver.{Piece, with_learned, with_skipped, mapping_here, is_wrong, forgotten_by, after_pieces}
-use Rattle.path_rules.specs.OptionsOut.{ack_said, carried_said, syn_ack_said, record_or_ack}
-use Rattle.path_rules.specs.Standing.{answered_ack_out, after_look, is_connected, may_note, modes_told, notices_told}
-use Rattle.path_rules.specs.State.{PathState, end_at, with_end, with_agenda, goes_on, left, path_of}
-use Rattle.path_rules.specs.Steps.{settled, answers, asks_of, asks_first, takes, begins_turn}
-use Rattle.path_rules.specs.Turns.{FirstStands, IsSettled}
-use Rattle.path_rules.specs.Words.{is_side_a, item_at}
-use Rattle.path_rules.specs.Breaking.{break_ask}
-use Rattle.path_rules.specs.Fallback.{is_fall, fell_ask, in_identity, after_fell, fell_duties, answered_fell}
-use Rattle.path_rules.specs.FailedChecks.{answered_check_failed}
-use Rattle.path_rules.specs.InfiniteSending.{may_go_infinite, with_infinite, book_answered}
-use Rattle.path_rules.specs.Treating.{is_acked, is_dropped, with_acked, with_data_ack, counts, is_clash, with_data_fin, with_plain_ack, breaks_by_ack, answered_plain_ack, answered_heard, answered_item, item_of, item_passed, heard_ask, item_ask, plain_ack_ask}
-use Rattle.path_rules.specs.Values.{Carried, values}
-use Rattle.path_rules.specs.FastClosing.{is_stopped_by, fast_close_of, is_fast_close_due}
-use Rattle.path_rules.specs.Addressing.{is_note_due, having_noted, note_of, after_peer_notice, with_echo}
-use Rattle.path_rules.specs.Handover.{having_sent}
-use Rattle.path_agenda.specs.Words.{first_of}
+use Rattle.path_agenda.specs.Words.{replaced, first_of}
+use Rattle.path_core.specs.MpCapable.{peer_key_ask, opened_ask, answered_peer_key, answered_opened}
+use Rattle.path_core.specs.Deliver.{is_placed, piece_of, answered_piece, mapping_here, is_wrong, forgotten_by, after_pieces, is_dropped}
+use Rattle.path_store.specs.Passing.{Piece}
+use Rattle.path_core.specs.DssIn.{with_learned, with_skipped, is_acked, with_acked, with_data_ack, counts, is_clash, with_data_fin}
+use Rattle.path_core.specs.OptionsOut.{ack_said, carried_said, syn_ack_said, record_or_ack}
+use Rattle.path_core.specs.Standing.{answered_ack_out, after_look, is_connected, may_note, modes_told, notices_told}
+use Rattle.path_core.specs.Steps.{settled, answers, asks_of, asks_first, takes, begins_turn}
+use Rattle.path_core.specs.Turns.{FirstStands, IsSettled}
+use Rattle.path_core.specs.Choices.{is_side_a, item_at}
+use Rattle.path_core.specs.Fallback.{is_fall, fell_ask, in_identity, after_fell, fell_duties, answered_fell, answered_check_failed, may_go_infinite, with_infinite, book_answered, with_plain_ack, breaks_by_ack, answered_plain_ack, plain_ack_ask}
+use Rattle.path_core.specs.Treating.{answered_heard, answered_item, item_of, item_passed, heard_ask, item_ask}
+use Rattle.path_core.specs.Values.{Carried, values}
+use Rattle.path_core.specs.FastClose.{is_stopped_by, fast_close_of, is_fast_close_due}
+use Rattle.path_core.specs.Handover.{having_sent}
 use Rattle.world_laws.proofs.Worlds.Finding.{find_every, one_side}
 use Rattle.world_laws.proofs.Announcements.Queued.{announced_told, echo_queued, first_queued, look_queued, prio_queued, tail_queued}
 use Rattle.fallback_state.specs.declared.fall.Event.{Event as FallEvent}

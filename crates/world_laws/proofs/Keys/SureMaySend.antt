@@ -49,25 +49,29 @@ use Rattle.path_agenda.specs.declared.duty.StepDuty.TheVariants as step_duties
 use Rattle.path_agenda.specs.declared.heard.Heard.{Heard}
 use Rattle.path_agenda.specs.declared.heard.Heard.TheVariants as says
 use Rattle.path_agenda.specs.declared.keys.KeyPair.{KeyPair}
-use Rattle.path_rules.specs.Addressing.{notice_ask}
-use Rattle.path_rules.specs.declared.event.Event.{Event}
-use Rattle.path_rules.specs.declared.event.Event.TheVariants as happening
-use Rattle.path_rules.specs.Breaking.{break_ask, reset_of}
-use Rattle.path_rules.specs.Duties.{stands, ask_for, passed}
-use Rattle.path_rules.specs.Emission.{first_unsent, data_ask}
-use Rattle.path_rules.specs.Events.{next_event, step_for}
-use Rattle.path_rules.specs.Joining.{asked_at, join_heard_ask}
-use Rattle.path_rules.specs.Opening.{peer_key_ask, opened_ask}
-use Rattle.path_rules.specs.Passing.{piece_of, piece_ask, data_fin_of, fin_ask, rate_ask, plain_fin}
-use Rattle.path_rules.specs.Deliver.{Piece}
-use Rattle.path_rules.specs.Handover.{sends}
-use Rattle.path_rules.specs.Starts.{waiting_path}
-use Rattle.path_rules.specs.State.{PathState, end_at, path_of, with_agenda}
-use Rattle.path_rules.specs.Steps.{settled, asks_first, answers}
-use Rattle.path_rules.specs.Treating.{is_clash, fell_ask, mapping_ask, item_ask, item_of, plain_ack_ask, breaks_by_ack}
-use Rattle.path_rules.specs.Turns.{IsSettled}
-use Rattle.path_rules.specs.Values.{Carried, values}
-use Rattle.path_rules.specs.Words.{item_at}
+use Rattle.path_core.specs.Addresses.{notice_ask}
+use Rattle.path_core.specs.declared.events.Event.{Event}
+use Rattle.path_core.specs.declared.events.Event.TheVariants as happening
+use Rattle.path_core.specs.Breaking.{break_ask, reset_of}
+use Rattle.path_core.specs.Duties.{stands, ask_for, passed}
+use Rattle.path_core.specs.Emission.{first_unsent, data_ask}
+use Rattle.path_core.specs.Events.{next_event, step_for}
+use Rattle.path_core.specs.MpJoin.{asked_at, join_heard_ask}
+use Rattle.path_core.specs.MpCapable.{peer_key_ask, opened_ask}
+use Rattle.path_core.specs.Deliver.{piece_of, piece_ask}
+use Rattle.path_core.specs.DataFin.{data_fin_of, fin_ask, plain_fin}
+use Rattle.path_core.specs.Rate.{rate_ask}
+use Rattle.path_store.specs.Passing.{Piece}
+use Rattle.path_core.specs.Handover.{sends}
+use Rattle.path_core.specs.Start.{waiting_path}
+use Rattle.path_core.specs.State.{PathState, end_at, path_of, with_agenda}
+use Rattle.path_core.specs.Steps.{settled, asks_first, answers}
+use Rattle.path_core.specs.DssIn.{is_clash, mapping_ask}
+use Rattle.path_core.specs.Fallback.{fell_ask, plain_ack_ask, breaks_by_ack}
+use Rattle.path_core.specs.Treating.{item_ask, item_of}
+use Rattle.path_core.specs.Turns.{IsSettled}
+use Rattle.path_core.specs.Values.{Carried, values}
+use Rattle.path_core.specs.Choices.{item_at}
 use Rattle.world_laws.specs.Actors.{ActorCrew}
 use Rattle.world_laws.specs.Laws.{Always}
 use Rattle.world_laws.specs.Openings.{PathPlan, Start, path_begins, opened_world}

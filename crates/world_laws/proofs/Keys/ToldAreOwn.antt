@@ -42,34 +42,36 @@ use Rattle.path_agenda.specs.declared.duty.AskDuty.TheVariants as ask_duties
 use Rattle.path_agenda.specs.declared.duty.SendDuty.TheVariants as send_duties
 use Rattle.path_agenda.specs.declared.duty.SilentDuty.TheVariants as silent_duties
 use Rattle.path_agenda.specs.declared.duty.StepDuty.TheVariants as step_duties
-use Rattle.path_rules.specs.Addressing.{notice_ask}
-use Rattle.path_rules.specs.declared.event.Event.{Event}
-use Rattle.path_rules.specs.declared.event.Event.TheVariants as happening
+use Rattle.path_core.specs.Addresses.{notice_ask}
+use Rattle.path_core.specs.declared.events.Event.{Event}
+use Rattle.path_core.specs.declared.events.Event.TheVariants as happening
 use Rattle.path_agenda.specs.declared.heard.Heard.{Heard}
 use Rattle.path_agenda.specs.declared.heard.Heard.TheVariants as says
 use Rattle.path_agenda.specs.declared.keys.KeyPair.{KeyPair}
-use Rattle.path_rules.specs.Breaking.{break_ask, reset_of}
-use Rattle.path_rules.specs.Duties.{ask_for}
-use Rattle.path_rules.specs.Emission.{first_unsent, data_ask}
-use Rattle.path_rules.specs.Events.{next_event, step_for}
+use Rattle.path_core.specs.Breaking.{break_ask, reset_of}
+use Rattle.path_core.specs.Duties.{ask_for}
+use Rattle.path_core.specs.Emission.{first_unsent, data_ask}
+use Rattle.path_core.specs.Events.{next_event, step_for}
 use Rattle.path_agenda.specs.Items.{key_heard, keys_heard}
-use Rattle.path_rules.specs.Fallback.{fell_ask, is_fall}
-use Rattle.path_rules.specs.Opening.{peer_key_ask, opened_ask}
-use Rattle.path_rules.specs.Passing.{piece_of, piece_ask, data_fin_of, fin_ask, plain_fin, rate_ask}
-use Rattle.path_rules.specs.Deliver.{Piece}
-use Rattle.path_rules.specs.Handover.{sends}
-use Rattle.path_rules.specs.Starts.{first_turn, waiting_path}
-use Rattle.path_rules.specs.Joining.{asked_at, join_heard_ask, keys_begun}
-use Rattle.path_rules.specs.Joins.{is_joined}
-use Rattle.path_rules.specs.Turns.{IsSettled}
+use Rattle.path_core.specs.Fallback.{fell_ask, is_fall, breaks_by_ack, plain_ack_ask}
+use Rattle.path_core.specs.MpCapable.{peer_key_ask, opened_ask}
+use Rattle.path_core.specs.Deliver.{piece_of, piece_ask}
+use Rattle.path_core.specs.DataFin.{data_fin_of, fin_ask, plain_fin}
+use Rattle.path_core.specs.Rate.{rate_ask}
+use Rattle.path_store.specs.Passing.{Piece}
+use Rattle.path_core.specs.Handover.{sends}
+use Rattle.path_core.specs.Start.{first_turn, waiting_path}
+use Rattle.path_core.specs.MpJoin.{asked_at, join_heard_ask, keys_begun, is_joined}
+use Rattle.path_core.specs.Turns.{IsSettled}
 use Rattle.path_agenda.specs.Agenda.{start_of_turn}
 use Rattle.subflow_tcp.specs.State.{EndState}
 use Rattle.subflow_tcp.specs.States.{is_waiting}
-use Rattle.path_rules.specs.State.{PathState, end_at, with_agenda}
-use Rattle.path_rules.specs.Steps.{answers, asks_first, asks_of, next_round, takes}
-use Rattle.path_rules.specs.FastClosing.{is_stopped_by}
-use Rattle.path_rules.specs.Treating.{is_clash, breaks_by_ack, plain_ack_ask, mapping_ask, item_ask, item_of}
-use Rattle.path_rules.specs.Values.{Carried, values}
+use Rattle.path_core.specs.State.{PathState, end_at, with_agenda}
+use Rattle.path_core.specs.Steps.{answers, asks_first, asks_of, next_round, takes}
+use Rattle.path_core.specs.FastClose.{is_stopped_by}
+use Rattle.path_core.specs.DssIn.{is_clash, mapping_ask}
+use Rattle.path_core.specs.Treating.{item_ask, item_of}
+use Rattle.path_core.specs.Values.{Carried, values}
 use Rattle.world_laws.specs.declared.member.Member.TheVariants.{App, Path}
 use Rattle.world_laws.specs.Actors.{Actor, ActorCrew, member_asks, member_takes, member_next}
 use Rattle.world_laws.specs.Laws.{Always}

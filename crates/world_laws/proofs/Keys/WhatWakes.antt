@@ -34,18 +34,19 @@ use Rattle.path_agenda.specs.declared.duty.AskDuty.TheVariants as ask_duties
 use Rattle.path_agenda.specs.declared.duty.SendDuty.TheVariants as send_duties
 use Rattle.path_agenda.specs.declared.duty.StepDuty.TheVariants as step_duties
 use Rattle.path_agenda.specs.declared.heard.Heard.{Heard}
-use Rattle.path_rules.specs.Arriving.{join_judged, judged_of, taken_as, is_passed_over, is_forged, owing_if, with_payload}
-use Rattle.path_rules.specs.Emission.{after_timer}
-use Rattle.path_rules.specs.Ends.{PathEnd}
-use Rattle.path_rules.specs.Events.{tick_of, next_join, next_line, next_copy, next_fire, earlier, earliest, before, next_event}
-use Rattle.path_rules.specs.declared.event.Event.TheVariants as happenings
+use Rattle.path_core.specs.Judged.{join_judged, judged_of, taken_as, is_passed_over, is_forged}
+use Rattle.path_core.specs.Arrival.{owing_if, with_payload}
+use Rattle.path_core.specs.Timer.{after_timer, next_fire}
+use Rattle.path_core.specs.End.{PathEnd}
+use Rattle.path_core.specs.Events.{tick_of, next_join, next_line, next_copy, earlier, earliest, before, next_event}
+use Rattle.path_core.specs.declared.events.Event.TheVariants as happenings
 use Rattle.path_store.specs.declared.lines.LineLeft.{LineLeft}
 use Rattle.link_model.specs.declared.flight.Due.{Due}
 use Rattle.link_model.specs.Steps.{next_due}
-use Rattle.path_rules.specs.declared.event.Event.{Event}
-use Rattle.path_rules.specs.State.{PathState, end_at}
-use Rattle.path_rules.specs.Joins.{join_asked, join_answer}
-use Rattle.path_rules.specs.declared.judged.Judged.TheVariants as judged
+use Rattle.path_core.specs.declared.events.Event.{Event}
+use Rattle.path_core.specs.State.{PathState, end_at}
+use Rattle.path_core.specs.MpJoin.{join_asked, join_answer}
+use Rattle.path_core.specs.declared.judged.Judged.TheVariants as judged
 use Rattle.world_laws.proofs.Keys.AreDrawn.{is_past}
 
 -- ---- an end

@@ -32,28 +32,26 @@ use Rattle.path_agenda.specs.declared.duty.Duty.TheVariants as duties
 use Rattle.path_agenda.specs.declared.duty.SendDuty.TheVariants as send_duties
 use Rattle.path_agenda.specs.declared.duty.StepDuty.TheVariants as step_duties
 use Rattle.path_agenda.specs.declared.heard.Heard.TheVariants as says
-use Rattle.path_agenda.specs.Words.{replaced}
+use Rattle.path_agenda.specs.Words.{replaced, first_of}
 use Rattle.path_agenda.specs.declared.keys.KeyPair.{KeyPair}
-use Rattle.path_rules.specs.Breaking.{reset_of, reset_on, break_ask, answered_break}
-use Rattle.path_rules.specs.StreamEnds.{is_data_fin_owed, with_data_fin_sent}
+use Rattle.path_core.specs.Breaking.{reset_of, reset_on, break_ask, answered_break, refusal_of, answered_refusal}
+use Rattle.path_core.specs.DataFin.{is_data_fin_owed, with_data_fin_sent, data_fin_segment, having_sent_data_fin, fin_segment_of, having_sent_fin, answered_data_fin_sent, answered_fin}
 use Rattle.path_agenda.specs.Agenda.{leaves, resets}
-use Rattle.path_rules.specs.Emission.{first_unsent, unsent_segment, having_sent_unsent, data_fin_segment, having_sent_data_fin, fin_segment_of, having_sent_fin, answered_data_fin_sent, answered_fin}
-use Rattle.path_rules.specs.Ends.{PathEnd}
-use Rattle.path_rules.specs.Events.{died}
-use Rattle.path_rules.specs.Opening.{syn_ack_of}
-use Rattle.path_rules.specs.Joining.{keys_begun, asked_at, join_heard_ask, joined_by, join_taken, answered_join_heard, refusal_of, answered_refusal, with_mode_refused}
-use Rattle.path_rules.specs.Passing.{ack_resent, first_record, first_segment, answer_of, answer_occasion, answered_answer, answered_again, outgoing_or, dead_answer, answered_dead, resend_occasion, resend_of, answered_resend, rate_ask}
-use Rattle.path_rules.specs.OptionsOut.{ack_said, carried_said, syn_ack_said, record_or_ack, reset_options, segment_of}
-use Rattle.path_rules.specs.Handover.{sends, having_sent, sent_on}
-use Rattle.path_rules.specs.Standing.{ack_out_ask, after_ack_out, answered_ack_out, ack_segment}
-use Rattle.path_rules.specs.State.{PathState, Profile, end_at, goes_on, left, with_agenda}
-use Rattle.path_rules.specs.Values.{Carried, values}
-use Rattle.path_rules.specs.Words.{is_side_a, item_at}
-use Rattle.path_rules.specs.FastClosing.{answered_fast_close, fast_close_of, having_fast_closed, with_fast_closed}
-use Rattle.path_rules.specs.OptionsOut.{noted_said}
-use Rattle.path_rules.specs.Addressing.{note_of, with_noted, having_noted, answered_note}
+use Rattle.path_core.specs.Emission.{first_unsent, unsent_segment, having_sent_unsent, ack_resent, first_record, first_segment, answer_of, answer_occasion, answered_answer, answered_again, outgoing_or, dead_answer, answered_dead, resend_occasion, resend_of, answered_resend}
+use Rattle.path_core.specs.End.{PathEnd, died}
+use Rattle.path_core.specs.MpCapable.{syn_ack_of}
+use Rattle.path_core.specs.MpJoin.{keys_begun, asked_at, join_heard_ask, joined_by, join_taken, answered_join_heard, with_mode_refused}
+use Rattle.path_core.specs.Rate.{rate_ask}
+use Rattle.path_core.specs.OptionsOut.{ack_said, carried_said, syn_ack_said, record_or_ack, reset_options, segment_of, noted_said}
+use Rattle.path_core.specs.Handover.{sends, having_sent, sent_on}
+use Rattle.path_core.specs.Standing.{ack_out_ask, after_ack_out, answered_ack_out, ack_segment}
+use Rattle.path_core.specs.State.{PathState, end_at, goes_on, left, with_agenda}
+use Rattle.path_core.specs.Profile.{Profile}
+use Rattle.path_core.specs.Values.{Carried, values}
+use Rattle.path_core.specs.Choices.{is_side_a, item_at}
+use Rattle.path_core.specs.FastClose.{answered_fast_close, fast_close_of, having_fast_closed, with_fast_closed}
+use Rattle.path_core.specs.Addresses.{note_of, with_noted, having_noted, answered_note}
 use Rattle.path_agenda.specs.declared.notice.OwnNotice.{OwnNotice}
-use Rattle.path_agenda.specs.Words.{first_of}
 use Rattle.world_laws.proofs.Lanes.Doing.{has_last, with_fin_sent, fin_goes, wants_ack_out, with_plain_pair, sends_plain_pair, plain_pair_goes, plain_pair_told}
 use Rattle.world_laws.proofs.Lanes.Growing.{receiver_stays, sender_pairs}
 use Rattle.world_laws.proofs.Lanes.Ending.{Did, did_nothing, told_end, finished_shows, unfinished_if}

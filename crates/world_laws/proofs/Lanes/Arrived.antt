@@ -27,12 +27,15 @@ use Rattle.stream_lanes.specs.Lane.{Lane, AckCopy}
 use Rattle.stream_lanes.proofs.Lists.{Every-nil, Every-map}
 use Rattle.actor_desk.specs.Words.{is_nil}
 use Rattle.path_agenda.specs.declared.heard.Heard.{Heard}
-use Rattle.path_rules.specs.Arriving.{asked_in, is_taken, copy_of, items_of, hint_of, owing_if, owes_by, with_payload, judged_in, taken_as, after_judged, HeardOption, acknowledged_in, after_join, answered_in, cleared_in, held_of, with_answer, with_held}
-use Rattle.path_rules.specs.Ends.{PathEnd}
-use Rattle.path_rules.specs.Joins.{is_joined, join_asked, join_answer}
-use Rattle.path_rules.specs.State.{Profile}
-use Rattle.path_rules.proofs.Judgements.{judged_taken}
-use Rattle.path_rules.specs.declared.modes.Modes.{Modes}
+use Rattle.path_core.specs.Arrival.{asked_in, copy_of, owing_if, with_payload, judged_in, after_judged, acknowledged_in, with_held}
+use Rattle.path_core.specs.Judged.{is_taken, taken_as, after_join, answered_in, cleared_in, with_answer}
+use Rattle.path_core.specs.OptionsIn.{items_of, hint_of, owes_by}
+use Rattle.path_core.specs.DssIn.{HeardOption, held_of}
+use Rattle.path_core.specs.End.{PathEnd}
+use Rattle.path_core.specs.MpJoin.{is_joined, join_asked, join_answer}
+use Rattle.path_core.specs.Profile.{Profile}
+use Rattle.path_core.proofs.Judgements.{judged_taken}
+use Rattle.path_core.specs.declared.modes.Modes.{Modes}
 use Rattle.world_laws.proofs.Lanes.Arriving.{Halves, options_say, options_hold, taken_both, syn_both, syn_ack_both}
 use Rattle.world_laws.proofs.Lanes.Ending.{Did, Alike, then_alike, alike_pairs}
 use Rattle.world_laws.proofs.Lanes.Growing.{SenderGoes, ReceiverGoes, Longer, sender_stays, receiver_stays, heard_longer, segment_longer, kept_longer}

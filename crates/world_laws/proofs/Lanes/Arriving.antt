@@ -32,10 +32,11 @@ use Rattle.stream_lanes.proofs.Lists.{Every-nil, Every-append}
 use Rattle.path_agenda.specs.declared.heard.Heard.{Heard}
 use Rattle.path_agenda.specs.declared.heard.Heard.TheVariants as says
 use Rattle.path_agenda.specs.declared.notice.PeerNotice.TheVariants as notes
-use Rattle.path_rules.specs.Arriving.{ack_items, is_mapping, mapping_items, map_items, first_items, key_items, join_items, items_in, held_if, map_held, key_held, held_in, checksum_heard}
-use Rattle.path_rules.specs.Joins.{is_joined}
-use Rattle.path_rules.specs.Deliver.{kept_of}
-use Rattle.path_rules.specs.State.{Profile}
+use Rattle.path_core.specs.DssIn.{ack_items, is_mapping, mapping_items, map_items, first_items, held_if, map_held, key_held, held_in, checksum_heard, kept_of}
+use Rattle.path_core.specs.MpCapable.{key_items}
+use Rattle.path_core.specs.MpJoin.{join_items, is_joined}
+use Rattle.path_core.specs.OptionsIn.{items_in}
+use Rattle.path_core.specs.Profile.{Profile}
 use Rattle.world_laws.proofs.Lanes.Hearing.{state_shows, handshake_back, fin_acked_back}
 use Rattle.world_laws.proofs.Announcements.NothingKnown.{noted, removed_noted, address_noted}
 use Rattle.world_laws.proofs.Lanes.Records.{acknowledged_shows, every_cons}

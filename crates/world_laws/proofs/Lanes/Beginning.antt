@@ -22,11 +22,12 @@ use Rattle.stream_apps.specs.Apps.{AppState}
 use Rattle.stream_apps.specs.AppSteps.{start_of_app}
 use Rattle.stream_apps.specs.Starts.{fast_close_of, untouched, first_app_turn}
 use Rattle.path_agenda.specs.Agenda.{start_of_turn}
-use Rattle.path_rules.specs.Ends.{opening_end}
-use Rattle.path_rules.specs.Starts.{first_state, waiting_path, first_turn}
-use Rattle.path_rules.specs.State.{PathState, Profile, with_agenda}
-use Rattle.path_rules.specs.Turns.{IsSettled}
-use Rattle.path_rules.specs.Values.{Carried, values}
+use Rattle.path_core.specs.End.{opening_end}
+use Rattle.path_core.specs.Start.{first_state, waiting_path, first_turn}
+use Rattle.path_core.specs.State.{PathState, with_agenda}
+use Rattle.path_core.specs.Profile.{Profile}
+use Rattle.path_core.specs.Turns.{IsSettled}
+use Rattle.path_core.specs.Values.{Carried, values}
 use Rattle.world_laws.specs.Openings.{PathPlan, Start, path_begins, opened_world}
 use Rattle.world_laws.specs.Worlds.{WorldState, Turn, after_turn, world_run}
 use Rattle.world_laws.proofs.Lanes.Applying.{Reads, settled_app}

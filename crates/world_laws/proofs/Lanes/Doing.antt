@@ -1,5 +1,5 @@
 -- What an end does: the lanes go on by what its sender's half and its receiver's half do, and show the end as it is then.
-use Rattle.stream_lanes.specs.Moves.{sub_next}
+use Rattle.stream_lanes.specs.Moves.{sub_next, Move, place_by, shifted, hears_sub as hears_by_sub, sends_fin_pair, sends_altered, bytes_of, cells_from, hears, hears_data_fin, sends_piece, is_whole, known, later_end, takes_grant, takes_ack_out, ack_copy}
 use Rattle.std.proofs.Common.{◌≡◌, refl, sym, ◌∙◌, ap, ℕ, suc, ◌+◌, ◌-◌, ◌*◌, ◌/◌, ◌%◌, ◌^◌, ◌<◌, ◌≤◌, min, ◌&&◌, nat_le, nat_lt, Bool, true, false, if◌then◌else◌, Option, Some, List, [], ◌∷◌, ◌++◌, length, take, drop, arith, subst}
 use Rattle.std.proofs.lemmas.Bool.{and_from, le-leb, lt-ltb}
 use Rattle.std.proofs.lemmas.List.{append-nil, append_assoc}
@@ -11,15 +11,14 @@ use Rattle.send_book.specs.declared.call.SendReply.TheVariants as send_replies
 use Rattle.reassembly_book.specs.declared.call.ReassemblyReply.TheVariants as reassembly_replies
 use Rattle.stream_lanes.specs.Lane.{Cell, Mapping, Pair, DataCopy, AckCopy, Lane}
 use Rattle.stream_lanes.specs.Lane.Ask.{Nothing, AskGrant, AskAckIn, AskFin, AskAckOut}
-use Rattle.stream_lanes.specs.Moves.{Move, place_by, shifted, hears_sub as hears_by_sub, sends_fin_pair, sends_altered, bytes_of, cells_from, hears, hears_data_fin, sends_piece, is_whole, known, later_end, takes_grant, takes_ack_out, ack_copy}
 use Rattle.stream_lanes.specs.Moves.Move.{SendPair, SendPlainPair, SendFinPair, HearSubAck, WantGrant, HearAck, SendPiece, SendAltered, SendDataFin, SendFin, HearDataFin, WantAckOut, SendAck, WantFin}
 use Rattle.stream_lanes.specs.Words.{Has}
 use Rattle.stream_lanes.proofs.Lists.{Has-more}
 use Rattle.ones_sum.specs.Words.{with_bit_turned}
 use Rattle.segment_wire.specs.Changes.{with_turned_bit}
 use Rattle.path_segments.specs.Spelling.{numbers_of}
-use Rattle.path_rules.specs.OptionsOut.{bare_mapping, place_numbered, mapping_of}
-use Rattle.path_rules.specs.State.{Profile}
+use Rattle.path_core.specs.DssOut.{bare_mapping, place_numbered, mapping_of}
+use Rattle.path_core.specs.Profile.{Profile}
 use Rattle.world_laws.proofs.Lanes.Growing.{SenderGoes, ReceiverGoes}
 use Rattle.world_laws.proofs.Lanes.Roads.{moves, Strolls, one_move, then_strolls}
 use Rattle.world_laws.proofs.Lanes.Showing.{HasPair, HasAck, HasData, HasNumber, WindowShows, HasNone, HasSub, IsSummed}

@@ -29,13 +29,13 @@ use Rattle.stream_lanes.proofs.Lists.{Every-map, Every-push, Has-more, IfSome-ma
 use Rattle.stream_lanes.specs.Holding.{HasPlace}
 use Rattle.actor_desk.specs.declared.ask.Reply.TheVariants as replies
 use Rattle.path_store.specs.declared.infinite_mapping.InfiniteMapping.{InfiniteMapping}
-use Rattle.path_rules.specs.declared.modes.Modes.{Modes}
-use Rattle.path_rules.specs.Ends.{PathEnd}
-use Rattle.path_rules.specs.Emission.{granted, granted_at, refused}
-use Rattle.path_rules.specs.Standing.{after_ack_out}
-use Rattle.path_rules.specs.State.{Profile}
-use Rattle.path_rules.specs.Treating.{acked_in}
-use Rattle.path_rules.specs.Words.{told_last}
+use Rattle.path_core.specs.declared.modes.Modes.{Modes}
+use Rattle.path_core.specs.End.{PathEnd}
+use Rattle.path_core.specs.Emission.{granted, granted_at, refused}
+use Rattle.path_core.specs.Standing.{after_ack_out}
+use Rattle.path_core.specs.Profile.{Profile}
+use Rattle.path_core.specs.DataFin.{acked_in}
+use Rattle.path_core.specs.Choices.{told_last}
 use Rattle.path_store.specs.Granted.{is_open}
 use Rattle.world_laws.proofs.Lanes.Doing.{copy_granted, altered_granted, turned_granted, place_is, told_lane, ack_moves, told_goes, told_windows, with_piece, granted_lane, sends_the_piece, piece_goes, refused_lane, with_end, sends_the_end, end_goes, with_fin_sent, fin_goes, length-granted, has_last, told_sub, granted_summed}
 use Rattle.world_laws.proofs.Lanes.Growing.{SenderGoes, ReceiverGoes, sender_stays, receiver_stays, Longer, sent_longer, data_longer, mapping_longer, fin_longer, same_edge, summed_longer, sender_pairs}

@@ -21,13 +21,14 @@ use Rattle.stream_lanes.specs.Moves.{bytes_of}
 use Rattle.stream_lanes.proofs.Lists.{Every-map, Has-more, IfSome-map}
 use Rattle.path_agenda.specs.declared.heard.Heard.{Heard}
 use Rattle.path_agenda.specs.declared.heard.Heard.TheVariants as says
-use Rattle.path_rules.specs.Ends.{PathEnd, Treated}
+use Rattle.path_core.specs.End.{PathEnd}
+use Rattle.path_core.specs.Treated.{Treated}
 use Rattle.path_store.specs.declared.infinite_mapping.InfiniteMapping.{InfiniteMapping}
-use Rattle.path_rules.specs.declared.modes.Modes.{Modes}
-use Rattle.path_rules.specs.Joins.{join_asked}
-use Rattle.path_rules.specs.State.{Profile}
-use Rattle.path_rules.specs.OptionsOut.{bare_mapping}
-use Rattle.path_rules.specs.Arriving.{checksum_heard}
+use Rattle.path_core.specs.declared.modes.Modes.{Modes}
+use Rattle.path_core.specs.MpJoin.{join_asked}
+use Rattle.path_core.specs.Profile.{Profile}
+use Rattle.path_core.specs.DssOut.{bare_mapping}
+use Rattle.path_core.specs.DssIn.{checksum_heard}
 use Rattle.world_laws.proofs.Lanes.Showing.{HasAck, HasSub, HasNone, HasData, HasMapping, HasNumber, HasFin, HasPair, PairTold, OwnIs, PairsShow, Knowledge, identity_of, knowledge_of, SenderShows, Under, IsAtEdge, IsPastFin, AcksShow, ReceiverShows, ItemShows, TreatedShows, EndShows, MappingShows, KeysShow, OptionShows, SegmentShows, IsSummed, KeptSummed}
 use Rattle.dss_mapping.specs.Mappings.{octets_of}
 use Rattle.segment_wire.specs.Changes.{with_turned_bit}

@@ -20,20 +20,24 @@ use Rattle.actor_desk.specs.declared.ask.Ask.{Ask}
 use Rattle.actor_desk.specs.declared.ask.Reply.{Reply}
 use Rattle.actor_desk.specs.Desk.{SixBooks}
 use Rattle.actor_desk.specs.Words.{pick, tail_of}
-use Rattle.path_rules.specs.declared.event.Event.{Event}
-use Rattle.path_rules.specs.declared.event.Event.TheVariants as happenings
+use Rattle.path_core.specs.declared.events.Event.{Event}
+use Rattle.path_core.specs.declared.events.Event.TheVariants as happenings
 use Rattle.path_store.specs.declared.lines.LineLeft.{LineLeft}
 use Rattle.path_agenda.specs.declared.duty.Duty.{Duty}
 use Rattle.path_agenda.specs.Agenda.{rest_of_turn, emission, leaves, announces, withdraws}
-use Rattle.path_rules.specs.Arriving.{items_of, judged_in, after_judged, template_of}
-use Rattle.path_rules.specs.Ends.{PathEnd}
-use Rattle.path_rules.specs.Joining.{is_never, keys_begun, opened_by}
-use Rattle.path_rules.specs.Joins.{is_joined}
-use Rattle.path_rules.specs.Events.{step_for, at_tick, died, join_begun, path_died, after_line, line_taken, heard_in, copy_heard, copy_taken, after_firing, template_fired, timer_fired, happens, happens_if, told_at, never_joined, with_priority}
+use Rattle.path_core.specs.OptionsIn.{items_of}
+use Rattle.path_core.specs.Arrival.{judged_in, after_judged, template_of, heard_in, copy_heard, copy_taken, told_at}
+use Rattle.path_core.specs.End.{PathEnd, died}
+use Rattle.path_core.specs.MpJoin.{is_never, keys_begun, opened_by, is_joined, join_begun, never_joined}
+use Rattle.path_core.specs.Events.{step_for, after_line, line_taken, happens, happens_if}
+use Rattle.path_core.specs.State.{at_tick, PathState, end_at, path_of, goes_on, with_agenda}
+use Rattle.path_core.specs.Breaking.{path_died}
+use Rattle.path_core.specs.Timer.{after_firing, template_fired, timer_fired}
+use Rattle.path_core.specs.Addresses.{with_priority}
 use Rattle.path_store.specs.declared.lines.LineAction.{LineAction}
 use Rattle.path_store.specs.declared.lines.LineAction.TheVariants as actions
-use Rattle.path_rules.specs.State.{PathState, end_at, path_of, goes_on, with_agenda, Profile}
-use Rattle.path_rules.specs.Values.{Carried, as_arrived, values}
+use Rattle.path_core.specs.Profile.{Profile}
+use Rattle.path_core.specs.Values.{Carried, as_arrived, values}
 use Rattle.world_laws.proofs.Lanes.Arrived.{arrived_end}
 use Rattle.world_laws.proofs.Lanes.Ending.{Did, did_nothing}
 use Rattle.world_laws.proofs.Lanes.OfAWorld.{Others, duo_at}

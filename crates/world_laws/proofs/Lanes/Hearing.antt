@@ -17,7 +17,7 @@ use Rattle.subflow_tcp.specs.State.{EndState, is_at_limit}
 use Rattle.subflow_tcp.specs.States as states
 use Rattle.stream_lanes.specs.Lane.{Lane}
 use Rattle.world_laws.proofs.Lanes.Showing.{Under, Knowledge, is_unfinished, SenderShows, ReceiverShows}
-use Rattle.path_rules.specs.State.{Profile}
+use Rattle.path_core.specs.Profile.{Profile}
 
 -- ---- fewer octets
 

@@ -28,13 +28,13 @@ use Rattle.path_agenda.specs.declared.duty.Duty.TheVariants as duties
 use Rattle.path_agenda.specs.declared.duty.AskDuty.TheVariants as ask_duties
 use Rattle.path_agenda.specs.declared.duty.StepDuty.TheVariants as step_duties
 use Rattle.path_agenda.specs.declared.heard.Heard.TheVariants as says
-use Rattle.path_rules.specs.Words.{item_at}
-use Rattle.path_rules.specs.State.{PathState, end_at}
-use Rattle.path_rules.specs.Shown.{AltersNothing}
-use Rattle.path_rules.specs.Treating.{item_ask, item_of}
-use Rattle.path_rules.specs.Turns.{IsSettled}
+use Rattle.path_core.specs.Choices.{item_at}
+use Rattle.path_core.specs.State.{PathState, end_at}
+use Rattle.path_core.specs.Shown.{AltersNothing}
+use Rattle.path_core.specs.Treating.{item_ask, item_of}
+use Rattle.path_core.specs.Turns.{IsSettled}
 use Rattle.link_model.specs.Steps.{lines_of}
-use Rattle.path_rules.specs.Values.{Carried, values}
+use Rattle.path_core.specs.Values.{Carried, values}
 use Rattle.control_book.specs.Replies.{is_sure}
 use Rattle.control_book.specs.declared.call.ControlCall.{ControlCall}
 use Rattle.control_book.specs.declared.call.ControlCall.TheVariants as control_calls

@@ -29,14 +29,16 @@ use Rattle.stream_lanes.specs.Words.{Every, From}
 use Rattle.stream_lanes.proofs.Checking.{came_cases, checksum_shows, came_unaltered}
 use Rattle.stream_lanes.proofs.Lists.{Every-map, Every-push, Has-more}
 use Rattle.stream_lanes.proofs.Bytes.{From-take, From-filled, part_is_honest}
-use Rattle.path_rules.specs.Ends.{PathEnd}
-use Rattle.path_rules.specs.Passing.{having_asked, after_pass_fin, place_passed, plain_fin}
+use Rattle.path_core.specs.End.{PathEnd}
+use Rattle.path_core.specs.Deliver.{having_asked, piece_in, is_whole, is_right, checked_piece, piece_by, next_piece, after_piece, plain_piece, infinite_piece, piece_at, is_wrong, failing_by, mapping_here}
+use Rattle.path_core.specs.DataFin.{after_pass_fin, place_passed, plain_fin}
 use Rattle.path_store.specs.declared.infinite_mapping.InfiniteMapping.{InfiniteMapping}
-use Rattle.path_rules.specs.Infinite.{receives_plainly, fin_place}
+use Rattle.path_core.specs.Modes.{receives_plainly, fin_place}
 use Rattle.path_store.specs.InfiniteMappings.{covers as goes_by, fin_under, place_under}
-use Rattle.path_rules.specs.Deliver.{Piece, count_in, piece_in, is_whole, is_right, some_piece, checked_piece, piece_by, next_piece, after_piece, with_learned, with_skipped, plain_piece, infinite_piece, piece_at, is_wrong, failing_by, mapping_here}
+use Rattle.path_store.specs.Passing.{Piece, count_in, some_piece}
+use Rattle.path_core.specs.DssIn.{with_learned, with_skipped}
 use Rattle.path_store.specs.Receiving.{data_fin_behind}
-use Rattle.path_rules.specs.State.{Profile}
+use Rattle.path_core.specs.Profile.{Profile}
 use Rattle.world_laws.proofs.Lanes.Ending.{Did, did_nothing}
 use Rattle.world_laws.proofs.Lanes.Growing.{sender_stays, receiver_stays, same_edge}
 use Rattle.world_laws.proofs.Lanes.Hearing.{state_shows, fin_passed_back}

@@ -13,8 +13,8 @@ use Rattle.stream_lanes.specs.View.{View}
 use Rattle.stream_lanes.proofs.Lists.{Every-map, in_map}
 use Rattle.actor_desk.specs.Desk.{SixBooks}
 use Rattle.actor_desk.specs.Words.{pick}
-use Rattle.path_rules.specs.State.{PathState, end_at}
-use Rattle.path_rules.specs.Values.{Carried}
+use Rattle.path_core.specs.State.{PathState, end_at}
+use Rattle.path_core.specs.Values.{Carried}
 use Rattle.world_laws.proofs.Lanes.Answering.{BeginsFirst, IsReady}
 use Rattle.world_laws.proofs.Lanes.OfAWorld.{Others, duo_at, StandsSo, flags_are}
 use Rattle.world_laws.proofs.Lanes.Showing.{HasMapping}

@@ -16,9 +16,9 @@ use Rattle.subflow_tcp.specs.declared.segments.Occasion.TheVariants as to_send
 use Rattle.subflow_tcp.specs.Emitting.{syn_resent}
 use Rattle.stream_lanes.specs.Lane.{Lane}
 use Rattle.stream_lanes.specs.Words.{Every}
-use Rattle.path_rules.specs.Ends.{PathEnd}
-use Rattle.path_rules.specs.Handover.{having_sent}
-use Rattle.path_rules.specs.State.{Profile}
+use Rattle.path_core.specs.End.{PathEnd}
+use Rattle.path_core.specs.Handover.{having_sent}
+use Rattle.path_core.specs.Profile.{Profile}
 use Rattle.path_segments.specs.Spelled.{PlainSegment}
 use Rattle.world_laws.proofs.Lanes.Showing.{KindShows, RecordShows, Knowledge, SenderShows, EndShows}
 

@@ -41,27 +41,28 @@ use Rattle.fallback_state.specs.declared.fall.Event.{Event}
 use Rattle.path_agenda.specs.declared.heard.Heard.{Heard}
 use Rattle.path_agenda.specs.declared.heard.Heard.TheVariants as says
 use Rattle.path_agenda.specs.Agenda.{breaks, stops}
-use Rattle.path_rules.specs.Breaking.{break_ask, answered_break}
-use Rattle.path_rules.specs.Emission.{granted, grant_in, refused, answered_grant}
-use Rattle.path_rules.specs.Ends.{PathEnd}
+use Rattle.path_core.specs.Breaking.{break_ask, answered_break}
+use Rattle.path_core.specs.Emission.{granted, grant_in, refused, answered_grant}
+use Rattle.path_core.specs.End.{PathEnd}
 use Rattle.path_agenda.specs.declared.keys.KeyPair.{KeyPair}
 use Rattle.path_agenda.specs.declared.duty.Duty.{Duty}
-use Rattle.path_rules.specs.Opening.{syn_window_ask, keys_ask, after_keys, peer_key_ask, opened_ask, answered_peer_key, answered_opened, with_peer_key}
-use Rattle.path_rules.specs.Passing.{having_asked, with_peer_data_fin, piece_ask, answered_piece, is_placed, piece_of, data_fin_of, fin_ask, answered_fin_heard, is_fin_set, rate_ask, after_rate, answered_rate, plain_fin, answered_plain_fin, with_fin_told}
+use Rattle.path_core.specs.MpCapable.{syn_window_ask, keys_ask, after_keys, peer_key_ask, opened_ask, answered_peer_key, answered_opened, with_peer_key}
+use Rattle.path_core.specs.Deliver.{having_asked, piece_ask, answered_piece, is_placed, piece_of, after_piece, failing_by, mapping_here}
+use Rattle.path_core.specs.DataFin.{with_peer_data_fin, data_fin_of, fin_ask, answered_fin_heard, is_fin_set, plain_fin, answered_plain_fin, with_fin_told, acked_in}
+use Rattle.path_core.specs.Rate.{rate_ask, after_rate, answered_rate}
 use Rattle.dss_mapping.specs.declared.kept.KeptMapping.{KeptMapping}
-use Rattle.path_rules.specs.Deliver.{Piece, after_piece, with_learned, failing_by, mapping_here}
-use Rattle.path_rules.specs.FailedChecks.{check_failed_ask, with_failure, after_check_failed, answered_check_failed}
-use Rattle.path_rules.specs.InfiniteReceiving.{is_infinite_receive, receiving_infinite, answered_infinite}
-use Rattle.path_rules.specs.State.{PathState, Profile, end_at, goes_on, left, path_of, with_agenda}
-use Rattle.path_rules.specs.Treating.{fell_ask, is_clash, mapping_ask, answered_mapping, heard_ask, answered_heard, answered_ack, with_acked, with_data_fin, item_ask, answered_item, subflow_ack_stands, after_fell, fell_duties, item_stands, plain_ack_ask, subflow_ack_ask, item_of, answered_plain_ack, answered_subflow_ack, with_plain_ack, acked_in, plain_next, plain_ack_in, plainly_acked, breaks_by_ack}
-use Rattle.path_rules.specs.Infinite.{acknowledged_under}
-use Rattle.path_rules.specs.InfiniteSending.{may_go_infinite, fail_ask, answered_fail, book_answered, fail_heard_ask, answered_fail_heard, after_fail_heard, is_infinite_send}
+use Rattle.path_store.specs.Passing.{Piece}
+use Rattle.path_core.specs.DssIn.{with_learned, is_clash, mapping_ask, answered_mapping, answered_ack, with_acked, with_data_fin}
+use Rattle.path_core.specs.Fallback.{check_failed_ask, with_failure, after_check_failed, answered_check_failed, is_infinite_receive, receiving_infinite, answered_infinite, fell_ask, subflow_ack_stands, after_fell, fell_duties, plain_ack_ask, subflow_ack_ask, answered_plain_ack, answered_subflow_ack, with_plain_ack, plain_next, plain_ack_in, plainly_acked, breaks_by_ack, may_go_infinite, fail_ask, answered_fail, book_answered, fail_heard_ask, answered_fail_heard, after_fail_heard, is_infinite_send, identity_ask, answered_identity, answered_fell}
+use Rattle.path_core.specs.State.{PathState, end_at, goes_on, left, path_of, with_agenda}
+use Rattle.path_core.specs.Profile.{Profile}
+use Rattle.path_core.specs.Treating.{heard_ask, answered_heard, item_ask, answered_item, item_stands, item_of}
+use Rattle.path_core.specs.Modes.{acknowledged_under}
 use Rattle.path_store.specs.declared.infinite_mapping.InfiniteMapping.{InfiniteMapping}
-use Rattle.path_rules.specs.Values.{Carried, values}
-use Rattle.path_rules.specs.Words.{item_at}
-use Rattle.path_rules.specs.Fallback.{identity_ask, answered_identity, answered_fell}
-use Rattle.path_rules.specs.FastClosing.{is_stopped_by, fast_heard_ask}
-use Rattle.path_rules.specs.Addressing.{notice_ask, after_peer_notice}
+use Rattle.path_core.specs.Values.{Carried, values}
+use Rattle.path_core.specs.Choices.{item_at}
+use Rattle.path_core.specs.FastClose.{is_stopped_by, fast_heard_ask}
+use Rattle.path_core.specs.Addresses.{notice_ask, after_peer_notice}
 use Rattle.path_agenda.specs.declared.notice.PeerNotice.{PeerNotice}
 use Rattle.path_agenda.specs.declared.notice.PeerNotice.TheVariants as notes
 use Rattle.world_laws.proofs.Lanes.Answering.{IsReady, Steps, shows_at, agenda_step, agenda_side, end_step, did_step, did_then, break_step, rate_quiet}

@@ -25,21 +25,23 @@ use Rattle.stream_lanes.specs.Lane.{Lane, AckCopy}
 use Rattle.stream_lanes.proofs.Lists.{Every-nil, Has-map}
 use Rattle.actor_desk.specs.declared.ask.Reply.{Reply}
 use Rattle.actor_desk.specs.declared.ask.Reply.TheVariants as replies
-use Rattle.path_rules.specs.Emission.{after_timer}
-use Rattle.path_rules.specs.Ends.{PathEnd, Treated, Notices, nothing_treated, no_notices}
-use Rattle.path_rules.specs.Events.{died, died_unless_dead, after_firing}
+use Rattle.path_core.specs.Timer.{after_timer, after_firing}
+use Rattle.path_core.specs.End.{PathEnd, died}
+use Rattle.path_core.specs.Treated.{Treated, nothing_treated}
+use Rattle.path_core.specs.Notices.{Notices, no_notices}
+use Rattle.path_core.specs.Breaking.{died_unless_dead}
 use Rattle.path_agenda.specs.declared.keys.KeyPair.{KeyPair}
 use Rattle.join_handshake.specs.declared.hearing.JoinSyn.{JoinSyn}
-use Rattle.path_rules.specs.Joining.{opened_by, syn_alone, is_listening, joined_by, with_mode_refused}
-use Rattle.path_rules.specs.Opening.{with_peer_key, after_keys, keys_in}
-use Rattle.path_rules.specs.Passing.{having_asked, with_peer_data_fin, after_rate, with_fin_told}
-use Rattle.path_rules.specs.Deliver.{is_wrong, forgotten_by, after_pieces}
-use Rattle.path_rules.specs.FailedChecks.{with_failure}
-use Rattle.path_rules.specs.Standing.{after_look, modes_told, notices_told}
-use Rattle.path_rules.specs.State.{Profile}
-use Rattle.path_rules.specs.Treating.{after_dss, after_keep, is_dropped, covered_by, is_not_kept, with_plain_ack}
-use Rattle.path_rules.specs.Fallback.{after_fell, fell_in, mode_in}
-use Rattle.path_rules.specs.declared.modes.Modes.{Modes}
+use Rattle.path_core.specs.MpJoin.{opened_by, syn_alone, is_listening, joined_by, with_mode_refused}
+use Rattle.path_core.specs.MpCapable.{with_peer_key, after_keys, keys_in}
+use Rattle.path_core.specs.Deliver.{having_asked, is_wrong, forgotten_by, after_pieces, after_keep, is_dropped, is_not_kept}
+use Rattle.path_core.specs.DataFin.{with_peer_data_fin, with_fin_told}
+use Rattle.path_core.specs.Rate.{after_rate}
+use Rattle.path_core.specs.Fallback.{with_failure, with_plain_ack, after_fell, fell_in, mode_in}
+use Rattle.path_core.specs.Standing.{after_look, modes_told, notices_told}
+use Rattle.path_core.specs.Profile.{Profile}
+use Rattle.path_core.specs.DssIn.{after_dss, covered_by}
+use Rattle.path_core.specs.declared.modes.Modes.{Modes}
 use Rattle.world_laws.proofs.Lanes.Arriving.{syn_both}
 use Rattle.world_laws.proofs.Lanes.Hearing.{cut_shows, cut_there, under_cut, only_cut, dropped_shows, state_shows}
 use Rattle.world_laws.proofs.Lanes.Records.{acknowledged_shows, expired_shows}

@@ -23,15 +23,15 @@ use Rattle.subflow_send.specs.Rules.{is_fin}
 use Rattle.stream_lanes.specs.Lane.{AckCopy, Lane}
 use Rattle.stream_lanes.specs.Words.{Every}
 use Rattle.stream_lanes.proofs.Lists.{Every-nil, Every-push, Every-append}
-use Rattle.path_rules.specs.Ends.{PathEnd}
-use Rattle.path_rules.specs.Joins.{is_joined, join_options, third_options}
-use Rattle.path_rules.specs.OptionsOut.{place_numbered, owes_mapping, plain_options, fin_options, capable_options, syn_options, key_options, opening_options, data_fin_mapping, ack_options, is_first_piece, first_piece_options, piece_options, piece_mapping, record_options, reset_options, segment_of, ack_said, carried_said, record_said, syn_ack_said, fin_said, reset_said, record_or_ack, checksum_told, infinite_options, infinite_or, fail_options, fail_beside, broken_options}
-use Rattle.path_rules.specs.Infinite.{receives_infinite}
+use Rattle.path_core.specs.End.{PathEnd}
+use Rattle.path_core.specs.MpJoin.{is_joined, join_options, third_options}
+use Rattle.path_core.specs.DssOut.{place_numbered, owes_mapping, plain_options, fin_options, data_fin_mapping, is_first_piece, first_piece_options, piece_options, piece_mapping, checksum_told, infinite_options, infinite_or, fail_options, fail_beside}
+use Rattle.path_core.specs.OptionsOut.{capable_options, syn_options, key_options, opening_options, ack_options, record_options, reset_options, segment_of, ack_said, carried_said, record_said, syn_ack_said, fin_said, reset_said, record_or_ack, broken_options, noted_said, notice_option}
+use Rattle.path_core.specs.Modes.{receives_infinite}
 use Rattle.path_store.specs.declared.infinite_mapping.InfiniteMapping.{InfiniteMapping}
-use Rattle.path_rules.specs.State.{Profile}
-use Rattle.path_rules.specs.Words.{is_side_a}
-use Rattle.path_rules.specs.OptionsOut.{noted_said, notice_option}
-use Rattle.path_rules.specs.Arriving.{checksum_heard}
+use Rattle.path_core.specs.Profile.{Profile}
+use Rattle.path_core.specs.Choices.{is_side_a}
+use Rattle.path_core.specs.DssIn.{checksum_heard}
 use Rattle.path_agenda.specs.declared.notice.OwnNotice.{OwnNotice}
 use Rattle.path_agenda.specs.declared.notice.OwnNotice.TheVariants as notes
 use Rattle.world_laws.proofs.Lanes.Records.{every_cons}

@@ -15,16 +15,19 @@ use Rattle.path_agenda.specs.declared.duty.SilentDuty.TheVariants as silent_duti
 use Rattle.path_agenda.specs.declared.duty.StepDuty.TheVariants as step_duties
 use Rattle.path_agenda.specs.declared.heard.Heard.{Heard}
 use Rattle.path_agenda.specs.declared.heard.Heard.TheVariants as says
-use Rattle.path_rules.specs.Duties.{stands, passed}
-use Rattle.path_rules.specs.Emission.{after_timer}
-use Rattle.path_rules.specs.Ends.{PathEnd}
-use Rattle.path_rules.specs.Passing.{after_pass_fin}
-use Rattle.path_rules.specs.Deliver.{after_check, with_learned, with_skipped, mapping_here, after_pieces}
-use Rattle.path_rules.specs.State.{PathState, Profile, end_at, with_end, with_agenda}
-use Rattle.path_rules.specs.Steps.{settled}
-use Rattle.path_rules.specs.Treating.{counts, with_data_fin, after_dss, after_keep, heard_passed, item_passed, item_of, with_plain_ack, with_data_ack}
-use Rattle.path_rules.specs.Values.{Carried}
-use Rattle.path_rules.specs.Words.{item_at}
+use Rattle.path_core.specs.Duties.{stands, passed}
+use Rattle.path_core.specs.Timer.{after_timer}
+use Rattle.path_core.specs.End.{PathEnd}
+use Rattle.path_core.specs.DataFin.{after_pass_fin}
+use Rattle.path_core.specs.Deliver.{after_check, mapping_here, after_pieces, after_keep}
+use Rattle.path_core.specs.DssIn.{with_learned, with_skipped, counts, with_data_fin, after_dss, with_data_ack}
+use Rattle.path_core.specs.State.{PathState, end_at, with_end, with_agenda}
+use Rattle.path_core.specs.Profile.{Profile}
+use Rattle.path_core.specs.Steps.{settled}
+use Rattle.path_core.specs.Treating.{heard_passed, item_passed, item_of}
+use Rattle.path_core.specs.Fallback.{with_plain_ack}
+use Rattle.path_core.specs.Values.{Carried}
+use Rattle.path_core.specs.Choices.{item_at}
 use Rattle.world_laws.proofs.Lanes.Ending.{Did, did_nothing}
 use Rattle.world_laws.proofs.Lanes.OfAWorld.{Others, duo_at}
 use Rattle.world_laws.proofs.Lanes.Placing.{learned_end, skipped_shows, passed_fin}

@@ -27,19 +27,21 @@ use Rattle.stream_lanes.specs.Holding.{HasPlace}
 use Rattle.stream_lanes.specs.Moves.{bytes_of}
 use Rattle.path_agenda.specs.declared.heard.Heard.{Heard}
 use Rattle.path_agenda.specs.declared.heard.Heard.TheVariants as says
-use Rattle.path_rules.specs.Ends.{PathEnd, Treated}
+use Rattle.path_core.specs.End.{PathEnd}
+use Rattle.path_core.specs.Treated.{Treated}
 use Rattle.path_store.specs.declared.infinite_mapping.InfiniteMapping.{InfiniteMapping}
-use Rattle.path_rules.specs.declared.modes.Modes.{Modes}
-use Rattle.path_rules.specs.Joins.{join_asked}
-use Rattle.path_rules.specs.OptionsOut.{place_numbered, bare_mapping}
-use Rattle.path_rules.specs.State.{PathState, Profile}
+use Rattle.path_core.specs.declared.modes.Modes.{Modes}
+use Rattle.path_core.specs.MpJoin.{join_asked}
+use Rattle.path_core.specs.DssOut.{place_numbered, bare_mapping}
+use Rattle.path_core.specs.State.{PathState}
+use Rattle.path_core.specs.Profile.{Profile}
 use Rattle.segment_wire.specs.Changes.{with_turned_bit}
 use Rattle.link_script.specs.declared.script.ScriptLine.{ScriptLine}
 use Rattle.link_model.specs.Fate.{is_altered}
-use Rattle.path_rules.specs.Values.{Carried}
+use Rattle.path_core.specs.Values.{Carried}
 use Rattle.dss_mapping.specs.Mappings.{octets_of}
 use Rattle.path_store.specs.declared.mapped_data_fin.MappedDataFin.{MappedDataFin}
-use Rattle.path_rules.specs.Arriving.{checksum_heard}
+use Rattle.path_core.specs.DssIn.{checksum_heard}
 use Rattle.dss_checksum.specs.Checksum.{dss_checksum}
 use Rattle.world_laws.proofs.Lanes.SentRecords.{SentShows}
 

@@ -26,10 +26,11 @@ use Rattle.actor_desk.specs.declared.ask.Ask.TheVariants as asks
 use Rattle.actor_desk.specs.Desk.{SixBooks, send_of, reassembly_of, after_ask}
 use Rattle.actor_desk.specs.Words.{pick}
 use Rattle.path_agenda.specs.declared.duty.Duty.{Duty}
-use Rattle.path_rules.specs.Ends.{PathEnd}
-use Rattle.path_rules.specs.Handover.{sent_on}
-use Rattle.path_rules.specs.State.{PathState, Profile, end_at, goes_on}
-use Rattle.path_rules.specs.Values.{Carried, values}
+use Rattle.path_core.specs.End.{PathEnd}
+use Rattle.path_core.specs.Handover.{sent_on}
+use Rattle.path_core.specs.State.{PathState, end_at, goes_on}
+use Rattle.path_core.specs.Profile.{Profile}
+use Rattle.path_core.specs.Values.{Carried, values}
 use Rattle.world_laws.proofs.Lanes.Ending.{Did}
 use Rattle.world_laws.proofs.Lanes.OfAWorld.{flags_of, Others, duo_at, IsAsking, LaneAsks, MayCall, CallIs, call_events, Moved, unmoved}
 use Rattle.world_laws.proofs.Lanes.Roads.{Strolls, put_there, with_asked, asked_there}

@@ -22,20 +22,20 @@ use Rattle.path_agenda.specs.declared.duty.SendDuty.TheVariants as send_duties
 use Rattle.path_agenda.specs.declared.duty.SilentDuty.TheVariants as silent_duties
 use Rattle.path_agenda.specs.declared.duty.StepDuty.TheVariants as step_duties
 use Rattle.path_agenda.specs.Agenda.{leaves, resets}
-use Rattle.path_rules.specs.Duties.{stands, ask_for, answered}
-use Rattle.path_rules.specs.Emission.{first_unsent, data_stands, data_ask, answered_data, payload_size}
+use Rattle.path_core.specs.Duties.{stands, ask_for, answered}
+use Rattle.path_core.specs.Emission.{first_unsent, data_stands, data_ask, answered_data, payload_size}
 use Rattle.path_store.specs.declared.infinite_mapping.InfiniteMapping.{InfiniteMapping}
-use Rattle.path_rules.specs.Ends.{PathEnd}
+use Rattle.path_core.specs.End.{PathEnd, died}
 use Rattle.std.specs.Option.{IfSome}
-use Rattle.path_rules.specs.Events.{next_event, step_for, died}
-use Rattle.path_rules.specs.Joining.{join_begin_ask, asked_at, join_heard_ask}
+use Rattle.path_core.specs.Events.{next_event, step_for}
+use Rattle.path_core.specs.MpJoin.{join_begin_ask, asked_at, join_heard_ask}
 use Rattle.path_agenda.specs.Items.{key_heard, keys_heard}
-use Rattle.path_rules.specs.Passing.{piece_of, plain_fin}
-use Rattle.path_rules.specs.Standing.{look_ask, after_look}
-use Rattle.path_rules.specs.State.{PathState, end_at, left, path_of, with_agenda}
-use Rattle.path_rules.specs.Values.{Carried, values}
-use Rattle.path_rules.specs.StreamEnds.{is_all_granted}
-use Rattle.path_rules.specs.FastClosing.{answered_leave_noted}
+use Rattle.path_core.specs.Deliver.{piece_of}
+use Rattle.path_core.specs.DataFin.{plain_fin, is_all_granted}
+use Rattle.path_core.specs.Standing.{look_ask, after_look}
+use Rattle.path_core.specs.State.{PathState, end_at, left, path_of, with_agenda}
+use Rattle.path_core.specs.Values.{Carried, values}
+use Rattle.path_core.specs.FastClose.{answered_leave_noted}
 use Rattle.path_agenda.specs.Words.{replaced}
 use Rattle.world_laws.proofs.Lanes.Answering as answering
 use Rattle.world_laws.proofs.Lanes.Answering.{IsReady, FailOpens, Steps}

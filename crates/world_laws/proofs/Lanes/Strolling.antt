@@ -23,11 +23,12 @@ use Rattle.stream_lanes.proofs.Lists.{Every-map}
 use Rattle.stream_lanes.proofs.Refusals.{never_disagrees}
 use Rattle.actor_desk.specs.Desk.{SixBooks, send_of, reassembly_of}
 use Rattle.actor_desk.specs.Words.{pick}
-use Rattle.path_rules.specs.Handover.{handed}
+use Rattle.path_core.specs.Handover.{handed}
 use Rattle.segment_wire.specs.Changes.{with_turned_bit}
 use Rattle.std.specs.Int.Bits.{bit_xor, xor_assoc, xor_self, xor_zero_r}
-use Rattle.path_rules.specs.State.{PathState, Profile, end_at}
-use Rattle.path_rules.specs.Values.{Carried, carried_by, stripped, altered, values}
+use Rattle.path_core.specs.State.{PathState, end_at}
+use Rattle.path_core.specs.Profile.{Profile}
+use Rattle.path_core.specs.Values.{Carried, carried_by, stripped, altered, values}
 use Rattle.world_laws.proofs.Lanes.Ending.{Did}
 use Rattle.world_laws.proofs.Lanes.Growing.{SenderGoes, ReceiverGoes, sent_longer, heard_longer, segment_longer, peer_shows}
 use Rattle.world_laws.proofs.Lanes.OfAWorld.{flags_of, Others, duo_at, LaneMoves, moves_to_b, moves_to_a, move_events, moves_silent, events_append, Moved}

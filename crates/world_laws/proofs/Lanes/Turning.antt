@@ -24,9 +24,10 @@ use Rattle.stream_apps.specs.declared.duty.AppDuty.TheVariants as app_duties
 use Rattle.stream_apps.specs.Apps.{AppState}
 use Rattle.stream_apps.specs.AppSteps.{app_stands, app_ask, app_answered, app_answers, app_settles_down, app_takes, offered}
 use Rattle.path_agenda.specs.declared.duty.Duty.{Duty}
-use Rattle.path_rules.specs.State.{PathState, Profile}
-use Rattle.path_rules.specs.Steps.{settled}
-use Rattle.path_rules.specs.Values.{Carried}
+use Rattle.path_core.specs.State.{PathState}
+use Rattle.path_core.specs.Profile.{Profile}
+use Rattle.path_core.specs.Steps.{settled}
+use Rattle.path_core.specs.Values.{Carried}
 use Rattle.world_laws.proofs.Lanes.Applying.{Reads, settled_app, reads_more, reads_on}
 use Rattle.world_laws.proofs.Falls.CallsAndModes.{control_moves}
 use Rattle.world_laws.proofs.Lanes.OfAWorld.{Links, duo_of, Others, duo_at, CallIs, silent_append, call_events, TurnShows, events_append, Moved, then_moved}

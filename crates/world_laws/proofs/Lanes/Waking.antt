@@ -16,10 +16,11 @@ use Rattle.stream_lanes.specs.Moves.{Flags}
 use Rattle.actor_desk.specs.Desk.{SixBooks}
 use Rattle.actor_desk.specs.Words.{pick}
 use Rattle.path_agenda.specs.declared.duty.Duty.{Duty}
-use Rattle.path_rules.specs.Ends.{PathEnd}
-use Rattle.path_rules.specs.State.{PathState, Profile, goes_on, end_at}
-use Rattle.path_rules.specs.Values.{Carried}
-use Rattle.path_rules.specs.Fallback.{in_identity}
+use Rattle.path_core.specs.End.{PathEnd}
+use Rattle.path_core.specs.State.{PathState, goes_on, end_at}
+use Rattle.path_core.specs.Profile.{Profile}
+use Rattle.path_core.specs.Values.{Carried}
+use Rattle.path_core.specs.Fallback.{in_identity}
 use Rattle.send_book.specs.State.{Sending}
 use Rattle.reassembly_book.specs.State.{Arriving}
 use Rattle.world_laws.proofs.Lanes.Growing.{Longer, same_edge, treated_longer, segment_longer}

@@ -37,12 +37,16 @@ use Rattle.actor_desk.specs.Words.{is_nil}
 use Rattle.path_agenda.specs.declared.heard.Heard.{Heard}
 use Rattle.path_agenda.specs.declared.heard.Heard.TheVariants as says
 use Rattle.path_agenda.specs.declared.keys.KeyPair.{KeyPair}
-use Rattle.path_rules.specs.Arriving.{copy_of, ack_items, is_mapping, mapping_items, map_items, first_items, key_items, join_items, items_in, items_of, HeardOption, hint_of, reset_by, owing_if, owes_by, asked_in, is_taken, with_payload, with_answer, answered_in, cleared_in, judged_in, taken_as, after_judged, position_numbered, item_removed}
-use Rattle.path_rules.specs.declared.modes.Modes.{Modes}
-use Rattle.path_rules.specs.Joining.{with_keys, syn_alone, is_listening, joined_by}
-use Rattle.path_rules.specs.Joins.{is_joined, join_answer}
-use Rattle.path_rules.specs.Ends.{PathEnd}
-use Rattle.path_rules.specs.State.{Profile}
+use Rattle.path_core.specs.Arrival.{copy_of, reset_by, owing_if, asked_in, with_payload, judged_in, after_judged, position_numbered}
+use Rattle.path_core.specs.DssIn.{ack_items, is_mapping, mapping_items, map_items, first_items, HeardOption}
+use Rattle.path_core.specs.MpCapable.{key_items}
+use Rattle.path_core.specs.MpJoin.{join_items, with_keys, syn_alone, is_listening, joined_by, is_joined, join_answer}
+use Rattle.path_core.specs.OptionsIn.{items_in, items_of, hint_of, owes_by}
+use Rattle.path_core.specs.Judged.{is_taken, with_answer, answered_in, cleared_in, taken_as}
+use Rattle.path_core.specs.Addresses.{item_removed}
+use Rattle.path_core.specs.declared.modes.Modes.{Modes}
+use Rattle.path_core.specs.End.{PathEnd}
+use Rattle.path_core.specs.Profile.{Profile}
 use Rattle.world_laws.proofs.Lanes.Records.{every_cons}
 use Rattle.path_agenda.specs.declared.notice.PeerNotice.TheVariants as notes
 use Rattle.world_laws.proofs.Numbers.TellSmall.{IsShort, MappingIsShort, OptionTells, SegmentTells, IsNonce, ItemTells, AnswerTells, SenderTells, ModesTell, EndTells}

@@ -59,29 +59,30 @@ use Rattle.join_handshake.specs.declared.hearing.JoinSyn.{JoinSyn}
 use Rattle.path_agenda.specs.declared.keys.KeyPair.{KeyPair}
 use Rattle.path_agenda.specs.Agenda.{leaves, resets, breaks, stops}
 use Rattle.path_agenda.specs.Items.{key_heard, keys_heard}
-use Rattle.path_agenda.specs.Words.{replaced}
-use Rattle.path_rules.specs.Breaking.{reset_of, reset_on, break_ask, answered_break}
-use Rattle.path_rules.specs.StreamEnds.{is_data_fin_owed}
-use Rattle.path_rules.specs.Duties.{stands, ask_for, answered}
-use Rattle.path_rules.specs.Emission.{payload_size, first_unsent, unsent_segment, data_stands, data_ask, answered_data, grant_in, granted, refused, answered_grant, data_fin_segment, having_sent_data_fin, answered_data_fin_sent, fin_segment_of, having_sent_fin, answered_fin}
-use Rattle.path_rules.specs.Ends.{PathEnd}
-use Rattle.path_rules.specs.Events.{next_event, step_for, died}
-use Rattle.path_rules.specs.Joining.{keys_begun, asked_at, join_heard_ask, joined_by, join_taken, answered_join_heard, refusal_of, answered_refusal, with_mode_refused}
-use Rattle.path_rules.specs.Opening.{with_peer_key, peer_key_ask, answered_peer_key, keys_ask, after_keys, opened_ask, answered_opened, syn_ack_of}
-use Rattle.path_rules.specs.Passing.{having_asked, with_peer_data_fin, plain_fin, with_fin_told, answered_plain_fin, piece_ask, answered_piece, is_placed, piece_of, data_fin_of, fin_ask, answered_fin_heard, is_fin_set, rate_ask, after_rate, first_record, first_segment, answer_of, answer_occasion, dead_answer, answered_dead, resend_occasion, resend_of}
-use Rattle.path_rules.specs.Deliver.{Piece, after_piece, with_learned, failing_by, mapping_here, is_wrong}
-use Rattle.path_rules.specs.OptionsOut.{ack_said, carried_said, syn_ack_said, record_or_ack}
-use Rattle.path_rules.specs.Handover.{sends, having_sent, sent_on}
-use Rattle.path_rules.specs.Standing.{look_ask, after_look, ack_out_ask, after_ack_out, answered_ack_out, ack_segment}
-use Rattle.path_rules.specs.State.{PathState, Profile, end_at, goes_on, left, path_of, with_agenda}
-use Rattle.path_rules.specs.Fallback.{fell_ask, after_fell, breaks_by, fell_duties, answered_fell, in_identity}
-use Rattle.path_rules.specs.Handover.{with_told}
-use Rattle.path_rules.specs.Treating.{is_clash, breaks_by_ack, plain_ack_ask, answered_plain_ack, with_plain_ack, plain_next, subflow_ack_ask, answered_subflow_ack, told_next, is_acked, mapping_ask, answered_mapping, heard_ask, answered_heard, with_acked, with_data_fin, item_ask, answered_item, item_of, plain_ack_in, plainly_acked}
-use Rattle.path_rules.specs.Values.{Carried, values}
-use Rattle.path_rules.specs.FastClosing.{is_stopped_by, answered_fast_close, fast_close_of, fast_heard_ask, having_fast_closed}
-use Rattle.path_rules.specs.Addressing.{notice_ask, note_of, having_noted, answered_note, after_peer_notice}
+use Rattle.path_agenda.specs.Words.{replaced, first_of}
+use Rattle.path_core.specs.Breaking.{reset_of, reset_on, break_ask, answered_break, refusal_of, answered_refusal}
+use Rattle.path_core.specs.DataFin.{is_data_fin_owed, data_fin_segment, having_sent_data_fin, answered_data_fin_sent, fin_segment_of, having_sent_fin, answered_fin, with_peer_data_fin, plain_fin, with_fin_told, answered_plain_fin, data_fin_of, fin_ask, answered_fin_heard, is_fin_set}
+use Rattle.path_core.specs.Duties.{stands, ask_for, answered}
+use Rattle.path_core.specs.Emission.{payload_size, first_unsent, unsent_segment, data_stands, data_ask, answered_data, grant_in, granted, refused, answered_grant, first_record, first_segment, answer_of, answer_occasion, dead_answer, answered_dead, resend_occasion, resend_of}
+use Rattle.path_core.specs.End.{PathEnd, died}
+use Rattle.path_core.specs.Events.{next_event, step_for}
+use Rattle.path_core.specs.MpJoin.{keys_begun, asked_at, join_heard_ask, joined_by, join_taken, answered_join_heard, with_mode_refused}
+use Rattle.path_core.specs.MpCapable.{with_peer_key, peer_key_ask, answered_peer_key, keys_ask, after_keys, opened_ask, answered_opened, syn_ack_of}
+use Rattle.path_core.specs.Deliver.{having_asked, piece_ask, answered_piece, is_placed, piece_of, after_piece, failing_by, mapping_here, is_wrong}
+use Rattle.path_core.specs.Rate.{rate_ask, after_rate}
+use Rattle.path_store.specs.Passing.{Piece}
+use Rattle.path_core.specs.DssIn.{with_learned, is_clash, told_next, is_acked, mapping_ask, answered_mapping, with_acked, with_data_fin}
+use Rattle.path_core.specs.OptionsOut.{ack_said, carried_said, syn_ack_said, record_or_ack}
+use Rattle.path_core.specs.Handover.{sends, having_sent, sent_on, with_told}
+use Rattle.path_core.specs.Standing.{look_ask, after_look, ack_out_ask, after_ack_out, answered_ack_out, ack_segment}
+use Rattle.path_core.specs.State.{PathState, end_at, goes_on, left, path_of, with_agenda}
+use Rattle.path_core.specs.Profile.{Profile}
+use Rattle.path_core.specs.Fallback.{fell_ask, after_fell, breaks_by, fell_duties, answered_fell, in_identity, breaks_by_ack, plain_ack_ask, answered_plain_ack, with_plain_ack, plain_next, subflow_ack_ask, answered_subflow_ack, plain_ack_in, plainly_acked, after_infinite as after_infinite_heard, answered_infinite, may_go_infinite, fail_ask, with_infinite, book_answered, answered_fail, fail_heard_ask, after_fail_heard, answered_fail_heard, check_failed_ask, after_check_failed, answered_check_failed}
+use Rattle.path_core.specs.Treating.{heard_ask, answered_heard, item_ask, answered_item, item_of}
+use Rattle.path_core.specs.Values.{Carried, values}
+use Rattle.path_core.specs.FastClose.{is_stopped_by, answered_fast_close, fast_close_of, fast_heard_ask, having_fast_closed}
+use Rattle.path_core.specs.Addresses.{notice_ask, note_of, having_noted, answered_note, after_peer_notice}
 use Rattle.path_agenda.specs.declared.notice.OwnNotice.{OwnNotice}
-use Rattle.path_agenda.specs.Words.{first_of}
 use Rattle.world_laws.proofs.Lanes.Answering.{IsReady}
 use Rattle.world_laws.proofs.Lanes.Ending.{unfinished_if}
 use Rattle.world_laws.proofs.Lanes.OfAWorld.{flags_of, Others, duo_at}
@@ -100,10 +101,7 @@ use Rattle.world_laws.proofs.Numbers.Events.{join_tells, events_tell}
 use Rattle.world_laws.proofs.Numbers.EndRules as rules
 use Rattle.world_laws.proofs.Numbers.EndRules.{AreKeys, heard_key, heard_keys, asked_nonce}
 use Rattle.world_laws.proofs.Numbers.PathSteps.{is_fair, AreFair, PathTells, BooksAreShort, tail_fair, replaced_fair, sent_short, next_short, window_short, out_short, back_short, tells_at, tells_on, tells_agenda, tells_sent}
-use Rattle.path_rules.specs.InfiniteReceiving.{after_infinite as after_infinite_heard, answered_infinite}
-use Rattle.path_rules.specs.InfiniteSending.{may_go_infinite, fail_ask, with_infinite, book_answered, answered_fail, fail_heard_ask, after_fail_heard, answered_fail_heard}
-use Rattle.path_rules.specs.FailedChecks.{check_failed_ask, after_check_failed, answered_check_failed}
-use Rattle.path_rules.specs.Infinite.{receives_plainly}
+use Rattle.path_core.specs.Modes.{receives_plainly}
 use Rattle.path_store.specs.declared.infinite_mapping.InfiniteMapping.{InfiniteMapping}
 use Rattle.dss_mapping.specs.declared.kept.KeptMapping.{KeptMapping}
 use Rattle.dss_mapping.specs.Mappings.{mapping_at, run_of}

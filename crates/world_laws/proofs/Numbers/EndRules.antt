@@ -48,41 +48,41 @@ use Rattle.path_agenda.specs.declared.heard.Heard.TheVariants as says
 use Rattle.path_agenda.specs.declared.heard.JoinStep.{JoinStep}
 use Rattle.path_agenda.specs.declared.heard.JoinStep.TheVariants as step
 use Rattle.path_agenda.specs.declared.keys.KeyPair.{KeyPair}
-use Rattle.path_rules.specs.declared.modes.Modes.{Modes}
-use Rattle.path_rules.specs.StreamEnds.{with_data_fin_sent}
-use Rattle.path_rules.specs.Emission.{granted, refused, after_timer}
-use Rattle.path_rules.specs.Ends.{PathEnd, Treated, Notices, nothing_treated, Sending}
-use Rattle.path_rules.specs.Events.{died, died_unless_dead, after_firing, with_priority}
+use Rattle.path_core.specs.declared.modes.Modes.{Modes}
+use Rattle.path_core.specs.DataFin.{with_data_fin_sent, with_peer_data_fin, with_fin_told, after_pass_fin, acked_in}
+use Rattle.path_core.specs.Emission.{granted, refused}
+use Rattle.path_core.specs.Timer.{after_timer, after_firing}
+use Rattle.path_core.specs.End.{PathEnd, died}
+use Rattle.path_core.specs.Treated.{Treated, nothing_treated}
+use Rattle.path_core.specs.Notices.{Notices, without_first, after_notice}
+use Rattle.path_core.specs.Sending.{Sending}
+use Rattle.path_core.specs.Breaking.{died_unless_dead}
+use Rattle.path_core.specs.Addresses.{with_priority, with_noted, is_kept, with_echo, after_peer_notice}
 use Rattle.path_agenda.specs.Items.{key_in, key_heard, pair_in, keys_heard, is_of_step, join_in, join_heard}
-use Rattle.path_rules.specs.Joining.{with_keys, opened_by, with_mode_refused}
-use Rattle.path_rules.specs.Joins.{peer_key_of, join_value, join_asked, join_answer}
-use Rattle.path_rules.specs.Opening.{with_peer_key, keys_in, after_keys}
-use Rattle.path_rules.specs.Fallback.{mode_in, fell_in, after_fell, in_identity}
-use Rattle.path_rules.specs.Passing.{having_asked, with_peer_data_fin, with_fin_told, after_rate, after_pass_fin}
-use Rattle.path_rules.specs.Deliver.{Piece, is_wrong, forgotten_by, after_piece, with_learned, with_skipped, after_pieces, failing_by, mapping_here}
-use Rattle.path_rules.specs.OptionsOut.{bare_mapping}
-use Rattle.path_rules.specs.Handover.{with_told, having_sent}
-use Rattle.path_rules.specs.Standing.{modes_told, after_look, after_ack_out, may_note, notices_told}
-use Rattle.path_rules.specs.State.{Profile}
-use Rattle.path_rules.specs.Treating.{with_acked, with_plain_ack, with_data_fin, after_dss, is_dropped, after_keep, acked_in, plainly_acked, with_data_ack, covered_by}
-use Rattle.path_rules.specs.Words.{told_last}
-use Rattle.path_rules.specs.Noticing.{without_first, after_notice}
-use Rattle.path_rules.specs.Addressing.{with_noted, is_kept, with_echo, after_peer_notice}
+use Rattle.path_core.specs.MpJoin.{with_keys, opened_by, with_mode_refused, peer_key_of, join_value, join_asked, join_answer}
+use Rattle.path_core.specs.MpCapable.{with_peer_key, keys_in, after_keys}
+use Rattle.path_core.specs.Fallback.{mode_in, fell_in, after_fell, in_identity, with_plain_ack, plainly_acked, after_check_failed, after_fail_heard, with_infinite, after_infinite}
+use Rattle.path_core.specs.Deliver.{having_asked, is_wrong, forgotten_by, after_piece, after_pieces, failing_by, mapping_here, is_dropped, after_keep}
+use Rattle.path_core.specs.Rate.{after_rate}
+use Rattle.path_store.specs.Passing.{Piece}
+use Rattle.path_core.specs.DssIn.{with_learned, with_skipped, with_acked, with_data_fin, after_dss, with_data_ack, covered_by}
+use Rattle.path_core.specs.DssOut.{bare_mapping}
+use Rattle.path_core.specs.Handover.{with_told, having_sent}
+use Rattle.path_core.specs.Standing.{modes_told, after_look, after_ack_out, may_note, notices_told}
+use Rattle.path_core.specs.Profile.{Profile}
+use Rattle.path_core.specs.Choices.{told_last}
 use Rattle.path_agenda.specs.declared.notice.OwnNotice.{OwnNotice}
 use Rattle.path_agenda.specs.declared.notice.OwnNotice.TheVariants as notes
 use Rattle.path_agenda.specs.declared.notice.PeerNotice.{PeerNotice}
 use Rattle.path_agenda.specs.declared.notice.PeerNotice.TheVariants as peer_notes
 use Rattle.key_material.specs.declared.address.Address.{Address}
 use Rattle.actor_desk.specs.Words.{tail_of}
-use Rattle.path_rules.specs.FastClosing.{with_fast_closed}
+use Rattle.path_core.specs.FastClose.{with_fast_closed}
 use Rattle.path_segments.specs.Spelled.{PlainSegment}
 use Rattle.world_laws.proofs.Lanes.Doing.{place_is}
 use Rattle.world_laws.proofs.Lanes.Records.{unsent_sent_kept, first_sent_kept, fin_sent_kept, expired_kept, uncovered_kept, every_first, every_rest}
 use Rattle.world_laws.proofs.Numbers.TellSmall.{IsShort, RecordKindTells, RecordTells, IsKey, IsNonce, ItemTells, AddressTells, NoteTells, PeerTells, SenderTells, ModesTell, TreatedTells, NoticesTell, EndTells, sum_small, StreamTells}
 use Rattle.send_book.specs.Steps.{ack_reply, is_future, fin_after}
-use Rattle.path_rules.specs.FailedChecks.{after_check_failed}
-use Rattle.path_rules.specs.InfiniteSending.{after_fail_heard, with_infinite}
-use Rattle.path_rules.specs.InfiniteReceiving.{after_infinite}
 use Rattle.world_laws.proofs.Falls.FailedChecks.{Forgets, IsMarked, check_failed_marked, fail_heard_so, infinite_came_so}
 use Rattle.send_book.specs.State.{Sending as SendBook, acked_len}
 

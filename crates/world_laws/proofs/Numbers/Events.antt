@@ -22,19 +22,22 @@ use Rattle.path_agenda.specs.declared.duty.Duty.{Duty}
 use Rattle.path_agenda.specs.declared.duty.Duty.TheVariants as duties
 use Rattle.path_agenda.specs.declared.duty.AskDuty.TheVariants as ask_duties
 use Rattle.path_agenda.specs.Agenda.{rest_of_turn, emission, leaves, heard_and, payload_came, announces, withdraws}
-use Rattle.path_rules.specs.declared.event.Event.{Event}
-use Rattle.path_rules.specs.declared.event.Event.TheVariants as happenings
-use Rattle.path_rules.specs.Arriving.{items_of, judged_in, after_judged, template_by, template_judged, template_of}
-use Rattle.path_rules.specs.declared.judged.Judged.{Judged}
-use Rattle.path_rules.specs.declared.judged.Judged.TheVariants as judged
-use Rattle.path_rules.specs.Joining.{is_never, keys_begun, opened_by}
-use Rattle.path_rules.specs.Joins.{is_joined}
-use Rattle.path_rules.specs.Ends.{PathEnd}
-use Rattle.path_rules.specs.Events.{at_tick, died, join_begun, after_line, told_at, heard_in, copy_heard, copy_taken, after_firing, template_fired, timer_fired, happens, happens_if, never_joined, with_priority}
+use Rattle.path_core.specs.declared.events.Event.{Event}
+use Rattle.path_core.specs.declared.events.Event.TheVariants as happenings
+use Rattle.path_core.specs.OptionsIn.{items_of}
+use Rattle.path_core.specs.Arrival.{judged_in, after_judged, template_by, template_judged, template_of, told_at, heard_in, copy_heard, copy_taken}
+use Rattle.path_core.specs.declared.judged.Judged.{Judged}
+use Rattle.path_core.specs.declared.judged.Judged.TheVariants as judged
+use Rattle.path_core.specs.MpJoin.{is_never, keys_begun, opened_by, is_joined, join_begun, never_joined}
+use Rattle.path_core.specs.End.{PathEnd, died}
+use Rattle.path_core.specs.State.{at_tick, PathState, end_at, goes_on}
+use Rattle.path_core.specs.Events.{after_line, happens, happens_if}
+use Rattle.path_core.specs.Timer.{after_firing, template_fired, timer_fired}
+use Rattle.path_core.specs.Addresses.{with_priority}
 use Rattle.path_store.specs.declared.lines.LineAction.{LineAction}
 use Rattle.path_store.specs.declared.lines.LineAction.TheVariants as actions
-use Rattle.path_rules.specs.State.{PathState, Profile, end_at, goes_on}
-use Rattle.path_rules.specs.Values.{Carried, as_arrived, values}
+use Rattle.path_core.specs.Profile.{Profile}
+use Rattle.path_core.specs.Values.{Carried, as_arrived, values}
 use Rattle.world_laws.proofs.Lanes.Happening.{without_kept, found_due, side_is}
 use Rattle.world_laws.proofs.Lanes.Records.{every_find}
 use Rattle.world_laws.proofs.Numbers.TellSmall.{SegmentTells, bare_tells}

@@ -2,7 +2,7 @@
 use Rattle.std.proofs.Common.{◌≡◌, refl, sym, ◌∙◌, ap, subst, ℕ, zero, suc, ◌+◌, ◌-◌, ◌^◌, ◌<◌, ◌≤◌, ◌++◌, ⊎_elim, Bool, true, false, if◌then◌else◌, is_some, Option, Some, None, List, [], ◌∷◌, length, map, arith}
 use Rattle.std.proofs.lemmas.List.{length-append}
 use Rattle.std.proofs.lemmas.Option.{same_Some, slice_get_within}
-use Rattle.std.specs.List.{slice_get}
+use Rattle.std.specs.List.{slice_get, list_all}
 use Rattle.std.specs.Option.{IfSome, option_map}
 use Rattle.sides.specs.declared.side.Side.{Side}
 use Rattle.sides.specs.declared.side.Side.TheVariants.{A, B}
@@ -37,20 +37,20 @@ use Rattle.path_agenda.specs.declared.duty.Duty.{Duty}
 use Rattle.path_agenda.specs.Agenda.{start_of_turn}
 use Rattle.path_agenda.specs.declared.notice.OwnNotice.{OwnNotice}
 use Rattle.path_agenda.specs.Words.{first_of}
-use Rattle.path_rules.specs.Arriving.{expected_by}
-use Rattle.path_rules.specs.Duties.{stands, ask_for, answered}
-use Rattle.path_rules.specs.Emission.{first_unsent}
-use Rattle.path_rules.specs.Ends.{opening_end}
-use Rattle.path_rules.specs.Looking.{first_sends}
-use Rattle.path_rules.specs.OptionsOut.{HasAddress}
-use Rattle.path_rules.specs.Passing.{first_record}
-use Rattle.path_rules.proofs.Sayable.{said_can}
-use Rattle.path_rules.specs.Shown.{CanBeAltered, IsFreshCopy, NextIsFresh, SentCanBeAltered}
-use Rattle.path_rules.specs.Starts.{first_state, first_turn}
-use Rattle.path_rules.specs.State.{PathState, Profile, end_at, with_agenda}
-use Rattle.path_rules.specs.Steps.{asks_first, answers, takes, settles_down, next_round}
-use Rattle.path_rules.specs.Turns.{FirstStands, IsSettled}
-use Rattle.path_rules.specs.Values.{Carried, values}
+use Rattle.path_core.specs.Arrival.{expected_by}
+use Rattle.path_core.specs.Duties.{stands, ask_for, answered}
+use Rattle.path_core.specs.Emission.{first_unsent, first_record}
+use Rattle.path_core.specs.End.{opening_end}
+use Rattle.path_core.specs.Looking.{first_sends}
+use Rattle.path_core.specs.OptionsOut.{HasAddress}
+use Rattle.path_core.proofs.Sayable.{said_can}
+use Rattle.path_core.specs.Shown.{CanBeAltered, IsFreshCopy, NextIsFresh, SentCanBeAltered}
+use Rattle.path_core.specs.Start.{first_state, first_turn}
+use Rattle.path_core.specs.State.{PathState, end_at, with_agenda}
+use Rattle.path_core.specs.Profile.{Profile}
+use Rattle.path_core.specs.Steps.{asks_first, answers, takes, settles_down, next_round}
+use Rattle.path_core.specs.Turns.{FirstStands, IsSettled}
+use Rattle.path_core.specs.Values.{Carried, values}
 use Rattle.world_laws.specs.declared.member.Member.TheVariants.{App, Path}
 use Rattle.world_laws.specs.Actors.{Actor, ActorCrew}
 use Rattle.world_laws.specs.Fresh.{IsFreshPath, IsFreshCrew, IsFreshTurn, AreFresh}
@@ -78,7 +78,6 @@ use Rattle.world_laws.proofs.Numbers.KeysFit.{AskTells, BooksKeepShort, kept_at,
 use Rattle.world_laws.proofs.Worlds.CastLifting.{each_actor, path_actor}
 use Rattle.world_laws.proofs.Worlds.Casts.{Walker, Cast, Fare, world_of, walking, seated, walked, map_there, after_a, after_b, after_path, path_asked, path_stepped, path_step_is, fare_after_path, walks_on, next_cast, next_is}
 use Rattle.std.proofs.lemmas.Bool.{and_parts}
-use Rattle.std.specs.List.{list_all}
 use Rattle.world_laws.proofs.Lanes.Saying.{every_one}
 
 -- ---- the room of a reassembly book never changes

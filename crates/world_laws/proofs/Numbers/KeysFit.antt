@@ -30,18 +30,21 @@ use Rattle.path_agenda.specs.declared.heard.Heard.{Heard}
 use Rattle.path_agenda.specs.declared.heard.Heard.TheVariants as says
 use Rattle.path_agenda.specs.declared.keys.KeyPair.{KeyPair}
 use Rattle.path_agenda.specs.Items.{key_heard, keys_heard}
-use Rattle.path_rules.specs.declared.event.Event.{Event}
-use Rattle.path_rules.specs.declared.event.Event.TheVariants as happening
-use Rattle.path_rules.specs.Breaking.{break_ask, reset_of}
-use Rattle.path_rules.specs.Duties.{ask_for}
-use Rattle.path_rules.specs.Events.{step_for}
-use Rattle.path_rules.specs.Joining.{keys_begun, join_begin_ask, join_heard_ask}
-use Rattle.path_rules.specs.Opening.{peer_key_ask, opened_ask}
-use Rattle.path_rules.specs.Handover.{sends}
-use Rattle.path_rules.specs.State.{PathState, Profile, end_at, path_of}
-use Rattle.path_rules.specs.Treating.{is_clash, fell_ask, mapping_ask, item_ask, item_of}
-use Rattle.path_rules.specs.Values.{Carried, values}
-use Rattle.path_rules.specs.Standing.{look_ask}
+use Rattle.path_core.specs.declared.events.Event.{Event}
+use Rattle.path_core.specs.declared.events.Event.TheVariants as happening
+use Rattle.path_core.specs.Breaking.{break_ask, reset_of}
+use Rattle.path_core.specs.Duties.{ask_for}
+use Rattle.path_core.specs.Events.{step_for}
+use Rattle.path_core.specs.MpJoin.{keys_begun, join_begin_ask, join_heard_ask}
+use Rattle.path_core.specs.MpCapable.{peer_key_ask, opened_ask}
+use Rattle.path_core.specs.Handover.{sends}
+use Rattle.path_core.specs.State.{PathState, end_at, path_of}
+use Rattle.path_core.specs.Profile.{Profile}
+use Rattle.path_core.specs.DssIn.{is_clash, mapping_ask}
+use Rattle.path_core.specs.Fallback.{fell_ask}
+use Rattle.path_core.specs.Treating.{item_ask, item_of}
+use Rattle.path_core.specs.Values.{Carried, values}
+use Rattle.path_core.specs.Standing.{look_ask}
 use Rattle.path_agenda.specs.declared.notice.PeerNotice.TheVariants as peer_notes
 use Rattle.world_laws.proofs.Lanes.Replying.{every_item}
 use Rattle.world_laws.proofs.Numbers.TellSmall.{IsKey, ItemTells, known_item}

@@ -13,9 +13,9 @@ use Rattle.path_segments.specs.Options.{PlainOption, said_option, said_mapping}
 use Rattle.path_segments.specs.Spelling.{whole_number, data_number}
 use Rattle.stream_lanes.specs.Words.{Every}
 use Rattle.stream_lanes.proofs.Lists.{in_map}
-use Rattle.path_rules.specs.Starts.{waiting_path}
-use Rattle.path_rules.specs.State.{PathState}
-use Rattle.path_rules.specs.Values.{Carried, values}
+use Rattle.path_core.specs.Start.{waiting_path}
+use Rattle.path_core.specs.State.{PathState}
+use Rattle.path_core.specs.Values.{Carried, values}
 use Rattle.world_laws.specs.Laws.{Always}
 use Rattle.world_laws.specs.Openings.{Start, path_begins, opened_world}
 use Rattle.world_laws.specs.ShortNumbers.{IsLowHalf, GoesShort, SegmentGoesShort, CopiesGoShort, ShortNumbersGoShort}

@@ -12,7 +12,7 @@ use Rattle.sides.specs.Side.{peer}
 use Rattle.seq_units.specs.declared.mapping.Mapping.{Mapping}
 use Rattle.key_material.specs.JoinHmac.{join_a160_of, join_b64_of}
 use Rattle.key_material.specs.KeyDigest.{token_of}
-use Rattle.key_material.proofs.Bounds.{token_of_below, join_b64_of_below, AreOctets-join_a160_of, length-join_a160_of}
+use Rattle.key_material.proofs.Bounds.{token_of_below, join_b64_of_below, AreOctets-join_a160_of, length-join_a160_of, add_addr64_of_below}
 use Rattle.mptcp_options.specs.declared.capable.CapableKeys.{CapableKeys}
 use Rattle.mptcp_options.specs.declared.capable.CapableKeys.TheVariants.{NoKey, Sender, Both, WithData}
 use Rattle.mptcp_options.specs.declared.join.JoinForm.TheVariants as join
@@ -44,30 +44,31 @@ use Rattle.subflow_tcp.specs.States.{is_opening}
 use Rattle.stream_lanes.specs.Words.{Every}
 use Rattle.path_agenda.specs.declared.heard.Heard.{Heard}
 use Rattle.path_agenda.specs.declared.heard.Heard.TheVariants as says
-use Rattle.path_rules.specs.Arriving.{copy_of, expected_by}
-use Rattle.path_rules.specs.declared.modes.Modes.{Modes}
-use Rattle.path_rules.specs.Ends.{PathEnd, Sending, Treated, Notices}
+use Rattle.path_core.specs.Arrival.{copy_of, expected_by}
+use Rattle.path_core.specs.declared.modes.Modes.{Modes}
+use Rattle.path_core.specs.End.{PathEnd}
+use Rattle.path_core.specs.Sending.{Sending}
+use Rattle.path_core.specs.Treated.{Treated}
+use Rattle.path_core.specs.Notices.{Notices}
 use Rattle.path_store.specs.Receiving.{Receiving}
-use Rattle.path_rules.specs.Joins.{is_joined, peer_key_of, join_options, third_options}
-use Rattle.path_rules.specs.Passing.{outgoing_or}
-use Rattle.path_rules.specs.OptionsOut.{bare_mapping, checksum_in, place_numbered, checksum_told, is_syn_unsent, owes_mapping, own_reset, plain_options, capable_options, syn_options, key_options, opening_options, data_fin_mapping, ack_options, piece_mapping, is_first_piece, first_piece_options, piece_options, fin_options, record_options, reset_options, segment_of, ack_said, carried_said, record_said, syn_ack_said, fin_said, reset_said, record_or_ack, fail_options, fail_beside, infinite_options, infinite_or, mapped_options, broken_options}
-use Rattle.path_rules.specs.Shown.{IsFarReset}
-use Rattle.path_rules.specs.State.{Profile}
+use Rattle.path_core.specs.MpJoin.{is_joined, peer_key_of, join_options, third_options}
+use Rattle.path_core.specs.Emission.{outgoing_or}
+use Rattle.path_core.specs.DssOut.{bare_mapping, checksum_in, place_numbered, checksum_told, owes_mapping, plain_options, data_fin_mapping, piece_mapping, is_first_piece, first_piece_options, piece_options, fin_options, fail_options, fail_beside, infinite_options, infinite_or, mapped_options}
+use Rattle.path_core.specs.OptionsOut.{is_syn_unsent, own_reset, capable_options, syn_options, key_options, opening_options, ack_options, record_options, reset_options, segment_of, ack_said, carried_said, record_said, syn_ack_said, fin_said, reset_said, record_or_ack, broken_options, noted_said, notice_option, HasAddress}
+use Rattle.path_core.specs.Shown.{IsFarReset}
+use Rattle.path_core.specs.Profile.{Profile}
 use Rattle.key_material.specs.declared.address.Address.{Address}
 use Rattle.key_material.specs.declared.address.Address.TheVariants.{V4, V6}
-use Rattle.key_material.proofs.Bounds.{add_addr64_of_below}
 use Rattle.mptcp_options.specs.Address.{AddressFits}
 use Rattle.control_book.specs.Steps.{path_address}
 use Rattle.path_agenda.specs.declared.notice.OwnNotice.{OwnNotice}
 use Rattle.path_agenda.specs.declared.notice.OwnNotice.TheVariants as notes
 use Rattle.path_agenda.specs.declared.notice.PeerNotice.{PeerNotice}
 use Rattle.path_agenda.specs.declared.notice.PeerNotice.TheVariants as peer_notes
-use Rattle.path_rules.specs.OptionsOut.{noted_said, notice_option, HasAddress}
-use Rattle.path_rules.proofs.Sayable.{noted_can}
-use Rattle.path_rules.proofs.Sayable.{carried_can}
+use Rattle.path_core.proofs.Sayable.{noted_can, carried_can}
 use Rattle.segment_wire.specs.Changes.{with_turned_bit}
 use Rattle.path_store.specs.declared.infinite_mapping.InfiniteMapping.{InfiniteMapping}
-use Rattle.path_rules.specs.Infinite.{receives_infinite}
+use Rattle.path_core.specs.Modes.{receives_infinite}
 
 abbrev pub IsShort : ℕ → Type 0
 IsShort n = n < 2 ^ 31

@@ -2,8 +2,8 @@
 use Rattle.std.proofs.Common.{sym, subst, arith}
 use Rattle.sides.specs.declared.side.Side.{Side}
 use Rattle.stream_lanes.proofs.Lists.{in_map}
-use Rattle.path_rules.specs.State.{end_at}
-use Rattle.path_rules.specs.Values.{Carried, values}
+use Rattle.path_core.specs.State.{end_at}
+use Rattle.path_core.specs.Values.{Carried, values}
 use Rattle.world_laws.specs.declared.member.Member.TheVariants.{App, Path}
 use Rattle.world_laws.specs.Actors.{Actor}
 use Rattle.world_laws.specs.Agreement.{EndsAgree, MappingsAgree, NothingClashes}

@@ -21,7 +21,7 @@ use Rattle.actor_desk.specs.declared.ask.Ask.TheVariants as asks
 use Rattle.actor_desk.specs.declared.ask.Note.{Note}
 use Rattle.actor_desk.specs.Books.{SendJournal, StampedBooks, after_entry}
 use Rattle.actor_desk.specs.Words.{pick}
-use Rattle.path_rules.specs.Codec.{Codec}
+use Rattle.path_core.specs.Codec.{Codec}
 use Rattle.world_laws.specs.Actors.{ActorCrew, member_asks}
 use Rattle.world_laws.specs.Granted.{grants_byte, times_granted, GrantedOnce}
 use Rattle.world_laws.specs.Laws.{Always}

@@ -17,17 +17,18 @@ use Rattle.path_segments.specs.Spelled.{PlainSegment}
 use Rattle.stream_lanes.specs.Lane.{Lane}
 use Rattle.stream_lanes.specs.View.{View}
 use Rattle.actor_desk.specs.declared.ask.Reply.{Reply}
-use Rattle.path_rules.specs.Arriving.{held_of}
-use Rattle.path_rules.specs.Values.{Carried, values}
+use Rattle.path_core.specs.DssIn.{held_of}
+use Rattle.path_core.specs.Values.{Carried, values}
 use Rattle.world_laws.proofs.Lanes.Arriving.{options_hold}
 use Rattle.world_laws.proofs.Lanes.Showing.{FlightShows, PathShows}
 use Rattle.link_script.specs.declared.script.ScriptLine.{ScriptLine}
 use Rattle.stream_lanes.specs.Holding.{LaneHolds, Holds}
 use Rattle.stream_lanes.proofs.Lists.{Every-map, Every-nil}
 use Rattle.actor_desk.specs.Desk.{SixBooks}
-use Rattle.path_rules.specs.Starts.{PathStart, waiting_path, first_turn}
-use Rattle.path_rules.specs.State.{PathState, Profile, end_at}
-use Rattle.path_rules.specs.Steps.{takes, next_round}
+use Rattle.path_core.specs.Start.{PathStart, waiting_path, first_turn}
+use Rattle.path_core.specs.State.{PathState, end_at}
+use Rattle.path_core.specs.Profile.{Profile}
+use Rattle.path_core.specs.Steps.{takes, next_round}
 use Rattle.world_laws.specs.Agreement.{NothingClashes}
 use Rattle.world_laws.proofs.Lanes.OfAWorld.{Others, duo_at}
 use Rattle.world_laws.proofs.Places.StepsKeep.{Tells, Knows, AllTell, CopiesTell, end_knows, takes_knows, begins_knows, more_known}

@@ -32,8 +32,9 @@ use Rattle.stream_lanes.specs.Duo.Event.{ToB, ToA, FallA, FallB, LoosenA, Loosen
 use Rattle.stream_lanes.specs.View.{View}
 use Rattle.stream_lanes.proofs.Directions.{moved_sent, acked_sent, placed_sent, fin_sent}
 use Rattle.stream_lanes.proofs.Lists.{in_more, set_same, set_other}
-use Rattle.path_rules.specs.State.{PathState, Profile}
-use Rattle.path_rules.specs.Values.{Carried}
+use Rattle.path_core.specs.State.{PathState}
+use Rattle.path_core.specs.Profile.{Profile}
+use Rattle.path_core.specs.Values.{Carried}
 use Rattle.world_laws.proofs.Places.StepsKeep.{Tells, PathKnows}
 use Rattle.world_laws.proofs.Lanes.Showing.{HeldShows}
 

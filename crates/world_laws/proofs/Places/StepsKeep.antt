@@ -37,26 +37,27 @@ use Rattle.path_agenda.specs.declared.heard.Heard.{Heard}
 use Rattle.path_agenda.specs.declared.heard.Heard.TheVariants as says
 use Rattle.path_agenda.specs.Agenda.{emission, leaves, resets}
 use Rattle.path_agenda.specs.declared.keys.KeyPair.{KeyPair}
-use Rattle.path_rules.specs.declared.event.Event.{Event}
-use Rattle.path_rules.specs.declared.event.Event.TheVariants as happenings
-use Rattle.path_rules.specs.Arriving.{held_of}
-use Rattle.path_rules.specs.Breaking.{reset_of, reset_on, answered_break}
-use Rattle.path_rules.specs.Duties.{passed, answered}
-use Rattle.path_rules.specs.Ends.{PathEnd}
+use Rattle.path_core.specs.declared.events.Event.{Event}
+use Rattle.path_core.specs.declared.events.Event.TheVariants as happenings
+use Rattle.path_core.specs.DssIn.{held_of, with_learned, with_skipped, counts, is_clash, with_data_fin}
+use Rattle.path_core.specs.Breaking.{reset_of, reset_on, answered_break, died_unless_dead}
+use Rattle.path_core.specs.Duties.{passed, answered}
+use Rattle.path_core.specs.End.{PathEnd, died}
 use Rattle.path_store.specs.Receiving.{Receiving}
-use Rattle.path_rules.specs.Events.{next_event, heard_in, at_tick, died, died_unless_dead, after_line, copy_heard, happens_if, join_begun, told_at, never_joined}
+use Rattle.path_core.specs.Events.{next_event, after_line, happens_if}
+use Rattle.path_core.specs.Arrival.{heard_in, copy_heard, told_at}
+use Rattle.path_core.specs.State.{at_tick, PathState, end_at, with_end, with_agenda, goes_on}
+use Rattle.path_core.specs.MpJoin.{join_begun, never_joined, is_never, keys_begun, opened_by}
 use Rattle.path_store.specs.declared.lines.LineAction.{LineAction}
 use Rattle.path_store.specs.declared.lines.LineAction.TheVariants as actions
-use Rattle.path_rules.specs.Joining.{is_never, keys_begun, opened_by}
-use Rattle.path_rules.specs.Passing.{is_placed, piece_of, answered_piece}
-use Rattle.path_rules.specs.Deliver.{Piece, with_learned, with_skipped}
-use Rattle.path_rules.specs.Handover.{sent_on}
-use Rattle.path_rules.specs.Standing.{window_in, answered_ack_out}
-use Rattle.path_rules.specs.State.{PathState, end_at, with_end, with_agenda, goes_on}
-use Rattle.path_rules.specs.Steps.{takes, begins_turn}
-use Rattle.path_rules.specs.Treating.{counts, is_clash, with_data_fin, answered_heard, answered_item, item_of, item_passed}
-use Rattle.path_rules.specs.Values.{Carried, values}
-use Rattle.path_rules.specs.Fallback.{after_fell, fell_duties}
+use Rattle.path_core.specs.Deliver.{is_placed, piece_of, answered_piece}
+use Rattle.path_store.specs.Passing.{Piece}
+use Rattle.path_core.specs.Handover.{sent_on}
+use Rattle.path_core.specs.Standing.{window_in, answered_ack_out}
+use Rattle.path_core.specs.Steps.{takes, begins_turn}
+use Rattle.path_core.specs.Treating.{answered_heard, answered_item, item_of, item_passed}
+use Rattle.path_core.specs.Values.{Carried, values}
+use Rattle.path_core.specs.Fallback.{after_fell, fell_duties}
 use Rattle.world_laws.proofs.Worlds.Finding.{find_every, one_side}
 use Rattle.world_laws.proofs.Falls.FailedChecks.{infinite_came_so, fail_answered_so}
 use Rattle.world_laws.specs.Writes.{EndView, Writes, OnlyAt, writes, side_of}

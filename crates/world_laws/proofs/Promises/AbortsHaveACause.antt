@@ -4,7 +4,7 @@ use Rattle.std.specs.List.{list_any}
 use Rattle.sides.specs.declared.side.Side.{Side}
 use Rattle.sides.specs.declared.side.Side.TheVariants.{A, B}
 use Rattle.sides.specs.Side.{peer}
-use Rattle.path_rules.specs.Values.{Carried, values}
+use Rattle.path_core.specs.Values.{Carried, values}
 use Rattle.world_laws.specs.AbortCause.{note_asks_fast_close, PeerStopped, AbortsHaveCause}
 use Rattle.world_laws.specs.Fresh.{shown_world}
 use Rattle.world_laws.specs.Laws.{Always}

@@ -23,10 +23,11 @@ use Rattle.stream_lanes.specs.Words.{Every}
 use Rattle.stream_lanes.proofs.Duos.{any_held}
 use Rattle.stream_lanes.proofs.Lists.{Every-map, in_map}
 use Rattle.actor_desk.specs.Books.{books_in}
-use Rattle.path_rules.specs.Arriving.{checksum_heard}
-use Rattle.path_rules.specs.OptionsOut.{bare_mapping}
-use Rattle.path_rules.specs.State.{PathState, Profile}
-use Rattle.path_rules.specs.Values.{Carried, values}
+use Rattle.path_core.specs.DssIn.{checksum_heard}
+use Rattle.path_core.specs.DssOut.{bare_mapping}
+use Rattle.path_core.specs.State.{PathState}
+use Rattle.path_core.specs.Profile.{Profile}
+use Rattle.path_core.specs.Values.{Carried, values}
 use Rattle.world_laws.specs.ChecksPass.{IsSummedUp, MappingIsSummed, KeysAreSummed, OptionIsSummed, FlightIsSummed, PathIsSummed, ChecksumsAreRight}
 use Rattle.world_laws.specs.Openings.{Start, opened_world}
 use Rattle.world_laws.specs.Promises.{HoldsAnyway, written_by}

@@ -9,7 +9,7 @@ use Rattle.stream_lanes.proofs.Promises.{nothing_follows_any_end, any_event_is_o
 use Rattle.stream_lanes.proofs.Refusals.{never_refused as never_refused_in}
 use Rattle.reassembly_book.specs.State.{received}
 use Rattle.actor_desk.specs.Books.{books_in}
-use Rattle.path_rules.specs.Values.{Carried, values}
+use Rattle.path_core.specs.Values.{Carried, values}
 use Rattle.world_laws.specs.Openings.{Start, opened_world}
 use Rattle.world_laws.specs.Altered.{BothKeepCount}
 use Rattle.world_laws.specs.Promises.{tells_refusal, BothKeepTheirWord, NothingFollows, EachTurnIsOneStep, NothingWasRefused}

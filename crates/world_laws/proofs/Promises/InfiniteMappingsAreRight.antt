@@ -21,9 +21,10 @@ use Rattle.stream_lanes.specs.Words.{Every}
 use Rattle.stream_lanes.proofs.Duos.{any_held}
 use Rattle.stream_lanes.proofs.Lists.{Every-map, in_map}
 use Rattle.actor_desk.specs.Books.{books_in}
-use Rattle.path_rules.specs.Ends.{PathEnd}
-use Rattle.path_rules.specs.State.{PathState, Profile, end_at}
-use Rattle.path_rules.specs.Values.{Carried, values}
+use Rattle.path_core.specs.End.{PathEnd}
+use Rattle.path_core.specs.State.{PathState, end_at}
+use Rattle.path_core.specs.Profile.{Profile}
+use Rattle.path_core.specs.Values.{Carried, values}
 use Rattle.world_laws.specs.Promises.{HoldsAnyway}
 use Rattle.world_laws.specs.InfiniteMappings.{IsUnder, MappingIsRight, OptionIsRight, FlightIsRight, PathIsRight, InfiniteMappingsAreRight}
 use Rattle.world_laws.specs.Openings.{Start, opened_world}

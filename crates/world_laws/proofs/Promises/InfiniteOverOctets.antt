@@ -20,17 +20,18 @@ use Rattle.path_segments.specs.declared.segment.PathMapping.TheVariants.{Bytes, 
 use Rattle.path_segments.specs.declared.segment.PathOption.TheVariants.{Dss}
 use Rattle.stream_lanes.specs.Words.{Every}
 use Rattle.stream_lanes.proofs.Lists.{Every-nil, in_map}
-use Rattle.path_rules.specs.declared.event.Event.TheVariants as happenings
-use Rattle.path_rules.specs.Arriving.{expected_by}
-use Rattle.path_rules.specs.Ends.{PathEnd}
-use Rattle.path_rules.specs.Events.{heard_in, next_event}
-use Rattle.path_rules.specs.Octets.{octets}
-use Rattle.path_rules.specs.Shown.{octets_of, shown_path, IsFarReset, IsFreshCopy, NextIsFresh}
-use Rattle.path_rules.specs.State.{PathState, Profile, end_at}
-use Rattle.path_rules.specs.Values.{Carried, as_arrived, values}
-use Rattle.path_rules.proofs.CopiesRead.{near_read, far_read}
-use Rattle.path_rules.proofs.FarResets.{unplaced}
-use Rattle.path_rules.proofs.Showing.{same_event}
+use Rattle.path_core.specs.declared.events.Event.TheVariants as happenings
+use Rattle.path_core.specs.Arrival.{expected_by, heard_in}
+use Rattle.path_core.specs.End.{PathEnd}
+use Rattle.path_core.specs.Events.{next_event}
+use Rattle.path_core.specs.Octets.{octets}
+use Rattle.path_core.specs.Shown.{octets_of, shown_path, IsFarReset, IsFreshCopy, NextIsFresh}
+use Rattle.path_core.specs.State.{PathState, end_at}
+use Rattle.path_core.specs.Profile.{Profile}
+use Rattle.path_core.specs.Values.{Carried, as_arrived, values}
+use Rattle.path_core.proofs.CopiesRead.{near_read, far_read}
+use Rattle.path_core.proofs.FarResets.{unplaced}
+use Rattle.path_core.proofs.Showing.{same_event}
 use Rattle.world_laws.specs.declared.member.Member.TheVariants.{App, Path}
 use Rattle.world_laws.specs.Actors.{Actor, ActorCrew}
 use Rattle.world_laws.specs.Fresh.{IsFreshCrew, IsFreshMember, shown_crew, shown_member, shown_world}

@@ -2,8 +2,8 @@
 use Rattle.std.proofs.Common.{◌≡◌, sym, ◌∙◌, ap, subst, ℕ, true, false, List, [], ◌∷◌, ◌++◌, refl}
 use Rattle.sides.specs.declared.side.Side.{Side}
 use Rattle.sides.specs.declared.side.Side.TheVariants.{A, B}
-use Rattle.path_rules.specs.Octets.{octets}
-use Rattle.path_rules.specs.Values.{Carried, values}
+use Rattle.path_core.specs.Octets.{octets}
+use Rattle.path_core.specs.Values.{Carried, values}
 use Rattle.world_laws.specs.Altered.{BothKeepCount, HoldsCheckedOfOctets, PlacedUntilTheFall, PrefixUntilTheFall, StaysRight, fell_back}
 use Rattle.world_laws.specs.Fresh.{shown_world}
 use Rattle.world_laws.specs.Openings.{Start, opened_world}

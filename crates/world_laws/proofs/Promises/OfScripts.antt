@@ -15,9 +15,9 @@ use Rattle.link_script.specs.declared.script.Script.{Script}
 use Rattle.link_script.specs.declared.script.ScriptLine.{ScriptLine}
 use Rattle.link_script.specs.declared.script.ScriptLine.TheVariants.{Alter}
 use Rattle.link_script.specs.Scripts.{IsPath}
-use Rattle.path_rules.specs.Octets.{octets}
-use Rattle.path_rules.specs.Shown.{AltersNothing}
-use Rattle.path_rules.specs.Starts.{key_of}
+use Rattle.path_core.specs.Octets.{octets}
+use Rattle.path_core.specs.Shown.{AltersNothing}
+use Rattle.path_core.specs.Start.{key_of}
 use Rattle.world_laws.specs.Openings.{PathPlan, plan_of, plans_from, start_of}
 use Rattle.world_laws.specs.Laws.{CanRunPath}
 use Rattle.world_laws.specs.PlainScripts.{alters_payload, IsPlainScript, IsShortScript, ScriptsFit, ScriptsKeepAnyway, CheckedScriptsKeepOctets, ScriptsAreShownOfValues, PlainScriptsStartPlainly, PlainScriptsKeepAllPromises, ScriptsCanRun}

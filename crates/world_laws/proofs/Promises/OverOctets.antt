@@ -9,11 +9,11 @@ use Rattle.stream_lanes.specs.Laws.{StepsOrStays, flattened}
 use Rattle.actor_desk.specs.Words.{pick}
 use Rattle.stream_apps.specs.Starts.{fast_close_of, first_app_turn}
 use Rattle.path_agenda.specs.Agenda.{start_of_turn}
-use Rattle.path_rules.specs.Octets.{octets}
-use Rattle.path_rules.specs.Starts.{waiting_path}
-use Rattle.path_rules.specs.State.{with_agenda}
-use Rattle.path_rules.specs.Values.{Carried, values}
-use Rattle.path_rules.proofs.Showing.{same_settled}
+use Rattle.path_core.specs.Octets.{octets}
+use Rattle.path_core.specs.Start.{waiting_path}
+use Rattle.path_core.specs.State.{with_agenda}
+use Rattle.path_core.specs.Values.{Carried, values}
+use Rattle.path_core.proofs.Showing.{same_settled}
 use Rattle.world_laws.specs.declared.member.Member.TheVariants.{App, Path}
 use Rattle.world_laws.specs.Actors.{ActorCrew}
 use Rattle.world_laws.specs.Altered.{KeepsCount, BothKeepCount, PrefixUntilTheFall, StaysRight, octet_at}

@@ -36,7 +36,7 @@ use Rattle.actor_desk.specs.declared.ask.Reply.{Reply}
 use Rattle.actor_desk.specs.declared.ask.Reply.TheVariants as replies
 use Rattle.actor_desk.specs.Books.{books_in}
 use Rattle.actor_desk.specs.Desk.{SixBooks, reply_of}
-use Rattle.path_rules.specs.Values.{Carried}
+use Rattle.path_core.specs.Values.{Carried}
 use Rattle.world_laws.specs.Openings.{Start}
 use Rattle.world_laws.specs.Outcomes.{tells_end, was_told, read_by, output_of, pipe_ab, pipe_ba}
 use Rattle.world_laws.specs.Altered.{BothKeepCount, octet_at}

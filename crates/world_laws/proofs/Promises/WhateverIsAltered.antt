@@ -8,7 +8,7 @@ use Rattle.send_book.specs.State.{Sending}
 use Rattle.stream_lanes.specs.Duo.{Duo, Event, after_events}
 use Rattle.stream_lanes.proofs.Promises.{prefix_before_the_fall, placed_before_the_fall}
 use Rattle.actor_desk.specs.Books.{books_in}
-use Rattle.path_rules.specs.Values.{Carried, values}
+use Rattle.path_core.specs.Values.{Carried, values}
 use Rattle.world_laws.specs.Altered.{BothKeepCount, HoldsChecked, PrefixUntilTheFall, PlacedUntilTheFall, fell_back}
 use Rattle.world_laws.specs.Openings.{Start, opened_world}
 use Rattle.world_laws.specs.Promises.{HasRoom, HoldsAnyway, NothingFollows, EachTurnIsOneStep, written_by}

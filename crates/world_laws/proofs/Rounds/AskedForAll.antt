@@ -19,11 +19,11 @@ use Rattle.actor_desk.specs.Words.{pick}
 use Rattle.stream_apps.specs.declared.duty.AppDuty.{AppDuty}
 use Rattle.stream_apps.specs.AppSteps.{app_ask}
 use Rattle.path_agenda.specs.declared.duty.Duty.{Duty}
-use Rattle.path_rules.specs.Codec.{Codec}
-use Rattle.path_rules.specs.Duties.{ask_for}
-use Rattle.path_rules.specs.Starts.{waiting_path}
-use Rattle.path_rules.specs.State.{PathState, end_at, path_of}
-use Rattle.path_rules.specs.Steps.{begins_turn}
+use Rattle.path_core.specs.Codec.{Codec}
+use Rattle.path_core.specs.Duties.{ask_for}
+use Rattle.path_core.specs.Start.{waiting_path}
+use Rattle.path_core.specs.State.{PathState, end_at, path_of}
+use Rattle.path_core.specs.Steps.{begins_turn}
 use Rattle.world_laws.specs.declared.member.Member.TheVariants.{Path}
 use Rattle.world_laws.specs.Actors.{ActorCrew}
 use Rattle.world_laws.specs.Openings.{Start, path_begins, opened_world}
@@ -48,7 +48,7 @@ use Rattle.world_laws.proofs.Joins.NoBytesBeforeClear.{HasJoined, AllWait, wait_
 use Rattle.world_laws.proofs.Falls.Owned.{OwnerSo, GoesSo, ask_owned, app_goes, path_goes, path_falls}
 use Rattle.world_laws.proofs.Joins.AwakeAfterBegun.{Awake}
 use Rattle.world_laws.proofs.Keys.ToldAreOwn.{FellBack}
-use Rattle.path_rules.specs.Joins.{is_joined}
+use Rattle.path_core.specs.MpJoin.{is_joined}
 
 -- ---- lists of actors
 

@@ -24,12 +24,12 @@ use Rattle.path_agenda.specs.declared.duty.SendDuty.TheVariants as send_duties
 use Rattle.path_agenda.specs.declared.duty.SilentDuty.TheVariants as silent_duties
 use Rattle.path_agenda.specs.declared.duty.StepDuty.TheVariants as step_duties
 use Rattle.path_agenda.specs.Agenda.{start_of_turn}
-use Rattle.path_rules.specs.Codec.{Codec}
-use Rattle.path_rules.specs.Duties.{ask_for, answered}
-use Rattle.path_rules.specs.Emission.{first_unsent, Grant, grant_in, grant_ask, answered_grant, answered_data, data_ask}
-use Rattle.path_rules.specs.Starts.{waiting_path}
-use Rattle.path_rules.specs.State.{PathState, end_at, with_agenda}
-use Rattle.path_rules.specs.Steps.{asks_first, takes, begins_turn}
+use Rattle.path_core.specs.Codec.{Codec}
+use Rattle.path_core.specs.Duties.{ask_for, answered}
+use Rattle.path_core.specs.Emission.{first_unsent, Grant, grant_in, grant_ask, answered_grant, answered_data, data_ask}
+use Rattle.path_core.specs.Start.{waiting_path}
+use Rattle.path_core.specs.State.{PathState, end_at, with_agenda}
+use Rattle.path_core.specs.Steps.{asks_first, takes, begins_turn}
 use Rattle.world_laws.specs.declared.member.Member.TheVariants.{App, Path}
 use Rattle.world_laws.specs.Actors.{Actor, ActorCrew, member_asks, member_takes, member_next}
 use Rattle.world_laws.specs.Openings.{Start, path_begins, opened_world}

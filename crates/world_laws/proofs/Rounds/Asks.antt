@@ -6,10 +6,10 @@ use Rattle.stream_apps.specs.declared.duty.AppDuty.TheVariants as app_duties
 use Rattle.stream_apps.specs.Apps.{AppState}
 use Rattle.stream_apps.specs.AppSteps.{app_ask}
 use Rattle.path_agenda.specs.declared.duty.Duty.{Duty}
-use Rattle.path_rules.specs.Codec.{Codec}
-use Rattle.path_rules.specs.Duties.{ask_for}
-use Rattle.path_rules.specs.Emission.{payload_size}
-use Rattle.path_rules.specs.State.{PathState}
+use Rattle.path_core.specs.Codec.{Codec}
+use Rattle.path_core.specs.Duties.{ask_for}
+use Rattle.path_core.specs.Emission.{payload_size}
+use Rattle.path_core.specs.State.{PathState}
 use Rattle.world_laws.proofs.Rounds.ReplyKinds.{AsksSome}
 use Rattle.world_laws.specs.Asking.{IsOwn}
 use Rattle.world_laws.proofs.Writes.Asks.{asks_no_more}

@@ -5,8 +5,8 @@ use Rattle.stream_lanes.specs.Words.{Every}
 use Rattle.stream_lanes.proofs.Lists.{in_map, in_set}
 use Rattle.actor_desk.specs.declared.ask.Ask.{Ask}
 use Rattle.actor_desk.specs.declared.ask.Reply.{Reply}
-use Rattle.path_rules.specs.Codec.{Codec}
-use Rattle.path_rules.specs.Starts.{waiting_path}
+use Rattle.path_core.specs.Codec.{Codec}
+use Rattle.path_core.specs.Start.{waiting_path}
 use Rattle.world_laws.specs.declared.member.Member.TheVariants.{App, Path}
 use Rattle.world_laws.specs.Actors.{Actor, ActorCrew, member_asks, member_takes, member_next}
 use Rattle.world_laws.specs.Fine.{IsFine}

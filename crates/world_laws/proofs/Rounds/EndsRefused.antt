@@ -27,42 +27,46 @@ use Rattle.path_agenda.specs.declared.duty.AskDuty.TheVariants as ask_duties
 use Rattle.path_agenda.specs.declared.duty.SendDuty.TheVariants as send_duties
 use Rattle.path_agenda.specs.declared.duty.SilentDuty.TheVariants as silent_duties
 use Rattle.path_agenda.specs.declared.duty.StepDuty.TheVariants as step_duties
-use Rattle.path_rules.specs.declared.event.Event.{Event}
-use Rattle.path_rules.specs.declared.event.Event.TheVariants as happenings
+use Rattle.path_core.specs.declared.events.Event.{Event}
+use Rattle.path_core.specs.declared.events.Event.TheVariants as happenings
 use Rattle.path_agenda.specs.declared.heard.Heard.{Heard}
 use Rattle.path_agenda.specs.declared.heard.Heard.TheVariants as says
 use Rattle.path_agenda.specs.declared.keys.KeyPair.{KeyPair}
 use Rattle.path_agenda.specs.Agenda.{rest_of_turn, emission, syn_came, syn_ack_came, join_came, refuses, join_answered, heard_and, payload_came, copy_came, syn_again, answers, answers_dead, expired, expired_for_ever, leaves, breaks, resets, stops, announces, withdraws}
 use Rattle.path_agenda.specs.Items.{key_heard, keys_heard}
-use Rattle.path_rules.specs.Arriving.{items_of, reset_for, copy_judged, held_of, judged_in, taken_as, template_by, template_judged, options_heard}
-use Rattle.path_rules.specs.Breaking.{reset_of, reset_on, answered_break}
-use Rattle.path_rules.specs.Codec.{Codec}
-use Rattle.path_rules.specs.Duties.{stands, passed, answered}
-use Rattle.path_rules.specs.Emission.{first_unsent, fits, may_ask, Grant, answered_grant, answered_data, data_stands}
-use Rattle.path_rules.specs.Ends.{PathEnd}
+use Rattle.path_core.specs.OptionsIn.{items_of, options_heard}
+use Rattle.path_core.specs.Arrival.{reset_for, copy_judged, judged_in, template_by, template_judged, heard_in, copy_heard}
+use Rattle.path_core.specs.DssIn.{held_of, with_learned, is_clash, told_next}
+use Rattle.path_core.specs.Judged.{taken_as}
+use Rattle.path_core.specs.Breaking.{reset_of, reset_on, answered_break, died_unless_dead, path_died}
+use Rattle.path_core.specs.Codec.{Codec}
+use Rattle.path_core.specs.Duties.{stands, passed, answered}
+use Rattle.path_core.specs.Emission.{first_unsent, fits, may_ask, Grant, answered_grant, answered_data, data_stands}
+use Rattle.path_core.specs.End.{PathEnd, died}
 use Rattle.join_handshake.specs.declared.hearing.JoinSyn.{JoinSyn}
-use Rattle.path_rules.specs.declared.judged.Judged.{Judged}
-use Rattle.path_rules.specs.declared.judged.Judged.TheVariants as judged
-use Rattle.path_rules.specs.Joining.{is_never, keys_begun, opened_by, asked_at, join_taken}
-use Rattle.path_rules.specs.Joins.{is_joined}
-use Rattle.path_rules.specs.Events.{next_event, heard_in, at_tick, join_begun, died, died_unless_dead, path_died, after_line, copy_heard, template_fired, happens_if, never_joined, with_priority}
+use Rattle.path_core.specs.declared.judged.Judged.{Judged}
+use Rattle.path_core.specs.declared.judged.Judged.TheVariants as judged
+use Rattle.path_core.specs.MpJoin.{is_never, keys_begun, opened_by, asked_at, join_taken, is_joined, join_begun, never_joined}
+use Rattle.path_core.specs.Events.{next_event, after_line, happens_if}
+use Rattle.path_core.specs.State.{at_tick, PathState, end_at, with_end, with_agenda, goes_on, left}
+use Rattle.path_core.specs.Timer.{template_fired}
+use Rattle.path_core.specs.Addresses.{with_priority, after_peer_notice}
 use Rattle.path_store.specs.declared.lines.LineAction.{LineAction}
 use Rattle.path_store.specs.declared.lines.LineAction.TheVariants as actions
-use Rattle.path_rules.specs.Passing.{piece_of, is_placed, answered_piece, is_fin_set, answered_fin_heard, answered_plain_fin}
-use Rattle.path_rules.specs.Deliver.{Piece, with_learned}
-use Rattle.path_rules.specs.Handover.{sent_on}
-use Rattle.path_rules.specs.Standing.{answered_ack_out}
-use Rattle.path_rules.specs.State.{PathState, Profile, end_at, with_end, with_agenda, goes_on, left}
-use Rattle.path_rules.specs.Steps.{settled}
-use Rattle.path_rules.specs.Treating.{is_clash, told_next, answered_item, item_of, after_fell, fell_duties, answered_fell, with_plain_ack, breaks_by_ack}
-use Rattle.path_rules.specs.Opening.{answered_peer_key, answered_opened}
-use Rattle.path_rules.specs.FastClosing.{is_stopped_by}
-use Rattle.path_rules.specs.Addressing.{after_peer_notice}
+use Rattle.path_core.specs.Deliver.{piece_of, is_placed, answered_piece}
+use Rattle.path_core.specs.DataFin.{is_fin_set, answered_fin_heard, answered_plain_fin}
+use Rattle.path_store.specs.Passing.{Piece}
+use Rattle.path_core.specs.Handover.{sent_on}
+use Rattle.path_core.specs.Standing.{answered_ack_out}
+use Rattle.path_core.specs.Profile.{Profile}
+use Rattle.path_core.specs.Steps.{settled}
+use Rattle.path_core.specs.Treating.{answered_item, item_of}
+use Rattle.path_core.specs.Fallback.{after_fell, fell_duties, answered_fell, with_plain_ack, breaks_by_ack, after_check_failed, after_fail_heard}
+use Rattle.path_core.specs.MpCapable.{answered_peer_key, answered_opened}
+use Rattle.path_core.specs.FastClose.{is_stopped_by}
 use Rattle.world_laws.proofs.Rounds.GrantAtOneDuty.{MayNotAsk}
 use Rattle.world_laws.proofs.Falls.Verdicts.{fell_cases}
 use Rattle.world_laws.proofs.Falls.FailedChecks.{fail_answered_so}
-use Rattle.path_rules.specs.FailedChecks.{after_check_failed}
-use Rattle.path_rules.specs.InfiniteSending.{after_fail_heard}
 
 -- ---- what is ahead
 

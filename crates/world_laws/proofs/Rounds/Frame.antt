@@ -7,10 +7,10 @@ use Rattle.actor_desk.specs.Words.{is_nil, tail_of}
 use Rattle.path_agenda.specs.Agenda.{start_of_turn}
 use Rattle.path_agenda.specs.declared.duty.Duty.TheVariants as duties
 use Rattle.path_agenda.specs.declared.duty.AskDuty.TheVariants as ask_duties
-use Rattle.path_rules.specs.Codec.{Codec}
-use Rattle.path_rules.specs.Duties.{stands}
-use Rattle.path_rules.specs.State.{PathState, with_agenda, path_of}
-use Rattle.path_rules.specs.Steps.{settled, takes, begins_turn}
+use Rattle.path_core.specs.Codec.{Codec}
+use Rattle.path_core.specs.Duties.{stands}
+use Rattle.path_core.specs.State.{PathState, with_agenda, path_of}
+use Rattle.path_core.specs.Steps.{settled, takes, begins_turn}
 use Rattle.world_laws.specs.Writes.{Writes, OnlyAt, PathView, writes, side_of}
 use Rattle.world_laws.proofs.Writes.Paths.{writes_no_more, passes_no_more}
 use Rattle.world_laws.proofs.Writes.Steps.{Lasts, takes_lasts, begins_lasts}

@@ -5,8 +5,8 @@ use Rattle.sides.specs.declared.side.Side.TheVariants.{A, B}
 use Rattle.stream_apps.specs.AppSteps.{start_of_app}
 use Rattle.stream_apps.specs.Starts.{fast_close_of, untouched, first_app_turn}
 use Rattle.stream_apps.specs.Turns.{IsAppSettled}
-use Rattle.path_rules.specs.Codec.{Codec}
-use Rattle.path_rules.specs.Starts.{waiting_path}
+use Rattle.path_core.specs.Codec.{Codec}
+use Rattle.path_core.specs.Start.{waiting_path}
 use Rattle.world_laws.specs.Laws.{CanRun, CanRunPath, SerialExists}
 use Rattle.world_laws.specs.Openings.{PathPlan, Start, path_begins, new_path, opened_world}
 use Rattle.world_laws.specs.Serial.{spelled}

@@ -9,7 +9,7 @@ use Rattle.stream_lanes.proofs.Lists.{in_set, in_map}
 use Rattle.actor_desk.specs.declared.ask.Ask.{Ask}
 use Rattle.actor_desk.specs.Books.{StampedBooks}
 use Rattle.stream_apps.specs.Starts.{fast_close_of, first_app_turn}
-use Rattle.path_rules.specs.Codec.{Codec}
+use Rattle.path_core.specs.Codec.{Codec}
 use Rattle.world_laws.specs.declared.member.Member.TheVariants.{App}
 use Rattle.world_laws.specs.Actors.{ActorCrew, member_asks, is_over}
 use Rattle.world_laws.specs.Openings.{PathPlan, Start, new_crew, new_path, opened_world}

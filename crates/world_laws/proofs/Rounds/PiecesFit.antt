@@ -55,26 +55,29 @@ use Rattle.path_agenda.specs.declared.duty.StepDuty.TheVariants as step_duties
 use Rattle.path_agenda.specs.declared.heard.Heard.{Heard}
 use Rattle.path_agenda.specs.declared.heard.Heard.TheVariants as says
 use Rattle.path_agenda.specs.declared.keys.KeyPair.{KeyPair}
-use Rattle.path_rules.specs.Arriving.{copy_of, hint_of, items_of, judged_in, taken_as, options_heard, after_judged, owes_by, owing_if, with_payload}
-use Rattle.path_rules.specs.Breaking.{answered_break}
-use Rattle.path_rules.specs.Codec.{Codec}
-use Rattle.path_rules.specs.declared.event.Event.{Event}
-use Rattle.path_rules.specs.declared.event.Event.TheVariants as happenings
-use Rattle.path_rules.specs.Deliver.{is_wrong, forgotten_by, mapping_here, with_learned, with_skipped}
-use Rattle.path_rules.specs.Duties.{stands, passed, answered, ask_for}
-use Rattle.path_rules.specs.Emission.{Grant, grant_in, grant_ask, data_ask, answered_grant, answered_data, first_unsent, payload_size, may_ask, may_send_data, fits}
-use Rattle.path_rules.specs.Ends.{PathEnd}
-use Rattle.path_rules.specs.Events.{next_event, after_line, at_tick, died, died_unless_dead, join_begun, copy_heard, heard_in, happens_if, told_at, never_joined}
+use Rattle.path_core.specs.Arrival.{copy_of, judged_in, after_judged, owing_if, with_payload, copy_heard, heard_in, told_at}
+use Rattle.path_core.specs.OptionsIn.{hint_of, items_of, options_heard, owes_by}
+use Rattle.path_core.specs.Judged.{taken_as}
+use Rattle.path_core.specs.Breaking.{answered_break, died_unless_dead}
+use Rattle.path_core.specs.Codec.{Codec}
+use Rattle.path_core.specs.declared.events.Event.{Event}
+use Rattle.path_core.specs.declared.events.Event.TheVariants as happenings
+use Rattle.path_core.specs.Deliver.{is_wrong, forgotten_by, mapping_here, is_dropped}
+use Rattle.path_core.specs.DssIn.{with_learned, with_skipped, counts, is_clash, with_data_fin}
+use Rattle.path_core.specs.Duties.{stands, passed, answered, ask_for}
+use Rattle.path_core.specs.Emission.{Grant, grant_in, grant_ask, data_ask, answered_grant, answered_data, first_unsent, payload_size, may_ask, may_send_data, fits, answer_occasion, resend_occasion}
+use Rattle.path_core.specs.End.{PathEnd, died}
+use Rattle.path_core.specs.Events.{next_event, after_line, happens_if}
+use Rattle.path_core.specs.State.{at_tick, PathState, end_at, goes_on, left, path_of, with_agenda}
+use Rattle.path_core.specs.MpJoin.{join_begun, never_joined, keys_begun, is_never, opened_by, join_taken, asked_at, syn_alone, after_joining_syn, is_listening, is_joined}
 use Rattle.path_store.specs.declared.lines.LineAction.{LineAction}
 use Rattle.path_store.specs.declared.lines.LineAction.TheVariants as actions
-use Rattle.path_rules.specs.Joining.{keys_begun, is_never, opened_by, join_taken, asked_at, syn_alone, after_joining_syn, is_listening}
-use Rattle.path_rules.specs.Joins.{is_joined}
-use Rattle.path_rules.specs.Passing.{answer_occasion, resend_occasion}
-use Rattle.path_rules.specs.Starts.{PathStart, first_state, waiting_path}
-use Rattle.path_rules.specs.State.{PathState, Profile, end_at, goes_on, left, path_of, with_agenda}
-use Rattle.path_rules.specs.Steps.{settled, answers, takes, begins_turn, asks_first}
-use Rattle.path_rules.specs.Treating.{counts, is_clash, heard_passed, item_passed, answered_heard, answered_item, item_of, breaks_by_ack, is_dropped, with_data_fin}
-use Rattle.path_rules.proofs.Judgements.{judged_taken}
+use Rattle.path_core.specs.Start.{PathStart, first_state, waiting_path}
+use Rattle.path_core.specs.Profile.{Profile}
+use Rattle.path_core.specs.Steps.{settled, answers, takes, begins_turn, asks_first}
+use Rattle.path_core.specs.Treating.{heard_passed, item_passed, answered_heard, answered_item, item_of}
+use Rattle.path_core.specs.Fallback.{breaks_by_ack}
+use Rattle.path_core.proofs.Judgements.{judged_taken}
 use Rattle.world_laws.specs.declared.member.Member.TheVariants.{App, Path}
 use Rattle.world_laws.specs.Actors.{Actor, ActorCrew, member_asks, member_takes, member_next, is_over}
 use Rattle.world_laws.specs.Openings.{Start, path_begins, opened_world}

@@ -23,8 +23,8 @@ use Rattle.stream_apps.specs.Apps.{AppState}
 use Rattle.stream_apps.specs.AppSteps.{fresh_turn, start_of_app, app_ask, app_reads_on, app_settled, app_takes, bytes_in}
 use Rattle.stream_apps.specs.Starts.{fast_close_of, untouched, first_app_turn}
 use Rattle.path_agenda.specs.declared.duty.Duty.{Duty}
-use Rattle.path_rules.specs.Codec.{Codec}
-use Rattle.path_rules.specs.Duties.{ask_for}
+use Rattle.path_core.specs.Codec.{Codec}
+use Rattle.path_core.specs.Duties.{ask_for}
 use Rattle.world_laws.specs.Openings.{Start, opened_world}
 use Rattle.world_laws.specs.Outcomes.{notes_of, output_of, read_by}
 use Rattle.world_laws.specs.RoundNumbers.{after_steps, BeginsRound, InEachRound, ReadersCaughtUp}

@@ -27,19 +27,19 @@ use Rattle.path_agenda.specs.declared.duty.AskDuty.TheVariants as ask_duties
 use Rattle.path_agenda.specs.declared.duty.SendDuty.TheVariants as send_duties
 use Rattle.path_agenda.specs.declared.duty.SilentDuty.TheVariants as silent_duties
 use Rattle.path_agenda.specs.declared.duty.StepDuty.TheVariants as step_duties
-use Rattle.path_rules.specs.Codec.{Codec}
-use Rattle.path_rules.specs.Duties.{ask_for, answered}
-use Rattle.path_rules.specs.Emission.{first_unsent, Grant, grant_in, grant_ask, answered_grant, answered_data, data_ask}
-use Rattle.path_rules.specs.State.{PathState, end_at, with_agenda, path_of}
-use Rattle.path_rules.specs.Steps.{takes}
-use Rattle.path_rules.specs.Treating.{item_of}
+use Rattle.path_core.specs.Codec.{Codec}
+use Rattle.path_core.specs.Duties.{ask_for, answered}
+use Rattle.path_core.specs.Emission.{first_unsent, Grant, grant_in, grant_ask, answered_grant, answered_data, data_ask}
+use Rattle.path_core.specs.State.{PathState, end_at, with_agenda, path_of}
+use Rattle.path_core.specs.Steps.{takes}
+use Rattle.path_core.specs.Treating.{item_of}
 use Rattle.world_laws.specs.RoundEnd.{asks_grant}
 use Rattle.world_laws.specs.RoundNumbers.{is_standby, frees_bytes, AskedForAll}
 use Rattle.world_laws.proofs.Asks.SendBooks.{IsOnes, IsQuiet, ones_after, all_after, all_acknowledged, all_returned, ones_other, all_other, grant_refused, asked_more, FallsSo, all_gone}
 use Rattle.world_laws.proofs.Asks.OfPaths.{IsCallOf, IsQuietAsk, IsHeardAsk, IsQuietDuty, quiet_asks, heard_asks, subflow_asks}
 use Rattle.world_laws.proofs.Rounds.GrantAtOneDuty.{MayNotAsk, ask_isn't, asks_none}
 use Rattle.world_laws.proofs.Rounds.EndsRefused.{Pays, Granting, needs, is_followed, is_owed, settled_done, data_sent, granted_done, refused_done, answered_done}
-use Rattle.path_rules.specs.Fallback.{identity_ask}
+use Rattle.path_core.specs.Fallback.{identity_ask}
 
 -- an acknowledgement by which the window reaches past this edge, or a return of some bytes
 abbrev is_freeing : ℕ → Sending → SendCall → Bool

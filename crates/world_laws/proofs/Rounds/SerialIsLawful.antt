@@ -6,7 +6,7 @@ use Rattle.std.proofs.lemmas.List.{length-set}
 use Rattle.std.specs.List.{slice_get}
 use Rattle.stream_lanes.proofs.Lists.{set_other}
 use Rattle.actor_desk.specs.declared.ask.Ask.{Ask}
-use Rattle.path_rules.specs.Codec.{Codec}
+use Rattle.path_core.specs.Codec.{Codec}
 use Rattle.world_laws.specs.Actors.{ActorCrew, member_asks, is_over}
 use Rattle.world_laws.specs.Outcomes.{outcome_of}
 use Rattle.world_laws.specs.Serial.{goes_on, OneOf, steps_and, round_and, spelled, after_steps, IsTurn, AreTurns, after_turns, after_round, AreRounds}

@@ -1,7 +1,7 @@
 -- The serial turns of a world are the only ones.
 use Rattle.std.proofs.Common.{◌≡◌, refl, sym, ◌∙◌, ap, subst, ℕ, zero, suc, Bool, true, false, List, [], ◌∷◌, length}
 use Rattle.std.proofs.lemmas.Bool.{both_ways}
-use Rattle.path_rules.specs.Codec.{Codec}
+use Rattle.path_core.specs.Codec.{Codec}
 use Rattle.world_laws.specs.Outcomes.{outcome_of}
 use Rattle.world_laws.specs.Serial.{goes_on, OneOf, spelled, after_steps, IsTurn, AreTurns, after_round, AreRounds, IsSerial}
 use Rattle.world_laws.specs.Worlds.{WorldState, Turn, world_step}

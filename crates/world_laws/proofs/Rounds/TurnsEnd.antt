@@ -16,17 +16,17 @@ use Rattle.stream_apps.specs.Turns.{AppEnds, IsAppSettled}
 use Rattle.stream_apps.proofs.AppEnds.{app_turn_ends}
 use Rattle.path_agenda.specs.declared.duty.Duty.{Duty}
 use Rattle.path_agenda.specs.Agenda.{start_of_turn}
-use Rattle.path_rules.specs.Codec.{Codec}
-use Rattle.path_rules.specs.Duties.{stands, ask_for}
-use Rattle.path_rules.specs.Emission.{payload_size}
+use Rattle.path_core.specs.Codec.{Codec}
+use Rattle.path_core.specs.Duties.{stands, ask_for}
+use Rattle.path_core.specs.Emission.{payload_size}
 use Rattle.path_agenda.specs.Weights.{weights}
-use Rattle.path_rules.specs.State.{PathState, with_agenda}
-use Rattle.path_rules.specs.Steps.{settled, asks_first, answers, takes, begins_turn}
-use Rattle.path_rules.specs.Turns.{Ends, TakesTime, FirstStands, IsSettled}
-use Rattle.path_rules.proofs.Lowering.{answered_lowers}
-use Rattle.path_rules.proofs.Passed.{settled_lower}
-use Rattle.path_rules.proofs.Ranking.{Calm}
-use Rattle.path_rules.proofs.TurnEnds.{turn_ends}
+use Rattle.path_core.specs.State.{PathState, with_agenda}
+use Rattle.path_core.specs.Steps.{settled, asks_first, answers, takes, begins_turn}
+use Rattle.path_core.specs.Turns.{Ends, TakesTime, FirstStands, IsSettled}
+use Rattle.path_core.proofs.Lowering.{answered_lowers}
+use Rattle.path_core.proofs.Passed.{settled_lower}
+use Rattle.path_core.proofs.Ranking.{Calm}
+use Rattle.path_core.proofs.TurnEnds.{turn_ends}
 use Rattle.world_laws.proofs.Worlds.Settled.{settled_settled}
 use Rattle.world_laws.specs.declared.member.Member.TheVariants.{App, Path}
 use Rattle.world_laws.specs.Actors.{Actor, ActorCrew, member_asks, member_takes, member_next, is_over}

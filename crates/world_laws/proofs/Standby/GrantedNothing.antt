@@ -23,12 +23,12 @@ use Rattle.path_agenda.specs.declared.duty.Duty.{Duty}
 use Rattle.path_agenda.specs.declared.duty.Duty.TheVariants as duties
 use Rattle.path_agenda.specs.declared.duty.StepDuty.{StepDuty}
 use Rattle.path_agenda.specs.declared.duty.StepDuty.TheVariants as step_duties
-use Rattle.path_rules.specs.Codec.{Codec}
-use Rattle.path_rules.specs.Duties.{ask_for}
-use Rattle.path_rules.specs.Emission.{first_unsent, data_ask, payload_size}
-use Rattle.path_rules.specs.Starts.{first_turn, waiting_path}
-use Rattle.path_rules.specs.State.{PathState, end_at, path_of}
-use Rattle.path_rules.specs.Steps.{asks_of, asks_first}
+use Rattle.path_core.specs.Codec.{Codec}
+use Rattle.path_core.specs.Duties.{ask_for}
+use Rattle.path_core.specs.Emission.{first_unsent, data_ask, payload_size}
+use Rattle.path_core.specs.Start.{first_turn, waiting_path}
+use Rattle.path_core.specs.State.{PathState, end_at, path_of}
+use Rattle.path_core.specs.Steps.{asks_of, asks_first}
 use Rattle.world_laws.specs.declared.member.Member.TheVariants.{App, Path}
 use Rattle.world_laws.specs.Actors.{Actor, ActorCrew, member_asks, member_takes, member_next}
 use Rattle.world_laws.specs.Laws.{Always}

@@ -17,12 +17,12 @@ use Rattle.path_agenda.specs.declared.duty.SendDuty.TheVariants as send_duties
 use Rattle.path_agenda.specs.declared.duty.SilentDuty.TheVariants as silent_duties
 use Rattle.path_agenda.specs.declared.duty.StepDuty.{StepDuty}
 use Rattle.path_agenda.specs.declared.duty.StepDuty.TheVariants as step_duties
-use Rattle.path_rules.specs.Codec.{Codec}
-use Rattle.path_rules.specs.Duties.{passed, answered, ask_for}
-use Rattle.path_rules.specs.Standing.{modes_told, after_look}
-use Rattle.path_rules.specs.State.{PathState, end_at, goes_on, left, path_of}
-use Rattle.path_rules.specs.Steps.{settled, settles_down, answers, asks_of, asks_first, takes, begins_turn, next_round}
-use Rattle.path_rules.specs.declared.modes.Modes.{Modes}
+use Rattle.path_core.specs.Codec.{Codec}
+use Rattle.path_core.specs.Duties.{passed, answered, ask_for}
+use Rattle.path_core.specs.Standing.{modes_told, after_look}
+use Rattle.path_core.specs.State.{PathState, end_at, goes_on, left, path_of}
+use Rattle.path_core.specs.Steps.{settled, settles_down, answers, asks_of, asks_first, takes, begins_turn, next_round}
+use Rattle.path_core.specs.declared.modes.Modes.{Modes}
 use Rattle.world_laws.specs.Standbys.{looks, standby_told}
 use Rattle.world_laws.specs.Writes.{EndView, Writes, OnlyAt, writes, side_of}
 use Rattle.world_laws.proofs.Standby.OneDutyLooks.{MayNotLook, look_isn't, looks_none}

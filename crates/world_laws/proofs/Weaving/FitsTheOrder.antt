@@ -16,7 +16,7 @@ use Rattle.actor_desk.specs.declared.ask.Ask.{Ask}
 use Rattle.actor_desk.specs.declared.ask.Ask.TheVariants as asks
 use Rattle.actor_desk.specs.declared.ask.Note.{Note}
 use Rattle.actor_desk.specs.Journals.{is_local, above, in_order, send_note, reassembly_note, control_note}
-use Rattle.path_rules.specs.Codec.{Codec}
+use Rattle.path_core.specs.Codec.{Codec}
 use Rattle.world_laws.specs.Actors.{ActorCrew}
 use Rattle.world_laws.specs.Fine.{NotesRise, last_noted, AreStamped, BooksAreStamped, IsFineCrew, lists_of}
 use Rattle.world_laws.specs.StampedBooks.{journals_of}

@@ -12,7 +12,7 @@ use Rattle.actor_desk.specs.declared.ask.Ask.{Ask}
 use Rattle.actor_desk.specs.declared.ask.Ask.TheVariants as asks
 use Rattle.actor_desk.specs.declared.ask.Note.{Note}
 use Rattle.actor_desk.specs.Journals.{is_local, send_note, reassembly_note, control_note, ArePaired}
-use Rattle.path_rules.specs.Codec.{Codec}
+use Rattle.path_core.specs.Codec.{Codec}
 use Rattle.world_laws.specs.Actors.{Actor, ActorCrew, member_asks}
 use Rattle.world_laws.specs.Openings.{PathPlan, Start, new_crew, new_path, paths_from, opened_world}
 use Rattle.world_laws.specs.Fine.{BooksAreStamped, IsChainedAbove, IsFineCrew, lists_of, IsFine, top_after}

@@ -2,7 +2,7 @@
 use Rattle.std.proofs.Common.{◌≡◌, refl, sym, ◌∙◌, ap, subst, ℕ, zero, suc, max, Bool, true, false, if◌then◌else◌, Some, List, [], ◌∷◌, ◌++◌, map, arith}
 use Rattle.std.specs.List.{slice_get}
 use Rattle.stream_lanes.proofs.Lists.{in_map}
-use Rattle.path_rules.specs.Codec.{Codec}
+use Rattle.path_core.specs.Codec.{Codec}
 use Rattle.world_laws.specs.Actors.{ActorCrew}
 use Rattle.world_laws.specs.Fine.{IsFine}
 use Rattle.world_laws.specs.Openings.{Start, opened_world}

@@ -21,7 +21,7 @@ use Rattle.actor_desk.specs.declared.ask.Note.{Note}
 use Rattle.actor_desk.specs.declared.ask.Reply.TheVariants as replies
 use Rattle.actor_desk.specs.Books.{StampedBooks, after_entry}
 use Rattle.actor_desk.specs.Journals.{is_local}
-use Rattle.path_rules.specs.Codec.{Codec}
+use Rattle.path_core.specs.Codec.{Codec}
 use Rattle.world_laws.specs.Actors.{ActorCrew, member_asks}
 use Rattle.world_laws.specs.Fine.{IsFine}
 use Rattle.world_laws.specs.Serial.{after_steps, after_turns}

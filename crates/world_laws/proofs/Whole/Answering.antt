@@ -41,28 +41,29 @@ use Rattle.path_agenda.specs.declared.heard.Heard.{Heard}
 use Rattle.path_agenda.specs.declared.heard.Heard.TheVariants as says
 use Rattle.path_agenda.specs.declared.keys.KeyPair.{KeyPair}
 use Rattle.path_agenda.specs.declared.notice.PeerNotice.TheVariants as peer_notes
-use Rattle.path_rules.specs.Addressing.{answered_note, having_noted, note_of}
-use Rattle.path_rules.specs.Breaking.{answered_break, break_ask, reset_on, reset_of}
-use Rattle.path_rules.specs.Deliver.{Piece, next_piece, with_learned}
-use Rattle.path_rules.specs.Duties.{answered, ask_for, passed, stands}
-use Rattle.path_rules.specs.Emission.{Grant, answered_data, answered_data_fin_sent, answered_fin, answered_grant, answered_syn, data_fin_segment, data_stands, fin_segment_of, first_unsent, grant_in, granted, having_sent_data_fin, having_sent_fin, having_sent_unsent, is_syn_due, unsent_segment}
-use Rattle.path_rules.specs.Ends.{PathEnd}
-use Rattle.path_rules.specs.Events.{died, next_event}
-use Rattle.path_rules.specs.FailedChecks.{after_check_failed}
-use Rattle.path_rules.specs.Fallback.{after_fell, answered_fell, fell_duties}
-use Rattle.path_rules.specs.FastClosing.{answered_fast_close, fast_close_of, having_fast_closed, is_stopped_by}
-use Rattle.path_rules.specs.Handover.{having_sent, sent_on}
-use Rattle.path_rules.specs.Joining.{refusal_of}
-use Rattle.path_rules.specs.Opening.{answered_opened, answered_syn_ack, is_opened_by_keys, is_opened_plainly, is_plain_syn, keys_in, opened_ask, syn_ack_of}
-use Rattle.path_rules.specs.OptionsOut.{ack_said, reset_options, segment_of}
-use Rattle.path_rules.specs.Passing.{answer_occasion, answer_of, answered_again, answered_answer, answered_fin_heard, answered_piece, answered_plain_fin, answered_resend, dead_answer, first_segment, is_fin_set, is_placed, outgoing_or, piece_of, resend_occasion, resend_of}
-use Rattle.path_rules.specs.Standing.{ack_out_ask, ack_segment, acknowledges, answered_ack_out, is_connected, may_note}
-use Rattle.path_rules.specs.State.{PathState, Profile, end_at, goes_on, with_agenda}
-use Rattle.path_rules.specs.Steps.{answers, asks_first, asks_of, begins_turn, next_round, settled, takes}
-use Rattle.path_rules.specs.Treating.{answered_heard, answered_item, breaks_by_ack, counts, heard_stands, is_clash, item_ask, item_of, item_stands, lacks_data_ack, plain_ack_stands, plain_data_stands, told_next, with_data_fin}
-use Rattle.path_rules.specs.Turns.{FirstStands, IsSettled}
-use Rattle.path_rules.specs.Values.{Carried, values}
-use Rattle.path_rules.specs.Words.{item_at}
+use Rattle.path_core.specs.Addresses.{answered_note, having_noted, note_of}
+use Rattle.path_core.specs.Breaking.{answered_break, break_ask, reset_on, reset_of, refusal_of}
+use Rattle.path_store.specs.Passing.{Piece}
+use Rattle.path_core.specs.Deliver.{next_piece, answered_piece, is_placed, piece_of}
+use Rattle.path_core.specs.DssIn.{with_learned, counts, is_clash, told_next, with_data_fin}
+use Rattle.path_core.specs.Duties.{answered, ask_for, passed, stands}
+use Rattle.path_core.specs.Emission.{Grant, answered_data, answered_grant, answered_syn, data_stands, first_unsent, grant_in, granted, having_sent_unsent, is_syn_due, unsent_segment, answer_occasion, answer_of, answered_again, answered_answer, answered_resend, dead_answer, first_segment, outgoing_or, resend_occasion, resend_of}
+use Rattle.path_core.specs.DataFin.{answered_data_fin_sent, answered_fin, data_fin_segment, fin_segment_of, having_sent_data_fin, having_sent_fin, answered_fin_heard, answered_plain_fin, is_fin_set}
+use Rattle.path_core.specs.End.{PathEnd, died}
+use Rattle.path_core.specs.Events.{next_event}
+use Rattle.path_core.specs.Fallback.{after_check_failed, after_fell, answered_fell, fell_duties, breaks_by_ack, lacks_data_ack, plain_ack_stands, plain_data_stands}
+use Rattle.path_core.specs.FastClose.{answered_fast_close, fast_close_of, having_fast_closed, is_stopped_by}
+use Rattle.path_core.specs.Handover.{having_sent, sent_on}
+use Rattle.path_core.specs.MpCapable.{answered_opened, answered_syn_ack, is_opened_by_keys, is_opened_plainly, is_plain_syn, keys_in, opened_ask, syn_ack_of}
+use Rattle.path_core.specs.OptionsOut.{ack_said, reset_options, segment_of}
+use Rattle.path_core.specs.Standing.{ack_out_ask, ack_segment, acknowledges, answered_ack_out, is_connected, may_note}
+use Rattle.path_core.specs.State.{PathState, end_at, goes_on, with_agenda}
+use Rattle.path_core.specs.Profile.{Profile}
+use Rattle.path_core.specs.Steps.{answers, asks_first, asks_of, begins_turn, next_round, settled, takes}
+use Rattle.path_core.specs.Treating.{answered_heard, answered_item, heard_stands, item_ask, item_of, item_stands}
+use Rattle.path_core.specs.Turns.{FirstStands, IsSettled}
+use Rattle.path_core.specs.Values.{Carried, values}
+use Rattle.path_core.specs.Choices.{item_at}
 use Rattle.world_laws.specs.Asking.{May, asking, may}
 use Rattle.world_laws.specs.Writes.{EndWrites, OnlyAt, ask_writes, at_end, copy_said, looking, side_of, writes}
 use Rattle.world_laws.proofs.Falls.FailedChecks.{check_failed_so, fail_answered_so, fail_asks_so}

@@ -26,14 +26,17 @@ use Rattle.path_agenda.specs.Items.{key_heard}
 use Rattle.path_agenda.specs.declared.notice.OwnNotice.{OwnNotice}
 use Rattle.path_agenda.specs.declared.notice.OwnNotice.TheVariants as notes
 use Rattle.path_store.specs.declared.infinite_mapping.InfiniteMapping.{InfiniteMapping}
-use Rattle.path_rules.specs.Arriving.{HeardOption, position_in, acknowledged_in, asks_capable, has_data_ack, items_of}
-use Rattle.path_rules.specs.Ends.{PathEnd}
-use Rattle.path_rules.specs.Joins.{is_joined, third_options}
-use Rattle.path_rules.specs.OptionsOut.{ack_options, ack_said, broken_options, carried_said, data_fin_mapping, dss_and, fail_beside, fail_options, fin_options, fin_said, first_piece_options, infinite_or, is_first_piece, key_options, mapped_options, notice_option, noted_said, opening_options, own_reset, piece_mapping, piece_options, plain_options, record_options, record_or_ack, record_said, reset_said, segment_of, syn_ack_said, syn_options}
-use Rattle.path_rules.specs.Passing.{ack_resent, answer_said, resend_said, first_record}
-use Rattle.path_rules.specs.State.{Profile}
-use Rattle.path_rules.specs.StreamEnds.{is_data_fin_owed}
-use Rattle.path_rules.specs.Words.{is_side_a}
+use Rattle.path_core.specs.DssIn.{HeardOption}
+use Rattle.path_core.specs.Arrival.{position_in, acknowledged_in}
+use Rattle.path_core.specs.OptionsIn.{asks_capable, has_data_ack, items_of}
+use Rattle.path_core.specs.End.{PathEnd}
+use Rattle.path_core.specs.MpJoin.{is_joined, third_options}
+use Rattle.path_core.specs.OptionsOut.{ack_options, ack_said, broken_options, carried_said, dss_and, fin_said, key_options, notice_option, noted_said, opening_options, own_reset, record_options, record_or_ack, record_said, reset_said, segment_of, syn_ack_said, syn_options}
+use Rattle.path_core.specs.DssOut.{data_fin_mapping, fail_beside, fail_options, fin_options, first_piece_options, infinite_or, is_first_piece, mapped_options, piece_mapping, piece_options, plain_options}
+use Rattle.path_core.specs.Emission.{ack_resent, answer_said, resend_said, first_record}
+use Rattle.path_core.specs.Profile.{Profile}
+use Rattle.path_core.specs.DataFin.{is_data_fin_owed}
+use Rattle.path_core.specs.Choices.{is_side_a}
 use Rattle.world_laws.proofs.Whole.Bytes.{Grows, NoneAt, NoneBelow, at_later, below_later}
 
 -- ---- what a copy says

@@ -22,15 +22,14 @@ use Rattle.subflow_tcp.specs.declared.segments.Occasion.TheVariants as to_send
 use Rattle.stream_lanes.specs.Words.{Every}
 use Rattle.actor_desk.specs.Words.{is_nil}
 use Rattle.path_agenda.specs.declared.duty.Duty.{Duty}
-use Rattle.path_rules.specs.Ends.{PathEnd}
-use Rattle.path_rules.specs.Emission.{first_unsent, having_sent_fin}
-use Rattle.path_rules.specs.Events.{died}
-use Rattle.path_rules.specs.Handover.{having_sent}
-use Rattle.path_rules.specs.OptionsOut.{fin_said, record_or_ack}
-use Rattle.path_rules.specs.Passing.{first_record, resend_said}
-use Rattle.path_rules.specs.Standing.{is_connected}
-use Rattle.path_rules.specs.State.{PathState, end_at}
-use Rattle.path_rules.specs.Values.{Carried}
+use Rattle.path_core.specs.End.{PathEnd, died}
+use Rattle.path_core.specs.Emission.{first_unsent, first_record, resend_said}
+use Rattle.path_core.specs.DataFin.{having_sent_fin}
+use Rattle.path_core.specs.Handover.{having_sent}
+use Rattle.path_core.specs.OptionsOut.{fin_said, record_or_ack}
+use Rattle.path_core.specs.Standing.{is_connected}
+use Rattle.path_core.specs.State.{PathState, end_at}
+use Rattle.path_core.specs.Values.{Carried}
 use Rattle.world_laws.proofs.Keys.AnswerHeardFirst.{finish_apart, is_apart}
 use Rattle.world_laws.proofs.Keys.AreDrawn.{is_past}
 use Rattle.world_laws.proofs.Lanes.Records.{every_at, every_find}

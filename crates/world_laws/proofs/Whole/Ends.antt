@@ -42,8 +42,14 @@ use Rattle.path_agenda.specs.Items.{key_heard}
 use Rattle.path_agenda.specs.declared.heard.Heard.{Heard}
 use Rattle.path_agenda.specs.declared.heard.Heard.TheVariants as says
 use Rattle.path_store.specs.declared.infinite_mapping.InfiniteMapping.{InfiniteMapping}
-use Rattle.path_rules.specs.Arriving.{HeardOption, copy_of, hint_of, items_in, items_of, ack_items, map_items, key_items, join_items, item_removed, has_data_ack, octets_acked, is_plain_ack, owing_if, edge_held, with_payload, owes_by, copy_judged, asks_capable, position_in}
-use Rattle.path_rules.specs.Ends.{PathEnd, Treated}
+use Rattle.path_core.specs.DssIn.{HeardOption, ack_items, map_items}
+use Rattle.path_core.specs.Arrival.{copy_of, owing_if, with_payload, copy_judged, position_in}
+use Rattle.path_core.specs.OptionsIn.{hint_of, items_in, items_of, has_data_ack, octets_acked, is_plain_ack, edge_held, owes_by, asks_capable}
+use Rattle.path_core.specs.MpCapable.{key_items}
+use Rattle.path_core.specs.MpJoin.{join_items}
+use Rattle.path_core.specs.Addresses.{item_removed}
+use Rattle.path_core.specs.End.{PathEnd}
+use Rattle.path_core.specs.Treated.{Treated}
 use Rattle.world_laws.specs.Writes.{EndWrites, EndView, Only, copy_said}
 use Rattle.world_laws.proofs.Keys.AreDrawn.{is_past}
 use Rattle.world_laws.proofs.Keys.AnswerHeardFirst.{is_accepts, is_apart, ack_apart, handshake_apart}

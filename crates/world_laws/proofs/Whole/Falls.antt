@@ -42,13 +42,13 @@ use Rattle.path_agenda.specs.declared.duty.Duty.TheVariants as duties
 use Rattle.path_agenda.specs.declared.duty.AskDuty.TheVariants as ask_duties
 use Rattle.path_agenda.specs.declared.duty.SendDuty.TheVariants as send_duties
 use Rattle.path_agenda.specs.declared.duty.StepDuty.TheVariants as step_duties
-use Rattle.path_rules.specs.Duties.{ask_for}
-use Rattle.path_rules.specs.Ends.{nothing_treated}
-use Rattle.path_rules.specs.Joins.{is_joined}
-use Rattle.path_rules.specs.Starts.{waiting_path}
-use Rattle.path_rules.specs.State.{PathState, end_at, with_agenda}
-use Rattle.path_rules.specs.Steps.{asks_first, begins_turn, next_round, takes}
-use Rattle.path_rules.specs.Values.{Carried, values}
+use Rattle.path_core.specs.Duties.{ask_for}
+use Rattle.path_core.specs.Treated.{nothing_treated}
+use Rattle.path_core.specs.MpJoin.{is_joined}
+use Rattle.path_core.specs.Start.{waiting_path}
+use Rattle.path_core.specs.State.{PathState, end_at, with_agenda}
+use Rattle.path_core.specs.Steps.{asks_first, begins_turn, next_round, takes}
+use Rattle.path_core.specs.Values.{Carried, values}
 use Rattle.world_laws.specs.declared.member.Member.TheVariants.{App, Path}
 use Rattle.world_laws.specs.Actors.{Actor, ActorCrew, is_over, member_asks, member_next, member_takes}
 use Rattle.world_laws.specs.Asking.{IsAt, asking, may}

@@ -40,18 +40,24 @@ use Rattle.path_agenda.specs.declared.duty.AskDuty.TheVariants as ask_duties
 use Rattle.path_agenda.specs.declared.duty.SendDuty.TheVariants as send_duties
 use Rattle.path_store.specs.declared.lines.LineAction.{LineAction}
 use Rattle.path_store.specs.declared.lines.LineAction.TheVariants as actions
-use Rattle.path_rules.specs.declared.event.Event.{Event}
-use Rattle.path_rules.specs.declared.event.Event.TheVariants as happenings
-use Rattle.path_rules.specs.Arriving.{copy_judged, copy_of, held_of, items_of, judged_in, options_heard, reset_for, taken_as, template_by, template_of}
-use Rattle.path_rules.specs.Duties.{answered, ask_for, passed, stands}
-use Rattle.path_rules.specs.Ends.{PathEnd}
-use Rattle.path_rules.specs.Events.{after_line, at_tick, copy_heard, died, died_unless_dead, happens_if, heard_in, next_event, path_died, template_fired, timer_fired, told_at, with_priority}
-use Rattle.path_rules.specs.Handover.{having_sent}
-use Rattle.path_rules.specs.Opening.{answered_peer_key, peer_key_ask, with_peer_key}
-use Rattle.path_rules.specs.Passing.{resend_occasion, resend_of}
-use Rattle.path_rules.specs.State.{PathState, end_at, goes_on, with_agenda, with_end}
-use Rattle.path_rules.specs.Steps.{settled}
-use Rattle.path_rules.specs.Values.{Carried, as_arrived, values}
+use Rattle.path_core.specs.declared.events.Event.{Event}
+use Rattle.path_core.specs.declared.events.Event.TheVariants as happenings
+use Rattle.path_core.specs.Arrival.{copy_judged, copy_of, judged_in, reset_for, template_by, template_of, copy_heard, heard_in, told_at}
+use Rattle.path_core.specs.DssIn.{held_of}
+use Rattle.path_core.specs.OptionsIn.{items_of, options_heard}
+use Rattle.path_core.specs.Judged.{taken_as}
+use Rattle.path_core.specs.Duties.{answered, ask_for, passed, stands}
+use Rattle.path_core.specs.End.{PathEnd, died}
+use Rattle.path_core.specs.Events.{after_line, happens_if, next_event}
+use Rattle.path_core.specs.State.{at_tick, PathState, end_at, goes_on, with_agenda, with_end}
+use Rattle.path_core.specs.Breaking.{died_unless_dead, path_died}
+use Rattle.path_core.specs.Timer.{template_fired, timer_fired}
+use Rattle.path_core.specs.Addresses.{with_priority}
+use Rattle.path_core.specs.Handover.{having_sent}
+use Rattle.path_core.specs.MpCapable.{answered_peer_key, peer_key_ask, with_peer_key}
+use Rattle.path_core.specs.Emission.{resend_occasion, resend_of}
+use Rattle.path_core.specs.Steps.{settled}
+use Rattle.path_core.specs.Values.{Carried, as_arrived, values}
 use Rattle.world_laws.proofs.Keys.AnswerHeardFirst.{is_accepts, is_apart}
 use Rattle.world_laws.proofs.Keys.Held.{in_removed}
 use Rattle.world_laws.proofs.Keys.WhatWakes.{is_up, next_happens}

@@ -22,15 +22,16 @@ use Rattle.path_agenda.specs.declared.duty.SendDuty.TheVariants as send_duties
 use Rattle.path_agenda.specs.declared.duty.StepDuty.TheVariants as step_duties
 use Rattle.path_agenda.specs.declared.heard.Heard.{Heard}
 use Rattle.path_agenda.specs.declared.heard.Heard.TheVariants as says
-use Rattle.path_rules.specs.Deliver.{after_check, forgotten_by, mapping_here, with_learned, with_skipped}
-use Rattle.path_rules.specs.Duties.{passed, stands}
-use Rattle.path_rules.specs.Emission.{after_timer}
-use Rattle.path_rules.specs.Ends.{PathEnd}
-use Rattle.path_rules.specs.State.{PathState, end_at, with_agenda}
-use Rattle.path_rules.specs.Steps.{settled}
-use Rattle.path_rules.specs.Treating.{after_keep, counts, is_dropped, is_not_kept, item_of, item_passed, with_data_fin}
-use Rattle.path_rules.specs.Values.{Carried}
-use Rattle.path_rules.specs.Words.{item_at}
+use Rattle.path_core.specs.Deliver.{after_check, forgotten_by, mapping_here, after_keep, is_dropped, is_not_kept}
+use Rattle.path_core.specs.DssIn.{with_learned, with_skipped, counts, with_data_fin}
+use Rattle.path_core.specs.Duties.{passed, stands}
+use Rattle.path_core.specs.Timer.{after_timer}
+use Rattle.path_core.specs.End.{PathEnd}
+use Rattle.path_core.specs.State.{PathState, end_at, with_agenda}
+use Rattle.path_core.specs.Steps.{settled}
+use Rattle.path_core.specs.Treating.{item_of, item_passed}
+use Rattle.path_core.specs.Values.{Carried}
+use Rattle.path_core.specs.Choices.{item_at}
 use Rattle.world_laws.proofs.Falls.FailedChecks.{forgets_so}
 use Rattle.world_laws.proofs.Keys.AnswerHeardFirst.{passed_apart}
 use Rattle.world_laws.proofs.Keys.AreDrawn.{is_past}

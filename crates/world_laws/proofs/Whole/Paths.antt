@@ -21,13 +21,13 @@ use Rattle.path_agenda.specs.declared.duty.Duty.{Duty}
 use Rattle.path_agenda.specs.declared.duty.Duty.TheVariants as duties
 use Rattle.path_agenda.specs.declared.duty.AskDuty.TheVariants as ask_duties
 use Rattle.path_agenda.specs.declared.duty.SendDuty.TheVariants as send_duties
-use Rattle.path_rules.specs.Ends.{PathEnd}
-use Rattle.path_rules.specs.Handover.{sent_on}
-use Rattle.path_rules.specs.Joins.{is_joined}
-use Rattle.path_rules.specs.Shown.{AltersNothing}
-use Rattle.path_rules.specs.State.{PathState, end_at, goes_on, with_agenda, with_end}
-use Rattle.path_rules.specs.Values.{Carried, altered, as_arrived, carried_by, stripped, values}
-use Rattle.path_rules.specs.Words.{is_side_a}
+use Rattle.path_core.specs.End.{PathEnd}
+use Rattle.path_core.specs.Handover.{sent_on}
+use Rattle.path_core.specs.MpJoin.{is_joined}
+use Rattle.path_core.specs.Shown.{AltersNothing}
+use Rattle.path_core.specs.State.{PathState, end_at, goes_on, with_agenda, with_end}
+use Rattle.path_core.specs.Values.{Carried, altered, as_arrived, carried_by, stripped, values}
+use Rattle.path_core.specs.Choices.{is_side_a}
 use Rattle.world_laws.specs.NeverFalls.{StripsNothing}
 use Rattle.world_laws.specs.Writes.{EndWrites, PathView, OnlyAt, at_end, nothing}
 use Rattle.world_laws.proofs.Lanes.Saying.{flights_kept}

@@ -2,9 +2,9 @@
 use Rattle.std.proofs.Common.{◌≡◌, refl, ◌∙◌, ap, ℕ, zero, suc, max, Bool, true, false, ◌&&◌, if◌then◌else◌, Option, Some, None, List, [], ◌∷◌, map, set}
 use Rattle.std.specs.List.{slice_get}
 use Rattle.actor_desk.specs.declared.ask.Ask.{Ask}
-use Rattle.path_rules.specs.Octets.{octets}
-use Rattle.path_rules.specs.Values.{Carried, values}
-use Rattle.path_rules.proofs.Showing.{asks_the_same, begins_the_same, takes_the_same}
+use Rattle.path_core.specs.Octets.{octets}
+use Rattle.path_core.specs.Values.{Carried, values}
+use Rattle.path_core.proofs.Showing.{asks_the_same, begins_the_same, takes_the_same}
 use Rattle.world_laws.specs.Actors.{Actor, ActorCrew, member_asks, member_takes, is_over}
 use Rattle.world_laws.specs.Fresh.{IsFreshCrew, IsFreshMember, IsFreshTurn, shown_member, shown_crew, shown_world}
 use Rattle.world_laws.specs.Laws.{OctetsDoAsValues}

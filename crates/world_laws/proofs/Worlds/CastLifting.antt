@@ -7,9 +7,9 @@ use Rattle.stream_lanes.proofs.Lists.{in_map}
 use Rattle.stream_apps.specs.declared.duty.AppDuty.{AppDuty}
 use Rattle.stream_apps.specs.AppSteps.{app_ask, app_asks_first}
 use Rattle.path_agenda.specs.declared.duty.Duty.{Duty}
-use Rattle.path_rules.specs.Codec.{Codec}
-use Rattle.path_rules.specs.Duties.{ask_for}
-use Rattle.path_rules.specs.Steps.{asks_first}
+use Rattle.path_core.specs.Codec.{Codec}
+use Rattle.path_core.specs.Duties.{ask_for}
+use Rattle.path_core.specs.Steps.{asks_first}
 use Rattle.world_laws.specs.declared.member.Member.TheVariants.{App}
 use Rattle.world_laws.specs.Actors.{ActorCrew}
 use Rattle.world_laws.specs.Laws.{Always, IsDone, NothingDueIsLeft, WritesTheFiles}

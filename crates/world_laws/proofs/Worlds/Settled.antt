@@ -6,10 +6,10 @@ use Rattle.path_agenda.specs.declared.duty.AskDuty.TheVariants as ask_duties
 use Rattle.path_agenda.specs.declared.duty.SendDuty.TheVariants as send_duties
 use Rattle.path_agenda.specs.declared.duty.SilentDuty.TheVariants as silent_duties
 use Rattle.path_agenda.specs.declared.duty.StepDuty.TheVariants as step_duties
-use Rattle.path_rules.specs.Duties.{stands, passed}
-use Rattle.path_rules.specs.State.{PathState, with_agenda}
-use Rattle.path_rules.specs.Steps.{settled}
-use Rattle.path_rules.specs.Turns.{IsSettled}
+use Rattle.path_core.specs.Duties.{stands, passed}
+use Rattle.path_core.specs.State.{PathState, with_agenda}
+use Rattle.path_core.specs.Steps.{settled}
+use Rattle.path_core.specs.Turns.{IsSettled}
 
 module _ {C : Type 0} where
   same_stands : (d : Duty) (ds : List Duty) (p : PathState C) → stands d p ≡ true → stands d (with_agenda ds p) ≡ true

@@ -27,19 +27,21 @@ use Rattle.path_agenda.specs.declared.heard.Heard.{Heard}
 use Rattle.path_agenda.specs.declared.heard.Heard.TheVariants as says
 use Rattle.path_agenda.specs.declared.keys.KeyPair.{KeyPair}
 use Rattle.path_store.specs.Receiving.{Receiving}
-use Rattle.path_rules.specs.Arriving.{HeardOption, answered_in, asked_in, cleared_in, with_answer}
-use Rattle.path_rules.specs.Emission.{refused_in}
-use Rattle.path_rules.specs.Ends.{PathEnd, Sending, Notices}
-use Rattle.path_rules.specs.Events.{died, died_unless_dead}
-use Rattle.path_rules.specs.Fallback.{is_fall, fell_in}
-use Rattle.path_rules.specs.Joining.{opened_by}
-use Rattle.path_rules.specs.Joins.{join_answer}
-use Rattle.path_rules.specs.Noticing.{after_notice}
-use Rattle.path_rules.specs.Opening.{keys_in}
-use Rattle.path_rules.specs.Standing.{window_in, after_look, may_note}
-use Rattle.path_rules.specs.StreamEnds.{after_acked}
-use Rattle.path_rules.specs.Treating.{acked_in, mode_in, counts, item_passed, heard_passed}
-use Rattle.path_rules.specs.declared.modes.Modes.{Modes}
+use Rattle.path_core.specs.DssIn.{HeardOption, counts}
+use Rattle.path_core.specs.Judged.{answered_in, cleared_in, with_answer}
+use Rattle.path_core.specs.Arrival.{asked_in}
+use Rattle.path_core.specs.Emission.{refused_in}
+use Rattle.path_core.specs.End.{PathEnd, died}
+use Rattle.path_core.specs.Sending.{Sending}
+use Rattle.path_core.specs.Notices.{Notices, after_notice}
+use Rattle.path_core.specs.Breaking.{died_unless_dead}
+use Rattle.path_core.specs.Fallback.{is_fall, fell_in, mode_in}
+use Rattle.path_core.specs.MpJoin.{opened_by, join_answer}
+use Rattle.path_core.specs.MpCapable.{keys_in}
+use Rattle.path_core.specs.Standing.{window_in, after_look, may_note}
+use Rattle.path_core.specs.DataFin.{after_acked, acked_in}
+use Rattle.path_core.specs.Treating.{item_passed, heard_passed}
+use Rattle.path_core.specs.declared.modes.Modes.{Modes}
 use Rattle.world_laws.specs.Writes.{Only, happening, heard_writes, looking}
 
 -- ---- choices and replies

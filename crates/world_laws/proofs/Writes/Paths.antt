@@ -32,29 +32,30 @@ use Rattle.path_agenda.specs.declared.keys.KeyPair.{KeyPair}
 use Rattle.path_store.specs.Receiving.{Receiving}
 use Rattle.path_store.specs.declared.lines.LineAction.{LineAction}
 use Rattle.path_store.specs.declared.lines.LineAction.TheVariants as actions
-use Rattle.path_rules.specs.Arriving.{items_of, judged_in, taken_as, options_heard, after_judged, with_held, held_of}
-use Rattle.path_rules.specs.Breaking.{answered_break}
-use Rattle.path_rules.specs.Codec.{Codec}
-use Rattle.path_rules.specs.Deliver.{Piece, mapping_here, forgotten_by}
-use Rattle.path_rules.specs.Duties.{passed, answered}
-use Rattle.path_rules.specs.Emission.{refused, Grant, grant_in, answered_grant, answered_data, first_unsent}
-use Rattle.path_rules.specs.Ends.{PathEnd, Sending}
-use Rattle.path_rules.specs.Events.{next_event, after_line, at_tick, died, join_begun, copy_heard, heard_in, happens_if, told_at, never_joined}
-use Rattle.path_rules.specs.Fallback.{after_fell}
-use Rattle.path_rules.specs.Handover.{having_sent, sent_on}
-use Rattle.path_rules.specs.Joining.{keys_begun, is_never, opened_by, join_taken, asked_at, joined_by, is_listening, with_keys}
-use Rattle.path_rules.specs.Joins.{is_joined}
-use Rattle.path_rules.specs.InfiniteReceiving.{after_infinite}
-use Rattle.path_rules.specs.InfiniteSending.{after_fail_heard}
-use Rattle.path_rules.specs.FailedChecks.{after_check_failed}
-use Rattle.path_rules.specs.Opening.{answered_peer_key, answered_opened, after_keys}
-use Rattle.path_rules.specs.Passing.{answered_piece, is_placed, is_fin_set, piece_of, answer_of, answer_occasion, resend_of, resend_occasion}
-use Rattle.path_rules.specs.Standing.{after_ack_out}
-use Rattle.path_rules.specs.State.{PathState, end_at, goes_on}
-use Rattle.path_rules.specs.Treating.{is_clash, answered_heard, answered_item, answered_plain_ack, item_of, breaks_by_ack, is_dropped, is_not_kept, plain_next, plainly_acked, after_keep, with_plain_acked, with_acked}
-use Rattle.path_rules.specs.declared.event.Event.{Event}
-use Rattle.path_rules.specs.declared.event.Event.TheVariants as happenings
-use Rattle.path_rules.specs.declared.modes.Modes.{Modes}
+use Rattle.path_core.specs.OptionsIn.{items_of, options_heard}
+use Rattle.path_core.specs.Arrival.{judged_in, after_judged, with_held, copy_heard, heard_in, told_at}
+use Rattle.path_core.specs.Judged.{taken_as}
+use Rattle.path_core.specs.DssIn.{held_of, is_clash, with_acked}
+use Rattle.path_core.specs.Breaking.{answered_break}
+use Rattle.path_core.specs.Codec.{Codec}
+use Rattle.path_store.specs.Passing.{Piece}
+use Rattle.path_core.specs.Deliver.{mapping_here, forgotten_by, answered_piece, is_placed, piece_of, is_dropped, is_not_kept, after_keep}
+use Rattle.path_core.specs.Duties.{passed, answered}
+use Rattle.path_core.specs.Emission.{refused, Grant, grant_in, answered_grant, answered_data, first_unsent, answer_of, answer_occasion, resend_of, resend_occasion}
+use Rattle.path_core.specs.End.{PathEnd, died}
+use Rattle.path_core.specs.Sending.{Sending}
+use Rattle.path_core.specs.Events.{next_event, after_line, happens_if}
+use Rattle.path_core.specs.State.{at_tick, PathState, end_at, goes_on}
+use Rattle.path_core.specs.MpJoin.{join_begun, never_joined, keys_begun, is_never, opened_by, join_taken, asked_at, joined_by, is_listening, with_keys, is_joined}
+use Rattle.path_core.specs.Fallback.{after_fell, after_infinite, after_fail_heard, after_check_failed, answered_plain_ack, breaks_by_ack, plain_next, plainly_acked, with_plain_acked}
+use Rattle.path_core.specs.Handover.{having_sent, sent_on}
+use Rattle.path_core.specs.MpCapable.{answered_peer_key, answered_opened, after_keys}
+use Rattle.path_core.specs.DataFin.{is_fin_set}
+use Rattle.path_core.specs.Standing.{after_ack_out}
+use Rattle.path_core.specs.Treating.{answered_heard, answered_item, item_of}
+use Rattle.path_core.specs.declared.events.Event.{Event}
+use Rattle.path_core.specs.declared.events.Event.TheVariants as happenings
+use Rattle.path_core.specs.declared.modes.Modes.{Modes}
 use Rattle.world_laws.specs.Writes.{EndWrites, Only, Writes, OnlyAt, EndView, PathView, end_view, path_view, hide, writes, side_of, ask_writes, step_writes, silent_writes, on_link, verdict, acking, sending, acknowledged, happening, heard_writes}
 use Rattle.world_laws.proofs.Falls.FailedChecks.{check_failed_so, fail_heard_so, infinite_came_so, fail_answered_so, forgets_so}
 use Rattle.world_laws.proofs.Writes.Ends.{if_so, mode_so, fell_so, keyed_so, window_so, acked_so, refused_so, sent_so, looked, copy_so, died_at, opened_at, item_at}

@@ -1,6 +1,6 @@
 use Rattle.std.proofs.Common.{◌≡◌, ◌≤◌, length}
 use Rattle.std.specs.List.{All}
-use Rattle.path_rules.specs.Octets.{octets}
+use Rattle.path_core.specs.Octets.{octets}
 use Rattle.world_core.specs.Rounds.{RoundTo}
 use Rattle.connection_table.specs.ManyRounds.{RoundIfGoing, Runs}
 use Rattle.connection_table.proofs.Changes.{SoFar}

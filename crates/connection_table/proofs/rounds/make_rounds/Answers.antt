@@ -1,5 +1,5 @@
 use Rattle.std.proofs.Common.{◌+◌, arith}
-use Rattle.path_rules.specs.Octets.{octets}
+use Rattle.path_core.specs.Octets.{octets}
 use Rattle.world_core.specs.Rounds.{RoundTo}
 use Rattle.connection_table.specs.ManyRounds.{IsSerialEnd, RoundIfGoing}
 use Rattle.connection_table.proofs.RoundMore.{each_says, each_then, first_round, serial_more}

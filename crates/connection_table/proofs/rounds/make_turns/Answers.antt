@@ -2,7 +2,7 @@ use Rattle.std.proofs.Common.{◌≡◌, ◌≤◌, ◌<◌, ◌∙◌, refl, ap
 use Rattle.world_core.specs.Kept.{Kept}
 use Rattle.world_core.specs.Rounds.{TurnsTo}
 use Rattle.world_laws.specs.Serial.{TurnTo}
-use Rattle.path_rules.specs.Octets.{octets}
+use Rattle.path_core.specs.Octets.{octets}
 use Rattle.connection_table.specs.ManyRounds.{Runs, TurnMade, TurnsMade}
 use Rattle.connection_table.specs.Tables.{Entry, entry_at}
 use Rattle.connection_table.proofs.Changes.{all_changed, all_there, changed_many, changes_know, changes_none, changes_then, made_runs, some_map}

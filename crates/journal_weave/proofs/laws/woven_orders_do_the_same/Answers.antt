@@ -1,5 +1,5 @@
-use Rattle.path_rules.specs.Octets.{octets}
-use Rattle.path_rules.specs.Values.{values}
+use Rattle.path_core.specs.Octets.{octets}
+use Rattle.path_core.specs.Values.{values}
 use Rattle.journal_weave.proofs.Driven.{order_does}
 use Rattle.journal_weave.proofs.laws.woven_orders_do_the_same.Goals as goal
 

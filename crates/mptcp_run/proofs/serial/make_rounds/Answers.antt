@@ -1,6 +1,6 @@
 use Rattle.std.proofs.Common.{◌∙◌, sym, ap, ◌+◌, ◌-◌, arith}
 use Rattle.std.proofs.lemmas.Result.{err_from_is_err_and}
-use Rattle.path_rules.specs.Octets.{octets}
+use Rattle.path_core.specs.Octets.{octets}
 use Rattle.world_core.specs.Rounds.{RoundTo}
 use Rattle.world_laws.specs.Serial.{IsSerial}
 use Rattle.run_outside.proofs.Calling.{only_then}

@@ -1,5 +1,5 @@
 use Rattle.std.proofs.Common.{sym, ◌∙◌, ap, subst}
-use Rattle.path_rules.specs.Octets.{octets}
+use Rattle.path_core.specs.Octets.{octets}
 use Rattle.world_laws.specs.Serial.{TurnTo}
 use Rattle.world_core.proofs.CutMade.{at_err, turn_cut_now, turn_cut_more}
 use Rattle.world_core.proofs.RoundsMade.{turn_more}

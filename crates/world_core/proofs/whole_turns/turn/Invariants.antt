@@ -1,5 +1,5 @@
 use Rattle.std.proofs.Common.{◌≡◌, ◌-◌, ◌^◌, false}
-use Rattle.path_rules.specs.Octets.{octets}
+use Rattle.path_core.specs.Octets.{octets}
 use Rattle.world_laws.specs.Serial.{TurnTo}
 use Rattle.world_core.specs.Cuts.{TurnCut}
 use Rattle.world_core.specs.Steps.{stamp_at}

@@ -1,5 +1,5 @@
 use Rattle.std.proofs.Common.{◌-◌, ◌+◌, subst, arith}
-use Rattle.path_rules.specs.Octets.{octets}
+use Rattle.path_core.specs.Octets.{octets}
 use Rattle.world_core.specs.Cuts.{TurnsCut}
 use Rattle.world_core.specs.Rounds.{TurnsFrom}
 use Rattle.world_core.proofs.CutMade.{at_err, turns_cut_now, turns_cut_more}

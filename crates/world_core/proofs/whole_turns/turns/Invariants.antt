@@ -1,5 +1,5 @@
 use Rattle.std.proofs.Common.{◌≡◌, ◌≤◌, ◌-◌, false}
-use Rattle.path_rules.specs.Octets.{octets}
+use Rattle.path_core.specs.Octets.{octets}
 use Rattle.world_core.specs.Cuts.{TurnsCut}
 use Rattle.world_core.specs.Rounds.{TurnsFrom}
 use Rattle.world_core.proofs.whole_turns.turns.Given as goal

@@ -1,5 +1,5 @@
-use Rattle.path_rules.specs.Octets.{octets}
-use Rattle.path_rules.specs.Values.{values}
+use Rattle.path_core.specs.Octets.{octets}
+use Rattle.path_core.specs.Values.{values}
 use Rattle.world_laws.proofs.Promises.AbortedHearThatAlone.{abort_is_last}
 use Rattle.world_laws.proofs.laws.aborted_readers_hear_that_alone.Goals as goal
 

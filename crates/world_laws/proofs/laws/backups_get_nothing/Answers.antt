@@ -1,5 +1,5 @@
-use Rattle.path_rules.specs.Octets.{octets}
-use Rattle.path_rules.specs.Values.{values}
+use Rattle.path_core.specs.Octets.{octets}
+use Rattle.path_core.specs.Values.{values}
 use Rattle.world_laws.proofs.Standby.GrantedNothing.{backups_get_nothing}
 use Rattle.world_laws.proofs.laws.backups_get_nothing.Goals as goal
 

@@ -1,5 +1,5 @@
-use Rattle.path_rules.specs.Octets.{octets}
-use Rattle.path_rules.specs.Values.{values}
+use Rattle.path_core.specs.Octets.{octets}
+use Rattle.path_core.specs.Values.{values}
 use Rattle.world_laws.proofs.Places.GrantedOnce.{granted_once}
 use Rattle.world_laws.proofs.laws.bytes_are_granted_once.Goals as goal
 

@@ -1,5 +1,5 @@
-use Rattle.path_rules.specs.Octets.{octets}
-use Rattle.path_rules.specs.Values.{values}
+use Rattle.path_core.specs.Octets.{octets}
+use Rattle.path_core.specs.Values.{values}
 use Rattle.world_laws.proofs.Worlds.CastLifting.{writes_the_files}
 use Rattle.world_laws.proofs.laws.files_are_written.Goals as goal
 

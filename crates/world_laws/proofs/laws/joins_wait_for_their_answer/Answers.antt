@@ -1,5 +1,5 @@
-use Rattle.path_rules.specs.Octets.{octets}
-use Rattle.path_rules.specs.Values.{values}
+use Rattle.path_core.specs.Octets.{octets}
+use Rattle.path_core.specs.Values.{values}
 use Rattle.world_laws.proofs.Joins.NoBytesBeforeClear.{joins_wait}
 use Rattle.world_laws.proofs.laws.joins_wait_for_their_answer.Goals as goal
 

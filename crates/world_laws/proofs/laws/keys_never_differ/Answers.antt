@@ -1,5 +1,5 @@
 use Rattle.std.proofs.Common.{subst, sym}
-use Rattle.path_rules.specs.Values.{values}
+use Rattle.path_core.specs.Values.{values}
 use Rattle.world_laws.specs.Openings.{opened_world}
 use Rattle.world_laws.specs.Promises.{KeysNeverDiffer}
 use Rattle.world_laws.specs.Worlds.{world_run}

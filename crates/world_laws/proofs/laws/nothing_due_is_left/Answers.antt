@@ -1,5 +1,5 @@
-use Rattle.path_rules.specs.Octets.{octets}
-use Rattle.path_rules.specs.Values.{values}
+use Rattle.path_core.specs.Octets.{octets}
+use Rattle.path_core.specs.Values.{values}
 use Rattle.world_laws.proofs.Worlds.CastLifting as casts
 use Rattle.world_laws.proofs.laws.nothing_due_is_left.Goals as goal
 

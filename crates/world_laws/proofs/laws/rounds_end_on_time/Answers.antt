@@ -1,5 +1,5 @@
-use Rattle.path_rules.specs.Octets.{octets}
-use Rattle.path_rules.specs.Values.{values}
+use Rattle.path_core.specs.Octets.{octets}
+use Rattle.path_core.specs.Values.{values}
 use Rattle.world_laws.proofs.Rounds.DoneByTheEnd as done
 use Rattle.world_laws.proofs.laws.rounds_end_on_time.Goals as goal
 

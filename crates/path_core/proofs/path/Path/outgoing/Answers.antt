@@ -1,7 +1,7 @@
 use Rattle.std.proofs.Common.{◌≡◌, subst, ℕ, List, IfOk}
-use Rattle.path_rules.specs.Looking.{IsTold}
-use Rattle.path_rules.specs.State.{PathState}
-use Rattle.path_rules.proofs.SegmentsTold.{outgoing_told}
+use Rattle.path_core.specs.Looking.{IsTold}
+use Rattle.path_core.specs.State.{PathState}
+use Rattle.path_core.proofs.SegmentsTold.{outgoing_told}
 use Rattle.path_core.proofs.path.Path.outgoing.Goals as goal
 
 pub returns-clause-told : goal.returns-clause-told

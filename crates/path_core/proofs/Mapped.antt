@@ -1,0 +1,94 @@
+-- The mappings that a copy says lie within the places, and the one at the edge begins there or before.
+use Rattle.std.proofs.Common.{◌≡◌, refl, ℕ, ◌+◌, ◌^◌, ◌≤◌, nat_lt, nat_le, ◌&&◌, Bool, true, false, if◌then◌else◌, List, [], ◌∷◌, Option, Some, None, All, IfSome, find, cond}
+use Rattle.std.specs.List.{flat_map}
+use Rattle.std.proofs.lemmas.Bool.{leb-true}
+use Rattle.std.proofs.lemmas.List.Elements.{All-nil, All-cons, All-append}
+use Rattle.sides.specs.declared.side.Side.{Side}
+use Rattle.sides.specs.declared.side.Side.TheVariants.{A, B}
+use Rattle.dss_mapping.specs.declared.kept.KeptMapping.{KeptMapping}
+use Rattle.dss_mapping.specs.Learning.{IsWithin}
+use Rattle.dss_mapping.specs.Mappings.{Mappings, mapping_at, octets_in, run_of}
+use Rattle.dss_mapping.specs.Runs.{covers}
+use Rattle.mptcp_options.specs.declared.capable.CapableKeys.{CapableKeys}
+use Rattle.mptcp_options.specs.declared.capable.CapableKeys.TheVariants.{NoKey, Sender, Both, WithData}
+use Rattle.path_segments.specs.declared.segment.PathOption.TheVariants.{Capable, Join, Dss, AddAddr, Remove, Prio, Fail, FastClose, Reset}
+use Rattle.path_segments.specs.declared.segment.PathMapping.{PathMapping}
+use Rattle.path_segments.specs.declared.segment.PathMapping.TheVariants.{Bytes, End, Infinite}
+use Rattle.path_core.specs.DssIn.{HeardOption, checksum_heard, held_if, key_held, map_held, held_in, kept_of}
+use Rattle.path_core.specs.MpJoin.{is_joined}
+use Rattle.path_core.specs.Profile.{Profile}
+
+-- ---- the mapping at the edge
+
+begins : (p : ℕ) (kept : KeptMapping) → covers p (run_of kept) ≡ true → kept.pos ≤ p
+begins p kept is = by (nat_le kept.pos p) refl is
+  where
+    by : (b : Bool) → nat_le kept.pos p ≡ b → (b && nat_lt p (run_of kept).to) ≡ true → kept.pos ≤ p
+    by true le is = leb-true _ _ le
+    by false le is = cc
+
+found_begins : (p : ℕ) (live : List KeptMapping) → IfSome (find (λ kept. covers p (run_of kept)) live) (λ kept. kept.pos ≤ p)
+found_begins p [] = tt
+found_begins p (kept ∷ live) = by (covers p (run_of kept)) refl (found_begins p live)
+  where
+    by : (b : Bool) → covers p (run_of kept) ≡ b → IfSome (find (λ kept. covers p (run_of kept)) live) (λ kept. kept.pos ≤ p)
+        → IfSome (cond b (Some kept) (find (λ kept. covers p (run_of kept)) live)) (λ kept. kept.pos ≤ p)
+    by true is rest = begins p kept is
+    by false is rest = rest
+
+pub mapping_begins : (v : Mappings) (p : ℕ) → IfSome (mapping_at v p) (λ kept. kept.pos ≤ p)
+mapping_begins v p = by (nat_lt p v.forgotten) (found_begins p v.live)
+  where
+    by : (b : Bool) → IfSome (find (λ kept. covers p (run_of kept)) v.live) (λ kept. kept.pos ≤ p)
+        → IfSome (if b then None else find (λ kept. covers p (run_of kept)) v.live) (λ kept. kept.pos ≤ p)
+    by true rest = tt
+    by false rest = rest
+
+-- ---- the mappings that a copy says
+
+within_if : (c : Profile) (s : Side) (place position len : ℕ) (fin : Bool) (checksum : Option ℕ) → All IsWithin (held_if c s place position len fin checksum)
+within_if c s place position len fin checksum = by (nat_lt 0 position) (nat_le (place + octets_in len fin) (2 ^ 62)) refl
+  where
+    by : (a b : Bool) → nat_le (place + octets_in len fin) (2 ^ 62) ≡ b
+        → All IsWithin (if a && b then kept_of c s place position len fin (checksum_heard checksum) ∷ [] else [])
+    by true true is = All-cons IsWithin _ [] (leb-true _ _ is) (All-nil IsWithin)
+    by true false is = All-nil IsWithin
+    by false b is = All-nil IsWithin
+
+within_keys : (c : Profile) (s : Side) (keys : CapableKeys) → All IsWithin (key_held c s keys)
+within_keys c A keys = All-nil IsWithin
+within_keys c B NoKey = All-nil IsWithin
+within_keys c B (Sender sender) = All-nil IsWithin
+within_keys c B (Both sender receiver) = All-nil IsWithin
+within_keys c B (WithData sender receiver len checksum) = by (nat_lt 0 len) (within_if c B 0 1 len false checksum)
+  where
+    by : (b : Bool) → All IsWithin (held_if c B 0 1 len false checksum) → All IsWithin (if b then held_if c B 0 1 len false checksum else [])
+    by true within = within
+    by false within = All-nil IsWithin
+
+within_map : (c : Profile) (s : Side) (mapping : Option (PathMapping (Option ℕ))) → All IsWithin (map_held c s mapping)
+within_map c s None = All-nil IsWithin
+within_map c s (Some (Bytes None position len fin checksum)) = All-nil IsWithin
+within_map c s (Some (Bytes (Some place) None len fin checksum)) = All-nil IsWithin
+within_map c s (Some (Bytes (Some place) (Some position) len fin checksum)) = within_if c s place position len fin checksum
+within_map c s (Some (End place checksum)) = All-nil IsWithin
+within_map c s (Some (Infinite place position)) = All-nil IsWithin
+
+within_in : (c : Profile) (s : Side) (option : HeardOption) → All IsWithin (held_in c s option)
+within_in c s (Capable flag_a flag_c keys) = by (is_joined c)
+  where
+    by : (joined : Bool) → All IsWithin (if joined then [] else key_held c s keys)
+    by true = All-nil IsWithin
+    by false = within_keys c s keys
+within_in c s (Join form) = All-nil IsWithin
+within_in c s (Dss next mapping) = within_map c s mapping
+within_in c s (AddAddr echo id address port hmac) = All-nil IsWithin
+within_in c s (Remove ids) = All-nil IsWithin
+within_in c s (Prio backup) = All-nil IsWithin
+within_in c s (Fail place) = All-nil IsWithin
+within_in c s (FastClose key) = All-nil IsWithin
+within_in c s (Reset transient reason) = All-nil IsWithin
+
+pub all_within : (c : Profile) (s : Side) (options : List HeardOption) → All IsWithin (flat_map (held_in c s) options)
+all_within c s [] = All-nil IsWithin
+all_within c s (option ∷ options) = All-append IsWithin (held_in c s option) (flat_map (held_in c s) options) (within_in c s option) (all_within c s options)

@@ -1,0 +1,60 @@
+-- What is held doesn't change what a copy means.
+use Rattle.std.proofs.Common.{◌≡◌, refl, sym, ap, ◌∙◌, inl, inr, ℕ, ◌==◌, Bool, true, false, if◌then◌else◌, Option, Some, None, List}
+use Rattle.actor_desk.specs.Words.{is_nil}
+use Rattle.subflow_tcp.specs.declared.handshake.State.{State}
+use Rattle.subflow_tcp.specs.declared.handshake.State.TheVariants as phase
+use Rattle.subflow_tcp.specs.declared.verdicts.Meaning.{Meaning}
+use Rattle.subflow_tcp.specs.declared.verdicts.Meaning.TheVariants as means
+use Rattle.subflow_tcp.specs.Judging.{is_acceptable, is_repeated_syn, meaning_answering, meaning_opening, meaning_outside, meaning_acknowledging, meaning_within, meaning_placed, meaning_connected, meaning_at, meaning_of}
+use Rattle.subflow_tcp.specs.Segments.{Copy}
+use Rattle.subflow_tcp.specs.State.{EndState, is_at_limit}
+use Rattle.subflow_tcp.specs.Taking.{after_holding}
+use Rattle.path_core.specs.Arrival.{IsTakenAs, with_payload}
+
+module _ (position : ℕ) (octets : List ℕ) (s : EndState) where
+  abbrev held : EndState
+  held = after_holding position octets s
+
+  acknowledging : (acknowledged : Option ℕ) (pos : ℕ) → meaning_acknowledging acknowledged pos held ≡ meaning_acknowledging acknowledged pos s
+  acknowledging None pos = refl
+  acknowledging (Some acknowledged) pos = refl
+
+  within : (pos : ℕ) (c : Copy) → meaning_within pos c held ≡ meaning_within pos c s
+  within pos c =
+      ap (λ (m : Meaning). if c.rst then (if pos == s.recv.edge then means.Kills else means.Challenged) else (if c.syn then means.Challenged else m))
+      (acknowledging c.acknowledged pos)
+
+  placed : (pos : Option ℕ) (c : Copy) → meaning_placed pos c held ≡ meaning_placed pos c s
+  placed None c = refl
+  placed (Some pos) c = ap (λ (m : Meaning). if is_acceptable s.recv.edge pos c then m else meaning_outside c) (within pos c)
+
+  connected : (c : Copy) → meaning_connected c held ≡ meaning_connected c s
+  connected c =
+      ap (λ (m : Meaning). if is_at_limit s then means.Ignored else (if is_repeated_syn c s then means.RepeatedSyn else m)) (placed c.position c)
+
+  answering : (acknowledged : Option ℕ) (c : Copy) → meaning_answering acknowledged c held ≡ meaning_answering acknowledged c s
+  answering None c = refl
+  answering (Some acknowledged) c = refl
+
+  opening : (c : Copy) → meaning_opening c held ≡ meaning_opening c s
+  opening c = ap (λ (m : Meaning). if is_at_limit s then means.Ignored else m) (answering c.acknowledged c)
+
+  in_state : (state : State) (c : Copy) → meaning_at state c held ≡ meaning_at state c s
+  in_state phase.Waiting c = refl
+  in_state phase.Listen c = refl
+  in_state phase.SynSent c = opening c
+  in_state phase.Dead c = refl
+  in_state _ c = connected c
+
+  pub holding_means : (c : Copy) (nothing : Bool) → meaning_of c (if nothing then s else held) ≡ meaning_of c s
+  holding_means c true = refl
+  holding_means c false = in_state s.state c
+
+pub means_the_same : (meaning : Meaning) (octets : List ℕ) (c : Copy) (s : EndState) → meaning_of c (with_payload meaning octets s) ≡ meaning_of c s
+means_the_same (means.Taken position acknowledged) octets c s = holding_means position octets s c (is_nil octets)
+means_the_same _ octets c s = refl
+
+-- so a copy is taken as before
+pub taken_the_same : (meaning : Meaning) (octets : List ℕ) (c : Copy) (s : EndState) → IsTakenAs meaning c s → IsTakenAs meaning c (with_payload meaning octets s)
+taken_the_same meaning octets c s (inl ignored) = inl ignored
+taken_the_same meaning octets c s (inr means) = inr (means ∙ sym (means_the_same meaning octets c s))

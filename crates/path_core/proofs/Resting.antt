@@ -1,0 +1,194 @@
+-- Which changes of an end leave its timer at rest: none that is due is set, and the timeout takes time.
+use Rattle.std.proofs.Common.{◌≡◌, refl, ap, ◌∙◌, subst, ℕ, ◌+◌, ◌*◌, ◌≤◌, min, Bool, true, false, if◌then◌else◌, ◌||◌, is_none, Option, Some, None, List, [], ◌∷◌, arith}
+use Rattle.sides.specs.declared.side.Side.{Side}
+use Rattle.rtt_timer.specs.Timer.{Timer}
+use Rattle.loss_recovery.specs.declared.timers.Timing.{Timing}
+use Rattle.loss_recovery.specs.Timers as timers
+use Rattle.dss_mapping.specs.declared.kept.KeptMapping.{KeptMapping}
+use Rattle.subflow_send.specs.declared.record.AckKind.{AckKind}
+use Rattle.subflow_send.specs.declared.record.AckKind.TheVariants.{New, Duplicate, Old, Future}
+use Rattle.subflow_send.specs.Rules.{ack_kind, sample_of, after_acknowledge}
+use Rattle.subflow_recv.specs.Receiving.{after_forget_from}
+use Rattle.subflow_tcp.specs.declared.handshake.State.TheVariants.{Established}
+use Rattle.subflow_tcp.specs.declared.segments.Hint.{Hint}
+use Rattle.subflow_tcp.specs.declared.segments.Occasion.{Occasion}
+use Rattle.subflow_tcp.specs.declared.segments.Occasion.TheVariants as to_send
+use Rattle.subflow_tcp.specs.declared.verdicts.Meaning.{Meaning}
+use Rattle.subflow_tcp.specs.declared.verdicts.Meaning.TheVariants as means
+use Rattle.subflow_tcp.specs.Closing.{after_passing_fin}
+use Rattle.subflow_tcp.specs.Emitting.{after_sending}
+use Rattle.subflow_tcp.specs.Expiring.{is_sixth, after_fire, after_expiry}
+use Rattle.subflow_tcp.specs.Segments.{Copy}
+use Rattle.subflow_tcp.specs.State.{EndState}
+use Rattle.subflow_tcp.specs.Taking.{after_arrival, after_payload, after_hearing, after_established, after_acknowledgement, after_ack_kind, is_duplicate, told_by, after_duplicate, after_interruption, after_death, after_keeping_held, after_dropping_held}
+use Rattle.path_core.specs.Arrival.{owing_if, with_payload}
+use Rattle.path_agenda.specs.declared.heard.Heard.{Heard}
+use Rattle.path_agenda.specs.declared.heard.Heard.TheVariants as says
+use Rattle.path_core.specs.End.{PathEnd}
+use Rattle.control_book.specs.declared.call.ControlReply.TheVariants as control_replies
+use Rattle.fallback_state.specs.declared.fall.Event.TheVariants as events
+use Rattle.fallback_state.specs.declared.fall.Verdict.TheVariants as verdicts
+use Rattle.actor_desk.specs.declared.ask.Reply.{Reply}
+use Rattle.actor_desk.specs.declared.ask.Reply.TheVariants as replies
+use Rattle.path_core.specs.Deliver.{is_wrong, forgotten_by, failing_by, mapping_here, is_dropped, after_keep}
+use Rattle.path_core.specs.DssIn.{with_learned, with_skipped, counts, with_data_fin}
+use Rattle.path_core.specs.Fallback.{with_failure, after_check_failed, after_fell, receiving_infinite, sending_infinite}
+use Rattle.path_store.specs.declared.infinite_mapping.InfiniteMapping.{InfiniteMapping}
+use Rattle.path_core.specs.Ranks.{one_if_due, due_timer}
+use Rattle.path_core.specs.Treating.{item_passed}
+use Rattle.path_core.proofs.Ranking.{Rests, late_isn't}
+
+-- ---- timings
+
+pub record Settles (clock : ℕ) (t u : Timing) : Type 0 where
+  pub due : due_timer clock u.timer ≤ due_timer clock t.timer
+  pub timeout : 1 ≤ t.rtt.rto → 1 ≤ u.rtt.rto
+
+pub to_rests : (clock : ℕ) (e f : PathEnd) → Settles clock e.tcp.timing f.tcp.timing → Rests clock e f
+to_rests clock e f settles = record { due = settles.due; timeout = settles.timeout }
+
+pub same_settles : (clock : ℕ) (t u : Timing) → u ≡ t → Settles clock t u
+same_settles clock t u same = record { due = rw same (omega arith); timeout = λ some. rw same some }
+
+-- ---- sendings
+
+pub sent_same : (occasion : Occasion) (now : ℕ) (s : EndState) → (after_sending occasion now s).timing ≡ s.timing
+sent_same to_send.Reset now s = refl
+sent_same _ now s = refl
+
+-- ---- arrivals
+
+sampled_time : (since : Option ℕ) (now : ℕ) (rtt : Timer) → 1 ≤ rtt.rto → 1 ≤ (timers.sampled since now rtt).rto
+sampled_time None now rtt some = some
+sampled_time (Some first) now rtt some = omega arith
+
+kind_settles : (clock : ℕ) (kind : AckKind) (since : Option ℕ) (now : ℕ) (s : EndState) → Settles clock s.timing (after_ack_kind kind since now s).timing
+kind_settles clock (New octets) since now s = record { due = omega arith; timeout = sampled_time since now s.timing.rtt }
+kind_settles clock Duplicate since now s = record { due = omega arith; timeout = λ some. some }
+kind_settles clock Old since now s = record { due = omega arith; timeout = λ some. some }
+kind_settles clock Future since now s = record { due = omega arith; timeout = λ some. some }
+
+row_settles : (clock : ℕ) (b : Bool) (t : Timing) (s : EndState) → Settles clock t s.timing
+    → Settles clock t (if b then after_duplicate s else after_interruption s).timing
+row_settles clock true t s settles = record { due = settles.due; timeout = settles.timeout }
+row_settles clock false t s settles = record { due = settles.due; timeout = settles.timeout }
+
+pub arrival_settles : (clock : ℕ) (meaning : Meaning) (hint : Hint) (now : ℕ) (c : Copy) (s : EndState)
+    → Settles clock s.timing (after_arrival meaning hint now c s).timing
+arrival_settles clock means.Ignored hint now c s = record { due = omega arith; timeout = λ some. some }
+arrival_settles clock means.Unwanted hint now c s = record { due = omega arith; timeout = λ some. some }
+arrival_settles clock means.Opens hint now c s = record { due = omega arith; timeout = λ some. some }
+arrival_settles clock (means.Accepts acknowledged) hint now c s =
+    let opened : EndState = record (after_hearing (after_payload 1 hint c s)) { state = Established } in
+    let kind = kind_settles clock (ack_kind acknowledged s.send) (sample_of acknowledged s.send) now (record opened { send = after_acknowledge acknowledged s.send }) in
+    record { due = kind.due; timeout = kind.timeout }
+arrival_settles clock means.RepeatedSyn hint now c s = record { due = omega arith; timeout = λ some. some }
+arrival_settles clock means.Outside hint now c s = record { due = omega arith; timeout = λ some. some }
+arrival_settles clock means.Kills hint now c s = record { due = omega arith; timeout = λ some. some }
+arrival_settles clock means.Challenged hint now c s = record { due = omega arith; timeout = λ some. some }
+arrival_settles clock means.Unacknowledging hint now c s = record { due = omega arith; timeout = λ some. some }
+arrival_settles clock means.Ahead hint now c s = record { due = omega arith; timeout = λ some. some }
+arrival_settles clock (means.Taken pos acknowledged) hint now c s =
+    let base : EndState = after_established (after_hearing (after_payload pos hint c s)) in
+    let kind = kind_settles clock (ack_kind acknowledged s.send) (sample_of acknowledged s.send) now (record base { send = after_acknowledge acknowledged s.send }) in
+    let row = row_settles clock (is_duplicate (ack_kind acknowledged s.send) (told_by hint c) c (after_acknowledgement acknowledged now base))
+    s.timing (after_acknowledgement acknowledged now base) (record { due = kind.due; timeout = kind.timeout }) in
+    record { due = row.due; timeout = row.timeout }
+
+-- a payload that is held changes no timer
+pub payload_same : (meaning : Meaning) (octets : List ℕ) (s : EndState) → (with_payload meaning octets s).timing ≡ s.timing
+payload_same (means.Taken pos acknowledged) [] s = refl
+payload_same (means.Taken pos acknowledged) (octet ∷ octets) s = refl
+payload_same _ octets s = refl
+
+pub held_settles : (clock : ℕ) (meaning : Meaning) (octets : List ℕ) (hint : Hint) (now : ℕ) (c : Copy) (s : EndState)
+    → Settles clock s.timing (after_arrival meaning hint now c (with_payload meaning octets s)).timing
+held_settles clock meaning octets hint now c s =
+    subst (λ t. Settles clock t (after_arrival meaning hint now c (with_payload meaning octets s)).timing) (payload_same meaning octets s)
+    (arrival_settles clock meaning hint now c (with_payload meaning octets s))
+
+pub owing_settles : (clock : ℕ) (owing : Bool) (t : Timing) (s : EndState) → Settles clock t s.timing → Settles clock t (owing_if owing s).timing
+owing_settles clock true t s settles = record { due = settles.due; timeout = settles.timeout }
+owing_settles clock false t s settles = record { due = settles.due; timeout = settles.timeout }
+
+-- ---- timers
+
+later_isn't : (now rto : ℕ) → 1 ≤ rto → one_if_due now (now + rto) ≡ 0
+later_isn't now rto some = late_isn't now (now + rto) (omega (arith, some))
+
+-- a timer that ran out isn't due any more
+pub fired_rests : (now : ℕ) (s : EndState) → 1 ≤ s.timing.rtt.rto
+    → (due_timer now (after_fire now s).timing.timer ≡ 0) × (1 ≤ (after_fire now s).timing.rtt.rto)
+fired_rests now s some = by (is_sixth s)
+  where
+    by : (b : Bool) → (due_timer now (if b then after_death true s else after_expiry now s).timing.timer ≡ 0)
+        × (1 ≤ (if b then after_death true s else after_expiry now s).timing.rtt.rto)
+    by true = (refl, some)
+    by false = (later_isn't now (min 60000 (2 * s.timing.rtt.rto)) (omega (arith, some)), omega (arith, some))
+
+pub settled_settles : (now : ℕ) (reason restart : Bool) (t : Timing) → 1 ≤ t.rtt.rto → Settles now t (timers.settled reason restart now t)
+settled_settles now reason restart t some = record { due = by reason (is_none t.timer || (t.news || restart)); timeout = λ more. more }
+  where
+    by : (reason anew : Bool)
+        → due_timer now (if reason then (if anew then Some (now + t.rtt.rto) else t.timer) else None) ≤ due_timer now t.timer
+    by false anew = omega arith
+    by true true = omega (arith, later_isn't now t.rtt.rto some)
+    by true false = omega arith
+
+-- ---- what is passed in silence
+
+either_same : (b : Bool) (f e : PathEnd) → f.tcp ≡ e.tcp → (if b then f else e).tcp ≡ e.tcp
+either_same true f e same = same
+either_same false f e same = refl
+
+either_timed : (b : Bool) (f e : PathEnd) → f.tcp.timing ≡ e.tcp.timing → (if b then f else e).tcp.timing ≡ e.tcp.timing
+either_timed true f e same = same
+either_timed false f e same = refl
+
+mapping_same : (b : Bool) (e : PathEnd) → (if b then with_learned e else with_skipped e).tcp ≡ e.tcp
+mapping_same true e = refl
+mapping_same false e = refl
+
+pub item_same : (s : Side) (item : Option Heard) (e : PathEnd) → (item_passed s item e).tcp ≡ e.tcp
+item_same s (Some (says.Mapping fin)) e = mapping_same (counts e) e
+item_same s (Some (says.DataFin place)) e = either_same (counts e) (with_data_fin place e) e refl
+item_same s _ e = refl
+
+pub keep_same : (s : Side) (e : PathEnd) → (after_keep s e).tcp.timing ≡ e.tcp.timing
+keep_same s e = by (is_dropped s e)
+  where
+    by : (b : Bool) → (if b then after_dropping_held e.tcp else after_keeping_held e.tcp).timing ≡ e.tcp.timing
+    by true = refl
+    by false = refl
+
+pub check_same : (checksums : Bool) (kept : Option KeptMapping) (e : PathEnd) → (forgotten_by checksums kept e).tcp.timing ≡ e.tcp.timing
+check_same checksums None e = refl
+check_same checksums (Some kept) e =
+    either_timed (is_wrong checksums kept e.tcp) (record e { tcp = record e.tcp { recv = after_forget_from kept.pos e.tcp.recv } }) e refl
+
+pub pass_fin_same : (b : Bool) (s : EndState) → (if b then after_passing_fin s else s).timing ≡ s.timing
+pass_fin_same true s = refl
+pass_fin_same false s = refl
+
+-- ---- verdicts that note something
+
+pub failure_same : (failing : Option KeptMapping) (r : Reply) (e : PathEnd) → (with_failure failing r e).tcp ≡ e.tcp
+failure_same (Some kept) (replies.Control (control_replies.Verdict verdicts.SendFail)) e = refl
+failure_same (Some kept) (replies.Control (control_replies.Verdict (verdicts.BreakPath reason))) e = refl
+failure_same _ r e = refl
+
+pub check_failed_same : (checksums : Bool) (r : Reply) (e : PathEnd) → (after_check_failed checksums r e).tcp.timing ≡ e.tcp.timing
+check_failed_same checksums r e =
+    let failing = failing_by checksums (mapping_here e) e.tcp in
+    check_same checksums (mapping_here e) (with_failure failing r (after_fell events.CheckFailed r e))
+    ∙ ap (λ tcp. tcp.timing) (failure_same failing r (after_fell events.CheckFailed r e))
+
+pub sending_same : (mapping : Option InfiniteMapping) (infinite : Bool) (e : PathEnd) → (sending_infinite mapping infinite e).tcp ≡ e.tcp
+sending_same (Some mapping) true e = refl
+sending_same (Some mapping) false e = refl
+sending_same None infinite e = refl
+
+pub receiving_same : (place : ℕ) (position : Option ℕ) (infinite : Bool) (e : PathEnd) → (receiving_infinite place position infinite e).tcp ≡ e.tcp
+receiving_same place (Some position) true e = refl
+receiving_same place (Some position) false e = refl
+receiving_same place None infinite e = refl

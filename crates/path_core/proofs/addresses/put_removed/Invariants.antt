@@ -1,0 +1,6 @@
+use Rattle.std.proofs.Common.{◌≡◌, ◌++◌, map, drop}
+use Rattle.path_core.specs.Addresses.{item_removed}
+use Rattle.path_core.proofs.addresses.put_removed.Given as goal
+
+abbrev pub invariant-loop-id : goal.invariant-loop-id
+invariant-loop-id l = l.items.items ++ map item_removed (drop l.id-index l.ids) ≡ l.initial.items.items ++ map item_removed l.ids

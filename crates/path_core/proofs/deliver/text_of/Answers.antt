@@ -1,0 +1,14 @@
+use Rattle.std.proofs.Common.{◌∙◌, sym, refl, ap, ◌-◌, ◌++◌, List, ℕ, take, arith}
+use Rattle.std.specs.List.{concat}
+use Rattle.path_store.proofs.Parts.{part-taken}
+use Rattle.path_core.proofs.deliver.text_of.Goals as goal
+
+pub loop-part-preserved : goal.loop-part-preserved
+loop-part-preserved c =
+    let text = c.loop-part.text in
+    let left = c.loop-part.left in
+    let taken = c.min-taken.result in
+    rw c.in_ok-append.ensures.ok
+    (part-taken text left taken (left - taken) c.in-Some.part.now (concat c.next.new.self) (omega (arith, c.min-taken.ensures)) refl
+    ∙ ap (λ (parts : List (List ℕ)). text ++ take left (concat parts)) (sym c.in-Some.ensures.steps)
+    ∙ c.loop-part.invariant)

@@ -1,5 +1,0 @@
-use Rattle.std.proofs.Common.{refl}
-use Rattle.path_core.proofs.machine.Machine.add.Goals as goal
-
-pub returns-clause-ok : goal.returns-clause-ok
-returns-clause-ok c = rw (c.in_ok-send.ensures.after, c.now.ensures.value, ← c.self.view_is) refl

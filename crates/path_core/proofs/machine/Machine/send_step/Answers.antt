@@ -1,8 +1,0 @@
-use Rattle.std.proofs.Common.{◌∙◌}
-use Rattle.path_rules.specs.Octets.{octets}
-use Rattle.path_rules.proofs.SegmentsTold.{step_sent}
-use Rattle.path_core.proofs.machine.Machine.send_step.Goals as goal
-
-pub returns-clause-value : goal.returns-clause-value
-returns-clause-value c =
-    c.sent_step.ensures.value ∙ step_sent octets c.args.duty c.send_of-from.result c.args.self.now c.send_of-from.ensures

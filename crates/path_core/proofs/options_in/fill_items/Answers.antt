@@ -1,0 +1,26 @@
+use Rattle.std.proofs.Common.{◌≡◌, ◌∙◌, sym, ap, subst, List, ◌++◌, All}
+use Rattle.std.specs.List.{flat_map}
+use Rattle.path_segments.specs.HeardSegments.{heard_left}
+use Rattle.path_agenda.specs.declared.heard.Heard.{Heard}
+use Rattle.path_agenda.specs.Items.{IsFair}
+use Rattle.path_core.specs.DssIn.{HeardOption}
+use Rattle.path_core.specs.OptionsIn.{items_in}
+use Rattle.path_core.proofs.Fair.{items_are_fair}
+use Rattle.path_core.proofs.FewThings.{room_left}
+use Rattle.path_core.proofs.Filling.{append-nil}
+use Rattle.path_core.proofs.options_in.fill_items.Goals as goal
+
+pub put_option-requires : goal.put_option-requires
+put_option-requires c =
+    room_left (items_in c.args.joined c.args.side c.args.heard.now.window) _ _ _ _ _ c.loop-option.invariant c.in-Some.ensures.steps
+    (c.requires.few.few c.args.joined c.args.side c.args.heard.now.window)
+
+pub returns-clause-fair : goal.returns-clause-fair
+returns-clause-fair c =
+    let says = items_in c.args.joined c.args.side c.args.heard.now.window in
+    let all : c.loop-option.items.items ≡ flat_map says (heard_left c.args.heard.now.options) =
+    sym (append-nil c.loop-option.items.items)
+    ∙ sym (ap (λ (options : List HeardOption). c.loop-option.items.items ++ flat_map says options) c.in-None.ensures.steps.0)
+    ∙ c.loop-option.invariant in
+    subst (λ (items : List Heard). All IsFair items) (sym all)
+    (items_are_fair c.args.joined c.args.side c.args.heard.now.window (heard_left c.args.heard.now.options))

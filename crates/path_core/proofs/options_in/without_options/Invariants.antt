@@ -1,0 +1,9 @@
+use Rattle.std.proofs.Common.{◌≡◌, [], length}
+use Rattle.path_segments.specs.HeardSegments.{heard_left, heard_value}
+use Rattle.path_core.proofs.options_in.without_options.Given as goal
+
+abbrev pub invariant-loop : goal.invariant-loop
+invariant-loop l = record (heard_value l.rest) { options = [] } ≡ record (heard_value l.heard) { options = [] }
+
+abbrev pub decreases-loop : goal.decreases-loop
+decreases-loop l = length (heard_left l.rest.options)

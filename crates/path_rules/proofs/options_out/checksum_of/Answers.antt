@@ -1,5 +1,0 @@
-use Rattle.std.proofs.Common.{[]}
-use Rattle.path_rules.proofs.options_out.checksum_of.Goals as goal
-
-pub returns : goal.returns
-returns c = c.make.ensures c.args.mapping.now c.args.octets.now (c.add.ensures c.args.mapping.now [] c.new-sum.ensures)
