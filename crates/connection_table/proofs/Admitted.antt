@@ -4,12 +4,12 @@ use Rattle.std.specs.Prelude.{IfSome}
 use Rattle.std.proofs.lemmas.List.{length-append, length-map, map-append, take_more}
 use Rattle.run_outside.specs.declared.input.Input.{Input}
 use Rattle.run_outside.proofs.PortsLemmas.{risen_later}
-use Rattle.connection_list.specs.Lists.{Names, as_names}
-use Rattle.connection_list.specs.declared.list.Listed.{Listed}
-use Rattle.listed_inputs.specs.declared.many.Many.{Many}
-use Rattle.listed_inputs.specs.declared.many.Many.TheVariants.{Done, Usage, Load, TooLong, List as Listing, Script, SameToken, Put, Memory}
-use Rattle.listed_inputs.specs.Causes.{IsInputFault}
-use Rattle.listed_inputs.specs.Inputs.{AreWithin, Contents, IsInput, IsLong}
+use Rattle.connection_table.specs.Lists.{Names, as_names}
+use Rattle.connection_table.specs.declared.list.Listed.{Listed}
+use Rattle.connection_table.specs.declared.many.Many.{Many}
+use Rattle.connection_table.specs.declared.many.Many.TheVariants.{Done, Usage, Load, TooLong, List as Listing, Script, SameToken, Put, Memory}
+use Rattle.connection_table.specs.Causes.{IsInputFault}
+use Rattle.connection_table.specs.Inputs.{AreWithin, Contents, IsInput, IsLong}
 use Rattle.connection_table.specs.ManyEnds.{AreAdmitted, AreInputs, AtFault, IsAdmitFault, IsListedFault}
 use Rattle.connection_table.specs.Tables.{Entry, holder_of, key_token, opened_entry}
 use Rattle.connection_table.proofs.OwnTokens.{apart_more}

@@ -7,9 +7,9 @@ use Rattle.outside_kit.specs.Calls.{AreCallsAfter, Call}
 use Rattle.outside_kit.specs.Calls as call
 use Rattle.run_outside.specs.Plan.{succeeded, failed, Adds, AddsAll}
 use Rattle.run_outside.proofs.Calls.{Told, adds_none, adds_then, all_then}
-use Rattle.listed_inputs.specs.declared.many.Many.{Many}
-use Rattle.listed_inputs.specs.declared.many.Many.TheVariants.{Done, Usage, Load, TooLong, List as Listing, Script, SameToken, Put, Memory}
-use Rattle.listed_inputs.specs.Loads.{AddsCut, AddsFirst, AddsToFailed}
+use Rattle.connection_table.specs.declared.many.Many.{Many}
+use Rattle.connection_table.specs.declared.many.Many.TheVariants.{Done, Usage, Load, TooLong, List as Listing, Script, SameToken, Put, Memory}
+use Rattle.connection_table.specs.Loads.{AddsCut, AddsFirst, AddsToFailed}
 use Rattle.connection_table.specs.ManyEnds.{PutAdds, puts_from}
 use Rattle.connection_table.specs.ManyLines.{connection_line, line_if, state_of}
 use Rattle.connection_table.specs.Tables.{Entry}

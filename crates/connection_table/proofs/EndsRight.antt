@@ -25,8 +25,8 @@ use Rattle.world_laws.proofs.Worlds.CastLifting.{writes_the_files}
 use Rattle.clean_finish.specs.Bound.{enough}
 use Rattle.clean_finish.specs.Finish.{rounds_in}
 use Rattle.clean_finish.proofs.Finished.{clean_scripts_finish, clean_scripts_go_on}
-use Rattle.listed_inputs.specs.Inputs.{IsShort}
-use Rattle.listed_inputs.specs.Scripts.{LeavesPayload, is_alter}
+use Rattle.connection_table.specs.Inputs.{IsShort}
+use Rattle.connection_table.specs.Scripts.{LeavesPayload, is_alter}
 use Rattle.connection_table.specs.ManyEnds.{AreSerial, EndsRight}
 use Rattle.connection_table.specs.ManyRounds.{IsSerialEnd, Runs}
 use Rattle.connection_table.specs.Tables.{Connection, first_of, opened_entry}

@@ -12,11 +12,11 @@ use Rattle.world_laws.specs.declared.member.Member.TheVariants.{App, Path}
 use Rattle.world_laws.specs.Actors.{Actor, ActorCrew}
 use Rattle.world_laws.specs.Openings.{start_of}
 use Rattle.world_laws.proofs.Promises.OfScripts.{scripts_fit}
-use Rattle.join_route.specs.Routing.{join_token}
-use Rattle.join_tokens.specs.FoundJoins.{FindsJoinNext, FindsJoins, IsHeardAsJoin}
-use Rattle.join_tokens.specs.JoinTokens.{AsksByTokenNext, JoinsAskByToken}
-use Rattle.join_tokens.proofs.JoinsAsked.{joins_ask}
-use Rattle.join_tokens.proofs.JoinsFound.{joins_are_found}
+use Rattle.connection_table.specs.Routing.{join_token}
+use Rattle.connection_table.specs.FoundJoins.{FindsJoinNext, FindsJoins, IsHeardAsJoin}
+use Rattle.connection_table.specs.JoinTokens.{AsksByTokenNext, JoinsAskByToken}
+use Rattle.connection_table.proofs.JoinsAsked.{joins_ask}
+use Rattle.connection_table.proofs.JoinsFound.{joins_are_found}
 use Rattle.connection_table.specs.Routes.{EachIsRoutedHome, EachJoinIsRouted, IsJoinNext, arriving_at_b, arriving_at_listener, arriving_in, home_by, home_of, if_at_b, only_at_b, route_by, routed, to_holder}
 use Rattle.connection_table.specs.declared.route.Route.TheVariants.{To}
 use Rattle.connection_table.specs.Tables.{Entry, IsShortEntry, IsTable, Stands, StandsAlone, entry_at, holder_of, key_token}

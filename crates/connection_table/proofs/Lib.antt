@@ -1,3 +1,15 @@
+pub mod Names
+pub mod ReadOn
+mod AlterLines
+mod Unaltered
+pub mod Adding
+pub mod Heard
+pub mod Found
+mod TokensShown
+mod PathsNamed
+pub mod JoinsAsked
+mod ArrivalsLent
+pub mod JoinsFound
 mod Held
 mod Turned
 mod Home

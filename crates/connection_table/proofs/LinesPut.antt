@@ -7,8 +7,8 @@ use Rattle.std.proofs.Math.Seq.{take-length}
 use Rattle.std.proofs.lemmas.List.{append-nil, take-append-drop, take-append-le}
 use Rattle.outside_kit.specs.Outside.{HoldsAfter, HoldsPrefix}
 use Rattle.run_outside.proofs.PortsLemmas.{risen_later}
-use Rattle.listed_inputs.specs.declared.many.Many.{Many}
-use Rattle.listed_inputs.specs.declared.many.Many.TheVariants.{Done, Usage, Load, TooLong, List as Listing, Script, SameToken, Put, Memory}
+use Rattle.connection_table.specs.declared.many.Many.{Many}
+use Rattle.connection_table.specs.declared.many.Many.TheVariants.{Done, Usage, Load, TooLong, List as Listing, Script, SameToken, Put, Memory}
 use Rattle.connection_table.specs.ManyEnds.{IsPutFault}
 use Rattle.connection_table.specs.ManyLines.{connection_line, line_if, lines_from, state_of}
 use Rattle.connection_table.specs.Tables.{Entry}

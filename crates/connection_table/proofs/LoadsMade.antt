@@ -9,15 +9,15 @@ use Rattle.outside_kit.specs.Calls.{Call}
 use Rattle.outside_kit.specs.Calls as call
 use Rattle.run_outside.specs.Plan.{succeeded, failed, Adds, AddsAll}
 use Rattle.run_outside.proofs.Calls.{Told, adds_then, all_then}
-use Rattle.connection_list.specs.Lists.{Names, as_names, list_reading}
-use Rattle.connection_list.specs.Words.{NamedList}
-use Rattle.connection_list.specs.declared.list.Listed.{Listed}
-use Rattle.listed_inputs.specs.declared.many.Many.{Many}
-use Rattle.listed_inputs.specs.declared.many.Many.TheVariants.{Done, Usage, Load, TooLong, List as Listing, Script, SameToken, Put, Memory}
-use Rattle.listed_inputs.specs.Causes.{IsInputFault, IsListFault, IsLoadFault}
-use Rattle.listed_inputs.specs.Inputs.{Contents}
-use Rattle.listed_inputs.specs.Loads.{AddsCut, AddsLoadsThrough, AddsLoadsTo, AddsToFailed, InputAdds, LinesAdd, ListAdds, joined, loads_by_line, loads_of}
-use Rattle.listed_inputs.proofs.Adding.{all_cut}
+use Rattle.connection_table.specs.Lists.{Names, as_names, list_reading}
+use Rattle.connection_table.specs.ListWords.{NamedList}
+use Rattle.connection_table.specs.declared.list.Listed.{Listed}
+use Rattle.connection_table.specs.declared.many.Many.{Many}
+use Rattle.connection_table.specs.declared.many.Many.TheVariants.{Done, Usage, Load, TooLong, List as Listing, Script, SameToken, Put, Memory}
+use Rattle.connection_table.specs.Causes.{IsInputFault, IsListFault, IsLoadFault}
+use Rattle.connection_table.specs.Inputs.{Contents}
+use Rattle.connection_table.specs.Loads.{AddsCut, AddsLoadsThrough, AddsLoadsTo, AddsToFailed, InputAdds, LinesAdd, ListAdds, joined, loads_by_line, loads_of}
+use Rattle.connection_table.proofs.Adding.{all_cut}
 use Rattle.connection_table.specs.ManyEnds.{IsAdmitFault}
 use Rattle.connection_table.proofs.CallsMade.{cut_behind, cut_within, failed_then}
 

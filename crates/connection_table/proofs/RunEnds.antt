@@ -7,14 +7,14 @@ use Rattle.std.proofs.lemmas.Option.{IfSome_then}
 use Rattle.outside_kit.specs.Calls.{Call, Made}
 use Rattle.outside_kit.specs.Outside.{HasRisen, HoldsAfter, HoldsPrefix}
 use Rattle.run_outside.specs.declared.input.Input.{Input}
-use Rattle.connection_list.specs.Lists.{Names}
-use Rattle.connection_list.specs.Words.{NamedList}
-use Rattle.listed_inputs.specs.declared.many.Many.{Many}
-use Rattle.listed_inputs.specs.declared.many.Many.TheVariants.{Done, Usage, Load, TooLong, List as Listing, Script, SameToken, Put, Memory}
-use Rattle.listed_inputs.specs.Inputs.{Contents, IsShort}
-use Rattle.listed_inputs.specs.Loads.{AddsCut, AddsFirst, AddsToFailed, LinesAdd, ListAdds, joined, loads_by_line}
-use Rattle.listed_inputs.specs.Scripts.{LeavesPayload}
-use Rattle.listed_inputs.proofs.Adding.{all_cut}
+use Rattle.connection_table.specs.Lists.{Names}
+use Rattle.connection_table.specs.ListWords.{NamedList}
+use Rattle.connection_table.specs.declared.many.Many.{Many}
+use Rattle.connection_table.specs.declared.many.Many.TheVariants.{Done, Usage, Load, TooLong, List as Listing, Script, SameToken, Put, Memory}
+use Rattle.connection_table.specs.Inputs.{Contents, IsShort}
+use Rattle.connection_table.specs.Loads.{AddsCut, AddsFirst, AddsToFailed, LinesAdd, ListAdds, joined, loads_by_line}
+use Rattle.connection_table.specs.Scripts.{LeavesPayload}
+use Rattle.connection_table.proofs.Adding.{all_cut}
 use Rattle.connection_table.specs.ManyEnds.{AllPut, AreAdmitted, AreInputs, AreListed, AreOfList, AreSerial, AtFault, IsEnd, IsListedFault, IsLoadingFault, IsOfListed, IsPutFault, IsTableOf, NonePut, PutAdds, Says, SomePut, UpToAny, UpToPut, loads_of_list, puts_from}
 use Rattle.connection_table.specs.ManyLines.{lines_of, state_of}
 use Rattle.connection_table.specs.ManyRounds.{EachRound, IsSerialEnd}

@@ -11,12 +11,12 @@ use Rattle.link_script.specs.declared.fault.ScriptKind.{ScriptKind}
 use Rattle.outside_kit.specs.Calls.{Made}
 use Rattle.outside_kit.specs.Outside.{HasRisen}
 use Rattle.run_outside.specs.declared.input.Input.{Input}
-use Rattle.connection_list.specs.Lists.{Names, list_reading}
-use Rattle.connection_list.specs.Words.{NamedList}
-use Rattle.listed_inputs.specs.declared.many.Many.{Many}
-use Rattle.listed_inputs.specs.declared.many.Many.TheVariants.{Done, Usage, Load, TooLong, List as Listing, Script, SameToken, Put, Memory}
-use Rattle.listed_inputs.specs.Inputs.{Contents, IsInput, IsLong}
-use Rattle.listed_inputs.specs.Scripts.{listed_reading}
+use Rattle.connection_table.specs.Lists.{Names, list_reading}
+use Rattle.connection_table.specs.ListWords.{NamedList}
+use Rattle.connection_table.specs.declared.many.Many.{Many}
+use Rattle.connection_table.specs.declared.many.Many.TheVariants.{Done, Usage, Load, TooLong, List as Listing, Script, SameToken, Put, Memory}
+use Rattle.connection_table.specs.Inputs.{Contents, IsInput, IsLong}
+use Rattle.connection_table.specs.Scripts.{listed_reading}
 use Rattle.connection_table.specs.ManyEnds.{AreApart, AreInputs, AreValidInputs, AtFault, IsEnd, IsListedFault, IsOfListed, IsValid, IsValidInput, Says}
 use Rattle.connection_table.specs.Tables.{Entry, holder_of, key_token, opened_entry}
 

@@ -13,14 +13,14 @@ use Rattle.run_outside.specs.Plan.{AddsAll}
 use Rattle.world_laws.specs.declared.outcome.Outcome.TheVariants.{Delivered}
 use Rattle.world_laws.specs.Outcomes.{outcome_of, output_of}
 use Rattle.stream_lanes.specs.Words.{Every}
-use Rattle.connection_list.specs.Words.{NamedList}
-use Rattle.connection_list.specs.Lists.{Names, list_reading}
-use Rattle.listed_inputs.specs.declared.many.Many.{Many}
-use Rattle.listed_inputs.specs.declared.many.Many.TheVariants as ends
-use Rattle.listed_inputs.specs.Causes.{IsInputFault}
-use Rattle.listed_inputs.specs.Inputs.{Contents, IsInput, IsShort}
-use Rattle.listed_inputs.specs.Loads.{AddsCut, AddsToFailed, ListAdds, joined, loads_by_line}
-use Rattle.listed_inputs.specs.Scripts.{LeavesPayload, listed_reading}
+use Rattle.connection_table.specs.ListWords.{NamedList}
+use Rattle.connection_table.specs.Lists.{Names, list_reading}
+use Rattle.connection_table.specs.declared.many.Many.{Many}
+use Rattle.connection_table.specs.declared.many.Many.TheVariants as ends
+use Rattle.connection_table.specs.Causes.{IsInputFault}
+use Rattle.connection_table.specs.Inputs.{Contents, IsInput, IsShort}
+use Rattle.connection_table.specs.Loads.{AddsCut, AddsToFailed, ListAdds, joined, loads_by_line}
+use Rattle.connection_table.specs.Scripts.{LeavesPayload, listed_reading}
 use Rattle.connection_table.specs.ManyLines.{connection_line, lines_from}
 use Rattle.connection_table.specs.ManyRounds.{IsSerialEnd}
 use Rattle.connection_table.specs.Tables.{Connection, Entry, first_of, holder_of, key_token, opened_entry}

@@ -7,8 +7,8 @@ use Rattle.path_core.specs.State.{PathState}
 use Rattle.world_core.specs.Looking.{arriving_at, listens_at, path_at}
 use Rattle.world_laws.specs.Actors.{ActorCrew}
 use Rattle.join_handshake.specs.declared.hearing.JoinSyn.{JoinSyn}
-use Rattle.join_route.specs.Routing.{join_token}
-use Rattle.join_tokens.specs.FoundJoins.{IsHeardAsJoin}
+use Rattle.connection_table.specs.Routing.{join_token}
+use Rattle.connection_table.specs.FoundJoins.{IsHeardAsJoin}
 use Rattle.connection_table.specs.declared.route.Route.{Route}
 use Rattle.connection_table.specs.declared.route.Route.TheVariants.{To, Unknown, NotJoin}
 use Rattle.connection_table.specs.Tables.{Entry, IsShortEntry, IsTable, Stands, StandsAlone, entry_at, holder_of}

@@ -3,21 +3,22 @@
 ghost use Rattle.std.specs.Prelude.{◌≡◌, ◌≢◌, ◌⊎◌, ◌<◌, ◌≤◌, ◌++◌, ◌∷◌, ◌↔◌, ℕ, List, [], None, length, map, string_bytes, IfErr, IfSome, OnErr, OnOk};
 ghost use Rattle.outside_kit.specs.declared.port.Port.{Port};
 ghost use Rattle.outside_kit.specs.Outside.{HasRisen, HoldsAfter, HoldsPrefix};
-ghost use Rattle.connection_list.specs.Words.{as_words, words_in};
+ghost use Rattle.connection_table.specs.ListWords.{as_words, words_in};
 ghost use Rattle.run_outside.specs.Ports.{IsUntouched};
-ghost use Rattle.listed_inputs.specs.Causes.{OnlyLoads};
-ghost use Rattle.listed_inputs.specs.Loads.{ListAdds};
+ghost use Rattle.connection_table.specs.Causes.{OnlyLoads};
+ghost use Rattle.connection_table.specs.Loads.{ListAdds};
 ghost use Rattle.outside_kit.specs.Calls as call;
 ghost use Rattle.run_outside.specs.Plan.{AddsAll};
 ghost use Rattle.connection_table.specs.ManyEnds.{IsEnd, IsLoadingFault, IsPutFault, IsTableOf, IsValid, PutAdds, puts_from};
 ghost use Rattle.connection_table.specs.ManyLines.{line_at, lines_of, state_of};
 
+use crate::inputs::{connections_of, load};
 use crate::lines::line;
+use crate::list_words::{ListWords, read_list_words};
 use crate::loading::admit_all;
+use crate::many::Many;
 use crate::rounds::make_rounds;
 use crate::table::ConnectionTable;
-use connection_list::{ListWords, read_list_words};
-use listed_inputs::{Many, connections_of, load};
 use outside_kit::{Outside, Port, PutFault};
 use std::alloc::Global;
 

@@ -2,17 +2,18 @@
 
 ghost use Rattle.std.specs.Prelude.{◌≡◌, ◌<◌, ◌≤◌, ◌++◌, ◌∷◌, ℕ, List, [], None, IfErr, OnOk, length, map};
 ghost use Rattle.link_script.specs.Scripts.{HasRanges};
-ghost use Rattle.connection_list.specs.Lists.{as_names};
-ghost use Rattle.listed_inputs.specs.Causes.{OnlyLoads};
-ghost use Rattle.listed_inputs.specs.Loads.{LinesAdd, joined, loads_of};
+ghost use Rattle.connection_table.specs.Lists.{as_names};
+ghost use Rattle.connection_table.specs.Causes.{OnlyLoads};
+ghost use Rattle.connection_table.specs.Loads.{LinesAdd, joined, loads_of};
 ghost use Rattle.run_outside.specs.Plan.{AddsAll};
 ghost use Rattle.connection_table.specs.ManyEnds.{AreAdmitted, IsAdmitFault, IsListedFault};
 ghost use Rattle.connection_table.specs.Tables.{holder_of, key_token, opened_entry};
 
 use crate::admitting::AdmitFault;
+use crate::inputs::load_input;
+use crate::list::Listed;
+use crate::many::Many;
 use crate::table::ConnectionTable;
-use connection_list::Listed;
-use listed_inputs::{Many, load_input};
 use outside_kit::Outside;
 use run_outside::Input;
 use std::alloc::Global;

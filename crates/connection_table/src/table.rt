@@ -2,15 +2,15 @@
 
 ghost use Rattle.std.specs.Prelude.{◌≡◌, ◌<◌, ◌≤◌, ◌++◌, ◌∷◌, [], ◌↔◌, ◌==◌, Err, None, Some, length, position, IfOk, IsSomeAnd, OnOk, OnErr};
 ghost use Rattle.link_script.specs.Scripts.{HasRanges};
-ghost use Rattle.join_route.specs.Routing.{join_token};
+ghost use Rattle.connection_table.specs.Routing.{join_token};
 ghost use Rattle.connection_table.specs.Routes.{route_by};
 ghost use Rattle.connection_table.specs.Tables.{Entry, StandsAlone, entry_at, holder_of, key_token, opened_entry};
 
 use crate::admitting::AdmitFault;
+use crate::list::MOST_CONNECTIONS;
 use crate::route::Route;
+use crate::routing::join_token;
 use crate::slot::{Slot, token_of};
-use connection_list::MOST_CONNECTIONS;
-use join_route::join_token;
 use run_log::Turn;
 use run_outside::Input;
 use segment_wire::Addresses;

@@ -3,9 +3,9 @@ use Rattle.std.proofs.lemmas.Result.{err_from_is_err_and}
 use Rattle.run_outside.proofs.PortsLemmas.{IfErr-map, OnOk-both}
 use Rattle.run_outside.proofs.Calls.{all_then}
 use Rattle.outside_kit.specs.Calls as call
-use Rattle.listed_inputs.specs.Loads.{joined, loads_of}
-use Rattle.connection_list.specs.Lists.{as_names, list_reading}
-use Rattle.connection_list.specs.Words.{as_words}
+use Rattle.connection_table.specs.Loads.{joined, loads_of}
+use Rattle.connection_table.specs.Lists.{as_names, list_reading}
+use Rattle.connection_table.specs.ListWords.{as_words}
 use Rattle.connection_table.proofs.Admitted.{admitted_of_same, listed_of_same}
 use Rattle.connection_table.specs.ManyEnds.{Says}
 use Rattle.connection_table.proofs.LoadsMade.{list_refused, list_unloaded, listed_ends}

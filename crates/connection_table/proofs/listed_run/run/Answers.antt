@@ -4,7 +4,7 @@ use Rattle.std.proofs.lemmas.Result.{err_from_is_err_and}
 use Rattle.outside_kit.specs.declared.port.Port.{Port}
 use Rattle.outside_kit.specs.Outside.{HoldsPrefix}
 use Rattle.run_outside.proofs.PortsLemmas.{IfErr-three, OnOk-both, after_from}
-use Rattle.connection_list.specs.Words.{as_words}
+use Rattle.connection_table.specs.ListWords.{as_words}
 use Rattle.connection_table.specs.ManyEnds.{IsPutFault}
 use Rattle.connection_table.specs.ManyLines.{lines_of}
 use Rattle.connection_table.specs.ManyRounds.{Runs}

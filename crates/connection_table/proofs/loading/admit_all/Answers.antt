@@ -1,9 +1,9 @@
 use Rattle.std.proofs.Common.{◌≤◌, ◌∙◌, List, [], ap, length, map, refl, subst, sym, arith}
 use Rattle.std.proofs.lemmas.List.{take_all}
 use Rattle.run_outside.specs.Plan.{AddsAll}
-use Rattle.connection_list.specs.Lists.{as_names}
-use Rattle.connection_list.specs.declared.list.Listed.{Listed}
-use Rattle.listed_inputs.specs.Loads.{joined, loads_of}
+use Rattle.connection_table.specs.Lists.{as_names}
+use Rattle.connection_table.specs.declared.list.Listed.{Listed}
+use Rattle.connection_table.specs.Loads.{joined, loads_of}
 use Rattle.std.proofs.lemmas.Result.{err_from_is_err_and}
 use Rattle.run_outside.proofs.Calls.{adds_none}
 use Rattle.connection_table.specs.ManyEnds.{AreAdmitted}

@@ -1,8 +1,8 @@
 use Rattle.std.proofs.Common.{◌≡◌, ℕ, List, length, map, take}
-use Rattle.connection_list.specs.Lists.{as_names}
+use Rattle.connection_table.specs.Lists.{as_names}
 use Rattle.run_outside.specs.Plan.{AddsAll}
-use Rattle.listed_inputs.specs.Causes.{OnlyLoads}
-use Rattle.listed_inputs.specs.Loads.{joined, loads_of}
+use Rattle.connection_table.specs.Causes.{OnlyLoads}
+use Rattle.connection_table.specs.Loads.{joined, loads_of}
 use Rattle.connection_table.specs.ManyEnds.{AreAdmitted}
 use Rattle.connection_table.proofs.loading.admit_all.Given as goal
 

@@ -1,5 +1,0 @@
-use Rattle.join_route.proofs.Found as found
-use Rattle.join_route.proofs.laws.written_joins_are_found.Goals as goal
-
-pub returns : goal.returns
-returns c = found.written_joins_are_found

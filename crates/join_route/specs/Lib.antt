@@ -1,3 +1,0 @@
-pub mod Routing
-pub mod Tokens
-pub mod Laws

@@ -1,5 +1,0 @@
-mod TokensShown
-mod PathsNamed
-pub mod JoinsAsked
-mod ArrivalsLent
-pub mod JoinsFound

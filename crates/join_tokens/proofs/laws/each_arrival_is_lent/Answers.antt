@@ -1,5 +1,0 @@
-use Rattle.join_tokens.proofs.ArrivalsLent.{each_arrival_is_lent}
-use Rattle.join_tokens.proofs.laws.each_arrival_is_lent.Goals as goal
-
-pub returns : goal.returns
-returns c = each_arrival_is_lent

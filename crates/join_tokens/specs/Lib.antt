@@ -1,3 +1,0 @@
-pub mod JoinTokens
-pub mod Arrivals
-pub mod FoundJoins

@@ -1,3 +1,0 @@
-mod AlterLines
-mod Unaltered
-pub mod Adding

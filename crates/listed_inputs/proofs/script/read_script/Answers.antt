@@ -1,6 +1,0 @@
-use Rattle.std.proofs.Common.{sym, ◌∙◌}
-use Rattle.listed_inputs.proofs.Unaltered.{none_leaves}
-use Rattle.listed_inputs.proofs.script.read_script.Goals as goal
-
-pub returns-in-None-clause-leaves : goal.returns-in-None-clause-leaves
-returns-in-None-clause-leaves c = none_leaves c.args.text.now c.in-Ok-parse.script (sym c.in-Ok.ensures ∙ c.in-None.is) c.in-Ok-parse.ensures.exact
