@@ -1,7 +1,6 @@
 -- A capture of blocks in two parts, and put block by block.
-use Rattle.std.proofs.Common.{◌≡◌, ℕ, suc, ◌+◌, ◌-◌, ◌<◌, refl, sym, ◌∙◌, List, [], ◌∷◌, ◌++◌, drop, length, get_or, subst, arith}
+use Rattle.std.proofs.Common.{◌≡◌, ℕ, suc, ◌+◌, ◌-◌, ◌<◌, refl, sym, ◌∙◌, List, [], ◌∷◌, ◌++◌, drop, length, get_or, subst, arith, ap, map, codes}
 use mathlib.Core.List.{append_assoc}
-use Rattle.std.proofs.Common.{ap, map, codes}
 use Rattle.std.proofs.lemmas.List.{at_drop_more}
 use Rattle.std.specs.Fmt.{decimal}
 use Rattle.std.specs.List.{flat_map}

@@ -4,7 +4,7 @@ use Rattle.std.specs.Fmt.{decimal}
 use Rattle.link_model.specs.declared.fate.Fate.{Fate}
 use Rattle.link_model.specs.declared.fate.Fate.TheVariants.{OnTime, Lost, Late, Twice}
 use Rattle.link_model.specs.declared.fate.SegmentFate.{SegmentFate}
-use Rattle.segment_words.specs.Multipath.{word_if}
+use Rattle.link_trace.specs.Multipath.{word_if}
 
 abbrev pub is_on_time : Fate → Bool
 is_on_time OnTime = true

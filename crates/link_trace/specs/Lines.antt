@@ -6,8 +6,8 @@ use Rattle.sides.specs.declared.side.Side.{Side}
 use Rattle.sides.specs.declared.side.Side.TheVariants.{A, B}
 use Rattle.sides.specs.Side.{peer}
 use Rattle.link_model.specs.declared.fate.SegmentFate.{SegmentFate}
-use Rattle.segment_words.specs.declared.segment.Initials.{Initials}
-use Rattle.segment_words.specs.Segments.{words_of}
+use Rattle.link_trace.specs.declared.segment.Initials.{Initials}
+use Rattle.link_trace.specs.Segments.{words_of}
 use Rattle.link_trace.specs.declared.sent.Sent.{Sent}
 use Rattle.link_trace.specs.Fates.{is_plain, fate_words}
 use Rattle.link_trace.specs.Meanings.{meaning_in, initial_of}

@@ -3,8 +3,8 @@
 ghost use Rattle.std.specs.Prelude.{◌≡◌, ◌++◌, OnOk, string_bytes};
 ghost use Rattle.link_trace.specs.Fates.{arrival_words, fate_words, is_lost, is_on_time, is_plain};
 
+use crate::multipath::word_if;
 use link_model::{Fate, SegmentFate};
-use segment_words::word_if;
 use std::alloc::AllocError;
 
 fn is_on_time(arrival: Fate) -> bool

@@ -1,5 +1,9 @@
 //! What was sent on the links of a run, and four views of it: a line for each segment, a capture, a table by path and direction, a
 //! picture.
+//!
+//! A line has the segment in the words of tcpdump: its flags, its numbers, its window, its options by name, the length of its payload.
+//! Numbers of sequence are relative to those of the SYNs, as far as these are known. Options of Multipath TCP are those of
+//! RFC 8684, section 3, in the words of tcpdump's `print-mptcp.c`.
 #![tactic(auto)]
 
 mod carried;
@@ -8,9 +12,12 @@ mod fate;
 mod laws;
 mod marks;
 mod meanings;
+mod multipath;
+mod options;
 mod packets;
 mod places;
 mod rows;
+mod segment;
 mod sent;
 mod shifts;
 mod strokes;

@@ -3,14 +3,14 @@
 ghost use Rattle.std.specs.Prelude.{◌≡◌, ◌++◌, IfOk, OnOk, string_bytes};
 ghost use Rattle.link_trace.specs.Lines.{initials_of, line_of, lines_of, note_words, place_words, way_word};
 ghost use Rattle.link_trace.specs.Meanings.{meaning_in};
-ghost use Rattle.segment_words.specs.Segments.{words_of};
+ghost use Rattle.link_trace.specs.Segments.{words_of};
 
 use crate::fate::{is_plain, put_fate};
 use crate::meanings::initial_of;
+use crate::segment::{Initials, words};
 use crate::sent::Sent;
 use link_model::SegmentFate;
 use segment_wire::addresses_from;
-use segment_words::{Initials, words};
 use sides::Side;
 use std::alloc::{AllocError, Global};
 

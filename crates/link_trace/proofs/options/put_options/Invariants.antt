@@ -2,8 +2,8 @@ use Rattle.std.proofs.Common.{◌≡◌, ◌++◌, string_bytes, true}
 use Rattle.segment_wire.specs.OptionFront.{options_left, octets_alone}
 use Rattle.segment_wire.specs.Options.{option_octets}
 use Rattle.segment_wire.specs.Reading.{segment_of}
-use Rattle.segment_words.specs.Options.{list_words}
-use Rattle.segment_words.proofs.options.put_options.Given as goal
+use Rattle.link_trace.specs.Options.{list_words}
+use Rattle.link_trace.proofs.options.put_options.Given as goal
 
 abbrev pub invariant-loop-option : goal.invariant-loop-option
 invariant-loop-option l =

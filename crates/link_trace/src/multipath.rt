@@ -2,14 +2,14 @@
 
 ghost use Rattle.std.specs.Prelude.{◌≡◌, ◌++◌, OnOk, string_bytes};
 ghost use Rattle.mptcp_options.specs.Value.{value_of};
-ghost use Rattle.segment_words.specs.Multipath.{ack_words, address_words, announced_words, capable_words, dss_words, fast_close_words, hmac_words, ids_words, join_words, key_told, key_words, mapping_words, number_words, optional_checksum, port_words, removed_words, third_words, v4_words, v6_words, value_words, word_if};
+ghost use Rattle.link_trace.specs.Multipath.{ack_words, address_words, announced_words, capable_words, dss_words, fast_close_words, hmac_words, ids_words, join_words, key_told, key_words, mapping_words, number_words, optional_checksum, port_words, removed_words, third_words, v4_words, v6_words, value_words, word_if};
 
 use key_material::Address;
 use mptcp_options::{CapableKeys, DataNumber, DssMap, JoinForm, MpOption};
 use std::alloc::{AllocError, Global};
 
 /// A word where the flag is set, else none.
-pub fn word_if(flag: bool, word: &'static str) -> &'static str
+pub(crate) fn word_if(flag: bool, word: &'static str) -> &'static str
     ensures { result.now ≡ word_if flag word.now }
 {
     if flag { word } else { "" }
@@ -223,7 +223,7 @@ fn put_fast_close(text: &mut String, key: u64) -> Result<(), AllocError>
 }
 
 /// An option of Multipath TCP.
-pub fn put_multipath(
+pub(crate) fn put_multipath(
     alloc: Global,
     text: &mut String,
     option: &MpOption<'_>,

@@ -2,7 +2,7 @@
 
 ghost use Rattle.std.specs.Prelude.{◌≡◌, ◌++◌, [], if◌then◌else◌, IfOk, OnOk, string_bytes};
 ghost use Rattle.segment_wire.specs.Reading.{segment_of, segment_meaning};
-ghost use Rattle.segment_words.specs.Segments.{ack_words, flag_words, is_numbered, relative, segment_words, seq_words, words_of};
+ghost use Rattle.link_trace.specs.Segments.{ack_words, flag_words, is_numbered, relative, segment_words, seq_words, words_of};
 
 use crate::options::put_options;
 use segment_wire::{Addresses, Head, SegmentRef, parse};
@@ -10,7 +10,7 @@ use std::alloc::{AllocError, Global};
 
 /// The numbers of the SYNs of both directions, as far as they are known: of the direction of the segment, and of the other one.
 #[derive(Clone, Copy)]
-pub struct Initials {
+pub(crate) struct Initials {
     pub own: Option<u32>,
     pub peer: Option<u32>,
 }
@@ -101,7 +101,7 @@ fn put_segment(
 }
 
 /// The words of octets that went between these addresses, without an end of line; `malformed` where they are no segment.
-pub fn words(
+pub(crate) fn words(
     alloc: Global,
     octets: &[u8],
     addresses: &Addresses,

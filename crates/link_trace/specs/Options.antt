@@ -4,7 +4,7 @@ use Rattle.std.specs.Fmt.{decimal}
 use Rattle.mptcp_options.specs.Meaning.{option_meaning}
 use Rattle.mptcp_options.specs.Value as wire
 use Rattle.segment_wire.specs.Options.{mss_of, window_scale_of}
-use Rattle.segment_words.specs.Multipath.{value_words}
+use Rattle.link_trace.specs.Multipath.{value_words}
 
 -- of an option of another kind
 abbrev pub kind_words : List ℕ → List ℕ

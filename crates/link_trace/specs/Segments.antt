@@ -5,9 +5,9 @@ use Rattle.segment_wire.specs.declared.head.Head.{Head}
 use Rattle.segment_wire.specs.declared.reading.SegmentFault.{SegmentFault}
 use Rattle.segment_wire.specs.Options.{option_octets}
 use Rattle.segment_wire.specs.Segment.{Segment}
-use Rattle.segment_words.specs.declared.segment.Initials.{Initials}
-use Rattle.segment_words.specs.Multipath.{word_if}
-use Rattle.segment_words.specs.Options.{list_words}
+use Rattle.link_trace.specs.declared.segment.Initials.{Initials}
+use Rattle.link_trace.specs.Multipath.{word_if}
+use Rattle.link_trace.specs.Options.{list_words}
 
 -- a number of 32 bits relative to the initial one, or as it stands where that isn't known
 abbrev pub relative : ℕ → Option ℕ → ℕ

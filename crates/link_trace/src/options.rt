@@ -3,7 +3,7 @@
 ghost use Rattle.std.specs.Prelude.{◌≡◌, ◌++◌, true, OnOk, string_bytes};
 ghost use Rattle.segment_wire.specs.Options.{option_octets};
 ghost use Rattle.segment_wire.specs.Reading.{segment_of};
-ghost use Rattle.segment_words.specs.Options.{kind_words, list_words, option_words, multipath_words, before_words};
+ghost use Rattle.link_trace.specs.Options.{kind_words, list_words, option_words, multipath_words, before_words};
 
 use crate::multipath::put_multipath;
 use mptcp_options::{Read, read};
@@ -71,7 +71,7 @@ fn put_before(text: &mut String, is_first: bool) -> Result<(), AllocError>
 }
 
 /// All options of a segment, or nothing where it has none.
-pub fn put_options(
+pub(crate) fn put_options(
     alloc: Global,
     text: &mut String,
     segment: &SegmentRef<'_>,

@@ -1,6 +1,6 @@
 use Rattle.std.proofs.Common.{◌≡◌, ◌++◌, string_bytes, drop}
-use Rattle.segment_words.specs.Multipath.{ids_words}
-use Rattle.segment_words.proofs.multipath.put_ids.Given as goal
+use Rattle.link_trace.specs.Multipath.{ids_words}
+use Rattle.link_trace.proofs.multipath.put_ids.Given as goal
 
 abbrev pub invariant-loop-id : goal.invariant-loop-id
 invariant-loop-id l =

@@ -1,3 +1,0 @@
-pub mod Multipath
-pub mod Options
-pub mod Segments
