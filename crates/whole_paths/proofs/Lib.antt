@@ -1,0 +1,4 @@
+pub mod Books
+pub mod Subflows
+pub mod Duties
+pub mod GoesOn

@@ -1,0 +1,2 @@
+pub mod AsFar
+pub mod EndSteps
