@@ -1,4 +1,5 @@
 pub mod Books
-pub mod Subflows
 pub mod Duties
 pub mod GoesOn
+pub mod Subflows
+pub mod Timing

@@ -1,2 +1,3 @@
 pub mod AsFar
 pub mod EndSteps
+pub mod Timers

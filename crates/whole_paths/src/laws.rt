@@ -1,7 +1,9 @@
 //! What is promised of each connection, whatever its paths lose.
 ghost use Rattle.path_core.specs.Octets.{octets};
 ghost use Rattle.path_core.specs.Values.{values};
+ghost use Rattle.world_laws.specs.Laws.{Always};
 ghost use Rattle.whole_paths.specs.AsFar.{NothingGoesBack};
+ghost use Rattle.whole_paths.specs.Timers.{TimersRunOut};
 
 /// A law: by whatever turns, lawful or not, nothing that an end, a side or an actor has reached goes back, whatever is lost, late,
 /// repeated or altered.
@@ -14,4 +16,13 @@ ghost use Rattle.whole_paths.specs.AsFar.{NothingGoesBack};
 pub fn nothing_goes_back()
     ensures octets { NothingGoesBack octets }
     ensures values { NothingGoesBack values }
+{}
+
+/// A law: no timer of a path ever waits for more than a minute (RFC 6298, section 2).
+///
+/// At every moment each timer that runs, at either end of each path, runs out 60,000 ticks after the path's tick at most; a timeout is
+/// never below 1,000 ticks, nor above 60,000; and the tick isn't past the end of the round.
+pub fn timers_run_out()
+    ensures octets { Always octets (λ start w. TimersRunOut w) }
+    ensures values { Always values (λ start w. TimersRunOut w) }
 {}
