@@ -1,5 +1,5 @@
 -- No timer waits for more than a minute, at any moment.
-use Rattle.std.proofs.Common.{◌≡◌, refl, sym, subst, ap, ◌∙◌, ℕ, ◌+◌, ◌*◌, ◌<◌, ◌≤◌, min, max, nat_lt, Bool, true, false, is_none, ◌||◌, if◌then◌else◌, Option, Some, None, IfSome, List, [], le_refl, arith}
+use Rattle.std.proofs.Common.{◌≡◌, refl, sym, subst, ap, ℕ, ◌+◌, ◌<◌, ◌≤◌, max, nat_lt, Bool, true, false, is_none, ◌||◌, if◌then◌else◌, Option, Some, None, IfSome, arith}
 use Rattle.std.proofs.lemmas.Bool.{ltb-true}
 use Rattle.std.proofs.lemmas.Option.{same_Some}
 use Rattle.std.specs.Option.{option_and_then}
@@ -9,7 +9,7 @@ use Rattle.path_segments.specs.Heard.{HeardSegment}
 use Rattle.link_model.specs.Steps.{arriving, after_delivery}
 use Rattle.rtt_timer.specs.Estimates.{IsWithinBounds}
 use Rattle.loss_recovery.specs.declared.timers.Timing.{Timing}
-use Rattle.loss_recovery.specs.Timers.{timer_settled, measured, sampled, stopped, heard}
+use Rattle.loss_recovery.specs.Timers.{timer_settled, measured, stopped, heard}
 use Rattle.subflow_send.specs.declared.record.AckKind.{AckKind}
 use Rattle.subflow_send.specs.declared.record.AckKind.TheVariants.{New, Duplicate, Old, Future}
 use Rattle.subflow_send.specs.Rules.{ack_kind, after_acknowledge, sample_of}
