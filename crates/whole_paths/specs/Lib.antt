@@ -1,0 +1,3 @@
+pub mod AsFar
+pub mod EndSteps
+pub mod Timers

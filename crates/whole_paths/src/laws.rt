@@ -1,0 +1,28 @@
+//! What is promised of each connection, whatever its paths lose.
+ghost use Rattle.path_core.specs.Octets.{octets};
+ghost use Rattle.path_core.specs.Values.{values};
+ghost use Rattle.world_laws.specs.Laws.{Always};
+ghost use Rattle.whole_paths.specs.AsFar.{NothingGoesBack};
+ghost use Rattle.whole_paths.specs.Timers.{TimersRunOut};
+
+/// A law: by whatever turns, lawful or not, nothing that an end, a side or an actor has reached goes back, whatever is lost, late,
+/// repeated or altered.
+///
+/// At both ends of a path that is SND.UNA, SND.NXT and RCV.NXT, the states that were passed, how much the heard Data ACKs
+/// acknowledge, that a DATA_FIN was sent, came or was acknowledged, and that a DSS may be sent (RFC 9293, section 3.3; RFC 8684, section
+/// 3.3). At each side it is what was written, received without a gap and read, each acknowledged byte, the edge of the window, and the
+/// ends of both streams. Each actor keeps the steps that it made, and so what a reader was told. A retransmission takes nothing of it
+/// away, nor do bytes that are given back, or the death of a path.
+pub fn nothing_goes_back()
+    ensures octets { NothingGoesBack octets }
+    ensures values { NothingGoesBack values }
+{}
+
+/// A law: no timer of a path ever waits for more than a minute (RFC 6298, section 2).
+///
+/// At every moment each timer that runs, at either end of each path, runs out 60,000 ticks after the path's tick at most; a timeout is
+/// never below 1,000 ticks, nor above 60,000; and the tick isn't past the end of the round.
+pub fn timers_run_out()
+    ensures octets { Always octets (λ start w. TimersRunOut w) }
+    ensures values { Always values (λ start w. TimersRunOut w) }
+{}

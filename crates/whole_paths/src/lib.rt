@@ -1,0 +1,9 @@
+//! What holds of a connection whose paths lose, delay and repeat segments.
+//!
+//! Definitions and laws alone, with no code. What was acknowledged, received, written, read and told never goes back
+//! (`nothing_goes_back`), and no timer waits for more than a minute (`timers_run_out`).
+#![tactic(auto)]
+
+mod laws;
+
+pub use laws::{nothing_goes_back, timers_run_out};
