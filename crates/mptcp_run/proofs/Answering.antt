@@ -9,7 +9,7 @@ use Rattle.outside_kit.specs.declared.port.Port.TheVariants as port
 use Rattle.outside_kit.specs.Calls.{Call}
 use Rattle.outside_kit.specs.Outside.{HoldsAfter}
 use Rattle.link_script.specs.declared.script.Script.{Script}
-use Rattle.run_words.specs.Lines.{Line, run, serial, replay, ◌>>=◌}
+use Rattle.run_words.specs.Lines.{Line, run, replay, ◌>>=◌}
 use Rattle.run_log.specs.declared.turn.Turn as log_turn
 use Rattle.run_outside.specs.declared.input.Input.{Input}
 use Rattle.stream_apps.specs.Starts.{fast_close_of}
@@ -33,6 +33,9 @@ use Rattle.run_outside.specs.Ports.{IsUntouched, IsPortsFault, HoldsMore, HoldsW
 use Rattle.mptcp_run.specs.Promised.{IsPlainTask, IsShortTask, EndsWithRound, IsAlwaysKept, HoldsPrefixOf, HoldsPrefixIfBound, NoneIsAltered, ReadersHaveAsMany, ReadersHaveFiles, ReadersHavePrefixes, ReadersHavePrefixesIfBound}
 use Rattle.mptcp_run.specs.Putting.{IsWhole, IsStopped}
 use Rattle.mptcp_run.specs.Replaying.{IsReplayFault}
+use Rattle.mptcp_run.specs.Schedules.{work_by}
+use Rattle.mptcp_run.specs.declared.schedule.Schedule.{Schedule}
+use Rattle.mptcp_run.specs.declared.schedule.Schedule.TheVariants.{Serial, Timed}
 use Rattle.link_script.specs.Reading.{reading}
 use Rattle.run_outside.specs.Reading.{script_in, script_of, log_reading}
 use Rattle.mptcp_run.specs.Task.{Task, Course, rounds, threads, told, task_from, turns_in, course_of, task_of}
@@ -81,14 +84,23 @@ threads_task content line most input is script file_a file_b =
     task_known (content line.names.script) (content line.names.file_a) (content line.names.file_b) (λ s. course_of content s line.work) input (threads most) script file_a file_b
     (subst (λ w. IfSome (course_of content input.script w) (λ x. x ≡ threads most)) (sym is) refl)
 
--- what a task of whole turns is
-pub serial_task : (content : List ℕ → Option (List ℕ)) (line : Line) (most : ℕ) (input : Input) → line.work ≡ serial most
+-- rounds by a schedule read no log
+pub unordered : (schedule : Schedule) (most : ℕ) → order_of (work_by schedule most) ≡ None
+unordered Serial most = refl
+unordered Timed most = refl
+
+-- what a task of them is
+pub scheduled_task : (content : List ℕ → Option (List ℕ)) (line : Line) (schedule : Schedule) (most : ℕ) (input : Input) → line.work ≡ work_by schedule most
     → IfSome (content line.names.script) (λ text. reading text ≡ Ok input.script)
     → IfSome (content line.names.file_a) (λ text. input.file_a ≡ text) → IfSome (content line.names.file_b) (λ text. input.file_b ≡ text)
-    → IfSome (task_of content line) (λ t. t ≡ task_from input (rounds most))
-serial_task content line most input is script file_a file_b =
-    task_known (content line.names.script) (content line.names.file_a) (content line.names.file_b) (λ s. course_of content s line.work) input (rounds most) script file_a file_b
-    (subst (λ w. IfSome (course_of content input.script w) (λ x. x ≡ rounds most)) (sym is) refl)
+    → IfSome (task_of content line) (λ t. t ≡ task_from input (rounds schedule most))
+scheduled_task content line schedule most input is script file_a file_b =
+    task_known (content line.names.script) (content line.names.file_a) (content line.names.file_b) (λ s. course_of content s line.work) input (rounds schedule most) script file_a file_b
+    (subst (λ w. IfSome (course_of content input.script w) (λ x. x ≡ rounds schedule most)) (sym is) (by schedule))
+  where
+    by : (schedule : Schedule) → IfSome (course_of content input.script (work_by schedule most)) (λ x. x ≡ rounds schedule most)
+    by Serial = refl
+    by Timed = refl
 
 told_course : (script : Script) (o : Option (List ℕ)) (turns : List log_turn.Turn) → IfSome o (λ text. log_reading script text ≡ Ok turns)
     → IfSome (option_and_then (turns_in script) o) (λ ts. ts ≡ all_turns turns)

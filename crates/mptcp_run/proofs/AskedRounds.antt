@@ -1,4 +1,4 @@
--- A serial run is asked for one round at least, and the number of a made input is at most 256.
+-- A run of rounds is asked for one round at least, and the number of a made input is at most 256.
 use Rattle.std.proofs.Common.{◌≡◌, refl, subst, ℕ, ◌≤◌, Bool, true, false, ◌&&◌, if◌then◌else◌, List, Option, Some, None, IfSome, arith}
 use Rattle.std.specs.Prelude.{nat_le, codes, option_map}
 use Rattle.std.specs.Str.{bytes_eq}
@@ -6,7 +6,7 @@ use Rattle.std.specs.Str.Parse.{digits_value}
 use Rattle.std.proofs.lemmas.Bool.{and_parts, leb-true}
 use Rattle.run_words.specs.Numbers.{is_numeral, number_within}
 use Rattle.run_words.specs.Parts.{Word, Part, parts_of, mode_option, rounds_option, order_option, number_option}
-use Rattle.run_words.specs.Lines.{at_most_once, values_of, names_of, names_in, Work, run, serial, replay, bench, Names, Line, ◌>>=◌, is_given, rounds_in, work_in, line_of_parts, line_of}
+use Rattle.run_words.specs.Lines.{at_most_once, values_of, names_of, names_in, Work, run, serial, timed, replay, bench, Names, Line, ◌>>=◌, is_given, rounds_in, work_in, line_of_parts, line_of}
 use Rattle.mptcp_run.specs.Asked.{AsksInRange}
 
 abbrev Asks : Line → Type 0
@@ -49,12 +49,15 @@ some_rounds (Some word) = within_least 1 65536 word
 
 -- ---- the work
 
-plain_asks : (b c : Bool) (o : Option ℕ) → IfSome o (λ n. 1 ≤ n) → IfSome (if b then option_map run o else (if c then option_map serial o else None)) AsksInRange
-plain_asks true c None h = tt
-plain_asks true c (Some n) h = h
-plain_asks false true None h = tt
-plain_asks false true (Some n) h = h
-plain_asks false false o h = tt
+plain_asks : (b c d : Bool) (o : Option ℕ) → IfSome o (λ n. 1 ≤ n)
+    → IfSome (if b then option_map run o else (if c then option_map serial o else (if d then option_map timed o else None))) AsksInRange
+plain_asks true c d None h = tt
+plain_asks true c d (Some n) h = h
+plain_asks false true d None h = tt
+plain_asks false true d (Some n) h = h
+plain_asks false false true None h = tt
+plain_asks false false true (Some n) h = h
+plain_asks false false false o h = tt
 
 replay_asks : (b : Bool) (log : Word) → IfSome (if b then Some (replay log) else None) AsksInRange
 replay_asks true log = tt
@@ -67,7 +70,8 @@ bench_asks true (Some n) (Some input) few = few
 bench_asks false most number few = tt
 
 work_asks : (word : Word) (rounds log number : Option Word) → IfSome (work_in word rounds log number) AsksInRange
-work_asks word rounds None None = plain_asks (bytes_eq word (codes "run")) (bytes_eq word (codes "serial")) (rounds_in rounds) (some_rounds rounds)
+work_asks word rounds None None =
+    plain_asks (bytes_eq word (codes "run")) (bytes_eq word (codes "serial")) (bytes_eq word (codes "timed")) (rounds_in rounds) (some_rounds rounds)
 work_asks word None (Some log) None = replay_asks (bytes_eq word (codes "replay") && is_given log) log
 work_asks word (Some most) (Some log) None = tt
 work_asks word rounds None (Some number) = bench_asks (bytes_eq word (codes "bench")) (rounds_in rounds) (number_within 1 256 number) (within_most 1 256 number)

@@ -11,7 +11,7 @@ use Rattle.clean_finish.specs.Bound.{enough}
 use Rattle.clean_finish.specs.Finish.{rounds_in}
 use Rattle.clean_finish.proofs.Finished.{clean_scripts_finish, clean_scripts_go_on}
 use Rattle.path_core.specs.Octets.{octets}
-use Rattle.run_words.specs.Lines.{Line, Work, run, serial, replay, bench}
+use Rattle.run_words.specs.Lines.{Line, Work, run, serial, timed, replay, bench}
 use Rattle.run_outside.specs.declared.status.Named.TheVariants as input
 use Rattle.run_outside.specs.declared.status.Status.{Status}
 use Rattle.run_outside.specs.declared.status.Status.TheVariants.{Delivered, Rounds, NoPath, Aborted, Usage, Script as BadScript, Load, Put, TooLong, Memory, Log}
@@ -19,7 +19,7 @@ use Rattle.run_outside.specs.Inputs.{AreWithinLimits, order_of}
 use Rattle.world_core.specs.RoundEnds.{round_ends, last_end}
 use Rattle.world_laws.specs.declared.outcome.Outcome.TheVariants as outcome
 use Rattle.world_laws.specs.Outcomes.{outcome_of}
-use Rattle.world_laws.specs.Serial.{goes_on, OneOf, spelled, after_round, AreRounds}
+use Rattle.world_laws.specs.Serial.{goes_on, OneOf}
 use Rattle.world_laws.specs.Worlds.{Turn, world_step, end_round, world_run}
 use Rattle.mptcp_run.specs.Answers.{IsAnswer, EndRow, HasRun}
 use Rattle.mptcp_run.specs.Clean.{AsksRounds, HasEnoughRounds, DeliversIfClean, CleanRunsDeliver}
@@ -28,10 +28,10 @@ use Rattle.mptcp_run.specs.Putting.{status_of, world_after}
 use Rattle.mptcp_run.specs.Task.{Connection, Task, Course, rounds, threads, told, first_world, course_of, task_of, AreTurnsOf}
 use Rattle.mptcp_run.specs.WovenRounds.{AreAtMost}
 use Rattle.mptcp_run.proofs.Complete.{valid_inputs_are_run}
-use Rattle.mptcp_run.proofs.Courses.{counts_ends}
 use Rattle.mptcp_run.proofs.LogWoven.{course_lawful}
 use Rattle.mptcp_run.proofs.PlainTasks.{task_is}
 use Rattle.mptcp_run.proofs.Promised.{last_end_of_course}
+use Rattle.mptcp_run.proofs.BySchedule.{few_by}
 use Rattle.run_outside.proofs.Calls.{Told}
 use Rattle.run_outside.specs.Ports.{Ports}
 
@@ -53,20 +53,6 @@ all_made (suc most) w (v ∷ ends) few on = by (goes_on (outcome_of v.crew)) ref
     by false e rest none = absurd (both_ways (goes_on (outcome_of v.crew)) e
         (subst (λ (es : List Connection). goes_on (outcome_of (last_end v es).crew) ≡ true) none on))
 
--- rounds of whole turns are at most so many
-serial_at_most : (most : ℕ) (counted : List (List ℕ)) (w : Connection) → AreRounds octets most counted w → AreAtMost most (round_ends (spelled counted) w)
-serial_at_most zero counted w are = ap (λ (cs : List (List ℕ)). round_ends (spelled cs) w) are
-serial_at_most (suc most) [] w are = absurd are
-serial_at_most (suc most) (counts ∷ counted) w are =
-    subst (λ (es : List Connection). AreAtMost (suc most) es) (sym (counts_ends 0 counts (spelled counted) w))
-    (by (goes_on (outcome_of (after_round octets counts w).crew)) (λ more. serial_at_most most counted (after_round octets counts w) more) are.1)
-  where
-    by : (b : Bool) → (AreRounds octets most counted (after_round octets counts w) → AreAtMost most (round_ends (spelled counted) (after_round octets counts w)))
-        → OneOf b (AreRounds octets most counted (after_round octets counts w)) (counted ≡ [])
-        → OneOf b (AreAtMost most (round_ends (spelled counted) (after_round octets counts w))) (round_ends (spelled counted) (after_round octets counts w) ≡ [])
-    by true rest more = rest more
-    by false rest none = ap (λ (cs : List (List ℕ)). round_ends (spelled cs) (after_round octets counts w)) none
-
 at_most_made : (least most : ℕ) (turns : List Turn) (w : Connection) → least ≤ most → AreAtMost most (round_ends turns w)
     → goes_on (outcome_of (last_end w (round_ends turns w)).crew) ≡ true → least ≤ rounds_in turns
 at_most_made least most turns w less few on =
@@ -77,10 +63,9 @@ at_most_made least most turns w less few on =
 -- a run that goes on has made all rounds that it might
 asked_made : (course : Course) (least : ℕ) (turns : List Turn) (w : Connection) → AsksRounds least course → AreTurnsOf course turns w
     → goes_on (outcome_of (world_run octets turns w).crew) ≡ true → least ≤ rounds_in turns
-asked_made (rounds most) least turns w asks are on =
-    at_most_made least most turns w asks
-    (subst (λ (ts : List Turn). AreAtMost most (round_ends ts w)) (sym are.2) (serial_at_most most are.0 w are.1))
-    (ap (λ (v : Connection). goes_on (outcome_of v.crew)) (last_end_of_course (rounds most) turns w tt are) ∙ on)
+asked_made (rounds schedule most) least turns w asks are on =
+    at_most_made least most turns w asks (few_by schedule most turns w are)
+    (ap (λ (v : Connection). goes_on (outcome_of v.crew)) (last_end_of_course (rounds schedule most) turns w tt are) ∙ on)
 asked_made (threads most) least turns w asks are on =
     at_most_made least most turns w asks are.few
     (ap (λ (v : Connection). goes_on (outcome_of v.crew)) (last_end_of_course (threads most) turns w tt are) ∙ on)
@@ -102,6 +87,7 @@ log_is_told (Some order) x e least asks = subst (λ (c : Course). AsksRounds lea
 logged_course : (content : List ℕ → Option (List ℕ)) (script : Script) (work : Work) (x : Course) → course_of content script work ≡ Some x → IsSome (order_of work)
     → (least : ℕ) → AsksRounds least x → ⊥
 logged_course content script (serial most) x e some = let no : IsSome {T = List ℕ} None = some in cc (no)
+logged_course content script (timed most) x e some = let no : IsSome {T = List ℕ} None = some in cc (no)
 logged_course content script (run most) x e some = let no : IsSome {T = List ℕ} None = some in cc (no)
 logged_course content script (bench most number) x e some = let no : IsSome {T = List ℕ} None = some in cc (no)
 logged_course content script (replay log) x e some = log_is_told _ x e

@@ -10,6 +10,9 @@ use Rattle.run_outside.specs.declared.status.Status.{Status}
 use Rattle.run_outside.specs.declared.status.Status.TheVariants.{Put, Memory, Log}
 use Rattle.mptcp_run.specs.Courses.{CourseMade, CourseCut, LogStops}
 use Rattle.mptcp_run.specs.Putting.{AreFirstOf}
+use Rattle.mptcp_run.specs.Schedules.{AreRoundsBy}
+use Rattle.mptcp_run.specs.declared.schedule.Schedule.{Schedule}
+use Rattle.mptcp_run.specs.declared.schedule.Schedule.TheVariants.{Serial, Timed}
 use Rattle.mptcp_run.specs.Task.{Connection}
 use Rattle.mptcp_run.specs.Task as course
 use Rattle.mptcp_run.specs.WovenRounds.{AreWovenRounds}
@@ -79,25 +82,26 @@ serial_kind = record {
 
 module _ (opening : Option (List ℕ)) (most : ℕ) (w : Connection) (ha hb : Ports) (a b : Told) where
   -- all rounds, and how many they are
-  pub serial_made : (count : ℕ) (v : Connection) → RoundsPut (λ n ts x. IsSerial octets n ts x) opening most 0 count w v ha hb a b
-      → (made : CourseMade (course.rounds most) opening w v ha hb a b) × (count ≡ length (round_ends made.turns w))
-  serial_made count v p = (record { turns = p.turns; are = p.are; world = p.world; ports = p.ports; calls = p.calls }, let many = p.count_is in omega (arith, many))
+  pub scheduled_made : (schedule : Schedule) (count : ℕ) (v : Connection) → RoundsPut (λ n ts x. AreRoundsBy schedule n ts x) opening most 0 count w v ha hb a b
+      → (made : CourseMade (course.rounds schedule most) opening w v ha hb a b) × (count ≡ length (round_ends made.turns w))
+  scheduled_made schedule count v p = (record { turns = p.turns; are = p.are; world = p.world; ports = p.ports; calls = p.calls }, let many = p.count_is in omega (arith, many))
 
   pub woven_made : (count : ℕ) (v : Connection) → RoundsPut AreWovenRounds opening most 0 count w v ha hb a b
       → (made : CourseMade (course.threads most) opening w v ha hb a b) × (count ≡ length (round_ends made.turns w))
   woven_made count v p = (record { turns = p.turns; are = p.are; world = p.world; ports = p.ports; calls = p.calls }, let many = p.count_is in omega (arith, many))
 
   -- some of them
-  pub serial_cut : (status : Status) → RoundsCut (λ n ts x. IsSerial octets n ts x) opening most 0 w ha hb a b status
-      → CourseCut (course.rounds most) opening w ha hb a b status
-  serial_cut status p = record { turns = p.turns; more = p.more; are = p.are; one = p.one; ports = p.ports; calls = p.calls }
+  pub scheduled_cut : (schedule : Schedule) (status : Status) → RoundsCut (λ n ts x. AreRoundsBy schedule n ts x) opening most 0 w ha hb a b status
+      → CourseCut (course.rounds schedule most) opening w ha hb a b status
+  scheduled_cut schedule status p = record { turns = p.turns; more = p.more; are = p.are; one = p.one; ports = p.ports; calls = p.calls }
 
   pub woven_cut : (status : Status) → RoundsCut AreWovenRounds opening most 0 w ha hb a b status → CourseCut (course.threads most) opening w ha hb a b status
   woven_cut status p = record { turns = p.turns; more = p.more; are = p.are; one = p.one; ports = p.ports; calls = p.calls }
 
 -- no round yet
-pub no_round : (most : ℕ) (w : Connection) → AreFirstOf (course.rounds most) [] [] w
-no_round most w = (0, (omega arith, (([], refl, refl), inl refl)))
+pub no_round : (schedule : Schedule) (most : ℕ) (w : Connection) → AreFirstOf (course.rounds schedule most) [] [] w
+no_round Serial most w = (0, (omega arith, (([], refl, refl), inl refl)))
+no_round Timed most w = (0, (omega arith, (([], refl, refl), inl refl)))
 
 pub no_woven_round : (most : ℕ) (w : Connection) → AreFirstOf (course.threads most) [] [] w
 no_woven_round most w = (0, (omega arith, (record { lawful = tt; in_order = refl; few = refl }, inl refl)))

@@ -13,9 +13,11 @@ use Rattle.world_laws.proofs.Rounds.SerialIsLawful.{rounds_lawful}
 use Rattle.world_laws.proofs.Weaving.WholeRounds.{run_append, lawful_append, steps_weave}
 use Rattle.world_core.specs.RoundEnds.{round_ends, last_end, round_steps, steps_by_round}
 use Rattle.world_core.specs.Logged.{turn_of}
+use Rattle.world_core.proofs.TimedRounds.{timed_lawful}
 use Rattle.mptcp_run.specs.Rounds.{Begins}
 use Rattle.mptcp_run.specs.Task.{Connection, Course, rounds, threads, told, AreTurnsOf}
 use Rattle.mptcp_run.specs.WovenRounds.{turns_told}
+use Rattle.mptcp_run.specs.declared.schedule.Schedule.TheVariants.{Serial, Timed}
 use Rattle.mptcp_run.proofs.UnderWay.{lists_at_end, next_begins}
 
 -- ---- the turns that notes tell
@@ -98,6 +100,7 @@ told_to_the_end (notes ∷ more) w =
 
 -- all turns of a course are lawful
 pub course_lawful : (course : Course) (turns : List Turn) (w : Connection) → AreTurnsOf course turns w → AreLawful octets turns w
-course_lawful (rounds most) turns w (counted, are, is) = subst (λ ts. AreLawful octets ts w) (sym is) (rounds_lawful octets most counted w are)
+course_lawful (rounds Serial most) turns w (counted, are, is) = subst (λ ts. AreLawful octets ts w) (sym is) (rounds_lawful octets most counted w are)
+course_lawful (rounds Timed most) turns w (orders, are, is) = subst (λ ts. AreLawful octets ts w) (sym is) (timed_lawful octets most orders w are)
 course_lawful (threads most) turns w are = are.lawful
 course_lawful (told order) turns w are = are.1

@@ -11,7 +11,6 @@ use Rattle.link_script.specs.declared.script.PathLine.{PathLine}
 use Rattle.link_script.specs.declared.script.Script.{Script}
 use Rattle.world_laws.specs.Openings.{Start, PathPlan, plans_from, paths_from, opened_world, start_of}
 use Rattle.world_laws.specs.Outcomes.{outcome_of, output_of}
-use Rattle.world_laws.specs.Serial.{spelled, after_round, AreRounds}
 use Rattle.world_laws.specs.Worlds.{Turn, world_step, end_round}
 use Rattle.world_laws.proofs.Rounds.SerialIsOne.{serial_is_one}
 use Rattle.mptcp_run.specs.declared.report.Report.{Report}
@@ -21,16 +20,18 @@ use Rattle.mptcp_run.specs.Logged.{HasRounds, IsSettled, replayed, TellsTheRun, 
 use Rattle.mptcp_run.specs.Promised.{EndsWithRound}
 use Rattle.world_core.specs.RoundEnds.{round_ends, last_end, steps_by_round}
 use Rattle.world_core.specs.Logged.{told_outcome}
+use Rattle.world_core.proofs.TimedRounds.{timed_is_one}
 use Rattle.run_outside.specs.LogText.{log_text, RoundsFit}
 use Rattle.mptcp_run.specs.Putting.{log_opening, opening_in, status_of, last_line_of, last_line, steps_so_far, read_so_far, log_so_far, world_after, IsWhole}
 use Rattle.run_outside.specs.Reading.{actors_of, width_of}
 use Rattle.mptcp_run.specs.Task.{Connection, Task, Course, rounds, threads, told, first_world, turns_in, AreTurnsOf}
 use Rattle.mptcp_run.specs.WovenRounds.{turns_told, AreAtMost}
+use Rattle.mptcp_run.specs.declared.schedule.Schedule.TheVariants.{Serial, Timed}
 use Rattle.mptcp_run.proofs.LogAgain.{log_read, rounds_logged}
 use Rattle.mptcp_run.proofs.LogWoven.{AreWoven, turns_woven, told_to_the_end, course_lawful}
-use Rattle.mptcp_run.proofs.Courses.{counts_ends}
 use Rattle.run_outside.proofs.PortsLemmas.{whole_more, more_weaker}
 use Rattle.mptcp_run.proofs.Promised.{last_end_of_course}
+use Rattle.mptcp_run.proofs.BySchedule.{few_by}
 use Rattle.mptcp_run.proofs.UnderWay.{opened_begins}
 
 -- ---- at least one round has ended
@@ -45,22 +46,13 @@ at_round [] w = record { first = end_round w; more = []; is = refl }
 at_round (Turn.Step actor ∷ prefix) w = at_round prefix (world_step octets actor w)
 at_round (Turn.Round ∷ prefix) w = record { first = end_round w; more = round_ends (prefix ++ Turn.Round ∷ []) (end_round w); is = refl }
 
-serial_round : (most : ℕ) (counted : List (List ℕ)) (w : Connection) → 1 ≤ most → AreRounds octets most counted w → SomeEnded (round_ends (spelled counted) w)
-serial_round zero counted w some are = absurd (omega (arith, some))
-serial_round (suc most) [] w some are = absurd are
-serial_round (suc most) (counts ∷ counted) w some are = record {
-  first = after_round octets counts w;
-  more = round_ends (spelled counted) (after_round octets counts w);
-  is = counts_ends 0 counts (spelled counted) w;
-}
-
 woven_round : (most : ℕ) (ends : List Connection) → 1 ≤ most → AreAtMost most ends → SomeEnded ends
 woven_round zero ends some few = absurd (omega (arith, some))
 woven_round (suc most) [] some few = absurd few
 woven_round (suc most) (v ∷ ends) some few = record { first = v; more = ends; is = refl }
 
 course_round : (course : Course) (turns : List Turn) (w : Connection) → HasRounds course → AreTurnsOf course turns w → SomeEnded (round_ends turns w)
-course_round (rounds most) turns w has (counted, are, is) = subst (λ ts. SomeEnded (round_ends ts w)) (sym is) (serial_round most counted w has are)
+course_round (rounds schedule most) turns w has are = woven_round most (round_ends turns w) has (few_by schedule most turns w are)
 course_round (threads most) turns w has are = woven_round most (round_ends turns w) has are.few
 course_round (told order) turns w (prefix, order_is) are = subst (λ ts. SomeEnded (round_ends ts w)) (sym (are.0 ∙ order_is)) (at_round prefix w)
 
@@ -119,7 +111,7 @@ module _ (script : Script) (file_a file_b : List ℕ) (way : Course) (status : S
       ∙ last_end_of_course task.course whole.turns (first_world task) (ends task.course has) whole.are
     where
       ends : (course : Course) → HasRounds course → EndsWithRound course
-      ends (rounds most) has = tt
+      ends (rounds schedule most) has = tt
       ends (threads most) has = tt
       ends (told order) has = has
 
@@ -162,7 +154,8 @@ whole_runs_are_told task status old new kept few has whole =
 -- ---- runs of one task
 
 turns_are_one : (course : Course) (ts us : List Turn) (w : Connection) → IsSettled course → AreTurnsOf course ts w → AreTurnsOf course us w → ts ≡ us
-turns_are_one (rounds most) ts us w settled x y = serial_is_one octets most ts us w x y
+turns_are_one (rounds Serial most) ts us w settled x y = serial_is_one octets most ts us w x y
+turns_are_one (rounds Timed most) ts us w settled x y = timed_is_one octets most ts us w x y
 turns_are_one (threads most) ts us w settled x y = absurd settled
 turns_are_one (told order) ts us w settled x y = x.0 ∙ sym y.0
 

@@ -8,11 +8,12 @@ use Rattle.run_outside.specs.MadeInput.{made_file, made_script}
 use Rattle.mptcp_run.specs.Made.{made_task, Bench, bench_by, bench_of, bench_in}
 use Rattle.run_outside.specs.declared.input.Input.{Input}
 use Rattle.mptcp_run.specs.declared.report.Report.TheVariants.{Summary}
+use Rattle.mptcp_run.specs.declared.schedule.Schedule.TheVariants.{Serial}
 use Rattle.mptcp_run.specs.Task.{rounds, task_with}
 use Rattle.mptcp_run.specs.Asked.{AsksInRange}
 use Rattle.mptcp_run.specs.Promised.{IsPlainTask}
 use Rattle.mptcp_run.proofs.AskedRounds.{line_asks}
-use Rattle.run_words.specs.Lines.{Line, Work, run, serial, replay, bench, line_of}
+use Rattle.run_words.specs.Lines.{Line, Work, run, serial, timed, replay, bench, line_of}
 use Rattle.run_outside.proofs.Drawing.{octets_many, script_in_range}
 
 pub made_is_plain : (number most : ℕ) → number ≤ 256 → IsPlainTask (made_task number most)
@@ -34,6 +35,7 @@ module _ (P : Bench → Type 0) (p : (line : Line) (number most : ℕ) → numbe
   of_work (bench most number) line few = p line number most few
   of_work (run most) line few = tt
   of_work (serial most) line few = tt
+  of_work (timed most) line few = tt
   of_work (replay log) line few = tt
 
   of_line : (o : Option Line) → IfSome o (λ line. AsksInRange line.work) → IfSome (option_and_then bench_of o) P
@@ -46,5 +48,5 @@ module _ (P : Bench → Type 0) (p : (line : Line) (number most : ℕ) → numbe
 
 -- what was made is the task's
 pub made_with : (input : Input) (number most : ℕ) → input.script ≡ made_script number → input.file_a ≡ made_file number 1000 → input.file_b ≡ made_file number 1001
-    → task_with input (rounds most) (Summary number) ≡ made_task number most
+    → task_with input (rounds Serial most) (Summary number) ≡ made_task number most
 made_with input number most script file_a file_b = cc (script, file_a, file_b)

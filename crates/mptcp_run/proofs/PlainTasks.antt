@@ -6,7 +6,7 @@ use Rattle.world_core.specs.Logged.{turn_of}
 use Rattle.link_script.specs.declared.fault.ScriptFault.{ScriptFault}
 use Rattle.link_script.specs.declared.script.Script.{Script}
 use Rattle.link_script.proofs.ReadRanges.{read_has_ranges}
-use Rattle.run_words.specs.Lines.{Work, run, serial, replay, bench, ◌>>=◌}
+use Rattle.run_words.specs.Lines.{Work, run, serial, timed, replay, bench, ◌>>=◌}
 use Rattle.run_log.specs.declared.fault.LogFault.{LogFault}
 use Rattle.run_log.specs.declared.turn.Turn as logged_turn
 use Rattle.run_log.specs.declared.turn.Turn.TheVariants as logged
@@ -42,6 +42,7 @@ turns_of_content script (Some text) = turns_of_log script text (log_reading scri
 
 pub course_ends : (content : List ℕ → Option (List ℕ)) (script : Script) (work : Work) → IfSome (course_of content script work) EndsWithRound
 course_ends content script (serial most) = tt
+course_ends content script (timed most) = tt
 course_ends content script (replay log) = turns_of_content script (content log)
 course_ends content script (run most) = tt
 course_ends content script (bench most number) = tt

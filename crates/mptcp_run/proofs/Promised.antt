@@ -1,5 +1,5 @@
 -- The readers' ports hold prefixes of the files.
-use Rattle.std.proofs.Common.{◌≡◌, refl, sym, ◌∙◌, ap, subst, ℕ, zero, suc, ◌+◌, inl, inr, ◌⊎◌, Bool, true, false, ◌&&◌, List, [], ◌∷◌, ◌++◌, length, length-append, Option, Some, None, arith}
+use Rattle.std.proofs.Common.{◌≡◌, refl, sym, ◌∙◌, ap, subst, ℕ, ◌+◌, inl, inr, ◌⊎◌, Bool, true, false, ◌&&◌, List, [], ◌∷◌, ◌++◌, length, length-append, Option, Some, None, arith}
 use Rattle.std.specs.Prelude.{IsSomeAnd}
 use Rattle.std.proofs.lemmas.List.{append_assoc, append-nil}
 use Rattle.outside_kit.specs.Outside.{HoldsAfter}
@@ -9,7 +9,6 @@ use Rattle.path_core.specs.Octets.{octets}
 use Rattle.world_laws.specs.AbortCause.{PeerStopped}
 use Rattle.world_laws.specs.Openings.{start_of}
 use Rattle.world_laws.specs.Outcomes.{outcome_by, outcome_of, output_of, tells_abort, tells_end, was_told, notes_of}
-use Rattle.world_laws.specs.Serial.{steps_and, round_and, spelled}
 use Rattle.world_laws.specs.Worlds.{Turn, world_step, end_round, world_run}
 use Rattle.world_laws.specs.PlainScripts.{AltersNone}
 use Rattle.world_laws.proofs.Promises.OfScripts.{short_of, scripts_keep_anyway, checked_scripts_keep_octets, plain_scripts_keep_all_promises, scripts_are_shown_of_values}
@@ -23,6 +22,7 @@ use Rattle.mptcp_run.specs.Putting.{status_of, read_so_far, world_after}
 use Rattle.mptcp_run.specs.Promised.{IsPlainTask, IsShortTask, IsAbortCaused, EndsWithRound, HoldsAsMany, HoldsPrefixOf, HoldsPrefixIfBound, HoldsWhatIsRight, ShortTasksAreKept, WholeRunsGivePrefixes, WholeRunsHaveCause, DeliveredRunsGiveAsMany, CheckedRunsAreRight, DeliveredRunsGiveFiles, StoppedRunsGivePrefixes, CutRunsGivePrefixes, LinesCutGivePrefixes}
 use Rattle.mptcp_run.specs.Task.{Connection, Task, Course, rounds, threads, told, first_world, AreTurnsOf}
 use Rattle.mptcp_run.proofs.RoundsWoven.{woven_to_the_end}
+use Rattle.mptcp_run.proofs.BySchedule.{last_end_by}
 
 -- ---- prefixes
 
@@ -79,27 +79,9 @@ last_end_at_round [] w first = refl
 last_end_at_round (Turn.Step actor ∷ prefix) w first = last_end_at_round prefix (world_step octets actor w) first
 last_end_at_round (Turn.Round ∷ prefix) w first = last_end_at_round prefix (end_round w) (end_round w)
 
-last_end_of_steps : (actor n : ℕ) (rest : List Turn) (w first : Connection)
-    → ((v : Connection) → last_end first (round_ends rest v) ≡ world_run octets rest v)
-    → last_end first (round_ends (steps_and actor n rest) w) ≡ world_run octets (steps_and actor n rest) w
-last_end_of_steps actor zero rest w first behind = behind w
-last_end_of_steps actor (suc n) rest w first behind = last_end_of_steps actor n rest (world_step octets actor w) first behind
-
-last_end_of_round : (counts : List ℕ) (actor : ℕ) (rest : List Turn) (w first : Connection)
-    → ((v : Connection) → last_end v (round_ends rest v) ≡ world_run octets rest v)
-    → last_end first (round_ends (round_and actor counts rest) w) ≡ world_run octets (round_and actor counts rest) w
-last_end_of_round [] actor rest w first behind = behind (end_round w)
-last_end_of_round (n ∷ counts) actor rest w first behind =
-    last_end_of_steps actor n (round_and (suc actor) counts rest) w first (λ v. last_end_of_round counts (suc actor) rest v first behind)
-
-last_end_of_rounds : (counted : List (List ℕ)) (w : Connection) → last_end w (round_ends (spelled counted) w) ≡ world_run octets (spelled counted) w
-last_end_of_rounds [] w = refl
-last_end_of_rounds (counts ∷ counted) w = last_end_of_round counts 0 (spelled counted) w w (last_end_of_rounds counted)
-
 pub last_end_of_course : (course : Course) (turns : List Turn) (w : Connection) → EndsWithRound course → AreTurnsOf course turns w
     → last_end w (round_ends turns w) ≡ world_run octets turns w
-last_end_of_course (rounds most) turns w ends (counted, are, is) =
-    subst (λ (ts : List Turn). last_end w (round_ends ts w) ≡ world_run octets ts w) (sym is) (last_end_of_rounds counted w)
+last_end_of_course (rounds schedule most) turns w ends are = last_end_by schedule most turns w are
 last_end_of_course (threads most) turns w ends are = woven_to_the_end most turns w are
 last_end_of_course (told order) turns w (prefix, order_is) are =
     subst (λ (ts : List Turn). last_end w (round_ends ts w) ≡ world_run octets ts w) (sym (are.0 ∙ order_is)) (last_end_at_round prefix w w)

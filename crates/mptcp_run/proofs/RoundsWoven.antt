@@ -1,12 +1,12 @@
 -- Rounds whose steps stand by stamp, then actor: how one is made of any steps, and what many of them come to.
-use Rattle.std.proofs.Common.{◌≡◌, refl, sym, ◌∙◌, ap, subst, ℕ, suc, false, List, [], ◌∷◌, ◌++◌, map, length, append_assoc}
+use Rattle.std.proofs.Common.{◌≡◌, refl, sym, ◌∙◌, ap, subst, ℕ, suc, true, false, List, [], ◌∷◌, ◌++◌, map, length, append_assoc}
 use Rattle.std.proofs.lemmas.List.{append-nil}
 use Rattle.actor_desk.specs.declared.ask.Note.{Note}
 use Rattle.actor_desk.specs.Journals.{order_of}
 use Rattle.path_core.specs.Octets.{octets}
 use Rattle.world_laws.specs.Fine.{lists_of}
 use Rattle.world_laws.specs.Weaving.{steps_by}
-use Rattle.world_laws.specs.Worlds.{Turn, world_step, greatest, world_run, AreLawful}
+use Rattle.world_laws.specs.Worlds.{Turn, world_step, all_over, greatest, world_run, AreLawful}
 use Rattle.world_laws.proofs.Weaving.WholeRounds.{run_append, lawful_append}
 use Rattle.world_core.specs.RoundEnds.{round_ends, last_end, round_steps, steps_by_round}
 use Rattle.world_core.specs.Kept.{Kept}
@@ -15,7 +15,7 @@ use Rattle.mptcp_run.specs.declared.rounds.Run.{Run}
 use Rattle.mptcp_run.specs.Replaying.{GoesOn}
 use Rattle.mptcp_run.specs.Rounds.{AtRound, Begins}
 use Rattle.mptcp_run.specs.Task.{Connection}
-use Rattle.mptcp_run.specs.WovenRounds.{WovenTo, turns_told, AreAtMost, AreWovenRounds}
+use Rattle.mptcp_run.specs.WovenRounds.{WovenTo, after_woven, turns_told, AreAtMost, AreWovenRounds}
 use Rattle.mptcp_run.proofs.Courses.{one_true, one_false, one_both}
 use Rattle.mptcp_run.proofs.LogWoven.{steps_end, steps_fine, told_to_the_end}
 use Rattle.mptcp_run.proofs.RoundsMade.{IsKind}
@@ -23,10 +23,24 @@ use Rattle.mptcp_run.proofs.UnderWay.{step_goes, begins_going, lists_at_end, nex
 
 -- ---- one round
 
--- the next round begins behind it
-pub woven_begins : (w v : Connection) → Begins w → WovenTo w v → Begins v
-woven_begins w v begins r =
-    subst Begins (sym r.world) (next_begins (greatest 0 w.crew) (world_run octets (steps_by r.actors) w) (steps_fine r.actors (greatest 0 w.crew) w begins.fine) r.round.over)
+-- the next round begins behind steps of it behind which each turn is over
+pub steps_begin : (actors : List ℕ) (w v : Connection) → Begins w → all_over (world_run octets (steps_by actors) w).crew ≡ true → v ≡ after_woven actors w → Begins v
+steps_begin actors w v begins over is =
+    subst Begins (sym is) (next_begins (greatest 0 w.crew) (world_run octets (steps_by actors) w) (steps_fine actors (greatest 0 w.crew) w begins.fine) over)
+
+-- lists grew by them
+pub steps_since : (actors made : List ℕ) (w v : Connection) → made ≡ map length (lists_of w.crew) → Begins w → v ≡ after_woven actors w → IsSince w made v
+steps_since actors made w v made_is begins is =
+    let goes : GoesOn w (world_run octets (steps_by actors) w) = actors_go w w actors (begins_going w begins) in
+    record {
+      made_is = made_is;
+      grew = subst (λ (x : Connection). AllGrewAbove (greatest 0 w.crew) (lists_of w.crew) (lists_of x.crew)) (sym is)
+          (subst (λ lists. AllGrewAbove (greatest 0 w.crew) (lists_of w.crew) lists) (sym (lists_at_end (world_run octets (steps_by actors) w))) goes.grew);
+    }
+  where
+    actors_go : (last x : Connection) (actors : List ℕ) → GoesOn last x → GoesOn last (world_run octets (steps_by actors) x)
+    actors_go last x [] h = h
+    actors_go last x (actor ∷ actors) h = actors_go last (world_step octets actor x) actors (step_goes last x actor h)
 
 -- ---- many of them
 
@@ -88,24 +102,13 @@ woven_to_the_end most turns w h =
 
 -- its lists grew by the steps of the round
 pub woven_since : (run : Run) (v : Connection) → AtRound run → WovenTo run.world.state v → IsSince run.world.state run.made.items v
-woven_since run v h r =
-    let w : Connection = run.world.state in
-    let goes : GoesOn w (world_run octets (steps_by r.actors) w) = actors_go w w r.actors (begins_going w h.begins) in
-    record {
-      made_is = h.made_is;
-      grew = subst (λ (x : Connection). AllGrewAbove (greatest 0 w.crew) (lists_of w.crew) (lists_of x.crew)) (sym r.world)
-          (subst (λ lists. AllGrewAbove (greatest 0 w.crew) (lists_of w.crew) lists) (sym (lists_at_end (world_run octets (steps_by r.actors) w))) goes.grew);
-    }
-  where
-    actors_go : (last x : Connection) (actors : List ℕ) → GoesOn last x → GoesOn last (world_run octets (steps_by actors) x)
-    actors_go last x [] h = h
-    actors_go last x (actor ∷ actors) h = actors_go last (world_step octets actor x) actors (step_goes last x actor h)
+woven_since run v h r = steps_since r.actors run.made.items run.world.state v h.made_is h.begins r.world
 
 -- the next round of the run begins
 pub woven_next : (run new : Run) (k : Kept) → AtRound run → WovenTo run.world.state k.state → k.failed ≡ false → new.world ≡ k
     → new.made.items ≡ map length (lists_of k.state.crew) → AtRound new
 woven_next run new k h r stands world made = record {
   stands = ap (λ (x : Kept). x.failed) world ∙ stands;
-  begins = subst (λ (x : Kept). Begins x.state) (sym world) (woven_begins run.world.state k.state h.begins r);
+  begins = subst (λ (x : Kept). Begins x.state) (sym world) (steps_begin r.actors run.world.state k.state h.begins r.round.over r.world);
   made_is = made ∙ ap (λ (x : Kept). map length (lists_of x.state.crew)) (sym world);
 }

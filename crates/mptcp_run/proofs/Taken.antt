@@ -8,7 +8,7 @@ use Rattle.run_outside.specs.declared.status.Status.TheVariants.{Memory}
 use Rattle.run_outside.proofs.Calls.{Told}
 use Rattle.run_outside.specs.Ports.{Ports}
 use Rattle.mptcp_run.specs.declared.turns.Turns.{Turns}
-use Rattle.mptcp_run.specs.declared.turns.Turns.TheVariants.{Whole, Logged}
+use Rattle.mptcp_run.specs.declared.turns.Turns.TheVariants.{Scheduled, Logged}
 use Rattle.mptcp_run.specs.Taken.{task_taken, EndsEarly, TurnsFault}
 use Rattle.mptcp_run.specs.Task.{first_world}
 use Rattle.mptcp_run.proofs.Courses.{no_round, no_turn}
@@ -16,11 +16,11 @@ use Rattle.mptcp_run.proofs.Performing.{nothing_made}
 
 -- for want of memory
 pub nothing_taken : (turns : Turns) (input : Input) (line : Line) (held : Ports) (told : Told) → EndsEarly turns line (task_taken input turns) held held told told Memory
-nothing_taken (Whole most report) input line held told =
-    let task = task_taken input (Whole most report) in nothing_made line task held told (no_round most (first_world task))
+nothing_taken (Scheduled schedule most report) input line held told =
+    let task = task_taken input (Scheduled schedule most report) in nothing_made line task held told (no_round schedule most (first_world task))
 nothing_taken (Logged replay) input line held told =
     let task = task_taken input (Logged replay) in nothing_made line task held told (no_turn (all_turns replay.now.turns.items) (first_world task))
 
 pub memory_alone : (turns : Turns) (before faults : Port → ℕ) → TurnsFault turns before faults Memory
-memory_alone (Whole most report) before faults = tt
+memory_alone (Scheduled schedule most report) before faults = tt
 memory_alone (Logged replay) before faults = tt

@@ -51,7 +51,7 @@ pub record HasStopped (task : Task) (opening line : ℕ) (puts : List Call) (hel
   pub stopped : IsStopped task opening line held holds
   pub puts_are : puts ≡ puts_so_far task stopped.before
 
--- ---- a run of `run`, `serial` or `replay`
+-- ---- a run of `run`, `serial`, `timed` or `replay`
 
 module _ (content : List ℕ → Option (List ℕ)) (line : Line) (loads_before loads : ℕ)
     (faults_before faults : Port → ℕ) (held holds : Ports) (told tells : Option (List Made)) where

@@ -14,7 +14,7 @@ use Rattle.mptcp_run.specs.Task.{Task, Course, rounds, threads, told, task_of}
 
 -- so many rounds may be made, where they aren't told by a log
 abbrev pub AsksRounds : ℕ → Course → Type 0
-AsksRounds least (rounds most) = least ≤ most
+AsksRounds least (rounds schedule most) = least ≤ most
 AsksRounds least (threads most) = least ≤ most
 AsksRounds least (told order) = ⊥
 

@@ -14,6 +14,7 @@ pub mod Promised
 pub mod Putting
 pub mod Replaying
 pub mod Rounds
+pub mod Schedules
 pub mod Taken
 pub mod Task
 pub mod Threads

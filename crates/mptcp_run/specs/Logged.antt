@@ -12,7 +12,7 @@ use Rattle.mptcp_run.specs.Task.{Task, Course, rounds, threads, told, turns_in}
 
 -- one round at least, and the last turn is the end of one
 abbrev pub HasRounds : Course → Type 0
-HasRounds (rounds most) = 1 ≤ most
+HasRounds (rounds schedule most) = 1 ≤ most
 HasRounds (threads most) = 1 ≤ most
 HasRounds (told order) = (prefix : List Turn) × (order ≡ prefix ++ Turn.Round ∷ [])
 
@@ -51,7 +51,7 @@ WholeRunsAreTold = (task : Task) (status : Status) (old new : Port → Option (L
 
 -- one list of turns alone is all turns of the course: threads may come to several
 abbrev pub IsSettled : Course → Type 0
-IsSettled (rounds most) = Unit {0}
+IsSettled (rounds schedule most) = Unit {0}
 IsSettled (threads most) = ⊥
 IsSettled (told order) = Unit {0}
 

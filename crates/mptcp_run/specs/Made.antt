@@ -1,7 +1,8 @@
 -- The made input of `bench`.
 use Rattle.std.specs.Prelude.{ℕ, List, Option, Some, None, option_and_then}
-use Rattle.run_words.specs.Lines.{Line, Work, run, serial, replay, bench, line_of}
+use Rattle.run_words.specs.Lines.{Line, Work, run, serial, timed, replay, bench, line_of}
 use Rattle.mptcp_run.specs.declared.report.Report.TheVariants.{Summary}
+use Rattle.mptcp_run.specs.declared.schedule.Schedule.TheVariants.{Serial}
 use Rattle.mptcp_run.specs.Task.{Task, rounds}
 use Rattle.run_outside.specs.MadeInput.{made_script, made_file}
 
@@ -12,7 +13,7 @@ made_task number most = record {
   script = made_script number;
   file_a = made_file number 1000;
   file_b = made_file number 1001;
-  course = rounds most;
+  course = rounds Serial most;
   report = Summary number;
 }
 
@@ -25,6 +26,7 @@ abbrev pub bench_by : Work → Line → Option Bench
 bench_by (bench most number) line = Some (record { line = line; task = made_task number most })
 bench_by (run most) line = None
 bench_by (serial most) line = None
+bench_by (timed most) line = None
 bench_by (replay log) line = None
 
 abbrev pub bench_of : Line → Option Bench

@@ -43,7 +43,7 @@ NoneIsAltered content line = IsSomeAnd (script_of content line) AltersNone
 
 -- the last turn is the end of a round, as it is of each run of rounds and in each log
 abbrev pub EndsWithRound : Course → Type 0
-EndsWithRound (rounds most) = Unit {0}
+EndsWithRound (rounds schedule most) = Unit {0}
 EndsWithRound (threads most) = Unit {0}
 EndsWithRound (told order) = (prefix : List Turn) × (order ≡ prefix ++ Turn.Round ∷ [])
 

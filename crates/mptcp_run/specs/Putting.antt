@@ -17,7 +17,6 @@ use Rattle.world_laws.specs.declared.outcome.Outcome.{Outcome}
 use Rattle.world_laws.specs.declared.outcome.Outcome.TheVariants as outcome
 use Rattle.world_laws.specs.Fine.{lists_of}
 use Rattle.world_laws.specs.Outcomes.{outcome_of}
-use Rattle.world_laws.specs.Serial.{IsSerial}
 use Rattle.world_laws.specs.Worlds.{Turn, world_run, AreLawful, IsLawfulTurn}
 use Rattle.world_core.specs.RoundEnds.{round_ends, steps_by_round, read_to_end}
 use Rattle.mptcp_run.specs.declared.report.Report.{Report}
@@ -27,6 +26,7 @@ use Rattle.run_outside.specs.declared.status.Status.TheVariants.{Delivered, Roun
 use Rattle.run_outside.specs.Reading.{width_of}
 use Rattle.mptcp_run.specs.Task.{Connection, Task, Course, first_world, AreTurnsOf}
 use Rattle.mptcp_run.specs.Task as way
+use Rattle.mptcp_run.specs.Schedules.{AreRoundsBy}
 use Rattle.mptcp_run.specs.WovenRounds.{AreWovenRounds}
 use Rattle.run_outside.specs.LogText.{log_text, RoundsFit}
 use Rattle.world_core.specs.Logged.{told_outcome}
@@ -141,6 +141,6 @@ AreFirst Are most turns more =
 
 -- these are the turns of the first rounds of a task, and those of the next one, or none
 abbrev pub AreFirstOf : Course → List Turn → List Turn → Connection → Type 0
-AreFirstOf (way.rounds most) turns more w = AreFirst (λ n ts. IsSerial octets n ts w) most turns more
+AreFirstOf (way.rounds schedule most) turns more w = AreFirst (λ n ts. AreRoundsBy schedule n ts w) most turns more
 AreFirstOf (way.threads most) turns more w = AreFirst (λ n ts. AreWovenRounds n ts w) most turns more
 AreFirstOf (way.told order) turns more w = (behind : List Turn) × ((order ≡ turns ++ (more ++ behind)) × AreLawful octets (turns ++ more) w)

@@ -10,18 +10,18 @@ use Rattle.run_outside.specs.Ports.{IsPortsFault, Ports}
 use Rattle.mptcp_run.specs.declared.report.Report.{Report}
 use Rattle.mptcp_run.specs.declared.report.Report.TheVariants.{Log}
 use Rattle.mptcp_run.specs.declared.turns.Turns.{Turns}
-use Rattle.mptcp_run.specs.declared.turns.Turns.TheVariants.{Whole, Logged}
+use Rattle.mptcp_run.specs.declared.turns.Turns.TheVariants.{Scheduled, Logged}
 use Rattle.mptcp_run.specs.Ends.{IsCut, ReplayEnds}
 use Rattle.mptcp_run.specs.Replaying.{IsReplayFault}
 use Rattle.mptcp_run.specs.Task.{Task, Course, task_with}
 use Rattle.mptcp_run.specs.Task as way
 
 abbrev pub course_in : Turns → Course
-course_in (Whole most report) = way.rounds most
+course_in (Scheduled schedule most report) = way.rounds schedule most
 course_in (Logged replay) = way.told (all_turns replay.now.turns.items)
 
 abbrev pub report_in : Turns → Report
-report_in (Whole most report) = report
+report_in (Scheduled schedule most report) = report
 report_in (Logged replay) = Log
 
 -- with this input
@@ -30,16 +30,16 @@ task_taken input turns = task_with input (course_in turns) (report_in turns)
 
 -- at most three lines open a log
 abbrev pub HasFewLines : Turns → Type 0
-HasFewLines (Whole most report) = Unit {0}
+HasFewLines (Scheduled schedule most report) = Unit {0}
 HasFewLines (Logged replay) = replay.now.lines ≤ 3
 
 -- the run was cut off, or a turn of its log can't be made
 abbrev pub EndsEarly : Turns → Line → Task → Ports → Ports → Option (List Made) → Option (List Made) → Status → Type 0
-EndsEarly (Whole most report) line task held holds told tells status = IsCut [] line task held holds told tells status
+EndsEarly (Scheduled schedule most report) line task held holds told tells status = IsCut [] line task held holds told tells status
 EndsEarly (Logged replay) line task held holds told tells status =
     ReplayEnds [] line task held holds told tells replay.now.lines status
 
 -- what is answered then has its cause
 abbrev pub TurnsFault : Turns → (Port → ℕ) → (Port → ℕ) → Status → Type 0
-TurnsFault (Whole most report) faults_before faults status = IsPortsFault faults_before faults status
+TurnsFault (Scheduled schedule most report) faults_before faults status = IsPortsFault faults_before faults status
 TurnsFault (Logged replay) faults_before faults status = IsReplayFault faults_before faults status

@@ -2,17 +2,19 @@
 use Rattle.std.specs.Prelude.{◌≡◌, ℕ, List, map, Option, Some, None, option_map, option_and_then}
 use Rattle.std.specs.Result.{result_ok}
 use Rattle.link_script.specs.declared.script.Script.{Script}
-use Rattle.run_words.specs.Lines.{Line, Work, run, serial, replay, bench, ◌>>=◌}
+use Rattle.run_words.specs.Lines.{Line, Work, run, serial, timed, replay, bench, ◌>>=◌}
 use Rattle.path_core.specs.Octets.{octets}
 use Rattle.run_outside.specs.declared.input.Input.{Input}
 use Rattle.world_laws.specs.Openings.{start_of, opened_world}
-use Rattle.world_laws.specs.Serial.{IsSerial}
 use Rattle.world_laws.specs.Worlds.{WorldState, Turn, AreLawful}
 use Rattle.run_outside.specs.Reading.{script_of, log_reading}
 use Rattle.world_core.specs.Logged.{turn_of}
+use Rattle.mptcp_run.specs.Schedules.{AreRoundsBy}
 use Rattle.mptcp_run.specs.WovenRounds.{AreWovenRounds}
 use Rattle.mptcp_run.specs.declared.report.Report.{Report}
 use Rattle.mptcp_run.specs.declared.report.Report.TheVariants.{Log}
+use Rattle.mptcp_run.specs.declared.schedule.Schedule.{Schedule}
+use Rattle.mptcp_run.specs.declared.schedule.Schedule.TheVariants.{Serial, Timed}
 
 -- a connection whose links carry octets
 abbrev pub Connection : Type 0
@@ -20,8 +22,8 @@ Connection = WorldState (List ℕ)
 
 -- which turns the actors take
 pub data Course : Type 0 where
-  -- whole turns in order of number, at most so many rounds
-  rounds : ℕ → Course
+  -- by a schedule, at most so many rounds
+  rounds : Schedule → ℕ → Course
   -- at most so many rounds, each with its steps by stamp, then actor, as threads come to make them
   threads : ℕ → Course
   -- these
@@ -42,7 +44,7 @@ first_world task = opened_world (start_of task.script task.file_a task.file_b)
 
 -- these are all turns of a course
 abbrev pub AreTurnsOf : Course → List Turn → Connection → Type 0
-AreTurnsOf (rounds most) turns w = IsSerial octets most turns w
+AreTurnsOf (rounds schedule most) turns w = AreRoundsBy schedule most turns w
 AreTurnsOf (threads most) turns w = AreWovenRounds most turns w
 AreTurnsOf (told order) turns w = (turns ≡ order) × AreLawful octets turns w
 
@@ -62,7 +64,8 @@ turns_in script log = option_map (map turn_of) (result_ok (log_reading script lo
 
 -- the course of a mode: in `replay` the turns of the log, where it is told and valid, and none in `bench`
 abbrev pub course_of : (List ℕ → Option (List ℕ)) → Script → Work → Option Course
-course_of content script (serial most) = Some (rounds most)
+course_of content script (serial most) = Some (rounds Serial most)
+course_of content script (timed most) = Some (rounds Timed most)
 course_of content script (replay log) = option_map told (option_and_then (turns_in script) (content log))
 course_of content script (run most) = Some (threads most)
 course_of content script (bench most number) = None

@@ -30,7 +30,7 @@ pub fn valid_inputs_are_run()
     ensures { ValidInputsAreRun }
 {}
 
-/// A law: where the inputs of a command line in mode `run` or `serial` are told, within their limits and valid, its script has one
+/// A law: where the inputs of a command line in mode `run`, `serial` or `timed` are told, within their limits and valid, its script has one
 /// path and no line, and its rounds are at least 80 and 16 for each full segment of either file, its run delivers both files,
 /// or memory is wanting, as long as no count of faults rises.
 pub fn clean_runs_deliver()

@@ -24,12 +24,13 @@ use std::marker::Brand;
 use std::sync::Wait;
 use std::thread::Threads;
 
-/// Whether the mode takes a script and files: `run`, `serial` or `replay`.
+/// Whether the mode takes a script and files: `run`, `serial`, `timed` or `replay`.
 fn is_run(mode: Mode<'_>) -> bool
     ensures { result ≡ is_run (shown_work mode.entry) }
 {
     match mode {
         Mode::Serial { .. } => true,
+        Mode::Timed { .. } => true,
         Mode::Replay { .. } => true,
         Mode::Run { .. } => true,
         Mode::Bench { .. } => false,
@@ -127,9 +128,9 @@ fn run_line<O: Outside, G: Gate + Sync, R: Threads + Wait + Sync>(
 /// both files hold the frames of their lines, each line behind its length in four octets. Lines end with LF, and a last line
 /// without one counts. A reader's port gets each message with LF behind it, once all of it has come.
 ///
-/// The modes are `run`, `serial` and `replay`; a log of `replay` is that of a run of messages. Neither file is the script or the log. The
-/// limit of a file is that of its frames. The readers' ports are empty, where that is told. The outside is given back as
-/// it stands.
+/// The modes are `run`, `serial`, `timed` and `replay`; a log of `replay` is that of a run of messages. Neither file is the script or
+/// the log. The limit of a file is that of its frames. The readers' ports are empty, where that is told. The outside is given back
+/// as it stands.
 pub fn run_messages<O: Outside, G: Gate + Sync, R: Threads + Wait + Sync>(
     rt: &R,
     alloc: Global,
@@ -152,7 +153,7 @@ pub fn run_messages<O: Outside, G: Gate + Sync, R: Threads + Wait + Sync>(
         (O.content outside line.names.file_a) (O.content outside line.names.file_b)
         (task_of (lined_content line.names.file_a line.names.file_b (O.content outside)) line) line
         (O.calls outside) (O.calls result.1)) }
-    // A clean script, one path and no line, in `run` or `serial`, with rounds that are enough for the frames of its files: all lines
+    // A clean script, one path and no line, in `run`, `serial` or `timed`, with rounds that are enough for the frames of its files: all lines
     // are delivered, or memory is wanting, as long as the inputs are valid and no count of faults rises.
     ensures clean { IfSome (messages_in (map string_bytes words.now)) (λ line. DeliversIfClean
         (lined_content line.names.file_a line.names.file_b (O.content outside)) line

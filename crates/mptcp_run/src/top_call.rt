@@ -7,7 +7,7 @@ ghost use Rattle.outside_kit.specs.Calls as call;
 ghost use Rattle.outside_kit.specs.Outside.{HoldsAfter, HoldsPrefix};
 ghost use Rattle.link_script.specs.Scripts.{HasRanges};
 ghost use Rattle.run_words.specs.Lines as lines;
-ghost use Rattle.run_words.specs.Lines.{serial, replay, bench, as_line};
+ghost use Rattle.run_words.specs.Lines.{replay, bench, as_line};
 ghost use Rattle.world_laws.specs.Outcomes.{outcome_of};
 ghost use Rattle.run_outside.specs.Calling.{Puts};
 ghost use Rattle.mptcp_run.specs.Answers.{IsAnswer, IsMadeAnswer, NothingWasRun};
@@ -21,6 +21,7 @@ ghost use Rattle.mptcp_run.specs.Promised.{NoneIsAltered, ReadersHaveAsMany, Rea
 ghost use Rattle.mptcp_run.specs.Putting.{last_line_of, status_of};
 ghost use Rattle.mptcp_run.specs.Replaying.{IsReplayFault};
 ghost use Rattle.mptcp_run.specs.Rounds.{IsOpened};
+ghost use Rattle.mptcp_run.specs.Schedules.{work_by};
 ghost use Rattle.mptcp_run.specs.Task.{task_from, task_with};
 ghost use Rattle.mptcp_run.specs.Task as course;
 ghost use Rattle.mptcp_run.specs.Taken.{report_in, task_taken, EndsEarly, HasFewLines, TurnsFault};
@@ -29,7 +30,8 @@ use crate::outcome::{put_last, status_of};
 use crate::replay::make_turns;
 use crate::report::Report;
 use crate::rounds::Run;
-use crate::serial::make_rounds;
+use crate::schedule::Schedule;
+use crate::scheduled::make_rounds;
 use crate::threads::make_threaded_rounds;
 use crate::turns::Turns;
 use outside_kit::{Gate, Outside, Port};
@@ -71,29 +73,30 @@ fn end<O: Outside>(
     Ok(status_of(run.world.outcome()))
 }
 
-/// Makes whole turns, at most so many rounds, of a run before its first step, and puts its last line.
+/// Makes rounds by a schedule, at most so many, of a run before its first step, and puts its last line.
 fn take_rounds<O: Outside>(
     alloc: Global,
     outside: &mut O,
     line: &CommandLine<'_>,
     input: &Input,
+    schedule: Schedule,
     rounds: u32,
     report: Report,
     run: &mut Run,
 ) -> Result<Status, Status>
     requires { IsOpened input.now report run.old }
     ensures ended { IfOk result (CameToEnd [] (as_line line.now)
-        (task_with input.now (course.rounds rounds) report)
+        (task_with input.now (course.rounds schedule rounds) report)
         (O.holds outside.old) (O.holds outside.new) (O.calls outside.old) (O.calls outside.new)) }
     ensures cut { IfErr result (IsCut [] (as_line line.now)
-        (task_with input.now (course.rounds rounds) report)
+        (task_with input.now (course.rounds schedule rounds) report)
         (O.holds outside.old) (O.holds outside.new) (O.calls outside.old) (O.calls outside.new)) }
     ensures fault { IfErr result
         (IsPortsFault (O.port_faults outside.old) (O.port_faults outside.new)) }
     ensures load_counts { O.load_faults outside.new ≡ O.load_faults outside.old }
 {
     bind_readers(outside, line)?;
-    make_rounds(alloc, outside, run, rounds)?;
+    make_rounds(alloc, outside, schedule, run, rounds)?;
     end(alloc, outside, run, report)
 }
 
@@ -146,9 +149,13 @@ fn take<O: Outside>(
     ensures load_counts { O.load_faults outside.new ≡ O.load_faults outside.old }
 {
     match turns {
-        Turns::Whole { rounds, report } => {
-            take_rounds(alloc, outside, line, input, *rounds, *report, run)
-        }
+        Turns::Scheduled {
+            schedule,
+            rounds,
+            report,
+        } => take_rounds(
+            alloc, outside, line, input, *schedule, *rounds, *report, run,
+        ),
         Turns::Logged(replay) => take_turns(alloc, outside, line, input, replay, run),
     }
 }
@@ -181,14 +188,15 @@ fn perform<O: Outside>(
     ended
 }
 
-/// A run of whole turns, at most so many rounds.
-fn run_serial<O: Outside>(
+/// A run of rounds by a schedule, at most so many.
+fn run_scheduled<O: Outside>(
     alloc: Global,
     outside: &mut O,
     line: &CommandLine<'_>,
+    schedule: Schedule,
     rounds: u32,
 ) -> Status
-    requires asked { (as_line line.now).work ≡ serial rounds }
+    requires asked { (as_line line.now).work ≡ work_by schedule rounds }
     requires in_range { AsksInRange (as_line line.now).work }
     ensures { IsAnswer (O.content outside.old) (as_line line.now)
         (O.load_faults outside.old) (O.load_faults outside.new)
@@ -201,7 +209,11 @@ fn run_serial<O: Outside>(
         Err(status) => return status,
     };
     let report = Report::Log;
-    let turns = Turns::Whole { rounds, report };
+    let turns = Turns::Scheduled {
+        schedule,
+        rounds,
+        report,
+    };
     match perform(alloc, outside, line, &input, &turns) {
         Ok(status) => status,
         Err(status) => status,
@@ -318,7 +330,11 @@ fn run_bench<O: Outside>(
         return Status::Memory;
     };
     let report = Report::Summary { number };
-    let turns = Turns::Whole { rounds, report };
+    let turns = Turns::Scheduled {
+        schedule: Schedule::Serial,
+        rounds,
+        report,
+    };
     match perform(alloc, outside, line, &input, &turns) {
         Ok(status) => status,
         Err(status) => status,
@@ -378,7 +394,8 @@ fn run_line<O: Outside, G: Gate + Sync, R: Threads + Wait + Sync>(
         (O.calls outside.old) (O.calls outside.new) result }
 {
     match line.mode {
-        Mode::Serial { rounds } => run_serial(alloc, outside, line, rounds),
+        Mode::Serial { rounds } => run_scheduled(alloc, outside, line, Schedule::Serial, rounds),
+        Mode::Timed { rounds } => run_scheduled(alloc, outside, line, Schedule::Timed, rounds),
         Mode::Replay { order } => run_replay(alloc, outside, line, order),
         Mode::Bench { rounds, number } => run_bench(alloc, outside, line, rounds, number),
         Mode::Run { rounds } => run_threads(rt, alloc, outside, line, rounds, gate),
@@ -386,8 +403,8 @@ fn run_line<O: Outside, G: Gate + Sync, R: Threads + Wait + Sync>(
 }
 
 /// Runs a connection as the words say: `--mode serial SCRIPT FILE_A FILE_B READ_BY_B READ_BY_A
-/// [--rounds N]`, `--mode run` with the same words, `--mode replay` with `--order LOG` in the place
-/// of the rounds, or `--mode bench` with `--number N`.
+/// [--rounds N]`, `--mode timed` or `--mode run` with the same words, `--mode replay` with `--order
+/// LOG` in the place of the rounds, or `--mode bench` with `--number N`.
 ///
 /// In `serial` the actors take whole turns, one after the other, round by round, until both readers
 /// were told the end, each path is dead, or N rounds were made (1 to 65,536; 4,096 where nothing is
@@ -396,6 +413,11 @@ fn run_line<O: Outside, G: Gate + Sync, R: Threads + Wait + Sync>(
 /// round's steps to `Log`, by stamp, then actor; and last the outcome. In `bench`, with `--number N`
 /// (1 to 256), nothing is loaded: the input is made from the number and run as in `serial`, and
 /// `Log` gets one line in the place of a log, at the end.
+///
+/// `timed` is `serial` with another order of the steps: in each round both applications take their
+/// turns, A first, and then that path makes a step, as long as its turn goes on, whose clock at its
+/// next ask is least, of several the one with the least number. So from one step to the next of any
+/// path within a round no clock goes back.
 ///
 /// In `run` the actors of a round take their turns at the same time, each in a thread of its own,
 /// over books that lie in tables, each behind a ticket lock for as long as the round takes; the rest
@@ -424,14 +446,14 @@ pub fn run<O: Outside, G: Gate + Sync, R: Threads + Wait + Sync>(
         IfSome (asked_in (map string_bytes words.now)) (λ line. ReadersHaveAsMany
         (O.content outside.old line.names.file_a) (O.content outside.old line.names.file_b)
         (O.holds outside.old) (O.holds outside.new)) }
-    // Words that ask for `run`, `serial` or `replay`: the row of the answer.
+    // Words that ask for `run`, `serial`, `timed` or `replay`: the row of the answer.
     ensures answer { IfSome (asked_in (map string_bytes words.now)) (λ line. IsAnswer
         (O.content outside.old) line
         (O.load_faults outside.old) (O.load_faults outside.new)
         (O.port_faults outside.old) (O.port_faults outside.new)
         (O.holds outside.old) (O.holds outside.new)
         (O.calls outside.old) (O.calls outside.new) result) }
-    // A clean script, one path and no line, in `run` or `serial`, with rounds that are enough for its files: both are delivered,
+    // A clean script, one path and no line, in `run`, `serial` or `timed`, with rounds that are enough for its files: both are delivered,
     // or memory is wanting, as long as the inputs are valid and no count of faults rises.
     ensures clean { IfSome (asked_in (map string_bytes words.now)) (λ line. DeliversIfClean
         (O.content outside.old) line

@@ -4,13 +4,18 @@ ghost use Rattle.std.specs.Prelude.{◌≡◌};
 ghost use Rattle.mptcp_run.specs.Taken.{report_in};
 
 use crate::report::Report;
+use crate::schedule::Schedule;
 use run_outside::Replay;
 
 /// Which turns a run takes.
 #[derive(Drop)]
 pub enum Turns<'a> {
-    /// Whole turns, one after the other, of at most so many rounds.
-    Whole { rounds: u32, report: Report },
+    /// Those of a schedule, of at most so many rounds.
+    Scheduled {
+        schedule: Schedule,
+        rounds: u32,
+        report: Report,
+    },
     /// Those of a log; the run keeps a log itself.
     Logged(&'a Replay),
 }
@@ -21,7 +26,7 @@ impl Turns<'_> {
         ensures { result ≡ report_in self.now }
     {
         match self {
-            Turns::Whole { report, .. } => *report,
+            Turns::Scheduled { report, .. } => *report,
             Turns::Logged(_) => Report::Log,
         }
     }

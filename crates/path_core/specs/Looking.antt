@@ -1,5 +1,5 @@
 -- What is seen of a path from outside: its ends' measures, what its next step hands to the link, and what it takes from it.
-use Rattle.std.specs.Prelude.{◌≡◌, ℕ, if◌then◌else◌, Bool, true, false, IfSome, IsOk, Option, Some, None, option_map, List, [], ◌∷◌, length, drop}
+use Rattle.std.specs.Prelude.{◌≡◌, ℕ, max, if◌then◌else◌, Bool, true, false, IfSome, IsOk, Option, Some, None, option_map, List, [], ◌∷◌, length, drop}
 use Rattle.std.specs.Int.{w16}
 use Rattle.sides.specs.declared.side.Side.{Side}
 use Rattle.sides.specs.Side.{peer}
@@ -35,7 +35,7 @@ use Rattle.path_core.specs.declared.said.SegmentKind.{SegmentKind}
 use Rattle.path_core.specs.declared.said.SegmentKind.TheVariants as kinds
 use Rattle.path_core.specs.Emission.{first_unsent}
 use Rattle.path_core.specs.Codec.{Codec}
-use Rattle.path_core.specs.Events.{next_event}
+use Rattle.path_core.specs.Events.{next_event, tick_of}
 use Rattle.path_core.specs.Handover.{handed, sends}
 use Rattle.path_core.specs.Octets.{octets, made}
 use Rattle.path_core.specs.Said.{said_by}
@@ -199,3 +199,20 @@ first_arrival _ p = None
 -- the copy that arrives by the next step, if one does
 abbrev pub next_arrival : PathState (List ℕ) → Option Arrived
 next_arrival p = first_arrival p.agenda p
+
+-- ---- the tick of the next step
+
+module _ {C : Type 0} where
+  -- that of an event, where there is one, and never one that is past
+  abbrev pub tick_with : Option Event → PathState C → ℕ
+  tick_with None p = p.clock
+  tick_with (Some event) p = max p.clock (tick_of event)
+
+  -- the first duty may be the one of events
+  abbrev pub first_tick : List Duty → PathState C → ℕ
+  first_tick (duties.Step steps_of.Events ∷ ds) p = tick_with (next_event p) p
+  first_tick _ p = p.clock
+
+  -- The tick at which the next step stands: that of the line, the copy, the timer or the join that it takes, else the path's tick.
+  abbrev pub next_tick : PathState C → ℕ
+  next_tick p = first_tick p.agenda p

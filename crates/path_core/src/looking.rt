@@ -1,9 +1,9 @@
-//! What the next step of a path hands to its link, and what it takes from it.
+//! What the next step of a path hands to its link, what it takes from it, and its tick.
 
 ghost use Rattle.std.specs.Prelude.{◌≡◌, Some, IsSome, IfOk, option_map, IfSome};
 ghost use Rattle.link_model.specs.Fate.{segment_fate};
 ghost use Rattle.link_model.specs.Steps.{arriving, next_number};
-ghost use Rattle.path_core.specs.Looking.{send_of, ack_sends, broken_by, arrived, copy_arriving, departing, departing_as, duty_sends, first_sends, heard_sends, mapping_sends, next_arrival, shown_arriving, step_sends, unsent_sends, IsSegmentOn};
+ghost use Rattle.path_core.specs.Looking.{send_of, ack_sends, broken_by, arrived, copy_arriving, departing, departing_as, duty_sends, first_sends, heard_sends, mapping_sends, next_arrival, shown_arriving, step_sends, tick_with, unsent_sends, next_tick, IsSegmentOn};
 ghost use Rattle.path_core.specs.Emission.{first_unsent};
 ghost use Rattle.path_core.specs.Events.{next_event};
 ghost use Rattle.path_core.specs.State.{end_at, path_of};
@@ -260,6 +260,26 @@ impl PathState {
         match self.agenda.first() {
             Some(Duty::Step(StepDuty::Events)) => self.event_arriving(),
             _ => None,
+        }
+    }
+
+    /// The tick of the next event, where there is one, and never one that is past.
+    fn event_tick(&self) -> u64
+        ensures { result ≡ tick_with (next_event self.now) self.now }
+    {
+        match self.next_event() {
+            Some(event) => self.clock.now().max(event.tick()),
+            None => self.clock.now(),
+        }
+    }
+
+    /// The tick at which the next step stands.
+    pub(crate) fn next_tick(&self) -> u64
+        ensures { result ≡ next_tick self.now }
+    {
+        match self.agenda.first() {
+            Some(Duty::Step(StepDuty::Events)) => self.event_tick(),
+            _ => self.clock.now(),
         }
     }
 }

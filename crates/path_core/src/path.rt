@@ -7,7 +7,7 @@ ghost use Rattle.link_model.specs.Octets.{after_octets};
 ghost use Rattle.link_script.specs.Scripts.{HasRanges};
 ghost use Rattle.path_core.specs.Events.{is_dead_path};
 ghost use Rattle.path_core.specs.MpJoin.{is_listening};
-ghost use Rattle.path_core.specs.Looking.{departing, next_arrival, shown_arriving, smoothed_rtt, congestion_window, IsSegmentOn, IsTold};
+ghost use Rattle.path_core.specs.Looking.{departing, next_arrival, next_tick, shown_arriving, smoothed_rtt, congestion_window, IsSegmentOn, IsTold};
 ghost use Rattle.path_core.specs.Octets.{octets};
 ghost use Rattle.path_core.specs.Replies.{asks_bytes_first, needs_memory_first};
 ghost use Rattle.path_core.specs.Start.{first_turn_of};
@@ -101,6 +101,14 @@ impl Path {
         ensures { result ≡ self.now.clock }
     {
         self.state.clock.now()
+    }
+
+    /// The tick at which its next step stands, in ticks of a millisecond: that of the line, the copy, the timer or the join that the step
+    /// takes, where it takes one, else the tick at which the path is. Its turn being over, that too. Takes no memory.
+    pub fn next_tick(&self) -> u64
+        ensures { result ≡ next_tick self.now }
+    {
+        self.state.next_tick()
     }
 
     /// SRTT of a side's end, the smoothed round-trip time, in whole ticks of a millisecond, rounded down: at most a minute, and

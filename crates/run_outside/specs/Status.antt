@@ -35,7 +35,7 @@ port_word port.Log = codes "log"
 
 -- the form of the command line
 abbrev pub usage : List ℕ
-usage = codes "--mode run|serial|replay|bench SCRIPT FILE_A FILE_B READ_BY_B READ_BY_A [--rounds N] [--order LOG] [--number N]"
+usage = codes "--mode run|serial|timed|replay|bench SCRIPT FILE_A FILE_B READ_BY_B READ_BY_A [--rounds N] [--order LOG] [--number N]"
 
 -- a run that came to its own end tells nothing
 abbrev pub fault_line : Status → List ℕ

@@ -103,7 +103,7 @@ pub fn fault_text(alloc: Global, status: &Status) -> Result<String, AllocError>
         Status::Aborted { .. } => Ok(String::new(alloc)),
         Status::Usage => String::from_str(
             alloc,
-            "mptcp_sim: usage: --mode run|serial|replay|bench SCRIPT FILE_A FILE_B READ_BY_B READ_BY_A [--rounds N] [--order LOG] [--number N]",
+            "mptcp_sim: usage: --mode run|serial|timed|replay|bench SCRIPT FILE_A FILE_B READ_BY_B READ_BY_A [--rounds N] [--order LOG] [--number N]",
         ),
         Status::Script { line, kind } => {
             format!(in alloc; "mptcp_sim: script line {line}: {}", kind.word())

@@ -1,4 +1,3 @@
-mod Clocks
 mod Gathering
 mod InitialRows
 mod Numbered

@@ -12,7 +12,7 @@ use Rattle.world_laws.specs.declared.member.Member.TheVariants.{App, Path}
 use Rattle.world_laws.specs.Openings.{PathPlan, Start, opened_world, path_begins, paths_from}
 use Rattle.world_laws.specs.StampedBooks.{answer_to}
 use Rattle.world_laws.specs.Worlds.{WorldState, Turn, after_turn, all_over, asked, begins, crew_after, end_round, greatest, stepped, world_step}
-use Rattle.run_trace.proofs.Clocks.{begun_clock, takes_climbs}
+use Rattle.world_core.proofs.Clocks.{begun_clock, takes_climbs}
 
 -- ---- one actor in the place of another, and all
 

@@ -18,7 +18,7 @@ use Rattle.world_laws.specs.Worlds.{WorldState, Turn, all_over, asked, begins, c
 use Rattle.link_trace.specs.declared.sent.Sent.{Sent}
 use Rattle.run_trace.specs.Telling.{RiseFrom, TicksRiseByPath, on_path}
 use Rattle.run_trace.specs.Trace.{sent_as, sent_by, sent_next, trace_of}
-use Rattle.run_trace.proofs.Clocks.{begun_clock, takes_climbs}
+use Rattle.world_core.proofs.Clocks.{begun_clock, takes_climbs}
 use Rattle.run_trace.proofs.Numbered.{AreNumbered, StandsAt, map_got, opened_numbered, set_got, turn_numbered}
 
 -- ---- a path is at this tick, or later

@@ -11,6 +11,7 @@ use Rattle.run_words.specs.declared.command_line.Mode.TheVariants as mode_is
 pub data Work : Type 0 where
   run : ℕ → Work
   serial : ℕ → Work
+  timed : ℕ → Work
   replay : Word → Work
   bench : ℕ → ℕ → Work
 
@@ -73,11 +74,12 @@ abbrev pub rounds_in : Option Word → Option ℕ
 rounds_in None = Some 4096
 rounds_in (Some word) = number_within 1 65536 word
 
--- `run` and `serial`, which have neither a log nor a number
+-- `run`, `serial` and `timed`, which have neither a log nor a number
 abbrev pub plain_work : Word → Option Word → Option Work
 plain_work word rounds =
     if bytes_eq word (codes "run") then option_map run (rounds_in rounds)
-    else (if bytes_eq word (codes "serial") then option_map serial (rounds_in rounds) else None)
+    else (if bytes_eq word (codes "serial") then option_map serial (rounds_in rounds)
+    else (if bytes_eq word (codes "timed") then option_map timed (rounds_in rounds) else None))
 
 -- `replay`, which has a log
 abbrev pub replay_work : Word → Word → Option Work
@@ -121,6 +123,7 @@ line_of words = parts_of None words >>= line_of_parts
 abbrev pub HasRanges : Work → Type 0
 HasRanges (run rounds) = (1 ≤ rounds) × (rounds ≤ 65536)
 HasRanges (serial rounds) = (1 ≤ rounds) × (rounds ≤ 65536)
+HasRanges (timed rounds) = (1 ≤ rounds) × (rounds ≤ 65536)
 HasRanges (replay log) = is_given log ≡ true
 HasRanges (bench rounds number) = (1 ≤ rounds) × (rounds ≤ 65536) × (1 ≤ number) × (number ≤ 256)
 
@@ -130,6 +133,7 @@ HasRanges (bench rounds number) = (1 ≤ rounds) × (rounds ≤ 65536) × (1 ≤
 abbrev pub shown_work : Mode → Work
 shown_work (mode_is.Run rounds) = run rounds
 shown_work (mode_is.Serial rounds) = serial rounds
+shown_work (mode_is.Timed rounds) = timed rounds
 shown_work (mode_is.Replay order) = replay order.now
 shown_work (mode_is.Bench rounds number) = bench rounds number
 

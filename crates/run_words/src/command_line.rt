@@ -13,6 +13,11 @@ pub enum Mode<'a> {
         /// 1 to 65,536.
         rounds: u32,
     },
+    /// Rounds in which the applications take whole turns, and then that path makes a step whose next one is earliest.
+    Timed {
+        /// 1 to 65,536.
+        rounds: u32,
+    },
     /// The steps of a log, in its order.
     Replay {
         /// The name of the log; not empty.

@@ -63,6 +63,9 @@ fn mode_of<'a>(
         ("serial", None, None) => Some(Mode::Serial {
             rounds: rounds_of(rounds)?,
         }),
+        ("timed", None, None) => Some(Mode::Timed {
+            rounds: rounds_of(rounds)?,
+        }),
         ("replay", Some(order), None) if rounds.is_none() && !order.is_empty() => {
             Some(Mode::Replay { order })
         }

@@ -38,6 +38,7 @@ fn put_line(case: &mut Case<'_>, line: &CommandLine<'_>) {
     match line.mode {
         Mode::Run { rounds } => put_mode(case, "run;", rounds),
         Mode::Serial { rounds } => put_mode(case, "serial;", rounds),
+        Mode::Timed { rounds } => put_mode(case, "timed;", rounds),
         Mode::Replay { order } => {
             case.put("replay;");
             case.put(order);

@@ -10,3 +10,5 @@ pub mod RoundsMade
 pub mod Gathering
 pub mod SinceRound
 pub mod InRound
+pub mod Clocks
+pub mod TimedRounds

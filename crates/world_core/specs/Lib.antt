@@ -9,3 +9,5 @@ pub mod RoundEnds
 pub mod Weaving
 pub mod Looking
 pub mod Logged
+pub mod Sooner
+pub mod TimedRounds

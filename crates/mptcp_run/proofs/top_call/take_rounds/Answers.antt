@@ -15,11 +15,11 @@ make_rounds-requires-clause-begins g c = opened_at c.args.input.now c.args.repor
 
 pub returns-in_err-bind_readers-clause-cut : goal.returns-in_err-bind_readers-clause-cut
 returns-in_err-bind_readers-clause-cut g c =
-    let task : Task = task_with c.args.input.now (course.rounds c.args.rounds) c.args.report in
+    let task : Task = task_with c.args.input.now (course.rounds c.args.schedule c.args.rounds) c.args.report in
     let p = err_from_is_err_and c.from_residual.result c.from_residual.ensures.1 in
     rw (p.1, p.2) (binds_short (as_line c.args.line.now) task
     (g.O.Outside.holds c.args.outside.now) (g.O.Outside.holds c.bind_readers.new.outside) (g.O.Outside.calls c.args.outside.now) (g.O.Outside.calls c.bind_readers.new.outside)
-    c.in_err-bind_readers.field-0.0 (no_round c.args.rounds (first_world task)) c.in_err-bind_readers.ensures.read_by_b_err c.in_err-bind_readers.ensures.read_by_a_err c.bind_readers.ensures.log c.in_err-bind_readers.ensures.puts.cut)
+    c.in_err-bind_readers.field-0.0 (no_round c.args.schedule c.args.rounds (first_world task)) c.in_err-bind_readers.ensures.read_by_b_err c.in_err-bind_readers.ensures.read_by_a_err c.bind_readers.ensures.log c.in_err-bind_readers.ensures.puts.cut)
 
 pub returns-in_err-make_rounds-clause-cut : goal.returns-in_err-make_rounds-clause-cut
 returns-in_err-make_rounds-clause-cut g c =
@@ -28,7 +28,7 @@ returns-in_err-make_rounds-clause-cut g c =
     (g.O.Outside.holds c.args.outside.now) (g.O.Outside.holds c.bind_readers.new.outside) (g.O.Outside.holds c.make_rounds.new.outside)
     (record { read_by_b = c.in_ok-bind_readers.ensures.read_by_b; read_by_a = c.in_ok-bind_readers.ensures.read_by_a; log = c.bind_readers.ensures.log })
     (g.O.Outside.calls c.args.outside.now) (g.O.Outside.calls c.bind_readers.new.outside) (g.O.Outside.calls c.make_rounds.new.outside) c.in_ok-bind_readers.ensures.puts.made
-    (course.rounds c.args.rounds) c.in_err-make_rounds.field-0.0 c.in_err-make_rounds.ensures.cut)
+    (course.rounds c.args.schedule c.args.rounds) c.in_err-make_rounds.field-0.0 c.in_err-make_rounds.ensures.cut)
 
 pub returns-in_err-make_rounds-clause-fault : goal.returns-in_err-make_rounds-clause-fault
 returns-in_err-make_rounds-clause-fault g c =
@@ -50,7 +50,7 @@ returns-clause-ended g c =
     (g.O.Outside.holds c.args.outside.now) (g.O.Outside.holds c.bind_readers.new.outside) (g.O.Outside.holds c.make_rounds.new.outside)
     (record { read_by_b = c.in_ok-bind_readers.ensures.read_by_b; read_by_a = c.in_ok-bind_readers.ensures.read_by_a; log = c.bind_readers.ensures.log })
     (g.O.Outside.calls c.args.outside.now) (g.O.Outside.calls c.bind_readers.new.outside) (g.O.Outside.calls c.make_rounds.new.outside) c.in_ok-bind_readers.ensures.puts.made
-    (course.rounds c.args.rounds) c.make_rounds.new.run.rounds c.make_rounds.new.run.world.state status (g.O.Outside.holds c.end.new.outside) (g.O.Outside.calls c.end.new.outside)
+    (course.rounds c.args.schedule c.args.rounds) c.make_rounds.new.run.rounds c.make_rounds.new.run.world.state status (g.O.Outside.holds c.end.new.outside) (g.O.Outside.calls c.end.new.outside)
     c.in_ok-make_rounds.ensures.ok is
     (record {
       read_by_b = c.end.ensures.other_ports ReadByB b_isnt_log;
@@ -67,7 +67,7 @@ returns-clause-cut g c =
     (g.O.Outside.holds c.args.outside.now) (g.O.Outside.holds c.bind_readers.new.outside) (g.O.Outside.holds c.make_rounds.new.outside)
     (record { read_by_b = c.in_ok-bind_readers.ensures.read_by_b; read_by_a = c.in_ok-bind_readers.ensures.read_by_a; log = c.bind_readers.ensures.log })
     (g.O.Outside.calls c.args.outside.now) (g.O.Outside.calls c.bind_readers.new.outside) (g.O.Outside.calls c.make_rounds.new.outside) c.in_ok-bind_readers.ensures.puts.made
-    (course.rounds c.args.rounds) c.make_rounds.new.run.rounds c.make_rounds.new.run.world.state status (g.O.Outside.holds c.end.new.outside) (g.O.Outside.calls c.end.new.outside)
+    (course.rounds c.args.schedule c.args.rounds) c.make_rounds.new.run.rounds c.make_rounds.new.run.world.state status (g.O.Outside.holds c.end.new.outside) (g.O.Outside.calls c.end.new.outside)
     c.in_ok-make_rounds.ensures.ok
     (record {
       read_by_b = c.end.ensures.other_ports ReadByB b_isnt_log;

@@ -1,15 +1,15 @@
 use Rattle.std.proofs.Common.{◌≡◌, ◌≤◌, ◌-◌, ℕ, List}
-use Rattle.path_core.specs.Octets.{octets}
-use Rattle.world_laws.specs.Serial.{IsSerial}
 use Rattle.world_laws.specs.Worlds.{Turn}
 use Rattle.run_outside.specs.Calling.{OnlyPuts}
 use Rattle.mptcp_run.specs.Rounds.{AtRound}
-use Rattle.mptcp_run.proofs.serial.make_rounds.Given as goal
+use Rattle.mptcp_run.specs.Schedules.{AreRoundsBy}
+use Rattle.mptcp_run.specs.declared.schedule.Schedule.{Schedule}
+use Rattle.mptcp_run.proofs.scheduled.make_rounds.Given as goal
 use Rattle.mptcp_run.proofs.Folding.{RoundsPut, RoundsCut}
 use Rattle.mptcp_run.specs.Task.{Connection}
 
-abbrev serial : ℕ → List Turn → Connection → Type 0
-serial n ts w = IsSerial octets n ts w
+abbrev by : Schedule → ℕ → List Turn → Connection → Type 0
+by schedule n ts w = AreRoundsBy schedule n ts w
 
 -- what the rounds that are left come to, all rounds do
 abbrev pub invariant-loop-round : goal.invariant-loop-round
@@ -18,13 +18,13 @@ invariant-loop-round g l = record {
   opening : l.run.opening ≡ l.initial.run.opening;
   rounds : l.run.rounds ≡ l._round;
   few : l._round ≤ l.most;
-  put : (count : _) (v : _) (new : _) (after : _) → RoundsPut serial l.run.opening (l.most - l._round) l._round count l.run.world.state v
+  put : (count : _) (v : _) (new : _) (after : _) → RoundsPut (by l.schedule) l.run.opening (l.most - l._round) l._round count l.run.world.state v
       (g.O.Outside.holds l.outside) new (g.O.Outside.calls l.outside) after
-      → RoundsPut serial l.initial.run.opening l.most 0 count l.initial.run.world.state v
+      → RoundsPut (by l.schedule) l.initial.run.opening l.most 0 count l.initial.run.world.state v
       (g.O.Outside.holds l.initial.outside) new (g.O.Outside.calls l.initial.outside) after;
-  cut : (new : _) (after : _) (status : _) → RoundsCut serial l.run.opening (l.most - l._round) l._round l.run.world.state
+  cut : (new : _) (after : _) (status : _) → RoundsCut (by l.schedule) l.run.opening (l.most - l._round) l._round l.run.world.state
       (g.O.Outside.holds l.outside) new (g.O.Outside.calls l.outside) after status
-      → RoundsCut serial l.initial.run.opening l.most 0 l.initial.run.world.state
+      → RoundsCut (by l.schedule) l.initial.run.opening l.most 0 l.initial.run.world.state
       (g.O.Outside.holds l.initial.outside) new (g.O.Outside.calls l.initial.outside) after status;
   only : OnlyPuts (g.O.Outside.load_faults l.initial.outside) (g.O.Outside.load_faults l.outside)
       (g.O.Outside.port_faults l.initial.outside) (g.O.Outside.port_faults l.outside);

@@ -1,13 +1,12 @@
 use Rattle.std.proofs.Common.{◌∙◌, sym, ap, ◌+◌, ◌-◌, arith}
 use Rattle.std.proofs.lemmas.Result.{err_from_is_err_and}
-use Rattle.path_core.specs.Octets.{octets}
-use Rattle.world_core.specs.Rounds.{RoundTo}
-use Rattle.world_laws.specs.Serial.{IsSerial}
 use Rattle.run_outside.proofs.Calling.{only_then}
 use Rattle.run_outside.proofs.PortsLemmas.{fault_after}
-use Rattle.mptcp_run.proofs.Courses.{serial_kind, serial_made, serial_cut}
+use Rattle.mptcp_run.specs.Schedules.{RoundBy, AreRoundsBy}
+use Rattle.mptcp_run.proofs.Courses.{scheduled_made, scheduled_cut}
 use Rattle.mptcp_run.proofs.RoundsMade.{put_more, put_last, cut_later, cut_now, rounds_over}
-use Rattle.mptcp_run.proofs.serial.make_rounds.Goals as goal
+use Rattle.mptcp_run.proofs.BySchedule.{kind_by}
+use Rattle.mptcp_run.proofs.scheduled.make_rounds.Goals as goal
 
 pub loop-round-preserved : goal.loop-round-preserved
 loop-round-preserved g c =
@@ -19,12 +18,12 @@ loop-round-preserved g c =
       rounds = made.rounds ∙ ap (λ n. n + 1) inv.rounds;
       few = omega (arith, c.loop-round-test.true);
       put = λ count v new after rest. inv.put count v new after
-          (put_more (RoundTo octets) (λ n ts w. IsSerial octets n ts w) serial_kind c.loop-round.run.opening (c.args.most - c.loop-round._round) (c.args.most - (c.loop-round._round + 1)) c.loop-round._round c.loop-round.run.rounds
+          (put_more (RoundBy c.args.schedule) (λ n ts w. AreRoundsBy c.args.schedule n ts w) (kind_by c.args.schedule) c.loop-round.run.opening (c.args.most - c.loop-round._round) (c.args.most - (c.loop-round._round + 1)) c.loop-round._round c.loop-round.run.rounds
           (omega (arith, c.loop-round-test.true)) inv.rounds
           c.make_round.new.run.opening (c.loop-round._round + 1) count c.loop-round.run.world.state c.make_round.new.run.world.state v _ _ new _ _ after
           made.opening (omega arith) going made.made rest);
       cut = λ new after status rest. inv.cut new after status
-          (cut_later (RoundTo octets) (λ n ts w. IsSerial octets n ts w) serial_kind c.loop-round.run.opening (c.args.most - c.loop-round._round) (c.args.most - (c.loop-round._round + 1)) c.loop-round._round c.loop-round.run.rounds
+          (cut_later (RoundBy c.args.schedule) (λ n ts w. AreRoundsBy c.args.schedule n ts w) (kind_by c.args.schedule) c.loop-round.run.opening (c.args.most - c.loop-round._round) (c.args.most - (c.loop-round._round + 1)) c.loop-round._round c.loop-round.run.rounds
           (omega (arith, c.loop-round-test.true)) inv.rounds
           c.make_round.new.run.opening (c.loop-round._round + 1) c.loop-round.run.world.state c.make_round.new.run.world.state _ _ new _ _ after status
           made.opening (omega arith) going made.made rest);
@@ -34,18 +33,18 @@ loop-round-preserved g c =
 pub returns-in_err-make_round-clause-cut : goal.returns-in_err-make_round-clause-cut
 returns-in_err-make_round-clause-cut g c =
     let inv = c.loop-round.invariant in let p = err_from_is_err_and c.from_residual.result c.from_residual.ensures.1 in
-    rw (p.1, p.2) (serial_cut c.args.run.now.opening c.args.most c.args.run.now.world.state _ _ _ _ c.in_err-make_round.field-0.0
+    rw (p.1, p.2) (scheduled_cut c.args.run.now.opening c.args.most c.args.run.now.world.state _ _ _ _ c.args.schedule c.in_err-make_round.field-0.0
     (inv.cut _ _ c.in_err-make_round.field-0.0
-    (cut_now (RoundTo octets) (λ n ts w. IsSerial octets n ts w) serial_kind c.loop-round.run.opening (c.args.most - c.loop-round._round) (c.args.most - (c.loop-round._round + 1)) c.loop-round._round c.loop-round.run.rounds
+    (cut_now (RoundBy c.args.schedule) (λ n ts w. AreRoundsBy c.args.schedule n ts w) (kind_by c.args.schedule) c.loop-round.run.opening (c.args.most - c.loop-round._round) (c.args.most - (c.loop-round._round + 1)) c.loop-round._round c.loop-round.run.rounds
     (omega (arith, c.loop-round-test.true)) inv.rounds
     c.loop-round.run.world.state _ _ _ _ c.in_err-make_round.field-0.0 c.in_err-make_round.ensures.stops)))
 
 pub returns-then-not-goes_on-clause-ok : goal.returns-then-not-goes_on-clause-ok
 returns-then-not-goes_on-clause-ok g c =
     let inv = c.loop-round.invariant in let made = c.in_ok-make_round.ensures in
-    serial_made c.args.run.now.opening c.args.most c.args.run.now.world.state _ _ _ _ c.make_round.new.run.rounds c.make_round.new.run.world.state
+    scheduled_made c.args.run.now.opening c.args.most c.args.run.now.world.state _ _ _ _ c.args.schedule c.make_round.new.run.rounds c.make_round.new.run.world.state
     (inv.put _ _ _ _
-    (put_last (RoundTo octets) (λ n ts w. IsSerial octets n ts w) serial_kind c.loop-round.run.opening (c.args.most - c.loop-round._round) (c.args.most - (c.loop-round._round + 1)) c.loop-round._round c.loop-round.run.rounds
+    (put_last (RoundBy c.args.schedule) (λ n ts w. AreRoundsBy c.args.schedule n ts w) (kind_by c.args.schedule) c.loop-round.run.opening (c.args.most - c.loop-round._round) (c.args.most - (c.loop-round._round + 1)) c.loop-round._round c.loop-round.run.rounds
     (omega (arith, c.loop-round-test.true)) inv.rounds
     c.make_round.new.run.rounds c.loop-round.run.world.state c.make_round.new.run.world.state _ _ _ _ (sym c.goes_on.ensures ∙ c.if-not-goes_on.true) made.made
     (made.rounds ∙ ap (λ n. n + 1) inv.rounds)))
@@ -53,9 +52,9 @@ returns-then-not-goes_on-clause-ok g c =
 pub returns-clause-ok : goal.returns-clause-ok
 returns-clause-ok g c =
     let inv = c.loop-round.invariant in
-    serial_made c.args.run.now.opening c.args.most c.args.run.now.world.state _ _ _ _ c.loop-round.run.rounds c.loop-round.run.world.state
+    scheduled_made c.args.run.now.opening c.args.most c.args.run.now.world.state _ _ _ _ c.args.schedule c.loop-round.run.rounds c.loop-round.run.world.state
     (inv.put _ _ _ _
-    (rounds_over (RoundTo octets) (λ n ts w. IsSerial octets n ts w) serial_kind c.loop-round.run.opening (c.args.most - c.loop-round._round) c.loop-round._round
+    (rounds_over (RoundBy c.args.schedule) (λ n ts w. AreRoundsBy c.args.schedule n ts w) (kind_by c.args.schedule) c.loop-round.run.opening (c.args.most - c.loop-round._round) c.loop-round._round
     c.loop-round.run.rounds c.loop-round.run.world.state _ _ (omega (arith, c.loop-round-test.false)) inv.rounds))
 
 pub returns-in_err-make_round-clause-fault : goal.returns-in_err-make_round-clause-fault

@@ -1,33 +1,37 @@
-//! Rounds in which the actors take whole turns, one after the other.
+//! Rounds by a schedule.
 
 ghost use Rattle.std.specs.Prelude.{◌≡◌, ◌+◌, ◌-◌, ◌^◌, ◌<◌, length, IfErr, OnOk};
-ghost use Rattle.path_core.specs.Octets.{octets};
-ghost use Rattle.world_core.specs.Rounds.{RoundTo};
 ghost use Rattle.run_outside.specs.Calling.{OnlyPuts};
 ghost use Rattle.mptcp_run.specs.Making.{RoundMade, RoundStops};
 ghost use Rattle.mptcp_run.specs.Courses.{CourseMade, CourseCut};
 ghost use Rattle.run_outside.specs.Ports.{IsPortsFault};
 ghost use Rattle.world_core.specs.RoundEnds.{round_ends};
 ghost use Rattle.mptcp_run.specs.Rounds.{AtRound};
+ghost use Rattle.mptcp_run.specs.Schedules.{RoundBy};
 ghost use Rattle.mptcp_run.specs.Task as course;
 
 use crate::rounds::Run;
+use crate::schedule::{Schedule, round_by};
 use outside_kit::Outside;
 use run_outside::Status;
 use std::alloc::Global;
-use world_core::round;
 
 /// Makes one round, and puts it.
-fn make_round<O: Outside>(alloc: Global, outside: &mut O, run: &mut Run) -> Result<(), Status>
+fn make_round<O: Outside>(
+    alloc: Global,
+    outside: &mut O,
+    schedule: Schedule,
+    run: &mut Run,
+) -> Result<(), Status>
     requires begins { AtRound run.old }
     requires few { run.old.rounds < 2 ^ 64 - 1 }
-    ensures made { OnOk result (RoundMade (RoundTo octets) run.old.opening run.old.rounds
+    ensures made { OnOk result (RoundMade (RoundBy schedule) run.old.opening run.old.rounds
         run.old.world.state run.new.world.state (O.holds outside.old) (O.holds outside.new)
         (O.calls outside.old) (O.calls outside.new)) }
     ensures begins { OnOk result (AtRound run.new) }
     ensures rounds { OnOk result (run.new.rounds ≡ run.old.rounds + 1) }
     ensures opening { run.new.opening ≡ run.old.opening }
-    ensures stops { IfErr result (RoundStops (RoundTo octets) run.old.opening run.old.rounds
+    ensures stops { IfErr result (RoundStops (RoundBy schedule) run.old.opening run.old.rounds
         run.old.world.state (O.holds outside.old) (O.holds outside.new)
         (O.calls outside.old) (O.calls outside.new)) }
     ensures fault { IfErr result
@@ -36,7 +40,7 @@ fn make_round<O: Outside>(alloc: Global, outside: &mut O, run: &mut Run) -> Resu
         (O.load_faults outside.old) (O.load_faults outside.new)
         (O.port_faults outside.old) (O.port_faults outside.new) }
 {
-    match round(&mut run.world) {
+    match round_by(schedule, &mut run.world) {
         Ok(()) => run.put_round(alloc, outside),
         Err(_) => Err(Status::Memory),
     }
@@ -46,17 +50,18 @@ fn make_round<O: Outside>(alloc: Global, outside: &mut O, run: &mut Run) -> Resu
 pub fn make_rounds<O: Outside>(
     alloc: Global,
     outside: &mut O,
+    schedule: Schedule,
     run: &mut Run,
     most: u32,
 ) -> Result<(), Status>
     requires begins { AtRound run.old }
     requires none { run.old.rounds ≡ 0 }
     // All turns of such a course, and as many rounds as they end.
-    ensures ok { OnOk result ((made : CourseMade (course.rounds most) run.old.opening
+    ensures ok { OnOk result ((made : CourseMade (course.rounds schedule most) run.old.opening
         run.old.world.state run.new.world.state (O.holds outside.old) (O.holds outside.new)
         (O.calls outside.old) (O.calls outside.new))
         × (run.new.rounds ≡ length (round_ends made.turns run.old.world.state))) }
-    ensures cut { IfErr result (CourseCut (course.rounds most) run.old.opening run.old.world.state
+    ensures cut { IfErr result (CourseCut (course.rounds schedule most) run.old.opening run.old.world.state
         (O.holds outside.old) (O.holds outside.new) (O.calls outside.old) (O.calls outside.new)) }
     ensures fault { IfErr result
         (IsPortsFault (O.port_faults outside.old) (O.port_faults outside.new)) }
@@ -65,7 +70,7 @@ pub fn make_rounds<O: Outside>(
         (O.port_faults outside.old) (O.port_faults outside.new) }
 {
     for _round in 0..most {
-        make_round(alloc, outside, run)?;
+        make_round(alloc, outside, schedule, run)?;
         if !run.world.goes_on() {
             return Ok(());
         }
