@@ -18,7 +18,7 @@ use Rattle.world_laws.specs.Serial.{goes_on, OneOf}
 use Rattle.world_laws.specs.StampedBooks.{answer_to}
 use Rattle.world_laws.specs.Weaving.{steps_by}
 use Rattle.world_laws.specs.Worlds.{WorldState, Turn, crew_after, asked, stepped, world_step, goes, is_going, all_over, AreLawful}
-use Rattle.world_laws.proofs.Rounds.SerialIsLawful.{other_stays, all_over_from}
+use Rattle.world_laws.proofs.Rounds.SerialIsLawful.{other_stays}
 use Rattle.world_laws.proofs.Weaving.WholeRounds.{lawful_append}
 use Rattle.world_core.specs.Cuts.{ShowsAs}
 use Rattle.world_core.specs.declared.timed_rounds.NextStep.{NextStep}
@@ -167,9 +167,18 @@ module _ {C : Type 0} where
       by other (inl low) x y = x low
       by other (inr behind) x y = y behind
 
+  -- where nobody goes each turn is over
+  over_if_none : (crew : List (ActorCrew C)) → ((i : ℕ) → goes (slice_get crew i) ≡ false) → all_over crew ≡ true
+  over_if_none [] rest = refl
+  over_if_none (c ∷ crew) rest = by (is_over c.member) (rest 0) (over_if_none crew (λ i. rest (suc i)))
+    where
+      by : (b : Bool) → not b ≡ false → all_over crew ≡ true → (b && all_over crew) ≡ true
+      by true first behind = behind
+      by false first behind = cc
+
   pub first_is_none : (crew : List (ActorCrew C)) (n : ℕ) (step : Option NextStep) → n ≡ length crew → IsFirstIf n step crew → IsNone step → all_over crew ≡ true
   first_is_none crew n (Some s) all h none = cc
-  first_is_none crew n None all h none = all_over_from crew (λ i. by i (cases_lt i (length crew)))
+  first_is_none crew n None all h none = over_if_none crew (λ i. by i (cases_lt i (length crew)))
     where
       by : (i : ℕ) → (i < length crew) ⊎ (length crew ≤ i) → goes (slice_get crew i) ≡ false
       by i (inl low) = rests (slice_get crew i) (h i (omega (arith, low, all)))
