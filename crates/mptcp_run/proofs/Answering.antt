@@ -33,6 +33,7 @@ use Rattle.run_outside.specs.Ports.{IsUntouched, IsPortsFault, HoldsMore, HoldsW
 use Rattle.mptcp_run.specs.Promised.{IsPlainTask, IsShortTask, EndsWithRound, IsAlwaysKept, HoldsPrefixOf, HoldsPrefixIfBound, NoneIsAltered, ReadersHaveAsMany, ReadersHaveFiles, ReadersHavePrefixes, ReadersHavePrefixesIfBound}
 use Rattle.mptcp_run.specs.Putting.{IsWhole, IsStopped}
 use Rattle.mptcp_run.specs.Replaying.{IsReplayFault}
+use Rattle.mptcp_run.specs.Asked.{AsksInRange}
 use Rattle.mptcp_run.specs.Schedules.{work_by}
 use Rattle.mptcp_run.specs.declared.schedule.Schedule.{Schedule}
 use Rattle.mptcp_run.specs.declared.schedule.Schedule.TheVariants.{Serial, Timed}
@@ -88,6 +89,11 @@ threads_task content line most input is script file_a file_b =
 pub unordered : (schedule : Schedule) (most : ℕ) → order_of (work_by schedule most) ≡ None
 unordered Serial most = refl
 unordered Timed most = refl
+
+-- and are one at least
+pub scheduled_some : (schedule : Schedule) (most : ℕ) → AsksInRange (work_by schedule most) → 1 ≤ most
+scheduled_some Serial most some = some
+scheduled_some Timed most some = some
 
 -- what a task of them is
 pub scheduled_task : (content : List ℕ → Option (List ℕ)) (line : Line) (schedule : Schedule) (most : ℕ) (input : Input) → line.work ≡ work_by schedule most

@@ -11,6 +11,7 @@ use Rattle.mptcp_run.specs.Made.{Bench, made_task, bench_by, bench_of, bench_in}
 use Rattle.run_outside.specs.Causes.{IsWordsFault}
 use Rattle.run_outside.specs.Plan.{loads_of}
 use Rattle.mptcp_run.specs.Promised.{NoneIsAltered, ReadersHaveAsMany, ReadersHaveFiles}
+use Rattle.mptcp_run.specs.declared.schedule.Schedule.TheVariants.{Serial}
 use Rattle.mptcp_run.specs.Task.{first_world}
 use Rattle.mptcp_run.proofs.Answering.{made_cut_answer}
 use Rattle.run_outside.proofs.Calls.{Told, adds_none, cut_none}
@@ -71,7 +72,7 @@ module _ (loads : ℕ) (faults : Port → ℕ) (holds : Ports) (ta : Told) where
       → IsMadeAnswer (record { line = line; task = made_task number most }) loads loads faults faults holds holds ta ta Memory
   made_memory line number most few =
       made_cut_answer (record { line = line; task = made_task number most }) (made_is_plain number most few) (made_is_unstopped number) loads loads refl faults faults holds holds ta ta Memory tt
-      (nothing_made line (made_task number most) holds ta (no_round most (first_world (made_task number most))))
+      (nothing_made line (made_task number most) holds ta (no_round Serial most (first_world (made_task number most))))
 
   pub words_memory : (words : List (List ℕ)) → IfSome (bench_in words) (λ made. IsMadeAnswer made loads loads faults faults holds holds ta ta Memory)
   words_memory words = of_words (λ made. IsMadeAnswer made loads loads faults faults holds holds ta ta Memory) made_memory words

@@ -6,7 +6,7 @@ use Rattle.run_outside.specs.Plan.{AddsAll, first_loads}
 use Rattle.mptcp_run.specs.Task.{Task, task_from}
 use Rattle.mptcp_run.specs.Task as course
 use Rattle.mptcp_run.proofs.PlainTasks.{short_input}
-use Rattle.mptcp_run.proofs.Answering.{scheduled_task, unordered, unordered_within, unordered_valid, end_from, cut_from, input_answer, end_answer, cut_answer}
+use Rattle.mptcp_run.proofs.Answering.{scheduled_task, scheduled_some, unordered, unordered_within, unordered_valid, end_from, cut_from, input_answer, end_answer, cut_answer}
 use Rattle.run_outside.proofs.Loading.{unordered_loads}
 use Rattle.run_outside.proofs.PortsLemmas.{fault_after}
 use Rattle.mptcp_run.proofs.top_call.run_scheduled.Goals as goal
@@ -31,7 +31,7 @@ returns-in-Ok-perform g c =
     (g.O.Outside.calls c.args.outside.now) (g.O.Outside.calls c.perform.new.outside) task
     (scheduled_task content line c.args.schedule c.args.rounds c.in-Ok.input c.requires.asked read.script read.file_a read.file_b) (short_input _ read.loaded) read.file_a read.file_b
     (unordered_within content line (ap order_of c.requires.asked ∙ unordered c.args.schedule c.args.rounds) read.within) read.script (unordered_valid content line (ap order_of c.requires.asked ∙ unordered c.args.schedule c.args.rounds))
-    refl (subst (λ (w : Work). AsksInRange w) c.requires.asked c.requires.in_range) tt c.in-Ok-perform.status
+    refl (scheduled_some c.args.schedule c.args.rounds (subst (λ (w : Work). AsksInRange w) c.requires.asked c.requires.in_range)) tt c.in-Ok-perform.status
     (end_from (g.O.Outside.holds c.args.outside.now) (g.O.Outside.holds c.load_input.new.outside) (g.O.Outside.holds c.perform.new.outside) (λ p. (read.loads.untouched p).0) line task
     (g.O.Outside.calls c.args.outside.now) (g.O.Outside.calls c.load_input.new.outside) (g.O.Outside.calls c.perform.new.outside)
     (subst (λ plan. AddsAll plan (g.O.Outside.calls c.args.outside.now) (g.O.Outside.calls c.load_input.new.outside)) (unordered_loads line (ap order_of c.requires.asked ∙ unordered c.args.schedule c.args.rounds)) read.loads.made)
