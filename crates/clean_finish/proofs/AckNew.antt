@@ -11,7 +11,6 @@ use Rattle.subflow_send.specs.Records.{Record, SendState, Tile, end_of, span_of}
 use Rattle.subflow_send.specs.Rules.{is_unsent, uncovered, newly_acknowledged, ack_kind, after_acknowledge, sample_of}
 use Rattle.subflow_send.proofs.Covering.{Tile-uncovered}
 use Rattle.subflow_tcp.specs.declared.handshake.State.{State}
-use Rattle.subflow_tcp.specs.declared.handshake.State.TheVariants as states
 use Rattle.subflow_tcp.specs.State.{EndState}
 use Rattle.subflow_tcp.specs.States.{after_fin_acked}
 use Rattle.subflow_tcp.specs.Taking.{after_new_ack, after_ack_kind, after_acknowledgement}
@@ -146,13 +145,13 @@ window_on payload window octets rtt c room most calm = up room (acknowledged_gro
 pub open_acked : (finished acked : Bool) (state : State) → (acked ≡ true → finished ≡ true) → IsOpen finished state
     → IsOpen finished (if acked then after_fin_acked state else state)
 open_acked finished false state sent is = is
-open_acked finished true states.FinWait1 sent is = by (sent refl)
+open_acked finished true State.FinWait1 sent is = by (sent refl)
   where
-    by : finished ≡ true → IsOpen finished states.FinWait2
+    by : finished ≡ true → IsOpen finished State.FinWait2
     by e = record { finish = ap not (sym e); closed = refl; half = refl; opening = refl; connected = refl }
-open_acked finished true states.Closing sent is = by (sent refl)
+open_acked finished true State.Closing sent is = by (sent refl)
   where
-    by : finished ≡ true → IsOpen finished states.TimeWait
+    by : finished ≡ true → IsOpen finished State.TimeWait
     by e = record { finish = ap not (sym e); closed = refl; half = refl; opening = refl; connected = refl }
-open_acked finished true states.Waiting sent is = is
+open_acked finished true State.Waiting sent is = is
 open_acked finished true _ sent is = is

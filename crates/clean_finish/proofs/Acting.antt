@@ -6,7 +6,6 @@ use Rattle.reassembly_book.specs.Steps.{read_reply, after_read}
 use Rattle.send_book.specs.State.{Sending}
 use Rattle.send_book.specs.Steps.{write_reply, after_write, close_reply, after_close}
 use Rattle.actor_desk.specs.declared.ask.Reply.{Reply}
-use Rattle.actor_desk.specs.declared.ask.Reply.TheVariants as replies
 use Rattle.actor_desk.specs.Words.{is_nil}
 use Rattle.stream_apps.specs.declared.duty.AppDuty.{AppDuty}
 use Rattle.stream_apps.specs.declared.duty.AppDuty.TheVariants.{Write, Close, Read, End}
@@ -73,7 +72,7 @@ module _ (k : Setting) (s : Lane) (t : ℕ) (p : Stage) (w : Lane) (j : Setting)
 
     pub acts_by_write : (a : AppState) (send : Sending) (b : Arriving) → WriterShows k w a send → ReaderShows j x a b
         → a.agenda ≡ Write ∷ Close ∷ Read ∷ End ∷ [] → 1 ≤ length a.rest → k.total ≤ 16777216
-        → Acts (app_takes (replies.Send (write_reply (offered a) send)) a) (after_write (offered a) send) b
+        → Acts (app_takes (Reply.Send (write_reply (offered a) send)) a) (after_write (offered a) send) b
     acts_by_write a send b writes reads at some small = record {
       writes = write_step k s t p w a send going writes at some small;
       reads = subst (λ (ds : List AppDuty). ReaderGoes j v q x (app_takes r (record a { agenda = ds })) b) (sym at)
@@ -84,7 +83,7 @@ module _ (k : Setting) (s : Lane) (t : ℕ) (p : Stage) (w : Lane) (j : Setting)
     }
       where
         r : Reply
-        r = replies.Send (write_reply (offered a) send)
+        r = Reply.Send (write_reply (offered a) send)
 
         same_but : {rest : List ℕ} {ds : List AppDuty} → ReaderIs j x.read x.data_fin_came x.got x.told_end a b
             → ReaderIs j x.read x.data_fin_came x.got x.told_end (record a { rest = rest; agenda = ds }) b
@@ -120,7 +119,7 @@ module _ (k : Setting) (s : Lane) (t : ℕ) (p : Stage) (w : Lane) (j : Setting)
 
     pub acts_by_close : (a : AppState) (send : Sending) (b : Arriving) → WriterShows k w a send → ReaderShows j x a b
         → a.agenda ≡ Close ∷ Read ∷ End ∷ [] → a.rest ≡ []
-        → Acts (app_takes (replies.Send (close_reply send)) a) (after_close send) b
+        → Acts (app_takes (Reply.Send (close_reply send)) a) (after_close send) b
     acts_by_close a send b writes reads at none = record {
       writes = close_step k s t p w a send going writes at none;
       reads = subst (λ (ds : List AppDuty). ReaderGoes j v q x (app_takes r (record a { agenda = ds })) b) (sym at)
@@ -130,7 +129,7 @@ module _ (k : Setting) (s : Lane) (t : ℕ) (p : Stage) (w : Lane) (j : Setting)
     }
       where
         r : Reply
-        r = replies.Send (close_reply send)
+        r = Reply.Send (close_reply send)
 
         closing : AppState
         closing = record (app_done (record a { agenda = Close ∷ Read ∷ End ∷ [] })) { closed = true }
@@ -175,7 +174,7 @@ module _ (k : Setting) (s : Lane) (t : ℕ) (p : Stage) (w : Lane) (j : Setting)
 
     pub acts_by_read : (a : AppState) (send : Sending) (b : Arriving) → WriterShows k w a send → ReaderShows j x a b
         → a.agenda ≡ Read ∷ End ∷ [] → a.told ≡ false
-        → Acts (app_takes (replies.Reassembly (read_reply 65536 b)) a) send (after_read 65536 b)
+        → Acts (app_takes (Reply.Reassembly (read_reply 65536 b)) a) send (after_read 65536 b)
     acts_by_read a send b writes reads at untold = record {
       writes = subst (λ (ds : List AppDuty). WriterGoes k s p w (app_takes r (record a { agenda = ds })) send) (sym at)
           (writes_on (app_reads_on (bytes_in r) a) (after a).told);
@@ -185,7 +184,7 @@ module _ (k : Setting) (s : Lane) (t : ℕ) (p : Stage) (w : Lane) (j : Setting)
     }
       where
         r : Reply
-        r = replies.Reassembly (read_reply 65536 b)
+        r = Reply.Reassembly (read_reply 65536 b)
 
         after : AppState → AppState
         after a' = app_read r a'
@@ -209,11 +208,11 @@ module _ (k : Setting) (s : Lane) (t : ℕ) (p : Stage) (w : Lane) (j : Setting)
         turn_is false told = ReadAll
 
     pub acts_by_end : (a : AppState) (send : Sending) (b : Arriving) → WriterShows k w a send → ReaderShows j x a b
-        → a.agenda ≡ End ∷ [] → Acts (app_takes replies.Done a) send b
+        → a.agenda ≡ End ∷ [] → Acts (app_takes Reply.Done a) send b
     acts_by_end a send b writes reads at = record {
-      writes = subst (λ (ds : List AppDuty). WriterGoes k s p w (app_takes replies.Done (record a { agenda = ds })) send) (sym at)
+      writes = subst (λ (ds : List AppDuty). WriterGoes k s p w (app_takes Reply.Done (record a { agenda = ds })) send) (sym at)
           (writes_no_more a send writes (ap is_writing at) a.count a.told [] refl);
-      reads = subst (λ (ds : List AppDuty). ReaderGoes j v q x (app_takes replies.Done (record a { agenda = ds })) b) (sym at) (record {
+      reads = subst (λ (ds : List AppDuty). ReaderGoes j v q x (app_takes Reply.Done (record a { agenda = ds })) b) (sym at) (record {
         reader = x.reader;
         count = 0;
         moves = (refl, refl);
@@ -223,5 +222,5 @@ module _ (k : Setting) (s : Lane) (t : ℕ) (p : Stage) (w : Lane) (j : Setting)
           over = reads.over ∙ ap (λ (es : List AppDuty). not (is_reading es)) at;
         };
       });
-      turn = subst (λ (ds : List AppDuty). IsAppTurn (app_takes replies.Done (record a { agenda = ds })).agenda) (sym at) Ended;
+      turn = subst (λ (ds : List AppDuty). IsAppTurn (app_takes Reply.Done (record a { agenda = ds })).agenda) (sym at) Ended;
     }

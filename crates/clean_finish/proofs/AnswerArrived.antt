@@ -5,10 +5,10 @@ use Rattle.sides.specs.declared.side.Side.TheVariants.{A, B}
 use Rattle.dss_mapping.specs.declared.kept.KeptMapping.{KeptMapping}
 use Rattle.link_model.specs.declared.flight.Flight.{Flight}
 use Rattle.subflow_tcp.specs.declared.segments.Outgoing.{Outgoing}
-use Rattle.path_agenda.specs.declared.duty.Duty.TheVariants as duties
-use Rattle.path_agenda.specs.declared.duty.AskDuty.TheVariants as ask_duties
-use Rattle.path_agenda.specs.declared.duty.SendDuty.TheVariants as send_duties
-use Rattle.path_agenda.specs.declared.duty.StepDuty.TheVariants as step_duties
+use Rattle.path_agenda.specs.declared.duty.Duty.{Duty}
+use Rattle.path_agenda.specs.declared.duty.AskDuty.{AskDuty}
+use Rattle.path_agenda.specs.declared.duty.SendDuty.{SendDuty}
+use Rattle.path_agenda.specs.declared.duty.StepDuty.{StepDuty}
 use Rattle.path_agenda.specs.Agenda.{syn_ack_came}
 use Rattle.path_core.specs.End.{PathEnd}
 use Rattle.path_core.specs.Profile.{Profile}
@@ -27,7 +27,7 @@ use Rattle.clean_finish.proofs.Passing.{stands_then}
 use Rattle.clean_finish.proofs.SynArrived.{last, not_last, done, all_settled}
 
 module _ {keys : Keys} {k j : Setting} {c : Profile} {begun begun_back : Lane} {m n : Half} {clock until : ℕ}
-    (h : Facing A keys k j c begun begun_back m n clock until ((duties.Step step_duties.Events) ∷ duties.End ∷ []))
+    (h : Facing A keys k j c begun begun_back m n clock until ((Duty.Step StepDuty.Events) ∷ Duty.End ∷ []))
     (none_came : h.back.control_came ≡ 0) (none_keys : h.back.keys_came ≡ 0)
     (low : m.end.tcp.send.una ≡ 0) (sent_one : h.out.control_sent ≡ 1) (nothing_waits : h.waiting ≡ 0)
     (tick window edge : ℕ) (some : 1 ≤ edge) (one_edge : edge ≤ 1) (most_edge : edge ≤ m.end.tcp.send.nxt)
@@ -88,7 +88,7 @@ module _ {keys : Keys} {k j : Setting} {c : Profile} {begun begun_back : Lane} {
       asked = λ e. (⊎_elim (λ is. is) (λ there. absurd (never there)) h.stages_back.ask, no_more h.back.received, omega arith);
     }
       where
-        never : Has (duties.Ask (ask_duties.Window A)) last ⊎ (Has (duties.Ask (ask_duties.AckOut A)) last × (m.end.treated.asked ≡ true)) → ⊥
+        never : Has (Duty.Ask (AskDuty.Window A)) last ⊎ (Has (Duty.Ask (AskDuty.AckOut A)) last × (m.end.treated.asked ≡ true)) → ⊥
         never (inl there) = not_last refl refl there
         never (inr there) = not_last refl refl there.0
 
@@ -116,11 +116,11 @@ module _ {keys : Keys} {k j : Setting} {c : Profile} {begun begun_back : Lane} {
       ask = inl (⊎_elim (λ is. is) (λ there. absurd (never_asks there)) h.stages.ask);
     }
       where
-        never_tells : Has (duties.Send (send_duties.SynAck B)) last ⊎ (Has (duties.Send (send_duties.Acknowledge B)) last × (h.owes_back ≡ true)) → ⊥
+        never_tells : Has (Duty.Send (SendDuty.SynAck B)) last ⊎ (Has (Duty.Send (SendDuty.Acknowledge B)) last × (h.owes_back ≡ true)) → ⊥
         never_tells (inl there) = not_last refl refl there
         never_tells (inr there) = not_last refl refl there.0
 
-        never_asks : Has (duties.Ask (ask_duties.Window B)) last ⊎ (Has (duties.Ask (ask_duties.AckOut B)) last × (n.end.treated.asked ≡ true)) → ⊥
+        never_asks : Has (Duty.Ask (AskDuty.Window B)) last ⊎ (Has (Duty.Ask (AskDuty.AckOut B)) last × (n.end.treated.asked ≡ true)) → ⊥
         never_asks (inl there) = not_last refl refl there
         never_asks (inr there) = not_last refl refl there.0
 

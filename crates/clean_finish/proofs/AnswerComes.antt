@@ -9,14 +9,14 @@ use Rattle.path_segments.specs.Laws.{meant}
 use Rattle.path_segments.specs.Heard.{HeardSegment}
 use Rattle.subflow_tcp.specs.declared.handshake.State.{State}
 use Rattle.subflow_tcp.specs.declared.handshake.State.TheVariants.{SynSent}
-use Rattle.subflow_tcp.specs.declared.verdicts.Meaning.TheVariants as means
+use Rattle.subflow_tcp.specs.declared.verdicts.Meaning.{Meaning}
 use Rattle.subflow_tcp.specs.Judging.{meaning_of}
 use Rattle.subflow_tcp.specs.Segments.{Copy as SubflowCopy}
 use Rattle.subflow_tcp.specs.State.{EndState}
 use Rattle.actor_desk.specs.Desk.{SixBooks}
 use Rattle.stream_apps.specs.Apps.{AppState}
-use Rattle.path_agenda.specs.declared.duty.Duty.TheVariants as duties
-use Rattle.path_agenda.specs.declared.duty.StepDuty.TheVariants as step_duties
+use Rattle.path_agenda.specs.declared.duty.Duty.{Duty}
+use Rattle.path_agenda.specs.declared.duty.StepDuty.{StepDuty}
 use Rattle.path_agenda.specs.Agenda.{syn_ack_came}
 use Rattle.path_core.specs.Arrival.{copy_of, reset_for, copy_taken}
 use Rattle.path_core.specs.DssIn.{held_of}
@@ -69,7 +69,7 @@ answer_shape x came keys_came least received brings low counts tells =
 -- an opening end accepts what acknowledges its SYN
 accepts : (c : SubflowCopy) (s : EndState) (acknowledged : ℕ) → s.state ≡ SynSent → nat_le (2 ^ 61) s.send.nxt ≡ false → nat_le (2 ^ 61) s.recv.edge ≡ false
     → c.acknowledged ≡ Some acknowledged → nat_lt 0 acknowledged ≡ true → nat_le acknowledged s.send.nxt ≡ true → c.rst ≡ false → c.syn ≡ true
-    → meaning_of c s ≡ means.Accepts acknowledged
+    → meaning_of c s ≡ Meaning.Accepts acknowledged
 accepts c s acknowledged state far far_edge is some most reset syn = rw (state, far, far_edge, is, some, most, reset, syn) refl
 
 -- the first of them isn't ahead of the last
@@ -107,7 +107,7 @@ module _ (start : Start) (plan : PathPlan) (k j : Setting) (s v : Lane) (t0 u0 :
           follow = follows start plan k j s v t0 u0 going going_back a b books p f others k_is j_is h early
 
           abbrev face : Facing A keys k j p.profile s v (half A a books now_before) (half B b books now_before) (tick start plan k j s v t0 u0 going going_back a b books p f others k_is j_is) p.until
-              ((duties.Step step_duties.Events) ∷ duties.End ∷ [])
+              ((Duty.Step StepDuty.Events) ∷ Duty.End ∷ [])
           face = moved start plan k j s v t0 u0 going going_back a b books p f others k_is j_is h early
 
           lane : Going k s t0 h.stage h.out
@@ -205,8 +205,8 @@ module _ (start : Start) (plan : PathPlan) (k j : Setting) (s v : Lane) (t0 u0 :
           most_edge : x.edge ≤ p.a.tcp.send.nxt
           most_edge = subst (λ (n : ℕ). x.edge ≤ n) (sym nxt) one_edge
 
-          meaning : meaning_of (copy_of (meant (said p.profile keys B x))) p.a.tcp ≡ means.Accepts x.edge
-          meaning = subst (λ (y : Sent). meaning_of (copy_of (meant (said p.profile keys B y))) p.a.tcp ≡ means.Accepts x.edge) (sym shape)
+          meaning : meaning_of (copy_of (meant (said p.profile keys B x))) p.a.tcp ≡ Meaning.Accepts x.edge
+          meaning = subst (λ (y : Sent). meaning_of (copy_of (meant (said p.profile keys B y))) p.a.tcp ≡ Meaning.Accepts x.edge) (sym shape)
               (accepts (copy_of heard) p.a.tcp x.edge state.1 (far nxt) (far own_edge) refl (lt-ltb 0 x.edge follow.acknowledges.some)
               (le-leb x.edge p.a.tcp.send.nxt most_edge) refl refl)
             where
@@ -292,7 +292,7 @@ module _ (start : Start) (plan : PathPlan) (k j : Setting) (s v : Lane) (t0 u0 :
 
           pub answer_comes : Relation (copy_taken values (due_of (copy start plan k j s v t0 u0 going going_back a b books p f others k_is j_is)) (q start plan k j s v t0 u0 going going_back a b books p f others k_is j_is))
           answer_comes =
-              subst Relation (sym (comes_as start plan k j s v t0 u0 going going_back a b books p f others k_is j_is h early (means.Accepts x.edge) meaning))
-              (subst (λ (y : Sent). Relation (heard_as A (meant (said p.profile keys B y)) (means.Accepts x.edge) now)) (sym shape)
+              subst Relation (sym (comes_as start plan k j s v t0 u0 going going_back a b books p f others k_is j_is h early (Meaning.Accepts x.edge) meaning))
+              (subst (λ (y : Sent). Relation (heard_as A (meant (said p.profile keys B y)) (Meaning.Accepts x.edge) now)) (sym shape)
               (subst (λ (y : EndState). Relation (goes_on A (end_of y) (syn_ack_came A) now)) (sym (acked_is face none state.0 sent_one h.treats.1 x.at
               h.back.received x.window x.edge refl follow.acknowledges.some one_edge most_edge (held_of p.profile A heard) (reset_for p.profile A heard))) taken))

@@ -11,7 +11,7 @@ use Rattle.subflow_send.specs.Rules.{newly_acknowledged, sample_of}
 use Rattle.subflow_tcp.specs.declared.dues.Due.{Due}
 use Rattle.subflow_tcp.specs.declared.handshake.State.TheVariants.{Established}
 use Rattle.subflow_tcp.specs.declared.segments.Outgoing.{Outgoing}
-use Rattle.subflow_tcp.specs.declared.verdicts.Meaning.TheVariants as means
+use Rattle.subflow_tcp.specs.declared.verdicts.Meaning.{Meaning}
 use Rattle.subflow_tcp.specs.Segments.{Copy as SubflowCopy}
 use Rattle.subflow_tcp.specs.State.{EndState}
 use Rattle.subflow_tcp.specs.Taking.{after_hearing, after_payload, after_new_ack, after_acknowledgement, after_telling, after_occupying, told_by_syn, is_fin_acked}
@@ -94,9 +94,9 @@ module _ {keys : Keys} {k j : Setting} {c : Profile} {begun begun_back : Lane} {
 
     -- with what the acknowledgement makes of the subflow
     abbrev pub end_by : EndState → PathEnd
-    end_by s = record (with_held told heard (means.Accepts edge) m.end) {
+    end_by s = record (with_held told heard (Meaning.Accepts edge) m.end) {
       tcp = tcp_after s;
-      treated = treated_of (items_of false A heard) (means.Accepts edge) heard answer m.end.tcp;
+      treated = treated_of (items_of false A heard) (Meaning.Accepts edge) heard answer m.end.tcp;
     }
 
     abbrev pub end_after : PathEnd
@@ -109,7 +109,7 @@ module _ {keys : Keys} {k j : Setting} {c : Profile} {begun begun_back : Lane} {
     pub acked_is : after_acknowledgement edge clock opened ≡ acked
     acked_is = new_ack edge clock opened (above low some) most_edge
 
-    pub judged_is : copy_judged false told answer A clock heard (means.Accepts edge) m.end ≡ end_by (after_acknowledgement edge clock opened)
+    pub judged_is : copy_judged false told answer A clock heard (Meaning.Accepts edge) m.end ≡ end_by (after_acknowledgement edge clock opened)
     judged_is = refl
 
     pub came_some : {y : ℕ} → y ≡ 0 → 1 ≤ max y 1

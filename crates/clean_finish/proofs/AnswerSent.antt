@@ -9,9 +9,8 @@ use Rattle.subflow_send.specs.Rules.{syn_record, after_resent}
 use Rattle.subflow_send.specs.Sendings.{never_sent}
 use Rattle.subflow_tcp.specs.declared.dues.Due.{Due}
 use Rattle.path_agenda.specs.declared.duty.Duty.{Duty}
-use Rattle.path_agenda.specs.declared.duty.Duty.TheVariants as duties
-use Rattle.path_agenda.specs.declared.duty.SendDuty.TheVariants as send_duties
-use Rattle.path_agenda.specs.declared.duty.StepDuty.TheVariants as step_duties
+use Rattle.path_agenda.specs.declared.duty.SendDuty.{SendDuty}
+use Rattle.path_agenda.specs.declared.duty.StepDuty.{StepDuty}
 use Rattle.path_core.specs.End.{PathEnd}
 use Rattle.path_core.specs.OptionsOut.{syn_ack_said}
 use Rattle.path_core.specs.Handover.{with_told}
@@ -76,7 +75,7 @@ syn_alone una nxt (r ∷ sent) tile = absurd (never tile.1 (low sent (span_of r)
         under : {x y : ℕ} → x < y → y ≤ 0 → x ≤ 0
         under less none = omega (arith, less, none)
 
-pub answered_drops : {ds : List Duty} {asked owes : Bool} {p : Stage} → StageIs A B (duties.Send (send_duties.SynAck B) ∷ ds) asked owes p
+pub answered_drops : {ds : List Duty} {asked owes : Bool} {p : Stage} → StageIs A B (Duty.Send (SendDuty.SynAck B) ∷ ds) asked owes p
     → StageIs A B ds asked owes (record p { tell = false })
 answered_drops {ds} is = record {
   window = behind_or ds (differ refl) is.window;
@@ -92,9 +91,9 @@ module _ {keys : Keys} {k j : Setting} {c : Profile} {begun begun_back : Lane} {
     (k_is : IsSetting c ticks k) (j_is : IsSetting c ticks j)
     (going : Going k begun t all_left begun) (going_back : Going j begun_back u all_left begun_back)
   where
-    module _ {ds : List Duty} (h : Facing B keys k j c begun begun_back m n clock until (duties.Send (send_duties.SynAck B) ∷ ds))
+    module _ {ds : List Duty} (h : Facing B keys k j c begun begun_back m n clock until (Duty.Send (SendDuty.SynAck B) ∷ ds))
         (unsent : h.out.control_sent ≡ 0) (came : h.back.control_came ≡ 1)
-        (none : HasNotBegun B j h.out.sender h.back.receiver m.end (duties.Send (send_duties.SynAck B) ∷ ds))
+        (none : HasNotBegun B j h.out.sender h.back.receiver m.end (Duty.Send (SendDuty.SynAck B) ∷ ds))
       where
         pub now : Going k begun t h.stage h.out
         now = now_out ticks t u k_is j_is going going_back h
@@ -243,7 +242,7 @@ module _ {keys : Keys} {k j : Setting} {c : Profile} {begun begun_back : Lane} {
         pub most_edge : {x : ℕ} (total : ℕ) → x ≡ 1 → x ≤ 1 + total + 0
         most_edge total is = omega (arith, is)
 
-        pub others : IsApart B A (duties.Send (send_duties.SynAck B))
+        pub others : IsApart B A (Duty.Send (SendDuty.SynAck B))
         others = record {
           window = differ refl;
           update = differ refl;
@@ -256,7 +255,7 @@ module _ {keys : Keys} {k j : Setting} {c : Profile} {begun begun_back : Lane} {
         }
 
         module _ (x : Sent) (hand : h.hand ≡ in_hand x false false) (rest : h.own.subflow.records.rest ≡ syn_record never_sent ∷ [])
-            (nothing_waits : h.waiting ≡ 0) (unowed : h.owes ≡ false) (buffer_is : m.end.receiving.window ≡ j.buffer) (events : Has (duties.Step step_duties.Events) ds)
+            (nothing_waits : h.waiting ≡ 0) (unowed : h.owes ≡ false) (buffer_is : m.end.receiving.window ≡ j.buffer) (events : Has (Duty.Step StepDuty.Events) ds)
             (fs gs : List (Flight Carried)) (f : Flight Carried) (flies : FliesAs c keys B f answer)
             (more : fs ≡ m.flying ++ f ∷ []) (same : gs ≡ n.flying)
           where
@@ -485,16 +484,16 @@ module _ {keys : Keys} {k j : Setting} {c : Profile} {begun begun_back : Lane} {
                 fin = h.apps_back.fin;
               };
               stages = stage_waits B A ds n.end.treated.asked h.owes_back h.stage events
-                  (stage_drops B A (duties.Send (send_duties.SynAck B)) ds n.end.treated.asked h.owes_back h.stage others h.stages);
-              stages_back = answered_drops (stage_waits A B (duties.Send (send_duties.SynAck B) ∷ ds) m.end.treated.asked h.owes h.stage_back (inr events) h.stages_back);
+                  (stage_drops B A (Duty.Send (SendDuty.SynAck B)) ds n.end.treated.asked h.owes_back h.stage others h.stages);
+              stages_back = answered_drops (stage_waits A B (Duty.Send (SendDuty.SynAck B) ∷ ds) m.end.treated.asked h.owes h.stage_back (inr events) h.stages_back);
               control = h.control;
               control_back = h.control_back;
               turn = h.turn;
               turn_back = h.turn_back;
-              settles = settles_drop B (duties.Send (send_duties.SynAck B)) ds m.end (differ refl) h.settles;
-              settles_back = settles_drop A (duties.Send (send_duties.SynAck B)) ds n.end (differ refl) h.settles_back;
+              settles = settles_drop B (Duty.Send (SendDuty.SynAck B)) ds m.end (differ refl) h.settles;
+              settles_back = settles_drop A (Duty.Send (SendDuty.SynAck B)) ds n.end (differ refl) h.settles_back;
               begins = inl (one_more h.out.control_sent);
-              begins_back = begun_drops A k h.back.sender h.out.receiver n.end (duties.Send (send_duties.SynAck B)) ds (differ refl) (λ is. differ refl) h.begins_back;
+              begins_back = begun_drops A k h.back.sender h.out.receiver n.end (Duty.Send (SendDuty.SynAck B)) ds (differ refl) (λ is. differ refl) h.begins_back;
               owed = λ e b. absurd (both_ways _ unowed e);
               owed_back = h.owed_back;
             }

@@ -4,17 +4,16 @@ use Rattle.std.proofs.lemmas.Bool.{and_parts, not-true, both_ways}
 use Rattle.std.proofs.lemmas.List.{length-replicate}
 use Rattle.sides.specs.declared.side.Side.{Side}
 use Rattle.sides.specs.declared.side.Side.TheVariants.{A, B}
-use Rattle.send_book.specs.declared.call.SendCall.TheVariants as send_calls
+use Rattle.send_book.specs.declared.call.SendCall.{SendCall}
 use Rattle.send_book.specs.declared.mark.ByteMark.TheVariants.{Free}
 use Rattle.send_book.specs.Tried.{no_paths}
 use Rattle.send_book.specs.State.{Sending}
 use Rattle.send_book.specs.Steps.{bytes_taken, after_write, after_close}
-use Rattle.reassembly_book.specs.declared.call.ReassemblyCall.TheVariants as reassembly_calls
+use Rattle.reassembly_book.specs.declared.call.ReassemblyCall.{ReassemblyCall}
 use Rattle.reassembly_book.specs.State.{Arriving, filled}
 use Rattle.reassembly_book.specs.Steps.{after_read, after_reading}
 use Rattle.actor_desk.specs.declared.ask.Ask.{Ask}
-use Rattle.actor_desk.specs.declared.ask.Ask.TheVariants as asks
-use Rattle.actor_desk.specs.declared.ask.LocalStep.TheVariants as steps
+use Rattle.actor_desk.specs.declared.ask.LocalStep.{LocalStep}
 use Rattle.actor_desk.specs.Words.{is_nil}
 use Rattle.actor_desk.specs.Books.{books_in, after_entry}
 use Rattle.actor_desk.specs.Desk.{SixBooks}
@@ -247,8 +246,8 @@ module _ (start : Start) (plan : PathPlan) (k j : Setting) (s v : Lane) (t0 u0 :
 
       act_write : Fare start t → (ds : List AppDuty) → t.a.agenda ≡ Write ∷ ds → Running start plan k j s v (after_a (app_ask Write t.a) t)
       act_write f ds at =
-          let ask = asks.Send A (send_calls.Write (offered t.a)) in
-          subst (λ (side : Side). Running start plan k j s v (after_a (asks.Send side (send_calls.Write (offered t.a))) t))
+          let ask = Ask.Send A (SendCall.Write (offered t.a)) in
+          subst (λ (side : Side). Running start plan k j s v (after_a (Ask.Send side (SendCall.Write (offered t.a))) t))
           (sym f.a.side_is) (acted ask (after_write (offered t.a) six.send_a) six.reassembly_a (books_after ask t.at_a.pass t.books)
           (acts_by_write k s t0 h.stage h.out j v u0 h.stage_back h.back now now_back t.a six.send_a six.reassembly_a h.apps.writes
           h.apps_back.reads (from_write t.a.agenda ds h.turn at) (some_left t.a.rest (stands Write ds f at)) small)
@@ -256,8 +255,8 @@ module _ (start : Start) (plan : PathPlan) (k j : Setting) (s v : Lane) (t0 u0 :
 
       act_close : Fare start t → (ds : List AppDuty) → t.a.agenda ≡ Close ∷ ds → Running start plan k j s v (after_a (app_ask Close t.a) t)
       act_close f ds at =
-          let ask = asks.Send A send_calls.Close in
-          subst (λ (side : Side). Running start plan k j s v (after_a (asks.Send side send_calls.Close) t)) (sym f.a.side_is)
+          let ask = Ask.Send A SendCall.Close in
+          subst (λ (side : Side). Running start plan k j s v (after_a (Ask.Send side SendCall.Close) t)) (sym f.a.side_is)
           (acted ask (after_close six.send_a) six.reassembly_a (books_after ask t.at_a.pass t.books)
           (acts_by_close k s t0 h.stage h.out j v u0 h.stage_back h.back now now_back t.a six.send_a six.reassembly_a h.apps.writes
           h.apps_back.reads (from_close t.a.agenda ds h.turn at)
@@ -266,8 +265,8 @@ module _ (start : Start) (plan : PathPlan) (k j : Setting) (s v : Lane) (t0 u0 :
 
       act_read : Fare start t → (ds : List AppDuty) → t.a.agenda ≡ Read ∷ ds → Running start plan k j s v (after_a (app_ask Read t.a) t)
       act_read f ds at =
-          let ask = asks.Reassembly A (reassembly_calls.Read 65536) in
-          subst (λ (side : Side). Running start plan k j s v (after_a (asks.Reassembly side (reassembly_calls.Read 65536)) t))
+          let ask = Ask.Reassembly A (ReassemblyCall.Read 65536) in
+          subst (λ (side : Side). Running start plan k j s v (after_a (Ask.Reassembly side (ReassemblyCall.Read 65536)) t))
           (sym f.a.side_is) (acted ask six.send_a (after_read 65536 six.reassembly_a) (books_after ask t.at_a.pass t.books)
           (acts_by_read k s t0 h.stage h.out j v u0 h.stage_back h.back now now_back t.a six.send_a six.reassembly_a h.apps.writes
           h.apps_back.reads (from_read t.a.agenda ds h.turn at) (not-true t.a.told (stands Read ds f at)))
@@ -275,7 +274,7 @@ module _ (start : Start) (plan : PathPlan) (k j : Setting) (s v : Lane) (t0 u0 :
           (read_whole 65536 six.reassembly_a h.apps_back.whole))
 
       act_end : (ds : List AppDuty) → t.a.agenda ≡ End ∷ ds → Running start plan k j s v (after_a (app_ask End t.a) t)
-      act_end ds at = acted (asks.Local steps.End) six.send_a six.reassembly_a refl
+      act_end ds at = acted (Ask.Local LocalStep.End) six.send_a six.reassembly_a refl
           (acts_by_end k s t0 h.stage h.out j v u0 h.stage_back h.back now now_back t.a six.send_a six.reassembly_a h.apps.writes
           h.apps_back.reads (from_end t.a.agenda ds h.turn at))
           (record { book = h.apps.book; more = le_refl _; fin = refl }) h.apps_back.receives.capacity h.apps_back.whole
@@ -372,8 +371,8 @@ module _ (start : Start) (plan : PathPlan) (k j : Setting) (s v : Lane) (t0 u0 :
 
       act_b_write : Fare start t → (ds : List AppDuty) → t.b.agenda ≡ Write ∷ ds → Running start plan k j s v (after_b (app_ask Write t.b) t)
       act_b_write f ds at =
-          let ask = asks.Send B (send_calls.Write (offered t.b)) in
-          subst (λ (side : Side). Running start plan k j s v (after_b (asks.Send side (send_calls.Write (offered t.b))) t))
+          let ask = Ask.Send B (SendCall.Write (offered t.b)) in
+          subst (λ (side : Side). Running start plan k j s v (after_b (Ask.Send side (SendCall.Write (offered t.b))) t))
           (sym f.b.side_is) (acted_back ask (after_write (offered t.b) six.send_b) six.reassembly_b (books_after ask t.at_b.pass t.books)
           (acts_by_write j v u0 h.stage_back h.back k s t0 h.stage h.out now_back now t.b six.send_b six.reassembly_b h.apps_back.writes
           h.apps.reads (from_write t.b.agenda ds h.turn_back at) (some_left t.b.rest (stands_b Write ds f at)) small_back)
@@ -381,8 +380,8 @@ module _ (start : Start) (plan : PathPlan) (k j : Setting) (s v : Lane) (t0 u0 :
 
       act_b_close : Fare start t → (ds : List AppDuty) → t.b.agenda ≡ Close ∷ ds → Running start plan k j s v (after_b (app_ask Close t.b) t)
       act_b_close f ds at =
-          let ask = asks.Send B send_calls.Close in
-          subst (λ (side : Side). Running start plan k j s v (after_b (asks.Send side send_calls.Close) t)) (sym f.b.side_is)
+          let ask = Ask.Send B SendCall.Close in
+          subst (λ (side : Side). Running start plan k j s v (after_b (Ask.Send side SendCall.Close) t)) (sym f.b.side_is)
           (acted_back ask (after_close six.send_b) six.reassembly_b (books_after ask t.at_b.pass t.books)
           (acts_by_close j v u0 h.stage_back h.back k s t0 h.stage h.out now_back now t.b six.send_b six.reassembly_b h.apps_back.writes
           h.apps.reads (from_close t.b.agenda ds h.turn_back at)
@@ -391,8 +390,8 @@ module _ (start : Start) (plan : PathPlan) (k j : Setting) (s v : Lane) (t0 u0 :
 
       act_b_read : Fare start t → (ds : List AppDuty) → t.b.agenda ≡ Read ∷ ds → Running start plan k j s v (after_b (app_ask Read t.b) t)
       act_b_read f ds at =
-          let ask = asks.Reassembly B (reassembly_calls.Read 65536) in
-          subst (λ (side : Side). Running start plan k j s v (after_b (asks.Reassembly side (reassembly_calls.Read 65536)) t))
+          let ask = Ask.Reassembly B (ReassemblyCall.Read 65536) in
+          subst (λ (side : Side). Running start plan k j s v (after_b (Ask.Reassembly side (ReassemblyCall.Read 65536)) t))
           (sym f.b.side_is) (acted_back ask six.send_b (after_read 65536 six.reassembly_b) (books_after ask t.at_b.pass t.books)
           (acts_by_read j v u0 h.stage_back h.back k s t0 h.stage h.out now_back now t.b six.send_b six.reassembly_b h.apps_back.writes
           h.apps.reads (from_read t.b.agenda ds h.turn_back at) (not-true t.b.told (stands_b Read ds f at)))
@@ -400,7 +399,7 @@ module _ (start : Start) (plan : PathPlan) (k j : Setting) (s v : Lane) (t0 u0 :
           (read_whole 65536 six.reassembly_b h.apps.whole))
 
       act_b_end : (ds : List AppDuty) → t.b.agenda ≡ End ∷ ds → Running start plan k j s v (after_b (app_ask End t.b) t)
-      act_b_end ds at = acted_back (asks.Local steps.End) six.send_b six.reassembly_b refl
+      act_b_end ds at = acted_back (Ask.Local LocalStep.End) six.send_b six.reassembly_b refl
           (acts_by_end j v u0 h.stage_back h.back k s t0 h.stage h.out now_back now t.b six.send_b six.reassembly_b h.apps_back.writes
           h.apps.reads (from_end t.b.agenda ds h.turn_back at))
           (record { book = h.apps_back.book; more = le_refl _; fin = refl }) h.apps.receives.capacity h.apps.whole

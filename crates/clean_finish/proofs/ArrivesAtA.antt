@@ -9,8 +9,8 @@ use Rattle.subflow_tcp.specs.declared.verdicts.Meaning.{Meaning}
 use Rattle.subflow_tcp.specs.Judging.{meaning_of}
 use Rattle.actor_desk.specs.Desk.{SixBooks}
 use Rattle.stream_apps.specs.Apps.{AppState}
-use Rattle.path_agenda.specs.declared.duty.Duty.TheVariants as duties
-use Rattle.path_agenda.specs.declared.duty.StepDuty.TheVariants as step_duties
+use Rattle.path_agenda.specs.declared.duty.Duty.{Duty}
+use Rattle.path_agenda.specs.declared.duty.StepDuty.{StepDuty}
 use Rattle.path_core.specs.Arrival.{copy_of, copy_taken}
 use Rattle.path_core.specs.MpJoin.{is_joined}
 use Rattle.path_core.specs.State.{PathState}
@@ -41,7 +41,7 @@ module _ (start : Start) (plan : PathPlan) (k j : Setting) (s v : Lane) (t0 u0 :
 
         -- as it stands before
         abbrev pub q : PathState Carried
-        q = record p { link = record p.link { under_way = copy ∷ others }; agenda = (duties.Step step_duties.Events) ∷ duties.End ∷ [] }
+        q = record p { link = record p.link { under_way = copy ∷ others }; agenda = (Duty.Step StepDuty.Events) ∷ Duty.End ∷ [] }
 
         abbrev pub tick : ℕ
         tick = max p.clock f.tick
@@ -91,11 +91,11 @@ module _ (start : Start) (plan : PathPlan) (k j : Setting) (s v : Lane) (t0 u0 :
           here = way_from p.profile keys k j B h.back.sender h.back.receiver h.back.datas h.out.acks h.hand p.a.tcp.send.una p.b.tcp.recv.edge
               tick p.until (going_to A (copy ∷ others)) h.way_back h.treats.0.0.none (going_from tick A (copy ∷ others) all_from) (under before)
 
-          abbrev pub moved : Facing A keys k j p.profile s v (half A a books q) (half B b books q) tick p.until ((duties.Step step_duties.Events) ∷ duties.End ∷ [])
-          moved = moves_on ((duties.Step step_duties.Events) ∷ duties.End ∷ []) h.faces tick (inl refl) (up p.clock f.tick) before there.0 here.1 here.0 there.1
+          abbrev pub moved : Facing A keys k j p.profile s v (half A a books q) (half B b books q) tick p.until ((Duty.Step StepDuty.Events) ∷ Duty.End ∷ [])
+          moved = moves_on ((Duty.Step StepDuty.Events) ∷ Duty.End ∷ []) h.faces tick (inl refl) (up p.clock f.tick) before there.0 here.1 here.0 there.1
 
           -- as A sees it
-          abbrev pub faced : Facing A keys k j p.profile s v (half A a books q) (half B b books q) tick p.until ((duties.Step step_duties.Events) ∷ duties.End ∷ [])
+          abbrev pub faced : Facing A keys k j p.profile s v (half A a books q) (half B b books q) tick p.until ((Duty.Step StepDuty.Events) ∷ Duty.End ∷ [])
           faced = moved
 
           pub link : LinkIs tick (record p.link { under_way = others })

@@ -3,12 +3,11 @@ use Rattle.std.proofs.Common.{◌≡◌, refl, ap, ℕ, ◌+◌, ◌-◌, ◌≤
 use Rattle.sides.specs.declared.side.Side.{Side}
 use Rattle.sides.specs.Side.{peer}
 use Rattle.path_segments.specs.Laws.{window_told}
-use Rattle.reassembly_book.specs.declared.call.ReassemblyReply.TheVariants as reassembly_replies
+use Rattle.reassembly_book.specs.declared.call.ReassemblyReply.{ReassemblyReply}
 use Rattle.reassembly_book.specs.Steps.{next_wanted, window}
-use Rattle.actor_desk.specs.declared.ask.Reply.TheVariants as replies
+use Rattle.actor_desk.specs.declared.ask.Reply.{Reply}
 use Rattle.path_agenda.specs.declared.duty.Duty.{Duty}
-use Rattle.path_agenda.specs.declared.duty.Duty.TheVariants as duties
-use Rattle.path_agenda.specs.declared.duty.AskDuty.TheVariants as ask_duties
+use Rattle.path_agenda.specs.declared.duty.AskDuty.{AskDuty}
 use Rattle.path_core.specs.End.{PathEnd}
 use Rattle.path_core.specs.Standing.{after_ack_out}
 use Rattle.path_core.specs.Profile.{Profile}
@@ -26,14 +25,14 @@ use Rattle.clean_finish.proofs.Dropping.{differ, behind, IsApart, stage_drops, w
 use Rattle.clean_finish.proofs.Passing.{side_of, stands_then, peer_is_other}
 use Rattle.clean_finish.proofs.Quiet.{now_back}
 
-pub same_window : {p q : Side} → duties.Ask (ask_duties.Window p) ≡ duties.Ask (ask_duties.Window q) → p ≡ q
+pub same_window : {p q : Side} → Duty.Ask (AskDuty.Window p) ≡ Duty.Ask (AskDuty.Window q) → p ≡ q
 same_window e = ap side_of e
 
 module _ {s : Side} {keys : Keys} {k j : Setting} {c : Profile} {begun begun_back : Lane} {m n : Half} {clock until : ℕ} (ticks t u : ℕ)
     (k_is : IsSetting c ticks k) (j_is : IsSetting c ticks j)
     (going : Going k begun t all_left begun) (going_back : Going j begun_back u all_left begun_back)
   where
-    module _ {ds : List Duty} (h : Facing s keys k j c begun begun_back m n clock until (duties.Ask (ask_duties.Window s) ∷ ds)) where
+    module _ {ds : List Duty} (h : Facing s keys k j c begun begun_back m n clock until (Duty.Ask (AskDuty.Window s) ∷ ds)) where
       back_now : Going j begun_back u h.stage_back h.back
       back_now = now_back ticks t u k_is j_is going going_back h
 
@@ -47,14 +46,14 @@ module _ {s : Side} {keys : Keys} {k j : Setting} {c : Profile} {begun begun_bac
       back_after = asked_out j limit h.back
 
       abbrev pub end_after : PathEnd
-      end_after = after_ack_out (replies.Reassembly (reassembly_replies.Ack (next_wanted m.arrived) (window m.arrived))) m.end
+      end_after = after_ack_out (Reply.Reassembly (ReassemblyReply.Ack (next_wanted m.arrived) (window m.arrived))) m.end
 
       told_after : IsToldEdge s j h.owes h.back.receiver m.end.receiving.told_edge
           → IsToldEdge s j h.owes back_after.receiver m.end.receiving.told_edge
       told_after (Same same) = Same same
       told_after (Before side none least full) = Before side none least full
 
-      pub others : IsApart s (peer s) (duties.Ask (ask_duties.Window s))
+      pub others : IsApart s (peer s) (Duty.Ask (AskDuty.Window s))
       others = record {
         window = λ e. peer_is_other s (same_window e);
         update = differ refl;
@@ -73,7 +72,7 @@ module _ {s : Side} {keys : Keys} {k j : Setting} {c : Profile} {begun begun_bac
           → read + capacity - came ≡ buffer
       whole fits is none same low = omega (arith, fits, is, none, same, low)
 
-      pub begun_after : (1 ≤ h.out.control_sent) ⊎ HasNotBegun s j h.out.sender h.back.receiver m.end (duties.Ask (ask_duties.Window s) ∷ ds)
+      pub begun_after : (1 ≤ h.out.control_sent) ⊎ HasNotBegun s j h.out.sender h.back.receiver m.end (Duty.Ask (AskDuty.Window s) ∷ ds)
           → (1 ≤ h.out.control_sent) ⊎ HasNotBegun s j h.out.sender back_after.receiver end_after ds
       begun_after (inl sent) = inl sent
       begun_after (inr none) = inr (record {
@@ -210,16 +209,16 @@ module _ {s : Side} {keys : Keys} {k j : Setting} {c : Profile} {begun begun_bac
           whole = h.apps_back.whole;
           fin = h.apps_back.fin;
         };
-        stages = stage_drops s (peer s) (duties.Ask (ask_duties.Window s)) ds n.end.treated.asked h.owes_back h.stage others h.stages;
-        stages_back = window_drops (peer s) s (duties.Ask (ask_duties.Window s)) ds m.end.treated.asked h.owes h.stage_back refl h.stages_back;
+        stages = stage_drops s (peer s) (Duty.Ask (AskDuty.Window s)) ds n.end.treated.asked h.owes_back h.stage others h.stages;
+        stages_back = window_drops (peer s) s (Duty.Ask (AskDuty.Window s)) ds m.end.treated.asked h.owes h.stage_back refl h.stages_back;
         control = h.control;
         control_back = h.control_back;
         turn = h.turn;
         turn_back = h.turn_back;
-        settles = settles_drop s (duties.Ask (ask_duties.Window s)) ds m.end (differ refl) h.settles;
-        settles_back = settles_drop (peer s) (duties.Ask (ask_duties.Window s)) ds n.end (differ refl) h.settles_back;
+        settles = settles_drop s (Duty.Ask (AskDuty.Window s)) ds m.end (differ refl) h.settles;
+        settles_back = settles_drop (peer s) (Duty.Ask (AskDuty.Window s)) ds n.end (differ refl) h.settles_back;
         begins = begun_after h.begins;
-        begins_back = begun_drops (peer s) k h.back.sender h.out.receiver n.end (duties.Ask (ask_duties.Window s)) ds (λ e. peer_is_other s (same_window e)) (λ is. differ refl) h.begins_back;
+        begins_back = begun_drops (peer s) k h.back.sender h.out.receiver n.end (Duty.Ask (AskDuty.Window s)) ds (λ e. peer_is_other s (same_window e)) (λ is. differ refl) h.begins_back;
         owed = h.owed;
         owed_back = h.owed_back;
       }

@@ -6,7 +6,7 @@ use Rattle.sides.specs.declared.side.Side.TheVariants.{A}
 use Rattle.subflow_tcp.specs.Dues.{nothing_due}
 use Rattle.subflow_send.specs.Records.{Record}
 use Rattle.subflow_send.specs.Rules.{is_unsent}
-use Rattle.subflow_tcp.specs.declared.segments.Occasion.TheVariants as to_send
+use Rattle.subflow_tcp.specs.declared.segments.Occasion.{Occasion}
 use Rattle.path_agenda.specs.declared.duty.Duty.{Duty}
 use Rattle.path_core.specs.End.{PathEnd}
 use Rattle.path_core.specs.Handover.{having_sent}
@@ -30,7 +30,7 @@ module _ {s : Side} {keys : Keys} {k j : Setting} {c : Profile} {begun begun_bac
     back_after = said_after h x false
 
     abbrev pub end_after : PathEnd
-    end_after = having_sent to_send.Unsent clock (said c keys s x) m.end
+    end_after = having_sent Occasion.Unsent clock (said c keys s x) m.end
 
     module _ (still : brings_still h.hand ≡ false) (unowed : h.owes ≡ false) (r : Record) (rest : h.own.subflow.records.rest ≡ r ∷ []) (unsent : is_unsent r ≡ true)
         (some : 1 ≤ h.waiting) (bytes : x.low + length (octets_of x.brings) ≡ h.out.granted + h.waiting) (none_fin : data_fin_of x.brings ≡ 0)

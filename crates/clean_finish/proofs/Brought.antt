@@ -6,11 +6,10 @@ use Rattle.reassembly_book.specs.State.{Arriving, filled}
 use Rattle.subflow_recv.specs.Receiving.{Receiving as SubflowReceiving}
 use Rattle.subflow_tcp.specs.declared.handshake.State.{State}
 use Rattle.path_agenda.specs.declared.duty.Duty.{Duty}
-use Rattle.path_agenda.specs.declared.duty.Duty.TheVariants as duties
-use Rattle.path_agenda.specs.declared.duty.AskDuty.TheVariants as ask_duties
-use Rattle.path_agenda.specs.declared.duty.SendDuty.TheVariants as send_duties
-use Rattle.path_agenda.specs.declared.duty.SilentDuty.TheVariants as silent_duties
-use Rattle.path_agenda.specs.declared.duty.StepDuty.TheVariants as step_duties
+use Rattle.path_agenda.specs.declared.duty.AskDuty.{AskDuty}
+use Rattle.path_agenda.specs.declared.duty.SendDuty.{SendDuty}
+use Rattle.path_agenda.specs.declared.duty.SilentDuty.{SilentDuty}
+use Rattle.path_agenda.specs.declared.duty.StepDuty.{StepDuty}
 use Rattle.path_core.specs.declared.modes.Modes.{Modes}
 use Rattle.path_core.specs.End.{PathEnd}
 use Rattle.path_core.specs.Sending.{Sending}
@@ -47,11 +46,11 @@ module _ {s : Side} {keys : Keys} {k j : Setting} {c : Profile} {begun begun_bac
       abbrev pub end_after : PathEnd
       end_after = record m.end { tcp = record m.end.tcp { recv = r; state = state }; sending = v; receiving = w; modes = mo; treated = tr }
 
-      module _ (ask : Bool) (some_sent : 1 ≤ h.out.control_sent) (owes : h.owes ≡ true) (acknowledges : Has (duties.Send (send_duties.Acknowledge s)) ds)
-          (events : Has (duties.Step step_duties.Events) ds)
+      module _ (ask : Bool) (some_sent : 1 ≤ h.out.control_sent) (owes : h.owes ≡ true) (acknowledges : Has (Duty.Send (SendDuty.Acknowledge s)) ds)
+          (events : Has (Duty.Step StepDuty.Events) ds)
           (news : (x.low < x.low + length (octets_of x.brings)) ⊎ ((0 < data_fin_of x.brings) ⊎ ((h.back.control_came < x.control) ⊎ (h.back.keys_came < x.keys))))
           (asked : ask ≡ false → (h.stage_back.ask ≡ false) × (x.low + length (octets_of x.brings) ≤ x.low) × (data_fin_of x.brings ≤ 0))
-          (asks : (ask ≡ false) ⊎ (Has (duties.Ask (ask_duties.Window s)) ds ⊎ (Has (duties.Ask (ask_duties.AckOut s)) ds × (tr.asked ≡ true))))
+          (asks : (ask ≡ false) ⊎ (Has (Duty.Ask (AskDuty.Window s)) ds ⊎ (Has (Duty.Ask (AskDuty.AckOut s)) ds × (tr.asked ≡ true))))
           (received : back_after.received ≡ h.back.received + length (octets_of x.brings)) (control_is : back_after.control_came ≡ x.control)
           (shown_is : back_after.keys_came ≡ x.keys) (further : m.end.tcp.recv.edge ≤ r.edge)
           (own : EndIs s keys k j h.out.sender back_after.receiver (in_hand x false tells) h.owes h.waiting end_after)
@@ -187,7 +186,7 @@ module _ {s : Side} {keys : Keys} {k j : Setting} {c : Profile} {begun begun_bac
             control_back = h.control_back;
             turn = h.turn;
             turn_back = h.turn_back;
-            settles = settles_drop s d ds end_after (apart refl free) (subst (λ (y : Bool). ((m.end.tcp.timing.news || y) ≡ false) ⊎ Has (duties.Silent (silent_duties.Timer s)) (d ∷ ds)) (sym settles) h.settles);
+            settles = settles_drop s d ds end_after (apart refl free) (subst (λ (y : Bool). ((m.end.tcp.timing.news || y) ≡ false) ⊎ Has (Duty.Silent (SilentDuty.Timer s)) (d ∷ ds)) (sym settles) h.settles);
             settles_back = settles_drop (peer s) d ds n.end (apart refl free) h.settles_back;
             begins = inl some_sent;
             begins_back = begun_drops (peer s) k h.back.sender h.out.receiver n.end d ds (apart refl free) (λ is. apart refl free) h.begins_back;

@@ -10,8 +10,7 @@ use Rattle.fallback_state.specs.Modes.{is_identity}
 use Rattle.fallback_state.specs.Table.{stays}
 use Rattle.fallback_state.specs.declared.fall.Verdict.TheVariants.{Stay}
 use Rattle.path_agenda.specs.declared.duty.Duty.{Duty}
-use Rattle.path_agenda.specs.declared.duty.Duty.TheVariants as duties
-use Rattle.path_agenda.specs.declared.duty.AskDuty.TheVariants as ask_duties
+use Rattle.path_agenda.specs.declared.duty.AskDuty.{AskDuty}
 use Rattle.path_core.specs.End.{PathEnd}
 use Rattle.path_core.specs.Standing.{is_connected}
 use Rattle.path_core.specs.Profile.{Profile}
@@ -42,7 +41,7 @@ keys_noted s keys own other c is = by (own == c.keys.own) (is_identity c.fall.mo
 module _ {keys : Keys} {k j : Setting} {c : Profile} {begun begun_back : Lane} {m n : Half} {clock until : ℕ} (ticks t u : ℕ)
     (k_is : IsSetting c ticks k) (j_is : IsSetting c ticks j)
     (going : Going k begun t all_left begun) (going_back : Going j begun_back u all_left begun_back)
-    {ds : List Duty} (h : Facing B keys k j c begun begun_back m n clock until (duties.Ask (ask_duties.Opened B) ∷ ds)) (there : Emits B ds)
+    {ds : List Duty} (h : Facing B keys k j c begun begun_back m n clock until (Duty.Ask (AskDuty.Opened B) ∷ ds)) (there : Emits B ds)
     (nothing_waits : h.waiting ≡ 0) (sent : 1 ≤ h.out.control_sent) (came : 1 ≤ min 1 h.back.control_came) (unready : h.out.ready ≡ 0)
     (connected : is_connected m.end.tcp.state ≡ true)
   where
@@ -247,16 +246,16 @@ module _ {keys : Keys} {k j : Setting} {c : Profile} {begun begun_back : Lane} {
       };
       apps_back = h.apps_back;
       stages = stage_raised B A ds n.end.treated.asked h.owes_back h.stage there
-          (stage_drops B A (duties.Ask (ask_duties.Opened B)) ds n.end.treated.asked h.owes_back h.stage (is_apart B A (duties.Ask (ask_duties.Opened B)) refl) h.stages);
-      stages_back = stage_drops A B (duties.Ask (ask_duties.Opened B)) ds m.end.treated.asked h.owes h.stage_back (is_apart A B (duties.Ask (ask_duties.Opened B)) refl) h.stages_back;
+          (stage_drops B A (Duty.Ask (AskDuty.Opened B)) ds n.end.treated.asked h.owes_back h.stage (is_apart B A (Duty.Ask (AskDuty.Opened B)) refl) h.stages);
+      stages_back = stage_drops A B (Duty.Ask (AskDuty.Opened B)) ds m.end.treated.asked h.owes h.stage_back (is_apart A B (Duty.Ask (AskDuty.Opened B)) refl) h.stages_back;
       control = keys_noted B keys keys.b keys.a m.control h.control;
       control_back = h.control_back;
       turn = h.turn;
       turn_back = h.turn_back;
       settles = inr there.timer;
-      settles_back = settles_drop A (duties.Ask (ask_duties.Opened B)) ds n.end (apart refl refl) h.settles_back;
+      settles_back = settles_drop A (Duty.Ask (AskDuty.Opened B)) ds n.end (apart refl refl) h.settles_back;
       begins = inl sent;
-      begins_back = begun_drops A k h.back.sender h.out.receiver n.end (duties.Ask (ask_duties.Opened B)) ds (apart refl refl) (λ is. apart refl refl) h.begins_back;
+      begins_back = begun_drops A k h.back.sender h.out.receiver n.end (Duty.Ask (AskDuty.Opened B)) ds (apart refl refl) (λ is. apart refl refl) h.begins_back;
       owed = h.owed;
       owed_back = h.owed_back;
     }

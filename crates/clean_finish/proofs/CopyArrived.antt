@@ -9,11 +9,10 @@ use Rattle.subflow_recv.specs.Receiving.{Receiving}
 use Rattle.subflow_tcp.specs.declared.segments.Outgoing.{Outgoing}
 use Rattle.subflow_tcp.specs.State.{EndState}
 use Rattle.path_agenda.specs.declared.duty.Duty.{Duty}
-use Rattle.path_agenda.specs.declared.duty.Duty.TheVariants as duties
-use Rattle.path_agenda.specs.declared.duty.AskDuty.TheVariants as ask_duties
-use Rattle.path_agenda.specs.declared.duty.SendDuty.TheVariants as send_duties
-use Rattle.path_agenda.specs.declared.duty.SilentDuty.TheVariants as silent_duties
-use Rattle.path_agenda.specs.declared.duty.StepDuty.TheVariants as step_duties
+use Rattle.path_agenda.specs.declared.duty.AskDuty.{AskDuty}
+use Rattle.path_agenda.specs.declared.duty.SendDuty.{SendDuty}
+use Rattle.path_agenda.specs.declared.duty.SilentDuty.{SilentDuty}
+use Rattle.path_agenda.specs.declared.duty.StepDuty.{StepDuty}
 use Rattle.path_agenda.specs.Agenda.{heard_and, payload_came, copy_came}
 use Rattle.path_core.specs.Profile.{Profile}
 use Rattle.path_core.specs.Values.{Carried}
@@ -45,14 +44,14 @@ in_copy s d count there = inr (inr (behind_heard s d 0 count (payload_came s) th
 
 pub copy_emits : (s : Side) (count : ℕ) → Emits s (copy_came s count)
 copy_emits s count = record {
-  bytes = in_copy s (duties.Step (step_duties.Data s)) count (inr (inr (inr (inr (inr (inr (inr (inr (inr (inr (inr (inr (inr (inr (inr (inr (inr (inr (inr (inl refl))))))))))))))))))));
-  end = in_copy s (duties.Send (send_duties.DataFin s)) count (inr (inr (inr (inr (inr (inr (inr (inr (inr (inr (inr (inr (inr (inr (inr (inr (inr (inr (inr (inr (inl refl)))))))))))))))))))));
-  timer = in_copy s (duties.Silent (silent_duties.Timer s)) count (inr (inr (inr (inr (inr (inr (inr (inr (inr (inr (inr (inr (inr (inr (inr (inr (inr (inr (inr (inr (inr (inr (inl refl)))))))))))))))))))))));
-  events = in_copy s (duties.Step step_duties.Events) count (inr (inr (inr (inr (inr (inr (inr (inr (inr (inr (inr (inr (inr (inr (inr (inr (inr (inr (inr (inr (inr (inr (inr (inl refl))))))))))))))))))))))));
+  bytes = in_copy s (Duty.Step (StepDuty.Data s)) count (inr (inr (inr (inr (inr (inr (inr (inr (inr (inr (inr (inr (inr (inr (inr (inr (inr (inr (inr (inl refl))))))))))))))))))));
+  end = in_copy s (Duty.Send (SendDuty.DataFin s)) count (inr (inr (inr (inr (inr (inr (inr (inr (inr (inr (inr (inr (inr (inr (inr (inr (inr (inr (inr (inr (inl refl)))))))))))))))))))));
+  timer = in_copy s (Duty.Silent (SilentDuty.Timer s)) count (inr (inr (inr (inr (inr (inr (inr (inr (inr (inr (inr (inr (inr (inr (inr (inr (inr (inr (inr (inr (inr (inr (inl refl)))))))))))))))))))))));
+  events = in_copy s (Duty.Step StepDuty.Events) count (inr (inr (inr (inr (inr (inr (inr (inr (inr (inr (inr (inr (inr (inr (inr (inr (inr (inr (inr (inr (inr (inr (inr (inl refl))))))))))))))))))))))));
 }
 
 module _ {s : Side} {keys : Keys} {k j : Setting} {c : Profile} {begun begun_back : Lane} {m n : Half} {clock until : ℕ}
-    (h : Facing s keys k j c begun begun_back m n clock until ((duties.Step step_duties.Events) ∷ duties.End ∷ []))
+    (h : Facing s keys k j c begun begun_back m n clock until ((Duty.Step StepDuty.Events) ∷ Duty.End ∷ []))
     (x : Sent) (told : List KeptMapping) (answer : Outgoing) (y : EndState)
     (heed : Heeds k h.out.sender (rested_if (fresh h x told answer) h.out).sender x (held h x told answer) y)
     (edge : (held h x told answer).recv.edge ≡ m.end.tcp.recv.edge)
@@ -83,11 +82,11 @@ module _ {s : Side} {keys : Keys} {k j : Setting} {c : Profile} {begun begun_bac
       ask = inl (⊎_elim (λ is. is) (λ i. absurd (never_asks i)) h.stages.ask);
     }
       where
-        never_tells : Has (duties.Send (send_duties.SynAck (peer s))) last ⊎ (Has (duties.Send (send_duties.Acknowledge (peer s))) last × (h.owes_back ≡ true)) → ⊥
+        never_tells : Has (Duty.Send (SendDuty.SynAck (peer s))) last ⊎ (Has (Duty.Send (SendDuty.Acknowledge (peer s))) last × (h.owes_back ≡ true)) → ⊥
         never_tells (inl i) = not_last refl refl i
         never_tells (inr i) = not_last refl refl i.0
 
-        never_asks : Has (duties.Ask (ask_duties.Window (peer s))) last ⊎ (Has (duties.Ask (ask_duties.AckOut (peer s))) last × (n.end.treated.asked ≡ true)) → ⊥
+        never_asks : Has (Duty.Ask (AskDuty.Window (peer s))) last ⊎ (Has (Duty.Ask (AskDuty.AckOut (peer s))) last × (n.end.treated.asked ≡ true)) → ⊥
         never_asks (inl i) = not_last refl refl i
         never_asks (inr i) = not_last refl refl i.0
 
@@ -102,11 +101,11 @@ module _ {s : Side} {keys : Keys} {k j : Setting} {c : Profile} {begun begun_bac
       ask = inl (⊎_elim (λ is. is) (λ i. absurd (never_asks i)) h.stages_back.ask);
     }
       where
-        never_tells : Has (duties.Send (send_duties.SynAck s)) last ⊎ (Has (duties.Send (send_duties.Acknowledge s)) last × (h.owes ≡ true)) → ⊥
+        never_tells : Has (Duty.Send (SendDuty.SynAck s)) last ⊎ (Has (Duty.Send (SendDuty.Acknowledge s)) last × (h.owes ≡ true)) → ⊥
         never_tells (inl i) = not_last refl refl i
         never_tells (inr i) = not_last refl refl i.0
 
-        never_asks : Has (duties.Ask (ask_duties.Window s)) last ⊎ (Has (duties.Ask (ask_duties.AckOut s)) last × (m.end.treated.asked ≡ true)) → ⊥
+        never_asks : Has (Duty.Ask (AskDuty.Window s)) last ⊎ (Has (Duty.Ask (AskDuty.AckOut s)) last × (m.end.treated.asked ≡ true)) → ⊥
         never_asks (inl i) = not_last refl refl i
         never_asks (inr i) = not_last refl refl i.0
 

@@ -9,9 +9,9 @@ use Rattle.link_model.specs.declared.flight.Flight.{Flight}
 use Rattle.dss_mapping.specs.declared.kept.KeptMapping.{KeptMapping}
 use Rattle.dss_mapping.specs.Learning.{after_hold as after_hold_mappings}
 use Rattle.path_segments.specs.Laws.{window_told}
-use Rattle.subflow_tcp.specs.declared.handshake.State.TheVariants as states
+use Rattle.subflow_tcp.specs.declared.handshake.State.{State}
 use Rattle.subflow_tcp.specs.declared.segments.Outgoing.{Outgoing}
-use Rattle.subflow_tcp.specs.declared.verdicts.Meaning.TheVariants as means
+use Rattle.subflow_tcp.specs.declared.verdicts.Meaning.{Meaning}
 use Rattle.subflow_send.specs.declared.record.AckKind.{AckKind}
 use Rattle.subflow_send.specs.declared.record.AckKind.TheVariants.{Duplicate}
 use Rattle.subflow_send.specs.Rules.{ack_kind}
@@ -24,8 +24,8 @@ use Rattle.subflow_tcp.specs.Judging.{meaning_of}
 use Rattle.subflow_tcp.specs.State.{EndState}
 use Rattle.subflow_tcp.specs.Taking.{arrival_of, is_empty, told_by, is_duplicate, after_holding, after_occupying, after_telling}
 use Rattle.actor_desk.specs.Words.{pick, is_nil}
-use Rattle.path_agenda.specs.declared.duty.Duty.TheVariants as duties
-use Rattle.path_agenda.specs.declared.duty.StepDuty.TheVariants as step_duties
+use Rattle.path_agenda.specs.declared.duty.Duty.{Duty}
+use Rattle.path_agenda.specs.declared.duty.StepDuty.{StepDuty}
 use Rattle.path_agenda.specs.Agenda.{copy_came}
 use Rattle.path_agenda.specs.Items.{place_in_first, wants_ack}
 use Rattle.path_agenda.specs.declared.heard.Heard.{Heard}
@@ -133,7 +133,7 @@ at_edge x received control keys opens low counts = by x.brings opens counts
 module _ {s : Side} {keys : Keys} {k j : Setting} {c : Profile} {begun begun_back : Lane} {m n : Half} {clock until : ℕ} (ticks t u : ℕ)
     (k_is : IsSetting c ticks k) (j_is : IsSetting c ticks j)
     (going : Going k begun t all_left begun) (going_back : Going j begun_back u all_left begun_back)
-    (h : Facing s keys k j c begun begun_back m n clock until ((duties.Step step_duties.Events) ∷ duties.End ∷ []))
+    (h : Facing s keys k j c begun begun_back m n clock until ((Duty.Step StepDuty.Events) ∷ Duty.End ∷ []))
     (none : h.hand ≡ None) (unowed : h.owes ≡ false) (waiting : h.waiting ≡ 0) (answered : min 1 h.back.control_came ≤ h.out.control_sent)
     (f : Flight Carried) (fs : List (Flight Carried)) (x : Sent) (xs : List Sent)
     (w : WayIs c keys k j (peer s) h.back.sender h.back.receiver h.back.datas h.out.acks None m.end.tcp.send.una n.end.tcp.recv.edge (f ∷ fs))
@@ -190,7 +190,7 @@ module _ {s : Side} {keys : Keys} {k j : Setting} {c : Profile} {begun begun_bac
     far_edge = lt-leb (2 ^ 61) m.end.tcp.recv.edge (far_come h.own.subflow.come.edge lane_back.numbers.received
         (up_two lane_back.numbers.granted lane_back.numbers.written) lane_back.numbers.control h.other.subflow.records.control j_is.small)
 
-    pub meaning : meaning_of (copy h x told answer) m.end.tcp ≡ means.Taken (position_of x) x.edge
+    pub meaning : meaning_of (copy h x told answer) m.end.tcp ≡ Meaning.Taken (position_of x) x.edge
     meaning = taken_meant c keys (peer s) s x h.back.control_came m.end.tcp.send.una m.end.tcp.send.finished m.end.tcp h.own.subflow.phase came opens far far_edge
         (at_edge x h.back.received h.back.control_came h.back.keys_came opens low counts ∙ sym h.own.subflow.come.edge) high acknowledges.some
 
@@ -270,7 +270,7 @@ module _ {s : Side} {keys : Keys} {k j : Setting} {c : Profile} {begun begun_bac
     no_keys_again (EndsStream place) is again empty e = refl
     no_keys_again EndsSubflow is again empty e = refl
 
-    pub unsent : m.end.tcp.state ≡ states.SynReceived → m.end.tcp.send.finished ≡ false
+    pub unsent : m.end.tcp.state ≡ State.SynReceived → m.end.tcp.send.finished ≡ false
     unsent is = h.own.subflow.records.finished ∙ by (cases_lt 1 h.out.control_sent)
       where
         by : (1 < h.out.control_sent) ⊎ (h.out.control_sent ≤ 1) → nat_lt 1 h.out.control_sent ≡ false
@@ -358,8 +358,8 @@ module _ {s : Side} {keys : Keys} {k j : Setting} {c : Profile} {begun begun_bac
         f fs xs w sent own
 
     -- and that is what the path makes of it
-    pub judged_is : copy_judged false told answer s clock (heard h x told answer) (means.Taken (position_of x) x.edge) m.end ≡ end_by h x told answer taken
-    judged_is = ap (λ (y : EndState). after_copy (items h x told answer) answer clock (heard h x told answer) (means.Taken (position_of x) x.edge)
+    pub judged_is : copy_judged false told answer s clock (heard h x told answer) (Meaning.Taken (position_of x) x.edge) m.end ≡ end_by h x told answer taken
+    judged_is = ap (λ (y : EndState). after_copy (items h x told answer) answer clock (heard h x told answer) (Meaning.Taken (position_of x) x.edge)
         (record m.end { tcp = y; receiving = record m.end.receiving { mappings = after_hold_mappings told m.end.receiving.mappings } })) (holds_is (is_nil (octets_of x.brings)))
         ∙ ap (λ (y : EndState). record (end_by h x told answer taken) { tcp = y })
         (owing_is (list_any wants_ack (items h x told answer)) (after_occupying (copy h x told answer)
@@ -462,7 +462,7 @@ module _ {s : Side} {keys : Keys} {k j : Setting} {c : Profile} {begun begun_bac
         edge_is = ap (λ (r : Receiving). r.edge) recv_is ∙ edge_kept (is_nil (octets_of x.brings))
 
         -- a copy with a Data ACK, or one that acknowledges no data for the first time
-        plain_ack : is_plain_ack (arrival_of (means.Taken (position_of x) x.edge) (hint_of (items h x told answer)) (copy h x told answer) (holds h x told answer))
+        plain_ack : is_plain_ack (arrival_of (Meaning.Taken (position_of x) x.edge) (hint_of (items h x told answer)) (copy h x told answer) (holds h x told answer))
             (heard h x told answer) ≡ false
         plain_ack = by (shows_keys x.brings) refl
           where
@@ -470,7 +470,7 @@ module _ {s : Side} {keys : Keys} {k j : Setting} {c : Profile} {begun begun_bac
             no_and true b e = ap not e
             no_and false b e = refl
 
-            by : (b : Bool) → shows_keys x.brings ≡ b → is_plain_ack (arrival_of (means.Taken (position_of x) x.edge) (hint_of (items h x told answer)) (copy h x told answer) (holds h x told answer))
+            by : (b : Bool) → shows_keys x.brings ≡ b → is_plain_ack (arrival_of (Meaning.Taken (position_of x) x.edge) (hint_of (items h x told answer)) (copy h x told answer) (holds h x told answer))
                 (heard h x told answer) ≡ false
             by false e = no_and _ _ (acks_data c keys (peer s) x x.brings opens e)
             by true e = ap (λ (n : ℕ). nat_lt 0 n && not (list_any has_data_ack (heard h x told answer).options)) (none_acked (is_third x.brings) refl)
@@ -550,7 +550,7 @@ module _ {s : Side} {keys : Keys} {k j : Setting} {c : Profile} {begun begun_bac
           fins = refl;
           asked = refl;
           plain_ack = plain_ack;
-          held_edge = ap (λ (n : ℕ). edge_held (means.Taken (position_of x) x.edge) (octets_of x.brings) n) (edge_kept (is_nil (octets_of x.brings)))
+          held_edge = ap (λ (n : ℕ). edge_held (Meaning.Taken (position_of x) x.edge) (octets_of x.brings) n) (edge_kept (is_nil (octets_of x.brings)))
               ∙ (held_at (position_of x) m.end.tcp.recv.edge x.edge (octets_of x.brings) pos_is
               ∙ ap (λ (n : ℕ). if is_nil (octets_of x.brings) then None else Some n) (sym edge_is));
           owes = ap (λ (ys : List Heard). list_any wants_ack ys || nat_lt 0 (occupied (copy h x told answer))) says

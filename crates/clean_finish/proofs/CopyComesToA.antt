@@ -7,12 +7,12 @@ use Rattle.link_model.specs.Laws.{going_to}
 use Rattle.link_model.specs.Steps.{due_of}
 use Rattle.path_segments.specs.Laws.{meant}
 use Rattle.subflow_tcp.specs.declared.segments.Outgoing.{Outgoing}
-use Rattle.subflow_tcp.specs.declared.verdicts.Meaning.TheVariants as means
+use Rattle.subflow_tcp.specs.declared.verdicts.Meaning.{Meaning}
 use Rattle.actor_desk.specs.Desk.{SixBooks}
 use Rattle.stream_apps.specs.Apps.{AppState}
-use Rattle.path_agenda.specs.declared.duty.Duty.TheVariants as duties
-use Rattle.path_agenda.specs.declared.duty.StepDuty.TheVariants as step_duties
-use Rattle.path_agenda.specs.declared.duty.AskDuty.TheVariants as ask_duties
+use Rattle.path_agenda.specs.declared.duty.Duty.{Duty}
+use Rattle.path_agenda.specs.declared.duty.StepDuty.{StepDuty}
+use Rattle.path_agenda.specs.declared.duty.AskDuty.{AskDuty}
 use Rattle.path_agenda.specs.Agenda.{copy_came, heard_and, payload_came}
 use Rattle.path_core.specs.DssIn.{held_of}
 use Rattle.path_core.specs.Arrival.{reset_for, copy_taken}
@@ -57,7 +57,7 @@ module _ (start : Start) (plan : PathPlan) (k j : Setting) (s v : Lane) (t0 u0 :
         Relation r = Runs start plan k j s v a b books r
 
         abbrev face : Facing A keys k j p.profile s v (half A a books now_before) (half B b books now_before) (tick start plan k j s v t0 u0 going going_back a b books p f others k_is j_is) p.until
-            ((duties.Step step_duties.Events) ∷ duties.End ∷ [])
+            ((Duty.Step StepDuty.Events) ∷ Duty.End ∷ [])
         face = moved start plan k j s v t0 u0 going going_back a b books p f others k_is j_is h early
 
         module _ (opens : is_opening x.brings ≡ false) where
@@ -122,7 +122,7 @@ module _ (start : Start) (plan : PathPlan) (k j : Setting) (s v : Lane) (t0 u0 :
                   (
                     h.treats.0.1,
                     h.treats.2,
-                    ap (λ (n : ℕ). duties.Ask (ask_duties.Live A) ∷ heard_and A 0 n (payload_came A))
+                    ap (λ (n : ℕ). Duty.Ask (AskDuty.Live A) ∷ heard_and A 0 n (payload_came A))
                         (count_is plan.delay t0 u0 k_is j_is going going_back face none unowed waiting answered (copy start plan k j s v t0 u0 going going_back a b books p f others k_is j_is) (going_to A others) x xs way sent opens follow.low follow.counts follow.tells
                         follow.acknowledges follow.shows told answer follow.brings h.treats.0.0 opens_first refl),
                   ),
@@ -131,7 +131,7 @@ module _ (start : Start) (plan : PathPlan) (k j : Setting) (s v : Lane) (t0 u0 :
 
           pub copy_comes : Relation (copy_taken values (due_of (copy start plan k j s v t0 u0 going going_back a b books p f others k_is j_is)) (q start plan k j s v t0 u0 going going_back a b books p f others k_is j_is))
           copy_comes =
-              subst Relation (sym (comes_as start plan k j s v t0 u0 going going_back a b books p f others k_is j_is h early (means.Taken (position_of x) x.edge)
+              subst Relation (sym (comes_as start plan k j s v t0 u0 going going_back a b books p f others k_is j_is h early (Meaning.Taken (position_of x) x.edge)
               (meaning plan.delay t0 u0 k_is j_is going going_back face none unowed waiting answered (copy start plan k j s v t0 u0 going going_back a b books p f others k_is j_is) (going_to A others) x xs way sent opens follow.low follow.counts
               follow.tells follow.acknowledges follow.shows told answer)))
               (subst (λ (e : PathEnd). Relation (goes_on A e (copy_came A count) now))

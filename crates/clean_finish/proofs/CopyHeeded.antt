@@ -10,7 +10,6 @@ use Rattle.subflow_send.specs.declared.record.AckKind.{AckKind}
 use Rattle.subflow_send.specs.declared.record.AckKind.TheVariants.{New, Duplicate}
 use Rattle.subflow_send.specs.Rules.{newly_acknowledged, sample_of, ack_kind}
 use Rattle.subflow_tcp.specs.declared.handshake.State.{State}
-use Rattle.subflow_tcp.specs.declared.handshake.State.TheVariants as states
 use Rattle.subflow_tcp.specs.Segments.{Copy as SubflowCopy}
 use Rattle.subflow_tcp.specs.State.{EndState}
 use Rattle.subflow_tcp.specs.States.{after_handshake}
@@ -29,11 +28,11 @@ use Rattle.clean_finish.proofs.Machine.{stays_long}
 
 -- a copy that is taken ends the handshake
 pub open_now : (state : State) (finished : Bool) → IsOpen finished state → after_handshake state ≡ state
-open_now states.SynReceived finished is = absurd (both_ways _ is.half refl)
+open_now State.SynReceived finished is = absurd (both_ways _ is.half refl)
 open_now _ finished is = refl
 
 pub open_after : (s : Side) (came una : ℕ) (finished : Bool) (state : State) → IsPhase s came una finished state → 1 ≤ came
-    → (state ≡ states.SynReceived → finished ≡ false) → IsOpen finished (after_handshake state)
+    → (state ≡ State.SynReceived → finished ≡ false) → IsOpen finished (after_handshake state)
 open_after s came una finished state (Opening side none low is) some unsent = absurd (omega (arith, none, some))
 open_after s came una finished state (Listening side none low is) some unsent = absurd (omega (arith, none, some))
 open_after s came una finished state (HalfOpen side one low is) some unsent =

@@ -7,7 +7,7 @@ use Rattle.sides.specs.declared.side.Side.TheVariants.{B}
 use Rattle.path_segments.specs.Laws.{meant}
 use Rattle.subflow_recv.specs.Receiving.{Receiving, after_hold, by_place, merged}
 use Rattle.subflow_tcp.specs.declared.handshake.State.{State}
-use Rattle.subflow_tcp.specs.declared.verdicts.Meaning.TheVariants as means
+use Rattle.subflow_tcp.specs.declared.verdicts.Meaning.{Meaning}
 use Rattle.subflow_tcp.specs.States.{is_half_open}
 use Rattle.subflow_tcp.specs.Taking.{first_fin}
 use Rattle.actor_desk.specs.Words.{is_nil}
@@ -162,7 +162,7 @@ length_heard keys next window EndsSubflow = refl
 -- ---- the payload
 
 pub held_at : (pos edge acknowledged : ℕ) (octets : List ℕ) → pos ≡ edge
-    → edge_held (means.Taken pos acknowledged) octets edge ≡ (if is_nil octets then None else Some edge)
+    → edge_held (Meaning.Taken pos acknowledged) octets edge ≡ (if is_nil octets then None else Some edge)
 held_at pos edge acknowledged [] at =
     ap (λ (b : Bool). if nat_le pos edge && b then Some edge else None) (le-ltb edge (pos + 0) (low at)) ∙ none (nat_le pos edge)
   where

@@ -11,7 +11,6 @@ use Rattle.subflow_recv.specs.Receiving.{by_place}
 use Rattle.subflow_tcp.specs.Segments.{occupied}
 use Rattle.actor_desk.specs.Words.{is_nil}
 use Rattle.path_agenda.specs.declared.heard.Heard.{Heard}
-use Rattle.path_agenda.specs.declared.heard.Heard.TheVariants as says
 use Rattle.path_agenda.specs.Items.{wants_ack}
 use Rattle.mptcp_options.specs.declared.capable.CapableKeys.TheVariants.{WithData}
 use Rattle.path_core.specs.Arrival.{copy_of}
@@ -53,8 +52,8 @@ module _ (c : Profile) (keys : Keys) (x : Sent) where
   says_are B ShowsKeys e key small one few own most is control keys_before counts = refl
   says_are A (FirstPiece octets) e key small one few own most is control keys_before counts = absurd (not_b (key refl))
   says_are B (FirstPiece octets) e key small one few own most is control keys_before counts =
-      ap (λ (b : Bool). says.Keys keys.b keys.a ∷ ((if b then mapping_items 0 1 (length octets) false else []) ++ [])) (lt-ltb 0 (length octets) counts.3)
-      ∙ ap (λ (b : Bool). says.Keys keys.b keys.a ∷ ((if b then says.Mapping false ∷ [] else []) ++ []))
+      ap (λ (b : Bool). Heard.Keys keys.b keys.a ∷ ((if b then mapping_items 0 1 (length octets) false else []) ++ [])) (lt-ltb 0 (length octets) counts.3)
+      ∙ ap (λ (b : Bool). Heard.Keys keys.b keys.a ∷ ((if b then Heard.Mapping false ∷ [] else []) ++ []))
       (fits_mapping 0 1 (length octets) (omega arith) (from_none x.low (length octets) few))
     where
       from_none : (l n : ℕ) → l + n ≤ 2 ^ 62 → 0 + n ≤ 2 ^ 62

@@ -7,13 +7,11 @@ use Rattle.sides.specs.Side.{peer}
 use Rattle.link_model.specs.declared.flight.Flight.{Flight}
 use Rattle.path_segments.specs.Laws.{window_told}
 use Rattle.subflow_tcp.specs.declared.handshake.State.{State}
-use Rattle.subflow_tcp.specs.declared.handshake.State.TheVariants as states
 use Rattle.subflow_tcp.specs.States.{may_finish}
 use Rattle.subflow_tcp.specs.Segments.{one_if}
 use Rattle.path_agenda.specs.declared.duty.Duty.{Duty}
-use Rattle.path_agenda.specs.declared.duty.Duty.TheVariants as duties
-use Rattle.path_agenda.specs.declared.duty.SendDuty.TheVariants as send_duties
-use Rattle.path_agenda.specs.declared.duty.StepDuty.TheVariants as step_duties
+use Rattle.path_agenda.specs.declared.duty.SendDuty.{SendDuty}
+use Rattle.path_agenda.specs.declared.duty.StepDuty.{StepDuty}
 use Rattle.path_core.specs.End.{PathEnd}
 use Rattle.path_core.specs.Modes.{sends_plainly}
 use Rattle.path_core.specs.OptionsOut.{ack_said}
@@ -51,8 +49,8 @@ end_is c keys s place x e brings mptcp clear known next edge window told =
     rw (brings, mptcp, clear, known, next, acknowledges_some s (EndsStream place) x.edge refl, edge, window, told) refl
 
 pub finishes_open : (state : State) → may_finish state ≡ true → is_connected state ≡ true
-finishes_open states.Established e = refl
-finishes_open states.CloseWait e = refl
+finishes_open State.Established e = refl
+finishes_open State.CloseWait e = refl
 finishes_open _ e = absurd (both_ways _ refl e)
 
 -- why it is due
@@ -76,7 +74,7 @@ known_some : (n total : ℕ) → is_some (end_known n total) ≡ true → (1 ≤
 known_some zero total e = absurd (both_ways _ refl e)
 known_some (suc n) total e = (omega arith, refl)
 
-pub ended_stays : {ds : List Duty} {asked owes later : Bool} (s r : Side) {p : Stage} → Has (duties.Step step_duties.Events) ds → StageIs s r ds asked owes p
+pub ended_stays : {ds : List Duty} {asked owes later : Bool} (s r : Side) {p : Stage} → Has (Duty.Step StepDuty.Events) ds → StageIs s r ds asked owes p
     → StageIs s r ds asked later (record (waiting_on p) { tell = false; update = false })
 ended_stays {ds} s r events is = record {
   window = is.window;
@@ -100,7 +98,7 @@ few_repeats t x = by x.solid (is_same t x.telling)
 module _ {s : Side} {keys : Keys} {k j : Setting} {c : Profile} {begun begun_back : Lane} {m n : Half} {clock until : ℕ} (ticks t u : ℕ)
     (k_is : IsSetting c ticks k) (j_is : IsSetting c ticks j)
     (going : Going k begun t all_left begun) (going_back : Going j begun_back u all_left begun_back)
-    {ds : List Duty} (h : Facing s keys k j c begun begun_back m n clock until (duties.Send (send_duties.DataFin s) ∷ ds))
+    {ds : List Duty} (h : Facing s keys k j c begun begun_back m n clock until (Duty.Send (SendDuty.DataFin s) ∷ ds))
   where
     pub lane : Going k begun t h.stage h.out
     lane = now_out ticks t u k_is j_is going going_back h
@@ -332,12 +330,12 @@ module _ {s : Side} {keys : Keys} {k j : Setting} {c : Profile} {begun begun_bac
             up : {a b : ℕ} → a ≤ b → b ≤ 1 → a ≤ max h.out.data_fin_sent 1
             up p q = omega (arith, p, q)
 
-        module _ (events : Has (duties.Step step_duties.Events) ds) (fs gs : List (Flight Carried)) (f : Flight Carried) (flies : FliesAs c keys s f ending)
+        module _ (events : Has (Duty.Step StepDuty.Events) ds) (fs gs : List (Flight Carried)) (f : Flight Carried) (flies : FliesAs c keys s f ending)
             (more : fs ≡ m.flying ++ f ∷ []) (same : gs ≡ n.flying)
           where
             abbrev pub end_goes : Facing s keys k j c begun begun_back (record m { end = end_after h ending h.out.shut; flying = fs })
-                (record n { flying = gs }) clock until (duties.Send (send_duties.DataFin s) ∷ ds)
-            end_goes = sent_off h ending h.out.shut (duties.Send (send_duties.DataFin s) ∷ ds) (sends_none (copy_in ending) (same_low h.out.granted) may_send) false false may_say
+                (record n { flying = gs }) clock until (Duty.Send (SendDuty.DataFin s) ∷ ds)
+            end_goes = sent_off h ending h.out.shut (Duty.Send (SendDuty.DataFin s) ∷ ds) (sends_none (copy_in ending) (same_low h.out.granted) may_send) false false may_say
                 (end_after h ending h.out.shut) None false 0
                 (own_ended h ending h.out.shut None (ap brings_still none) nothing_waits sent_some refl refl refl refl unsent clear_one same_control
                 (subst (λ (x : ℕ). x ≤ pick s h.out.ready 0) (sym same_keys) h.own.modes.shown) (Same refl) least_told

@@ -4,7 +4,7 @@ use Rattle.std.proofs.lemmas.List.Elements.{All-weaker}
 use Rattle.sides.specs.declared.side.Side.{Side}
 use Rattle.sides.specs.declared.side.Side.TheVariants.{A}
 use Rattle.subflow_tcp.specs.declared.dues.Due.{Due}
-use Rattle.subflow_tcp.specs.declared.segments.Occasion.TheVariants as to_send
+use Rattle.subflow_tcp.specs.declared.segments.Occasion.{Occasion}
 use Rattle.path_agenda.specs.declared.duty.Duty.{Duty}
 use Rattle.path_core.specs.DataFin.{with_data_fin_sent}
 use Rattle.path_core.specs.End.{PathEnd}
@@ -29,7 +29,7 @@ module _ {s : Side} {keys : Keys} {k j : Setting} {c : Profile} {begun begun_bac
     back_after = said_after h x shut
 
     abbrev pub end_after : PathEnd
-    end_after = record (having_sent to_send.Ack clock (said c keys s x) m.end) { sending = with_data_fin_sent m.end.sending }
+    end_after = record (having_sent Occasion.Ack clock (said c keys s x) m.end) { sending = with_data_fin_sent m.end.sending }
 
     module _ (hand : Option Hand) (still : brings_still h.hand ≡ false) (nothing_waits : h.waiting ≡ 0) (some : 1 ≤ h.out.control_sent) (same_shut : shut ≡ h.out.shut)
         (low : x.low ≡ h.out.granted) (none : length (octets_of x.brings) ≡ 0) (one : data_fin_of x.brings ≡ 1) (unsent : h.out.data_fin_sent ≡ 0) (clear : 1 ≤ h.out.clear)

@@ -8,8 +8,7 @@ use Rattle.link_model.specs.Steps.{due_of}
 use Rattle.actor_desk.specs.Desk.{SixBooks, reply_of, after_ask}
 use Rattle.stream_apps.specs.Apps.{AppState}
 use Rattle.path_agenda.specs.declared.duty.Duty.{Duty}
-use Rattle.path_agenda.specs.declared.duty.Duty.TheVariants as duties
-use Rattle.path_agenda.specs.declared.duty.StepDuty.TheVariants as step_duties
+use Rattle.path_agenda.specs.declared.duty.StepDuty.{StepDuty}
 use Rattle.path_agenda.specs.Agenda.{rest_of_turn}
 use Rattle.path_core.specs.declared.events.Event.{Event}
 use Rattle.path_core.specs.Events.{next_event, step_for, happens_if}
@@ -119,18 +118,18 @@ module _ (start : Start) (plan : PathPlan) (k j : Setting) (s v : Lane) (t0 u0 :
         abbrev Answered : List Duty → Option Event → Type 0
         Answered ds o =
             let ask = step_for (path_of p) o in
-            Runs start plan k j s v a b (after_ask ask books) (happens_if values o (reply_of books ask) (with_agenda ((duties.Step step_duties.Events) ∷ ds) p))
+            Runs start plan k j s v a b (after_ask ask books) (happens_if values o (reply_of books ask) (with_agenda ((Duty.Step StepDuty.Events) ∷ ds) p))
 
-        happens : Relation (with_agenda rest_of_turn p) → (o : Option Event) → next_event p ≡ o → is_some o ≡ true → Answered (duties.End ∷ []) o
+        happens : Relation (with_agenda rest_of_turn p) → (o : Option Event) → next_event p ≡ o → is_some o ≡ true → Answered (Duty.End ∷ []) o
         happens h None is some = absurd (both_ways _ refl some)
         happens h (Some event) is some =
             let copy = next_is_copy p event h.path.joined h.path.lines
             (timer_late plan.delay t0 u0 k_is j_is going going_back h.faces)
             (timer_late plan.delay u0 t0 j_is k_is going_back going (from_a keys k j s v a b books (with_agenda rest_of_turn p) h.faces)) is in
-            subst (λ (e : Event). Answered (duties.End ∷ []) (Some e)) (sym copy.is)
+            subst (λ (e : Event). Answered (Duty.End ∷ []) (Some e)) (sym copy.is)
             (arrives copy.first copy.others copy.first.to refl copy.under_way copy.early h)
 
-        pub answers_events : (ds : List Duty) → is_some (next_event p) ≡ true → Relation (with_agenda ((duties.Step step_duties.Events) ∷ ds) p) → Answered ds (next_event p)
+        pub answers_events : (ds : List Duty) → is_some (next_event p) ≡ true → Relation (with_agenda ((Duty.Step StepDuty.Events) ∷ ds) p) → Answered ds (next_event p)
         answers_events ds some h =
             subst (λ (es : List Duty). Answered es (next_event p)) (sym h.treats.4)
-            (happens (subst (λ (es : List Duty). Relation (with_agenda ((duties.Step step_duties.Events) ∷ es) p)) h.treats.4 h) (next_event p) refl some)
+            (happens (subst (λ (es : List Duty). Relation (with_agenda ((Duty.Step StepDuty.Events) ∷ es) p)) h.treats.4 h) (next_event p) refl some)

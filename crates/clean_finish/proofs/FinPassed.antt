@@ -6,14 +6,12 @@ use Rattle.sides.specs.declared.side.Side.TheVariants.{B}
 use Rattle.sides.specs.Side.{peer}
 use Rattle.subflow_recv.specs.Receiving.{after_pass}
 use Rattle.subflow_tcp.specs.declared.handshake.State.{State}
-use Rattle.subflow_tcp.specs.declared.handshake.State.TheVariants as states
 use Rattle.subflow_tcp.specs.States.{after_fin_passed}
 use Rattle.path_agenda.specs.declared.duty.Duty.{Duty}
-use Rattle.path_agenda.specs.declared.duty.Duty.TheVariants as duties
-use Rattle.path_agenda.specs.declared.duty.AskDuty.TheVariants as ask_duties
-use Rattle.path_agenda.specs.declared.duty.SendDuty.TheVariants as send_duties
-use Rattle.path_agenda.specs.declared.duty.SilentDuty.TheVariants as silent_duties
-use Rattle.path_agenda.specs.declared.duty.StepDuty.TheVariants as step_duties
+use Rattle.path_agenda.specs.declared.duty.AskDuty.{AskDuty}
+use Rattle.path_agenda.specs.declared.duty.SendDuty.{SendDuty}
+use Rattle.path_agenda.specs.declared.duty.SilentDuty.{SilentDuty}
+use Rattle.path_agenda.specs.declared.duty.StepDuty.{StepDuty}
 use Rattle.path_core.specs.End.{PathEnd}
 use Rattle.path_core.specs.Profile.{Profile}
 use Rattle.pace.specs.Lane.{Setting, Lane}
@@ -30,13 +28,13 @@ use Rattle.clean_finish.proofs.Hands.{in_hand}
 
 -- both SYNs stay acknowledged
 pub open_passed : (finished : Bool) (state : State) → IsOpen finished state → IsOpen finished (after_fin_passed state)
-open_passed finished states.Established is = record { finish = is.finish; closed = refl; half = refl; opening = refl; connected = refl }
-open_passed finished states.FinWait1 is = record { finish = is.finish; closed = refl; half = refl; opening = refl; connected = refl }
-open_passed finished states.FinWait2 is = record { finish = is.finish; closed = refl; half = refl; opening = refl; connected = refl }
+open_passed finished State.Established is = record { finish = is.finish; closed = refl; half = refl; opening = refl; connected = refl }
+open_passed finished State.FinWait1 is = record { finish = is.finish; closed = refl; half = refl; opening = refl; connected = refl }
+open_passed finished State.FinWait2 is = record { finish = is.finish; closed = refl; half = refl; opening = refl; connected = refl }
 open_passed finished _ is = is
 
 module _ {s : Side} {keys : Keys} {k j : Setting} {c : Profile} {begun begun_back : Lane} {m n : Half} {clock until : ℕ} {ds : List Duty}
-    (h : Facing s keys k j c begun begun_back m n clock until (duties.Silent (silent_duties.PassFin s) ∷ ds)) (x : Sent) (hand : h.hand ≡ in_hand x true false)
+    (h : Facing s keys k j c begun begun_back m n clock until (Duty.Silent (SilentDuty.PassFin s) ∷ ds)) (x : Sent) (hand : h.hand ≡ in_hand x true false)
     (brings : x.brings ≡ EndsSubflow)
   where
     pub follow : Follow k.least k.total j.total (peer s) h.back.received h.back.control_came h.back.keys_came (x ∷ h.way_back.sent)
@@ -257,9 +255,9 @@ module _ {s : Side} {keys : Keys} {k j : Setting} {c : Profile} {begun begun_bac
       pub further : (y : ℕ) → y ≤ y + 1
       further y = omega arith
 
-      module _ (some_sent : 1 ≤ h.out.control_sent) (owes : h.owes ≡ true) (acknowledges : Has (duties.Send (send_duties.Acknowledge s)) ds)
-          (events : Has (duties.Step step_duties.Events) ds)
-          (asks : (h.stage_back.ask ≡ false) ⊎ (Has (duties.Ask (ask_duties.Window s)) ds ⊎ (Has (duties.Ask (ask_duties.AckOut s)) ds × (m.end.treated.asked ≡ true))))
+      module _ (some_sent : 1 ≤ h.out.control_sent) (owes : h.owes ≡ true) (acknowledges : Has (Duty.Send (SendDuty.Acknowledge s)) ds)
+          (events : Has (Duty.Step StepDuty.Events) ds)
+          (asks : (h.stage_back.ask ≡ false) ⊎ (Has (Duty.Ask (AskDuty.Window s)) ds ⊎ (Has (Duty.Ask (AskDuty.AckOut s)) ds × (m.end.treated.asked ≡ true))))
         where
           abbrev pub fin_passed : Facing s keys k j c begun begun_back (record m { end = end_now }) n clock until ds
           fin_passed = brought h refl x false hand (after_pass m.end.tcp.recv) (after_fin_passed m.end.tcp.state) m.end.sending

@@ -9,7 +9,6 @@ use Rattle.subflow_send.specs.Sendings.{never_sent, sent_again}
 use Rattle.subflow_send.proofs.Whole.{Tile-push}
 use Rattle.subflow_tcp.specs.State.{EndState}
 use Rattle.subflow_tcp.specs.declared.handshake.State.{State}
-use Rattle.subflow_tcp.specs.declared.handshake.State.TheVariants as states
 use Rattle.subflow_tcp.specs.States as phases
 use Rattle.pace.specs.Lane.{Setting, Sender}
 use Rattle.clean_finish.specs.Machine.{IsPiece}
@@ -96,6 +95,6 @@ fin_pushed k out later waiting now tcp after h none one is granted control = rec
 -- ---- the state
 
 pub open_finished : (state : State) → phases.may_finish state ≡ true → IsOpen true (phases.after_finish state)
-open_finished states.Established e = record { finish = refl; closed = refl; half = refl; opening = refl; connected = refl }
-open_finished states.CloseWait e = record { finish = refl; closed = refl; half = refl; opening = refl; connected = refl }
+open_finished State.Established e = record { finish = refl; closed = refl; half = refl; opening = refl; connected = refl }
+open_finished State.CloseWait e = record { finish = refl; closed = refl; half = refl; opening = refl; connected = refl }
 open_finished _ e = absurd (both_ways _ refl e)

@@ -6,10 +6,9 @@ use Rattle.sides.specs.declared.side.Side.TheVariants.{B}
 use Rattle.reassembly_book.specs.State.{Arriving, filled, top}
 use Rattle.reassembly_book.specs.Steps.{fin_clash, after_fin}
 use Rattle.path_agenda.specs.declared.duty.Duty.{Duty}
-use Rattle.path_agenda.specs.declared.duty.Duty.TheVariants as duties
-use Rattle.path_agenda.specs.declared.duty.AskDuty.TheVariants as ask_duties
-use Rattle.path_agenda.specs.declared.duty.SendDuty.TheVariants as send_duties
-use Rattle.path_agenda.specs.declared.duty.StepDuty.TheVariants as step_duties
+use Rattle.path_agenda.specs.declared.duty.AskDuty.{AskDuty}
+use Rattle.path_agenda.specs.declared.duty.SendDuty.{SendDuty}
+use Rattle.path_agenda.specs.declared.duty.StepDuty.{StepDuty}
 use Rattle.path_core.specs.End.{PathEnd}
 use Rattle.path_core.specs.Deliver.{having_asked}
 use Rattle.path_core.specs.DataFin.{with_peer_data_fin}
@@ -31,7 +30,7 @@ use Rattle.clean_finish.proofs.TakesIn.{follow, back_now, all_of, own_taken, con
 module _ {s : Side} {keys : Keys} {k j : Setting} {c : Profile} {begun begun_back : Lane} {m n : Half} {clock until : ℕ} (ticks t u : ℕ)
     (k_is : IsSetting c ticks k) (j_is : IsSetting c ticks j)
     (going : Going k begun t all_left begun) (going_back : Going j begun_back u all_left begun_back)
-    {ds : List Duty} (h : Facing s keys k j c begun begun_back m n clock until (duties.Ask (ask_duties.HeardFin s 0) ∷ ds))
+    {ds : List Duty} (h : Facing s keys k j c begun begun_back m n clock until (Duty.Ask (AskDuty.HeardFin s 0) ∷ ds))
     (x : Sent) (hand : h.hand ≡ in_hand x true false) (place : ℕ) (brings : x.brings ≡ EndsStream place)
   where
     pub lane : Going j begun_back u h.stage_back h.back
@@ -122,8 +121,8 @@ module _ {s : Side} {keys : Keys} {k j : Setting} {c : Profile} {begun begun_bac
     whole_after = subst (λ (b : Arriving). b.places ≡ map Some (filled b.places)) (sym arrived_is) h.apps_back.whole
 
     module _ (una : 1 ≤ m.end.tcp.send.una) (is_open : IsOpen m.end.tcp.send.finished m.end.tcp.state) (clear : 1 ≤ h.out.clear) (some_sent : 1 ≤ h.out.control_sent)
-        (owes : h.owes ≡ true) (acknowledges : Has (duties.Send (send_duties.Acknowledge s)) ds) (events : Has (duties.Step step_duties.Events) ds)
-        (asks : Has (duties.Ask (ask_duties.AckOut s)) ds)
+        (owes : h.owes ≡ true) (acknowledges : Has (Duty.Send (SendDuty.Acknowledge s)) ds) (events : Has (Duty.Step StepDuty.Events) ds)
+        (asks : Has (Duty.Ask (AskDuty.AckOut s)) ds)
       where
         abbrev pub end_after : PathEnd
         end_after = having_asked (with_peer_data_fin m.end)

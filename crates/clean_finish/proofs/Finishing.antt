@@ -7,7 +7,7 @@ use Rattle.subflow_tcp.specs.Closing.{after_finishing}
 use Rattle.subflow_tcp.specs.Dues.{nothing_due}
 use Rattle.subflow_tcp.specs.Emitting.{after_sending}
 use Rattle.subflow_tcp.specs.States.{after_finish}
-use Rattle.subflow_tcp.specs.declared.segments.Occasion.TheVariants as to_send
+use Rattle.subflow_tcp.specs.declared.segments.Occasion.{Occasion}
 use Rattle.path_agenda.specs.declared.duty.Duty.{Duty}
 use Rattle.path_core.specs.End.{PathEnd}
 use Rattle.path_core.specs.Handover.{with_told}
@@ -32,7 +32,7 @@ module _ {s : Side} {keys : Keys} {k j : Setting} {c : Profile} {begun begun_bac
     back_after = said_after h x shut
 
     abbrev pub end_after : PathEnd
-    end_after = record (with_told (said c keys s x) m.end) { tcp = after_sending to_send.Fin clock (after_finishing m.end.tcp) }
+    end_after = record (with_told (said c keys s x) m.end) { tcp = after_sending Occasion.Fin clock (after_finishing m.end.tcp) }
 
     module _ (still : brings_still h.hand ≡ false) (nothing_waits : h.waiting ≡ 0) (unowed : h.owes ≡ false) (same_shut : shut ≡ h.out.shut)
         (low : x.low ≡ h.out.granted) (none : length (octets_of x.brings) ≡ 0) (none_fin : data_fin_of x.brings ≡ 0) (one : h.out.control_sent ≡ 1)

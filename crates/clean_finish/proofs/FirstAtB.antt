@@ -7,10 +7,8 @@ use Rattle.actor_desk.specs.Desk.{SixBooks, reply_of, after_ask}
 use Rattle.stream_apps.specs.Apps.{AppState}
 use Rattle.path_agenda.specs.Agenda.{heard_and, payload_came}
 use Rattle.path_agenda.specs.declared.duty.Duty.{Duty}
-use Rattle.path_agenda.specs.declared.duty.Duty.TheVariants as duties
-use Rattle.path_agenda.specs.declared.duty.StepDuty.TheVariants as step_duties
+use Rattle.path_agenda.specs.declared.duty.StepDuty.{StepDuty}
 use Rattle.path_agenda.specs.declared.heard.Heard.{Heard}
-use Rattle.path_agenda.specs.declared.heard.Heard.TheVariants as says
 use Rattle.path_core.specs.State.{PathState, with_agenda, with_end}
 use Rattle.path_core.specs.Treating.{answered_item, item_ask, item_of, item_passed, item_stands}
 use Rattle.path_core.specs.Values.{Carried, values}
@@ -52,7 +50,7 @@ module _ (start : Start) (plan : PathPlan) (k j : Setting) (s v : Lane) (t0 u0 :
         Relation six q = Runs start plan k j s v a b six q
 
         abbrev d : Duty
-        d = duties.Step (step_duties.Heard B 0)
+        d = Duty.Step (StepDuty.Heard B 0)
 
         module _ (ds : List Duty) (h : Relation books (with_agenda (d ∷ ds) p)) where
           abbrev items_of : Brings → List Heard
@@ -69,10 +67,10 @@ module _ (start : Start) (plan : PathPlan) (k j : Setting) (s v : Lane) (t0 u0 :
             items_are : p.b.treated.items ≡ items_of what
             items_are = h.treats.1.items ∙ ap items_of is
 
-          third_item : h.treats.0 ≡ ShowsKeys → item_of 0 p.b ≡ Some (says.Keys keys.b keys.a)
+          third_item : h.treats.0 ≡ ShowsKeys → item_of 0 p.b ≡ Some (Heard.Keys keys.b keys.a)
           third_item is = item_is 0 p.b (items_of ShowsKeys) h.faces.other.modes.mapping.0 (items_are ShowsKeys is)
 
-          first_item : (octets : List ℕ) → h.treats.0 ≡ FirstPiece octets → item_of 0 p.b ≡ Some (says.Keys keys.b keys.a)
+          first_item : (octets : List ℕ) → h.treats.0 ≡ FirstPiece octets → item_of 0 p.b ≡ Some (Heard.Keys keys.b keys.a)
           first_item octets is = item_is 0 p.b (items_of (FirstPiece octets)) h.faces.other.modes.mapping.0 (items_are (FirstPiece octets) is)
 
           -- whether they were told

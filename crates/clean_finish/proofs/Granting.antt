@@ -9,8 +9,7 @@ use Rattle.subflow_tcp.specs.State.{is_at_limit}
 use Rattle.subflow_tcp.specs.States.{may_finish}
 use Rattle.subflow_tcp.specs.Segments.{one_if}
 use Rattle.path_agenda.specs.declared.duty.Duty.{Duty}
-use Rattle.path_agenda.specs.declared.duty.Duty.TheVariants as duties
-use Rattle.path_agenda.specs.declared.duty.StepDuty.TheVariants as step_duties
+use Rattle.path_agenda.specs.declared.duty.StepDuty.{StepDuty}
 use Rattle.path_core.specs.Emission.{payload_size, may_send_data, may_ask}
 use Rattle.path_core.specs.Profile.{Profile}
 use Rattle.path_core.specs.DataFin.{is_shut}
@@ -33,7 +32,7 @@ is_not true e = absurd (both_ways _ refl e)
 module _ {s : Side} {keys : Keys} {k j : Setting} {c : Profile} {begun begun_back : Lane} {m n : Half} {clock until : ℕ} (ticks t u : ℕ)
     (k_is : IsSetting c ticks k) (j_is : IsSetting c ticks j)
     (going : Going k begun t all_left begun) (going_back : Going j begun_back u all_left begun_back)
-    {ds : List Duty} (h : Facing s keys k j c begun begun_back m n clock until (duties.Step (step_duties.Data s) ∷ ds))
+    {ds : List Duty} (h : Facing s keys k j c begun begun_back m n clock until (Duty.Step (StepDuty.Data s) ∷ ds))
     (off : may_ask c s m.end ≡ true) (still : brings_still h.hand ≡ false) (nothing_waits : h.waiting ≡ 0)
     (answered : min 1 h.back.control_came ≤ h.out.control_sent) (ready_a : s ≡ A → min 1 h.back.control_came ≤ h.out.ready)
   where

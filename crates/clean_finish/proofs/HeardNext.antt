@@ -8,7 +8,6 @@ use Rattle.actor_desk.specs.Words.{pick}
 use Rattle.path_agenda.specs.Agenda.{emission, heard_and, payload_came}
 use Rattle.path_agenda.specs.declared.duty.Duty.{Duty}
 use Rattle.path_agenda.specs.declared.heard.Heard.{Heard}
-use Rattle.path_agenda.specs.declared.heard.Heard.TheVariants as says
 use Rattle.path_store.specs.declared.mapped_data_fin.MappedDataFin.{MappedDataFin}
 use Rattle.path_core.specs.End.{PathEnd}
 use Rattle.path_core.specs.Treating.{item_of}
@@ -42,7 +41,7 @@ heard_emits q from count = record {
 pub item_is : (i : ℕ) (e : PathEnd) (items : List Heard) → e.modes.identity ≡ false → e.treated.items ≡ items → item_of i e ≡ item_at i items
 item_is i e items mptcp is = ap (λ (b : Bool). if b then None else item_at i e.treated.items) mptcp ∙ ap (λ (xs : List Heard). item_at i xs) is
 
-pub dss_first : (keys : Keys) (next window : ℕ) (k : Brings) → is_opening k ≡ false → shows_keys k ≡ false → item_at 0 (heard_by keys next window k) ≡ Some says.Dss
+pub dss_first : (keys : Keys) (next window : ℕ) (k : Brings) → is_opening k ≡ false → shows_keys k ≡ false → item_at 0 (heard_by keys next window k) ≡ Some Heard.Dss
 dss_first keys next window OpensSubflow e f = absurd (both_ways _ e refl)
 dss_first keys next window ShowsKeys e f = absurd (both_ways _ f refl)
 dss_first keys next window (FirstPiece octets) e f = absurd (both_ways _ f refl)
@@ -51,7 +50,7 @@ dss_first keys next window Acknowledges e f = refl
 dss_first keys next window (EndsStream place) e f = refl
 dss_first keys next window EndsSubflow e f = refl
 
-pub ack_second : (keys : Keys) (next window : ℕ) (k : Brings) → is_opening k ≡ false → shows_keys k ≡ false → item_at 1 (heard_by keys next window k) ≡ Some (says.DataAck next window)
+pub ack_second : (keys : Keys) (next window : ℕ) (k : Brings) → is_opening k ≡ false → shows_keys k ≡ false → item_at 1 (heard_by keys next window k) ≡ Some (Heard.DataAck next window)
 ack_second keys next window OpensSubflow e f = absurd (both_ways _ e refl)
 ack_second keys next window ShowsKeys e f = absurd (both_ways _ f refl)
 ack_second keys next window (FirstPiece octets) e f = absurd (both_ways _ f refl)

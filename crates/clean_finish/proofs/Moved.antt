@@ -3,8 +3,7 @@ use Rattle.std.proofs.Common.{◌≡◌, refl, sym, subst, ℕ, ◌<◌, ◌≤�
 use Rattle.sides.specs.declared.side.Side.{Side}
 use Rattle.sides.specs.Side.{peer}
 use Rattle.path_agenda.specs.declared.duty.Duty.{Duty}
-use Rattle.path_agenda.specs.declared.duty.Duty.TheVariants as duties
-use Rattle.path_agenda.specs.declared.duty.StepDuty.TheVariants as step_duties
+use Rattle.path_agenda.specs.declared.duty.StepDuty.{StepDuty}
 use Rattle.path_core.specs.Profile.{Profile}
 use Rattle.pace.specs.Lane.{Setting, Lane, Stage}
 use Rattle.pace.specs.Lists.{first_at}
@@ -27,7 +26,7 @@ may_move p {clock} {until} {tick} w now later early datas acks = record {
 }
 
 module _ {s : Side} {keys : Keys} {k j : Setting} {c : Profile} {begun begun_back : Lane} {m n : Half} {clock until : ℕ} where
-  abbrev pub moves_on : (ds : List Duty) (h : Facing s keys k j c begun begun_back m n clock until ds) (tick : ℕ) → Has (duties.Step step_duties.Events) ds
+  abbrev pub moves_on : (ds : List Duty) (h : Facing s keys k j c begun begun_back m n clock until ds) (tick : ℕ) → Has (Duty.Step StepDuty.Events) ds
       → clock ≤ tick → tick < until → tick ≤ first_at until h.out.datas → tick ≤ first_at until h.out.acks
       → tick ≤ first_at until h.back.datas → tick ≤ first_at until h.back.acks
       → Facing s keys k j c begun begun_back m n tick until ds

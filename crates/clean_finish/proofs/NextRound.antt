@@ -11,9 +11,8 @@ use Rattle.stream_apps.specs.Apps.{AppState}
 use Rattle.stream_apps.specs.AppSteps.{app_next_round}
 use Rattle.path_agenda.specs.Agenda.{start_of_turn}
 use Rattle.path_agenda.specs.declared.duty.Duty.{Duty}
-use Rattle.path_agenda.specs.declared.duty.Duty.TheVariants as duties
-use Rattle.path_agenda.specs.declared.duty.SendDuty.TheVariants as send_duties
-use Rattle.path_agenda.specs.declared.duty.SilentDuty.TheVariants as silent_duties
+use Rattle.path_agenda.specs.declared.duty.SendDuty.{SendDuty}
+use Rattle.path_agenda.specs.declared.duty.SilentDuty.{SilentDuty}
 use Rattle.path_core.specs.End.{PathEnd}
 use Rattle.path_core.specs.State.{PathState, with_agenda}
 use Rattle.path_core.specs.Steps.{next_round}
@@ -36,7 +35,7 @@ none_among d ds over there = subst (λ (es : List Duty). Has d es) over there
 
 still_settled : (s : Side) (ds : List Duty) (e : PathEnd) → ds ≡ [] → IsSettledSoon s ds e → IsSettledSoon s start_of_turn e
 still_settled s ds e over (inl none) = inl none
-still_settled s ds e over (inr there) = absurd (none_among (duties.Silent (silent_duties.Timer s)) ds over there)
+still_settled s ds e over (inr there) = absurd (none_among (Duty.Silent (SilentDuty.Timer s)) ds over there)
 
 module _ (start : Start) (plan : PathPlan) (k j : Setting) (s v : Lane) (a b : AppState) (books : SixBooks) (p : PathState Carried)
     (h : Runs start plan k j s v a b books p) (over : p.agenda ≡ [])
@@ -66,7 +65,7 @@ module _ (start : Start) (plan : PathPlan) (k j : Setting) (s v : Lane) (a b : A
       where
         by : (1 ≤ h.out.control_sent) ⊎ HasNotBegun A j h.out.sender h.back.receiver p.a p.agenda → 1 ≤ h.out.control_sent
         by (inl one) = one
-        by (inr none) = absurd (none_among (duties.Send (send_duties.Syn A)) p.agenda over (none.syn refl).1)
+        by (inr none) = absurd (none_among (Duty.Send (SendDuty.Syn A)) p.agenda over (none.syn refl).1)
 
     abbrev w : Lane
     w = opens_round h.out

@@ -9,8 +9,7 @@ use Rattle.subflow_tcp.specs.declared.handshake.State.{State}
 use Rattle.subflow_tcp.specs.States.{may_finish}
 use Rattle.subflow_tcp.specs.Segments.{one_if}
 use Rattle.path_agenda.specs.declared.duty.Duty.{Duty}
-use Rattle.path_agenda.specs.declared.duty.Duty.TheVariants as duties
-use Rattle.path_agenda.specs.declared.duty.AskDuty.TheVariants as ask_duties
+use Rattle.path_agenda.specs.declared.duty.AskDuty.{AskDuty}
 use Rattle.path_core.specs.DataFin.{is_data_fin_due}
 use Rattle.path_core.specs.Modes.{sends_plainly}
 use Rattle.path_core.specs.Standing.{is_connected, has_grown, is_update_due}
@@ -47,8 +46,8 @@ finds is d has (x ∷ ds) there = ⊎_elim
 pub none_found : (is : Duty → Bool) (d : Duty) → is d ≡ true → (ds : List Duty) → any_duty is ds ≡ false → Has d ds → ⊥
 none_found is d has ds none there = both_ways _ none (finds is d has ds there)
 
-pub no_window : (s : Side) (ds : List Duty) → any_duty (is_window s) ds ≡ false → Has (duties.Ask (ask_duties.Window s)) ds → ⊥
-no_window s ds none there = none_found (is_window s) (duties.Ask (ask_duties.Window s)) (same_self s) ds none there
+pub no_window : (s : Side) (ds : List Duty) → any_duty (is_window s) ds ≡ false → Has (Duty.Ask (AskDuty.Window s)) ds → ⊥
+no_window s ds none there = none_found (is_window s) (Duty.Ask (AskDuty.Window s)) (same_self s) ds none there
 
 pub phase_is : (s : Side) (came una : ℕ) (finished : Bool) (state : State) → IsPhase s came una finished state
     → (is_connected state ≡ false) ⊎ ((1 ≤ una) × IsOpen finished state)

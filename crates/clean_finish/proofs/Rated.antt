@@ -13,8 +13,7 @@ use Rattle.loss_recovery.specs.declared.windows.Told.{Told}
 use Rattle.loss_recovery.specs.Windows.{grown_by, after_growth}
 use Rattle.subflow_tcp.proofs.WindowGrowth.{Grows, same_grows, ack_grows}
 use Rattle.path_agenda.specs.declared.duty.Duty.{Duty}
-use Rattle.path_agenda.specs.declared.duty.Duty.TheVariants as duties
-use Rattle.path_agenda.specs.declared.duty.AskDuty.TheVariants as ask_duties
+use Rattle.path_agenda.specs.declared.duty.AskDuty.{AskDuty}
 use Rattle.path_core.specs.End.{PathEnd}
 use Rattle.path_core.specs.Profile.{Profile}
 use Rattle.pace.specs.Lane.{Setting, Lane}
@@ -48,10 +47,10 @@ is_grown growth None c within calm = record { grows = same_grows c.reno within c
 is_grown growth (Some p) c within calm = record { grows = ack_grows p.acked growth c.reno within calm; duplicates = refl; told = refl }
 
 module _ {s : Side} {keys : Keys} {k j : Setting} {c : Profile} {begun begun_back : Lane} {m n : Half} {clock until : ℕ} {ds : List Duty}
-    (g : Facing s keys k j c begun begun_back m n clock until (duties.Ask (ask_duties.Rate s) ∷ ds)) (growth : ℕ)
+    (g : Facing s keys k j c begun begun_back m n clock until (Duty.Ask (AskDuty.Rate s) ∷ ds)) (growth : ℕ)
   where
     abbrev pub h : Facing s keys k j c begun begun_back m n clock until ds
-    h = free_drops (duties.Ask (ask_duties.Rate s)) ds refl g
+    h = free_drops (Duty.Ask (AskDuty.Rate s)) ds refl g
 
     abbrev pub end_after : PathEnd
     end_after = record m.end { tcp = record m.end.tcp { congestion = after_growth growth m.end.tcp.congestion } }

@@ -7,7 +7,6 @@ use Rattle.reassembly_book.specs.State.{Arriving, filled}
 use Rattle.reassembly_book.specs.Steps.{is_end, bytes_reply, reading}
 use Rattle.actor_desk.specs.declared.ask.Note.{Note}
 use Rattle.actor_desk.specs.declared.ask.Reply.{Reply}
-use Rattle.actor_desk.specs.declared.ask.Reply.TheVariants as replies
 use Rattle.actor_desk.specs.Desk.{SixBooks, reassembly_of, reply_of}
 use Rattle.stream_apps.specs.declared.duty.AppDuty.{AppDuty}
 use Rattle.stream_apps.specs.declared.duty.AppDuty.TheVariants.{FastClose, AbortSend, AbortReceive, Write, Close, Read, End}
@@ -38,17 +37,17 @@ record IsRead (r : Reply) : Type 0 where
   ends : ends_in r ≡ tells_end r
   no_abort : tells_abort r ≡ false
 
-read_is : (b : Arriving) (bytes : List ℕ) → IsRead (replies.Reassembly (bytes_reply bytes b))
+read_is : (b : Arriving) (bytes : List ℕ) → IsRead (Reply.Reassembly (bytes_reply bytes b))
 read_is b [] = by (is_end b.known_end b.read)
   where
-    by : (over : Bool) → IsRead (replies.Reassembly (if over then TheEnd else NoneYet))
+    by : (over : Bool) → IsRead (Reply.Reassembly (if over then TheEnd else NoneYet))
     by true = record { ends = refl; no_abort = refl }
     by false = record { ends = refl; no_abort = refl }
 read_is b (x ∷ bytes) = record { ends = refl; no_abort = refl }
 
-reads : (b : Arriving) → b.aborted ≡ None → IsRead (replies.Reassembly (reading b.aborted 65536 b))
+reads : (b : Arriving) → b.aborted ≡ None → IsRead (Reply.Reassembly (reading b.aborted 65536 b))
 reads b none =
-    subst (λ (o : Option Bool). IsRead (replies.Reassembly (reading o 65536 b))) (sym none) (read_is b (take 65536 (filled b.places)))
+    subst (λ (o : Option Bool). IsRead (Reply.Reassembly (reading o 65536 b))) (sym none) (read_is b (take 65536 (filled b.places)))
 
 module _ (six : SixBooks) (a : AppState) (notes : List Note) (n : Note) (none : (reassembly_of a.side six).aborted ≡ None) (h : TellsAs a notes) where
   duty_tells : (d : AppDuty) → n.reply ≡ reply_of six (app_ask d a) → TellsAs (app_answered d (reply_of six (app_ask d a)) a) (notes ++ n ∷ [])

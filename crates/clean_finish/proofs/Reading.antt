@@ -6,7 +6,7 @@ use Rattle.reassembly_book.specs.declared.call.ReassemblyReply.TheVariants.{None
 use Rattle.reassembly_book.specs.declared.call.ReassemblyReply.TheVariants.{End as TheEnd}
 use Rattle.reassembly_book.specs.State.{Arriving, received, filled}
 use Rattle.reassembly_book.specs.Steps.{is_end, bytes_reply, read_reply, after_read, after_reading}
-use Rattle.actor_desk.specs.declared.ask.Reply.TheVariants as replies
+use Rattle.actor_desk.specs.declared.ask.Reply.{Reply}
 use Rattle.stream_apps.specs.declared.duty.AppDuty.{AppDuty}
 use Rattle.stream_apps.specs.declared.duty.AppDuty.TheVariants.{Read, End}
 use Rattle.stream_apps.specs.Apps.{AppState}
@@ -103,7 +103,7 @@ module _ (k : Setting) (s : Lane) (t : ℕ) (p : Stage) (w : Lane) where
 
     -- nothing is there to be read
     nothing : 0 ≡ n → (e : Bool) → e ≡ is_end b.known_end b.read
-        → ReaderGoes k s p w (app_takes (replies.Reassembly (if e then TheEnd else NoneYet))
+        → ReaderGoes k s p w (app_takes (Reply.Reassembly (if e then TheEnd else NoneYet))
         (record a { told = false; agenda = Read ∷ End ∷ [] }))
         (after_reading max b)
     nothing zero' true e =
@@ -150,12 +150,12 @@ module _ (k : Setting) (s : Lane) (t : ℕ) (p : Stage) (w : Lane) where
         })
 
     taken : (xs : List ℕ) → length xs ≡ n
-        → ReaderGoes k s p w (app_takes (replies.Reassembly (bytes_reply xs b))
+        → ReaderGoes k s p w (app_takes (Reply.Reassembly (bytes_reply xs b))
         (record a { told = false; agenda = Read ∷ End ∷ [] })) (after_reading max b)
     taken [] size = nothing size (is_end b.known_end b.read) refl
     taken (y ∷ ys) size = bytes y ys size (nat_lt (a.count + length (y ∷ ys)) a.buffer) refl
 
-    all_taken : ReaderGoes k s p w (app_takes (replies.Reassembly (bytes_reply (take max (filled b.places)) b))
+    all_taken : ReaderGoes k s p w (app_takes (Reply.Reassembly (bytes_reply (take max (filled b.places)) b))
         (record a { told = false; agenda = Read ∷ End ∷ [] }))
         (after_reading max b)
     all_taken = taken (take max (filled b.places)) (length-take max (filled b.places))
@@ -163,7 +163,7 @@ module _ (k : Setting) (s : Lane) (t : ℕ) (p : Stage) (w : Lane) where
   pub read_step : (a : AppState) (b : Arriving) → Going k s t p w → ReaderShows k w a b
       → a.agenda ≡ Read ∷ End ∷ [] → a.told ≡ false
       → (most : ℕ) → 1 ≤ most
-      → ReaderGoes k s p w (app_takes (replies.Reassembly (read_reply most b)) a) (after_read most b)
+      → ReaderGoes k s p w (app_takes (Reply.Reassembly (read_reply most b)) a) (after_read most b)
   read_step a b h shows at untold most some =
       subst (λ (ds : List AppDuty). Goes ds a.told b.aborted) (sym at)
       (subst (λ (t' : Bool). Goes (Read ∷ End ∷ []) t' b.aborted) (sym untold)
@@ -172,7 +172,7 @@ module _ (k : Setting) (s : Lane) (t : ℕ) (p : Stage) (w : Lane) where
     where
       Goes : List AppDuty → Bool → Option Bool → Type 0
       Goes ds t' ab =
-          ReaderGoes k s p w (app_takes (replies.Reassembly (read_reply most (record b { aborted = ab })))
+          ReaderGoes k s p w (app_takes (Reply.Reassembly (read_reply most (record b { aborted = ab })))
           (record a { told = t'; agenda = ds }))
           (after_read most (record b { aborted = ab }))
 

@@ -9,9 +9,8 @@ use Rattle.subflow_send.specs.Records.{Record}
 use Rattle.send_book.specs.declared.call.Why.{Why}
 use Rattle.send_book.specs.Steps.{end_of}
 use Rattle.path_agenda.specs.declared.duty.Duty.{Duty}
-use Rattle.path_agenda.specs.declared.duty.Duty.TheVariants as duties
-use Rattle.path_agenda.specs.declared.duty.SendDuty.TheVariants as send_duties
-use Rattle.path_agenda.specs.declared.duty.StepDuty.TheVariants as step_duties
+use Rattle.path_agenda.specs.declared.duty.SendDuty.{SendDuty}
+use Rattle.path_agenda.specs.declared.duty.StepDuty.{StepDuty}
 use Rattle.path_core.specs.End.{PathEnd}
 use Rattle.path_core.specs.Profile.{Profile}
 use Rattle.path_core.specs.DataFin.{after_refusal, is_shut}
@@ -39,7 +38,7 @@ before_finishing p = record {
   wait = λ e. e;
 }
 
-stage_finishes : (s r : Side) (ds : List Duty) (asked owes : Bool) (p : Stage) → Has (duties.Send (send_duties.DataFin s)) ds
+stage_finishes : (s r : Side) (ds : List Duty) (asked owes : Bool) (p : Stage) → Has (Duty.Send (SendDuty.DataFin s)) ds
     → StageIs s r ds asked owes p → StageIs s r ds asked owes (record p { finish = true })
 stage_finishes s r ds asked owes p there is = record {
   window = is.window;
@@ -52,7 +51,7 @@ stage_finishes s r ds asked owes p there is = record {
 }
 
 module _ {s : Side} {keys : Keys} {k j : Setting} {c : Profile} {begun begun_back : Lane} {m n : Half} {clock until : ℕ} {ds : List Duty}
-    (h : Facing s keys k j c begun begun_back m n clock until (duties.Step (step_duties.Data s) ∷ ds))
+    (h : Facing s keys k j c begun begun_back m n clock until (Duty.Step (StepDuty.Data s) ∷ ds))
   where
     abbrev pub finishing : Stage
     finishing = record h.stage { finish = true }
@@ -68,7 +67,7 @@ module _ {s : Side} {keys : Keys} {k j : Setting} {c : Profile} {begun begun_bac
       out_after = refused_by shut h.out.closed h.out
 
       module _ (nothing_waits : h.waiting ≡ 0) (some_sent : 1 ≤ h.out.control_sent) (more : h.out.known ≤ h.out.closed)
-          (may : MayRefuse k begun finishing shut h.out.closed h.out) (there : Has (duties.Send (send_duties.DataFin s)) ds)
+          (may : MayRefuse k begun finishing shut h.out.closed h.out) (there : Has (Duty.Send (SendDuty.DataFin s)) ds)
         where
           pub not_both : {x : ℕ} → x ≡ 0 → 1 ≤ x → ⊥
           not_both p q = absurd (omega (arith, p, q))
@@ -200,7 +199,7 @@ module _ {s : Side} {keys : Keys} {k j : Setting} {c : Profile} {begun begun_bac
               waits_on (WaitsNone some) = WaitsNone some
               waits_on (WaitsBytes one r kind pos unsent some most edge) = WaitsBytes one r kind pos unsent some most edge
 
-          pub others : IsApart (peer s) s (duties.Step (step_duties.Data s))
+          pub others : IsApart (peer s) s (Duty.Step (StepDuty.Data s))
           others = record {
             window = differ refl;
             update = differ refl;
@@ -214,7 +213,7 @@ module _ {s : Side} {keys : Keys} {k j : Setting} {c : Profile} {begun begun_bac
 
           pub stage_after : StageIs s (peer s) ds n.end.treated.asked h.owes_back (record finishing { emit = false })
           stage_after = stage_finishes s (peer s) ds n.end.treated.asked h.owes_back (record h.stage { emit = false }) there
-              (emit_drops s (peer s) (duties.Step (step_duties.Data s)) ds n.end.treated.asked h.owes_back h.stage refl h.stages)
+              (emit_drops s (peer s) (Duty.Step (StepDuty.Data s)) ds n.end.treated.asked h.owes_back h.stage refl h.stages)
 
           abbrev pub refused_on : Facing s keys k j c begun begun_back (record m { end = end_after }) n clock until ds
           refused_on = record {
@@ -287,15 +286,15 @@ module _ {s : Side} {keys : Keys} {k j : Setting} {c : Profile} {begun begun_bac
             };
             apps_back = h.apps_back;
             stages = stage_after;
-            stages_back = stage_drops (peer s) s (duties.Step (step_duties.Data s)) ds m.end.treated.asked h.owes h.stage_back others h.stages_back;
+            stages_back = stage_drops (peer s) s (Duty.Step (StepDuty.Data s)) ds m.end.treated.asked h.owes h.stage_back others h.stages_back;
             control = h.control;
             control_back = h.control_back;
             turn = h.turn;
             turn_back = h.turn_back;
-            settles = settles_drop s (duties.Step (step_duties.Data s)) ds end_after (differ refl) h.settles;
-            settles_back = settles_drop (peer s) (duties.Step (step_duties.Data s)) ds n.end (differ refl) h.settles_back;
+            settles = settles_drop s (Duty.Step (StepDuty.Data s)) ds end_after (differ refl) h.settles;
+            settles_back = settles_drop (peer s) (Duty.Step (StepDuty.Data s)) ds n.end (differ refl) h.settles_back;
             begins = inl some_sent;
-            begins_back = begun_drops (peer s) k h.back.sender h.out.receiver n.end (duties.Step (step_duties.Data s)) ds (differ refl) (λ is. differ refl) h.begins_back;
+            begins_back = begun_drops (peer s) k h.back.sender h.out.receiver n.end (Duty.Step (StepDuty.Data s)) ds (differ refl) (λ is. differ refl) h.begins_back;
             owed = h.owed;
             owed_back = h.owed_back;
           }

@@ -4,8 +4,7 @@ use Rattle.sides.specs.declared.side.Side.{Side}
 use Rattle.sides.specs.Side.{peer}
 use Rattle.link_model.specs.declared.flight.Flight.{Flight}
 use Rattle.path_agenda.specs.declared.duty.Duty.{Duty}
-use Rattle.path_agenda.specs.declared.duty.Duty.TheVariants as duties
-use Rattle.path_agenda.specs.declared.duty.StepDuty.TheVariants as step_duties
+use Rattle.path_agenda.specs.declared.duty.StepDuty.{StepDuty}
 use Rattle.path_core.specs.End.{PathEnd}
 use Rattle.path_core.specs.Profile.{Profile}
 use Rattle.path_core.specs.Values.{Carried}
@@ -48,7 +47,7 @@ module _ {s : Side} {keys : Keys} {k j : Setting} {c : Profile} {begun begun_bac
         (control : x.control ≡ out_after.control_sent) (shown : x.keys ≡ out_after.keys_sent)
         (other : WayIs c keys k j (peer s) h.back.sender h.back.receiver h.back.datas h.out.acks hand e.tcp.send.una n.end.tcp.recv.edge n.flying)
         -- what is left to be done
-        (room : out_after.granted + waiting ≤ h.out.written) (bytes : out_after.granted + waiting ≡ h.out.granted + h.waiting) (events : Has (duties.Step step_duties.Events) ds)
+        (room : out_after.granted + waiting ≤ h.out.written) (bytes : out_after.granted + waiting ≡ h.out.granted + h.waiting) (events : Has (Duty.Step StepDuty.Events) ds)
         (stages : StageIs s (peer s) ds n.end.treated.asked h.owes_back h.stage)
         (stages_back : StageIs (peer s) s ds e.treated.asked owes (record (waiting_on h.stage_back) { tell = tell; update = update }))
         (settles : IsSettledSoon s ds e) (settles_back : IsSettledSoon (peer s) ds n.end)

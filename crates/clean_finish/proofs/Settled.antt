@@ -15,9 +15,8 @@ use Rattle.subflow_tcp.specs.States.{is_closed_to_segments}
 use Rattle.subflow_tcp.specs.Segments.{one_if}
 use Rattle.path_store.specs.Granted.{is_all_acknowledged}
 use Rattle.path_agenda.specs.declared.duty.Duty.{Duty}
-use Rattle.path_agenda.specs.declared.duty.Duty.TheVariants as duties
-use Rattle.path_agenda.specs.declared.duty.SendDuty.TheVariants as send_duties
-use Rattle.path_agenda.specs.declared.duty.SilentDuty.TheVariants as silent_duties
+use Rattle.path_agenda.specs.declared.duty.SendDuty.{SendDuty}
+use Rattle.path_agenda.specs.declared.duty.SilentDuty.{SilentDuty}
 use Rattle.path_store.specs.declared.granted_piece.GrantedPiece.{GrantedPiece}
 use Rattle.path_core.specs.DataFin.{is_waiting, is_data_fin_owed}
 use Rattle.path_core.specs.Timer.{after_timer}
@@ -63,10 +62,10 @@ not_true false e = refl
 not_true true e = absurd (both_ways _ refl e)
 
 abbrev side_of : Duty → Side
-side_of (duties.Silent (silent_duties.Timer q)) = q
+side_of (Duty.Silent (SilentDuty.Timer q)) = q
 side_of _ = A
 
-pub same_timer : {p q : Side} → duties.Silent (silent_duties.Timer p) ≡ duties.Silent (silent_duties.Timer q) → p ≡ q
+pub same_timer : {p q : Side} → Duty.Silent (SilentDuty.Timer p) ≡ Duty.Silent (SilentDuty.Timer q) → p ≡ q
 same_timer e = ap side_of e
 
 same_self : (q : Side) → same_side q q ≡ true
@@ -99,7 +98,7 @@ module _ {s : Side} {keys : Keys} {k j : Setting} {c : Profile} {begun begun_bac
     (k_is : IsSetting c ticks k) (j_is : IsSetting c ticks j)
     (going : Going k begun t all_left begun) (going_back : Going j begun_back u all_left begun_back)
   where
-    module _ {ds : List Duty} (h : Facing s keys k j c begun begun_back m n clock until (duties.Silent (silent_duties.Timer s) ∷ ds))
+    module _ {ds : List Duty} (h : Facing s keys k j c begun begun_back m n clock until (Duty.Silent (SilentDuty.Timer s) ∷ ds))
         (nothing_waits : h.waiting ≡ 0) (answered : min 1 h.back.control_came ≤ h.out.control_sent)
         (no_syn : any_duty (is_syn s) ds ≡ false)
       where
@@ -131,9 +130,9 @@ module _ {s : Side} {keys : Keys} {k j : Setting} {c : Profile} {begun begun_bac
 
             by : (came una : ℕ) (finished : Bool) (state : State) → IsPhase s came una finished state
                 → is_closed_to_segments state ≡ false → came ≡ 0
-                → HasNotBegun s j h.out.sender h.back.receiver m.end (duties.Silent (silent_duties.Timer s) ∷ ds) → ⊥
+                → HasNotBegun s j h.out.sender h.back.receiver m.end (Duty.Silent (SilentDuty.Timer s) ∷ ds) → ⊥
             by came una finished state (Opening side none low is) up zero_came not = ⊎_elim (λ e. absurd (differ refl e))
-                (λ there. none_found (is_syn s) (duties.Send (send_duties.Syn A)) (ap (λ (q : Side). same_side q A) side) ds no_syn there) (not.syn side).1
+                (λ there. none_found (is_syn s) (Duty.Send (SendDuty.Syn A)) (ap (λ (q : Side). same_side q A) side) ds no_syn there) (not.syn side).1
             by came una finished state (Listening side none low is) up zero_came not = both_ways _ up (ap is_closed_to_segments is)
             by came una finished state (HalfOpen side one low is) up zero_came not = one_zero one zero_came
             by came una finished state (Open some high is) up zero_came not = some_zero some zero_came
@@ -224,7 +223,7 @@ module _ {s : Side} {keys : Keys} {k j : Setting} {c : Profile} {begun begun_bac
             by _ _ (WaitsNone sent) = WaitsNone sent
             by _ _ (WaitsBytes sent r kind pos unsent some most edge) = WaitsBytes sent r kind pos unsent some most edge
 
-        pub others : IsApart s (peer s) (duties.Silent (silent_duties.Timer s))
+        pub others : IsApart s (peer s) (Duty.Silent (SilentDuty.Timer s))
         others = record {
           window = differ refl;
           update = differ refl;
@@ -236,7 +235,7 @@ module _ {s : Side} {keys : Keys} {k j : Setting} {c : Profile} {begun begun_bac
           ask = differ refl;
         }
 
-        pub others_back : IsApart (peer s) s (duties.Silent (silent_duties.Timer s))
+        pub others_back : IsApart (peer s) s (Duty.Silent (SilentDuty.Timer s))
         others_back = record {
           window = differ refl;
           update = differ refl;
@@ -423,16 +422,16 @@ module _ {s : Side} {keys : Keys} {k j : Setting} {c : Profile} {begun begun_bac
             fin = h.apps.fin;
           };
           apps_back = h.apps_back;
-          stages = stage_drops s (peer s) (duties.Silent (silent_duties.Timer s)) ds n.end.treated.asked h.owes_back h.stage others h.stages;
-          stages_back = stage_drops (peer s) s (duties.Silent (silent_duties.Timer s)) ds m.end.treated.asked h.owes h.stage_back others_back h.stages_back;
+          stages = stage_drops s (peer s) (Duty.Silent (SilentDuty.Timer s)) ds n.end.treated.asked h.owes_back h.stage others h.stages;
+          stages_back = stage_drops (peer s) s (Duty.Silent (SilentDuty.Timer s)) ds m.end.treated.asked h.owes h.stage_back others_back h.stages_back;
           control = h.control;
           control_back = h.control_back;
           turn = h.turn;
           turn_back = h.turn_back;
           settles = inl refl;
-          settles_back = settles_drop (peer s) (duties.Silent (silent_duties.Timer s)) ds n.end (λ e. peer_is_other s (same_timer e)) h.settles_back;
-          begins = begun_after (begun_drops s j h.out.sender h.back.receiver m.end (duties.Silent (silent_duties.Timer s)) ds (differ refl) (λ is. differ refl) h.begins);
-          begins_back = begun_drops (peer s) k h.back.sender h.out.receiver n.end (duties.Silent (silent_duties.Timer s)) ds (differ refl) (λ is. differ refl) h.begins_back;
+          settles_back = settles_drop (peer s) (Duty.Silent (SilentDuty.Timer s)) ds n.end (λ e. peer_is_other s (same_timer e)) h.settles_back;
+          begins = begun_after (begun_drops s j h.out.sender h.back.receiver m.end (Duty.Silent (SilentDuty.Timer s)) ds (differ refl) (λ is. differ refl) h.begins);
+          begins_back = begun_drops (peer s) k h.back.sender h.out.receiver n.end (Duty.Silent (SilentDuty.Timer s)) ds (differ refl) (λ is. differ refl) h.begins_back;
           owed = h.owed;
           owed_back = h.owed_back;
         }

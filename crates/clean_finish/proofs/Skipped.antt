@@ -5,8 +5,7 @@ use Rattle.sides.specs.declared.side.Side.{Side}
 use Rattle.sides.specs.declared.side.Side.TheVariants.{B}
 use Rattle.sides.specs.Side.{peer}
 use Rattle.path_agenda.specs.declared.duty.Duty.{Duty}
-use Rattle.path_agenda.specs.declared.duty.Duty.TheVariants as duties
-use Rattle.path_agenda.specs.declared.duty.StepDuty.TheVariants as step_duties
+use Rattle.path_agenda.specs.declared.duty.StepDuty.{StepDuty}
 use Rattle.path_core.specs.Profile.{Profile}
 use Rattle.pace.specs.Lane.{Setting, Copy, Lane}
 use Rattle.pace.specs.Rules.{skipped as lane_skipped}
@@ -21,7 +20,7 @@ use Rattle.clean_finish.proofs.Opened.{waiting_on, before_waiting, stage_waits}
 use Rattle.clean_finish.proofs.Passing.{stands_then}
 
 module _ {s : Side} {keys : Keys} {k j : Setting} {c : Profile} {begun begun_back : Lane} {m n : Half} {clock until : ℕ} {ds : List Duty}
-    (h : Facing s keys k j c begun begun_back m n clock until ds) (events : Has (duties.Step step_duties.Events) ds) (some_sent : 1 ≤ h.out.control_sent)
+    (h : Facing s keys k j c begun begun_back m n clock until ds) (events : Has (Duty.Step StepDuty.Events) ds) (some_sent : 1 ≤ h.out.control_sent)
     (x : Sent) (tells : Bool) (hand : h.hand ≡ in_hand x true tells) (brings : x.brings ≡ Acknowledges) (unowed : h.owes ≡ false)
   where
     abbrev pub rest : List Copy

@@ -7,7 +7,7 @@ use Rattle.link_model.specs.Steps.{due_of}
 use Rattle.path_segments.specs.Laws.{meant}
 use Rattle.subflow_tcp.specs.declared.handshake.State.{State}
 use Rattle.subflow_tcp.specs.declared.handshake.State.TheVariants.{Listen}
-use Rattle.subflow_tcp.specs.declared.verdicts.Meaning.TheVariants as means
+use Rattle.subflow_tcp.specs.declared.verdicts.Meaning.{Meaning}
 use Rattle.subflow_tcp.specs.Judging.{is_syn_alone, meaning_of}
 use Rattle.subflow_tcp.specs.Segments.{Copy as SubflowCopy}
 use Rattle.subflow_tcp.specs.State.{EndState}
@@ -15,8 +15,7 @@ use Rattle.subflow_tcp.specs.Taking.{first_fin}
 use Rattle.actor_desk.specs.Desk.{SixBooks}
 use Rattle.stream_apps.specs.Apps.{AppState}
 use Rattle.path_agenda.specs.declared.duty.Duty.{Duty}
-use Rattle.path_agenda.specs.declared.duty.Duty.TheVariants as duties
-use Rattle.path_agenda.specs.declared.duty.StepDuty.TheVariants as step_duties
+use Rattle.path_agenda.specs.declared.duty.StepDuty.{StepDuty}
 use Rattle.path_core.specs.Arrival.{copy_of, reset_for, copy_taken}
 use Rattle.path_core.specs.DssIn.{held_of}
 use Rattle.path_core.specs.State.{PathState}
@@ -65,7 +64,7 @@ syn_shape x came keys_came least received brings low counts tells =
     by y low' control keys next edge seen dss a b e f g i l o = rw (a, b, e, f, g, i, l, o) refl
 
 -- a listening end is opened by a SYN
-listening_opens : (c : SubflowCopy) (s : EndState) → s.state ≡ Listen → is_syn_alone c ≡ true → meaning_of c s ≡ means.Opens
+listening_opens : (c : SubflowCopy) (s : EndState) → s.state ≡ Listen → is_syn_alone c ≡ true → meaning_of c s ≡ Meaning.Opens
 listening_opens c s state alone = rw (state, alone) refl
 
 -- nothing was heard at B that could repeat
@@ -133,15 +132,15 @@ module _ (start : Start) (plan : PathPlan) (k j : Setting) (s v : Lane) (t0 u0 :
         Relation r = Runs start plan k j s v a b books r
 
         abbrev face : Facing B keys j k p.profile v s (half B b books now_before) (half A a books now_before)
-            (tick start plan k j s v t0 u0 going going_back a b books p f others k_is j_is) p.until ((duties.Step step_duties.Events) ∷ duties.End ∷ [])
+            (tick start plan k j s v t0 u0 going going_back a b books p f others k_is j_is) p.until ((Duty.Step StepDuty.Events) ∷ Duty.End ∷ [])
         face = faced start plan k j s v t0 u0 going going_back a b books p f others k_is j_is h early
 
         pub syn_comes : x.brings ≡ OpensSubflow
             → Relation (copy_taken values (due_of (copy start plan k j s v t0 u0 going going_back a b books p f others k_is j_is))
             (q start plan k j s v t0 u0 going going_back a b books p f others k_is j_is))
         syn_comes brings =
-            subst Relation (sym (comes_as start plan k j s v t0 u0 going going_back a b books p f others k_is j_is h early means.Opens meaning))
-            (subst (λ (y : Sent). Relation (heard_as B (meant (said p.profile keys A y)) means.Opens now)) (sym shape) taken)
+            subst Relation (sym (comes_as start plan k j s v t0 u0 going going_back a b books p f others k_is j_is h early Meaning.Opens meaning))
+            (subst (λ (y : Sent). Relation (heard_as B (meant (said p.profile keys A y)) Meaning.Opens now)) (sym shape) taken)
           where
             follow : Follows start plan k j s v t0 u0 going going_back a b books p f others k_is j_is h early
             follow = follows start plan k j s v t0 u0 going going_back a b books p f others k_is j_is h early
@@ -164,15 +163,15 @@ module _ (start : Start) (plan : PathPlan) (k j : Setting) (s v : Lane) (t0 u0 :
                 at_most : {low own buffer : ℕ} → low ≡ min 65535 buffer → own ≡ buffer → min 65535 own ≤ low
                 at_most is same = omega (arith, is, same)
 
-            meaning : meaning_of (copy_of (meant (said p.profile keys A x))) p.b.tcp ≡ means.Opens
-            meaning = subst (λ (y : Sent). meaning_of (copy_of (meant (said p.profile keys A y))) p.b.tcp ≡ means.Opens) (sym shape)
+            meaning : meaning_of (copy_of (meant (said p.profile keys A x))) p.b.tcp ≡ Meaning.Opens
+            meaning = subst (λ (y : Sent). meaning_of (copy_of (meant (said p.profile keys A y))) p.b.tcp ≡ Meaning.Opens) (sym shape)
                 (listening_opens _ p.b.tcp state.1 refl)
 
-            taken : Relation (heard_as B (meant (said p.profile keys A syn)) means.Opens now)
+            taken : Relation (heard_as B (meant (said p.profile keys A syn)) Meaning.Opens now)
             taken =
                 let heard = meant (said p.profile keys A syn) in
                 let unsent = unsent_is plan.delay u0 t0 j_is k_is going_back going face none in
-                let faces = from_b keys k j s v a b books (heard_as B heard means.Opens now)
+                let faces = from_b keys k j s v a b books (heard_as B heard Meaning.Opens now)
                 (syn_arrived face h.treats.0.1.none none state.0 state.1 unsent (unrowed plan.delay u0 t0 j_is k_is going_back going face none)
                 x.at x.window x.edge (copy start plan k j s v t0 u0 going going_back a b books p f others k_is j_is) (going_to B others)
                 (first start plan k j s v t0 u0 going going_back a b books p f others k_is j_is h early).xs

@@ -10,15 +10,13 @@ use Rattle.subflow_send.specs.Records.{Record}
 use Rattle.subflow_send.specs.Rules.{is_unsent, syn_record}
 use Rattle.subflow_send.specs.Sendings.{never_sent}
 use Rattle.subflow_tcp.specs.declared.handshake.State.{State}
-use Rattle.subflow_tcp.specs.declared.handshake.State.TheVariants as states
-use Rattle.subflow_tcp.specs.declared.segments.Occasion.TheVariants as to_send
+use Rattle.subflow_tcp.specs.declared.segments.Occasion.{Occasion}
 use Rattle.subflow_tcp.specs.States.{is_opening}
 use Rattle.actor_desk.specs.Desk.{SixBooks}
 use Rattle.stream_apps.specs.Apps.{AppState}
 use Rattle.path_agenda.specs.declared.duty.Duty.{Duty}
-use Rattle.path_agenda.specs.declared.duty.Duty.TheVariants as duties
-use Rattle.path_agenda.specs.declared.duty.AskDuty.TheVariants as ask_duties
-use Rattle.path_agenda.specs.declared.duty.SendDuty.TheVariants as send_duties
+use Rattle.path_agenda.specs.declared.duty.AskDuty.{AskDuty}
+use Rattle.path_agenda.specs.declared.duty.SendDuty.{SendDuty}
 use Rattle.path_core.specs.Emission.{first_unsent, is_syn_due, answered_syn}
 use Rattle.path_core.specs.Handover.{having_sent, sent_on}
 use Rattle.path_core.specs.Standing.{is_connected}
@@ -38,18 +36,18 @@ use Rattle.clean_finish.proofs.Opened.{syn_is, syn, syn_sent}
 use Rattle.clean_finish.proofs.Plainly.{plain_on}
 use Rattle.clean_finish.proofs.Quiet.{no_window}
 
-opening_is : (state : State) → is_opening state ≡ true → (state ≡ states.SynSent) × (is_connected state ≡ false)
-opening_is states.SynSent e = (refl, refl)
+opening_is : (state : State) → is_opening state ≡ true → (state ≡ State.SynSent) × (is_connected state ≡ false)
+opening_is State.SynSent e = (refl, refl)
 opening_is _ e = absurd (both_ways _ refl e)
 
 -- what an end knows whose SYN is due
 module _ {keys : Keys} {k j : Setting} {begun begun_back : Lane} {m n : Half} {c : _} {clock until : ℕ} {ds : List Duty}
-    (h : Facing A keys k j c begun begun_back m n clock until (duties.Send (send_duties.Syn A) ∷ ds)) (due : is_syn_due m.end ≡ true)
+    (h : Facing A keys k j c begun begun_back m n clock until (Duty.Send (SendDuty.Syn A) ∷ ds)) (due : is_syn_due m.end ≡ true)
   where
     parts : (is_opening m.end.tcp.state ≡ true) × (is_some (first_unsent m.end) ≡ true)
     parts = and_parts (is_opening m.end.tcp.state) (is_some (first_unsent m.end)) due
 
-    pub state_is : m.end.tcp.state ≡ states.SynSent
+    pub state_is : m.end.tcp.state ≡ State.SynSent
     state_is = (opening_is m.end.tcp.state parts.0).0
 
     unready : h.out.ready ≡ 0
@@ -84,7 +82,7 @@ module _ {keys : Keys} {k j : Setting} {begun begun_back : Lane} {m n : Half} {c
     pub first_syn : first_unsent m.end ≡ Some (syn_record never_sent)
     first_syn = first_is ∙ ap (λ (rs : List Record). find is_unsent rs) unsent_is.rest
 
-    pub not_begun : HasNotBegun A j h.out.sender h.back.receiver m.end (duties.Send (send_duties.Syn A) ∷ ds)
+    pub not_begun : HasNotBegun A j h.out.sender h.back.receiver m.end (Duty.Send (SendDuty.Syn A) ∷ ds)
     not_begun = ⊎_elim (λ sent. absurd (not_both sent unsent_is.unsent)) (λ none. none) h.begins
       where
         not_both : {x : ℕ} → 1 ≤ x → x ≡ 0 → ⊥
@@ -103,10 +101,10 @@ module _ (start : Start) (plan : PathPlan) (k j : Setting) (s v : Lane) (t0 u0 :
         Relation q = Runs start plan k j s v a b books q
 
         abbrev sends_off : PlainSegment → PathState Carried
-        sends_off segment = sent_on values A segment (having_sent to_send.Unsent p.clock segment p.a) ds p
+        sends_off segment = sent_on values A segment (having_sent Occasion.Unsent p.clock segment p.a) ds p
 
-        pub syn_goes : is_syn_due p.a ≡ true → Relation (with_agenda (duties.Send (send_duties.Syn A) ∷ ds) p)
-            → Relation (answered_syn values A (with_agenda (duties.Send (send_duties.Syn A) ∷ ds) p))
+        pub syn_goes : is_syn_due p.a ≡ true → Relation (with_agenda (Duty.Send (SendDuty.Syn A) ∷ ds) p)
+            → Relation (answered_syn values A (with_agenda (Duty.Send (SendDuty.Syn A) ∷ ds) p))
         syn_goes due h =
             let know = unsent_is h.faces due in
             let none = not_begun h.faces due in
@@ -158,6 +156,6 @@ module _ (start : Start) (plan : PathPlan) (k j : Setting) (s v : Lane) (t0 u0 :
             up_zero : {x y : ℕ} → x ≤ y → x ≤ max y 0
             up_zero low = omega (arith, low)
 
-            window_first : Has (duties.Ask (ask_duties.Window A)) (duties.Send (send_duties.Syn A) ∷ ds) → any_duty (is_window A) ds ≡ false → ⊥
+            window_first : Has (Duty.Ask (AskDuty.Window A)) (Duty.Send (SendDuty.Syn A) ∷ ds) → any_duty (is_window A) ds ≡ false → ⊥
             window_first (inl same) none = absurd (differ refl same)
             window_first (inr there) none = no_window A ds none there

@@ -5,7 +5,7 @@ use Rattle.dss_mapping.specs.declared.kept.KeptMapping.{KeptMapping}
 use Rattle.path_segments.specs.Laws.{meant}
 use Rattle.subflow_tcp.specs.declared.handshake.State.TheVariants.{Listen}
 use Rattle.subflow_tcp.specs.declared.segments.Outgoing.{Outgoing}
-use Rattle.subflow_tcp.specs.declared.verdicts.Meaning.TheVariants as means
+use Rattle.subflow_tcp.specs.declared.verdicts.Meaning.{Meaning}
 use Rattle.path_agenda.specs.declared.duty.Duty.{Duty}
 use Rattle.path_core.specs.Arrival.{copy_judged}
 use Rattle.path_core.specs.End.{PathEnd}
@@ -45,7 +45,7 @@ module _ {keys : Keys} {k j : Setting} {c : Profile} {begun begun_back : Lane} {
     hand_after = Some (record { sent = x; brings = false; tells = true })
 
     abbrev pub end_after : List KeptMapping → Outgoing → PathEnd
-    end_after told answer = copy_judged false told answer B clock (meant (said c keys A x)) means.Opens m.end
+    end_after told answer = copy_judged false told answer B clock (meant (said c keys A x)) Meaning.Opens m.end
 
     came_one : {y : ℕ} → y ≡ 0 → max y 1 ≡ 1
     came_one is = omega (arith, is)

@@ -14,7 +14,7 @@ use Rattle.subflow_recv.specs.Receiving.{Receiving, after_hold}
 use Rattle.subflow_tcp.specs.declared.dues.Due.{Due}
 use Rattle.subflow_tcp.specs.declared.segments.Outgoing.{Outgoing}
 use Rattle.subflow_tcp.specs.declared.spelling.Numbers.{Numbers}
-use Rattle.subflow_tcp.specs.declared.verdicts.Meaning.TheVariants as means
+use Rattle.subflow_tcp.specs.declared.verdicts.Meaning.{Meaning}
 use Rattle.subflow_tcp.specs.Dues.{nothing_due, owing_ack}
 use Rattle.subflow_tcp.specs.Segments.{Copy as SubflowCopy, occupied}
 use Rattle.subflow_tcp.specs.State.{EndState}
@@ -75,9 +75,9 @@ module _ {s : Side} {keys : Keys} {k j : Setting} {c : Profile} {begun begun_bac
 
     -- with what the acknowledgement makes of the subflow
     abbrev pub end_by : EndState → PathEnd
-    end_by y = record (with_held told heard (means.Taken (position_of x) x.edge) m.end) {
+    end_by y = record (with_held told heard (Meaning.Taken (position_of x) x.edge) m.end) {
       tcp = tcp_after y;
-      treated = treated_of items (means.Taken (position_of x) x.edge) heard answer holds;
+      treated = treated_of items (Meaning.Taken (position_of x) x.edge) heard answer holds;
     }
 
     abbrev pub fresh : Bool

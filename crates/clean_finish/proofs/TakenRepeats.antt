@@ -11,7 +11,6 @@ use Rattle.subflow_tcp.specs.Segments.{Copy as SubflowCopy}
 use Rattle.subflow_tcp.specs.State.{EndState, has_records}
 use Rattle.subflow_tcp.specs.Taking.{is_empty, is_duplicate}
 use Rattle.path_agenda.specs.declared.heard.Heard.{Heard}
-use Rattle.path_agenda.specs.declared.heard.Heard.TheVariants as says
 use Rattle.path_agenda.specs.Items.{place_in_first}
 use Rattle.path_core.specs.OptionsIn.{items_of}
 use Rattle.path_core.specs.DssIn.{is_mapping}
@@ -63,7 +62,7 @@ module _ (c : Profile) (keys : Keys) (s : Side) where
   place_first A x octets = refl
   place_first B x octets = by (nat_lt 0 (length octets)) (is_mapping 0 1 (length octets))
     where
-      by : (some b : Bool) → place_in_first (says.Keys keys.b keys.a ∷ ((if some then (if b then says.Mapping false ∷ [] else []) else []) ++ [])) ≡ None
+      by : (some b : Bool) → place_in_first (Heard.Keys keys.b keys.a ∷ ((if some then (if b then Heard.Mapping false ∷ [] else []) else []) ++ [])) ≡ None
       by true true = refl
       by true false = refl
       by false b = refl

@@ -2,16 +2,15 @@
 use Rattle.std.proofs.Common.{◌≡◌, refl, sym, subst, ap, ◌∙◌, ℕ, ◌+◌, ◌<◌, ◌≤◌, min, max, nat_lt, true, false, if◌then◌else◌, inl, inr, Option, Some, None, List, ◌∷◌, ◌++◌, length, le_refl, arith}
 use Rattle.std.proofs.lemmas.Bool.{both_ways, le-ltb}
 use Rattle.sides.specs.declared.side.Side.TheVariants.{A, B}
-use Rattle.send_book.specs.declared.call.SendCall.TheVariants as send_calls
+use Rattle.send_book.specs.declared.call.SendCall.{SendCall}
 use Rattle.send_book.specs.State.{Sending as SendBook}
-use Rattle.actor_desk.specs.declared.ask.Ask.TheVariants as asks
+use Rattle.actor_desk.specs.declared.ask.Ask.{Ask}
 use Rattle.actor_desk.specs.Desk.{SixBooks, after_ask}
 use Rattle.stream_apps.specs.Apps.{AppState}
 use Rattle.path_agenda.specs.Agenda.{payload_came}
 use Rattle.path_agenda.specs.declared.duty.Duty.{Duty}
-use Rattle.path_agenda.specs.declared.duty.Duty.TheVariants as duties
-use Rattle.path_agenda.specs.declared.duty.SendDuty.TheVariants as send_duties
-use Rattle.path_agenda.specs.declared.duty.StepDuty.TheVariants as step_duties
+use Rattle.path_agenda.specs.declared.duty.SendDuty.{SendDuty}
+use Rattle.path_agenda.specs.declared.duty.StepDuty.{StepDuty}
 use Rattle.path_core.specs.State.{PathState, with_agenda}
 use Rattle.path_core.specs.Values.{Carried}
 use Rattle.world_laws.specs.Openings.{PathPlan, Start}
@@ -146,7 +145,7 @@ module _ (start : Start) (plan : PathPlan) (k j : Setting) (s v : Lane) (t0 u0 :
         Relation six q = Runs start plan k j s v a b six q
 
         abbrev d : Duty
-        d = duties.Step (step_duties.Heard B 0)
+        d = Duty.Step (StepDuty.Heard B 0)
 
         module _ (ds : List Duty) (h : Relation books (with_agenda (d ∷ ds) p)) (f : TreatsCopy B keys AtFirst true ShowsKeys (other_bench h.faces))
             (beside : Beside B (own_bench h.faces) (other_bench h.faces) ds (payload_came B))
@@ -190,7 +189,7 @@ module _ (start : Start) (plan : PathPlan) (k j : Setting) (s v : Lane) (t0 u0 :
             there = subst (λ (es : List Duty). Emits B es) (sym beside.2) (heard_emits B 1 0)
 
             abbrev books_told : SixBooks
-            books_told = after_ask (asks.Send B (send_calls.AckIn 0 x.telling.edge)) books
+            books_told = after_ask (Ask.Send B (SendCall.AckIn 0 x.telling.edge)) books
 
             abbrev heard : FacesOfB keys k j s v a b books_told (with_agenda ds p)
             heard = hears_on view refl there x true hand 0 x.telling.edge (none_future _) (omega arith) tells.0 (plus_none x.telling.edge) f.rests
@@ -208,8 +207,8 @@ module _ (start : Start) (plan : PathPlan) (k j : Setting) (s v : Lane) (t0 u0 :
             ready : 1 ≤ view.out.ready
             ready = some_of (f.clear.1 refl) view.own.modes.cleared
 
-            acknowledges : Has (duties.Send (send_duties.Acknowledge B)) ds
-            acknowledges = subst (λ (es : List Duty). Has (duties.Send (send_duties.Acknowledge B)) es) (sym beside.2)
+            acknowledges : Has (Duty.Send (SendDuty.Acknowledge B)) ds
+            acknowledges = subst (λ (es : List Duty). Has (Duty.Send (SendDuty.Acknowledge B)) es) (sym beside.2)
                 (inr (inr (inr (inr (inr (inr (inr (inr (inr (inr (inr (inr (inr (inr (inl refl)))))))))))))))
 
             control_same : x.control ≡ more.back.control_came

@@ -9,7 +9,7 @@ use Rattle.send_book.specs.declared.mark.ByteMark.TheVariants.{Free}
 use Rattle.send_book.specs.Marks.{is_acked}
 use Rattle.send_book.specs.Tried.{no_paths}
 use Rattle.send_book.specs.Steps.{bytes_taken, write_reply, after_write, close_reply, after_close}
-use Rattle.actor_desk.specs.declared.ask.Reply.TheVariants as replies
+use Rattle.actor_desk.specs.declared.ask.Reply.{Reply}
 use Rattle.stream_apps.specs.declared.duty.AppDuty.{AppDuty}
 use Rattle.stream_apps.specs.declared.duty.AppDuty.TheVariants.{Write, Close, Read, End}
 use Rattle.stream_apps.specs.Apps.{AppState}
@@ -56,7 +56,7 @@ module _ (k : Setting) (s : Lane) (t : ℕ) (p : Stage) (w : Lane) where
   -- the stream is closed once the file is written
   closing : (told : Bool) (a : AppState) (b : Sending) → Going k s t p w
       → WriterIs k w.written w.closed w.acked (record a { rest = [] }) b
-      → WriterGoes k s p w (app_takes (replies.Send Closed)
+      → WriterGoes k s p w (app_takes (Reply.Send Closed)
       (record a { rest = []; told = told; agenda = Close ∷ Read ∷ End ∷ [] }))
       (record b { closed = true })
   closing told a b h is = by told
@@ -87,7 +87,7 @@ module _ (k : Setting) (s : Lane) (t : ℕ) (p : Stage) (w : Lane) where
       }
 
       by : (b' : Bool)
-          → WriterGoes k s p w (app_takes (replies.Send Closed)
+          → WriterGoes k s p w (app_takes (Reply.Send Closed)
           (record a { rest = []; told = b'; agenda = Close ∷ Read ∷ End ∷ [] }))
           (record b { closed = true })
       by false = ends w.written 1 1 _ _ (now (Read ∷ End ∷ []) false) refl may moves
@@ -182,7 +182,7 @@ module _ (k : Setting) (s : Lane) (t : ℕ) (p : Stage) (w : Lane) where
 
   pub close_step : (a : AppState) (b : Sending) → Going k s t p w → WriterShows k w a b
       → a.agenda ≡ Close ∷ Read ∷ End ∷ [] → a.rest ≡ []
-      → WriterGoes k s p w (app_takes (replies.Send (close_reply b)) a) (after_close b)
+      → WriterGoes k s p w (app_takes (Reply.Send (close_reply b)) a) (after_close b)
   close_step a b h shows at none =
       subst (λ (ds : List AppDuty). Goes ds a.rest b.aborted) (sym at)
       (subst (λ (r : List ℕ). Goes (Close ∷ Read ∷ End ∷ []) r b.aborted) (sym none)
@@ -191,7 +191,7 @@ module _ (k : Setting) (s : Lane) (t : ℕ) (p : Stage) (w : Lane) where
     where
       Goes : List AppDuty → List ℕ → Bool → Type 0
       Goes ds r ab =
-          WriterGoes k s p w (app_takes (replies.Send (close_reply (record b { aborted = ab })))
+          WriterGoes k s p w (app_takes (Reply.Send (close_reply (record b { aborted = ab })))
           (record a { rest = r; agenda = ds }))
           (after_close (record b { aborted = ab }))
 
@@ -204,7 +204,7 @@ module _ (k : Setting) (s : Lane) (t : ℕ) (p : Stage) (w : Lane) where
   pub write_step : (a : AppState) (b : Sending) → Going k s t p w → WriterShows k w a b
       → a.agenda ≡ Write ∷ Close ∷ Read ∷ End ∷ []
       → 1 ≤ length a.rest → k.total ≤ 16777216
-      → WriterGoes k s p w (app_takes (replies.Send (write_reply (offered a) b)) a) (after_write (offered a) b)
+      → WriterGoes k s p w (app_takes (Reply.Send (write_reply (offered a) b)) a) (after_write (offered a) b)
   write_step a b h shows at some small =
       subst (λ (ds : List AppDuty). Goes ds a.closed b.closed b.aborted) (sym at)
       (subst (λ (c : Bool). Goes duties c b.closed b.aborted) (sym (shows.numbers.told ∙ unclosed))
@@ -221,7 +221,7 @@ module _ (k : Setting) (s : Lane) (t : ℕ) (p : Stage) (w : Lane) where
 
       Goes : List AppDuty → Bool → Bool → Bool → Type 0
       Goes ds c1 c2 ab = WriterGoes k s p w
-          (app_takes (replies.Send (write_reply (offered a) (record b { closed = c2; aborted = ab })))
+          (app_takes (Reply.Send (write_reply (offered a) (record b { closed = c2; aborted = ab })))
           (record a { closed = c1; agenda = ds }))
           (after_write (offered a) (record b { closed = c2; aborted = ab }))
 

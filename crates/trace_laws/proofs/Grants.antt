@@ -8,7 +8,6 @@ use Rattle.sides.specs.declared.side.Side.{Side}
 use Rattle.sides.specs.declared.side.Side.TheVariants.{A, B}
 use Rattle.stamped_book.specs.declared.stamped.Pass.{Pass}
 use Rattle.send_book.specs.declared.call.SendCall.{SendCall}
-use Rattle.send_book.specs.declared.call.SendCall.TheVariants as send_calls
 use Rattle.send_book.specs.State.{Sending}
 use Rattle.send_book.specs.Laws.{covers}
 use Rattle.send_book.specs.Steps.{reply_to as send_reply}
@@ -19,7 +18,6 @@ use Rattle.stream_lanes.specs.Streams.{Direction}
 use Rattle.stream_lanes.proofs.Duos.{any_held}
 use Rattle.stream_lanes.proofs.Views.{is_end}
 use Rattle.actor_desk.specs.declared.ask.Ask.{Ask}
-use Rattle.actor_desk.specs.declared.ask.Ask.TheVariants as desk
 use Rattle.actor_desk.specs.declared.ask.Note.{Note}
 use Rattle.actor_desk.specs.Books.{books_in}
 use Rattle.actor_desk.specs.Desk.{send_of}
@@ -92,38 +90,38 @@ SameBooks d w = (s : Side) → (way s d).send ≡ send_of s (books_in w.books)
 -- what an ask grants its note says
 note_grants : (s : Side) (ask : Ask) (pass : Pass) (d : Duo) (w : WorldState Carried) (place : ℕ) → SameBooks d w → AskGrants s ask d place
     → (path : ℕ) × (grants_byte s path place (note_of w.books pass ask) ≡ true)
-note_grants A (desk.Send A c) pass d w place same h = by c h
+note_grants A (Ask.Send A c) pass d w place same h = by c h
   where
-    by : (c : SendCall) → Grants c d.ab place → (path : ℕ) × (grants_byte A path place (note_of w.books pass (desk.Send A c)) ≡ true)
-    by (send_calls.Grant path most standby) h =
-        (path, and_from (path == path) _ (eq-eqb path path refl) (subst (λ send. covers place (send_reply send (send_calls.Grant path most standby)) ≡ true) (same A) h))
-    by (send_calls.Write bytes) h = absurd h
-    by send_calls.Close h = absurd h
-    by (send_calls.AckIn next window) h = absurd h
-    by (send_calls.Return path) h = absurd h
-    by send_calls.GoIdentity h = absurd h
-    by (send_calls.GoInfinite path) h = absurd h
-    by send_calls.Abort h = absurd h
-note_grants B (desk.Send B c) pass d w place same h = by c h
+    by : (c : SendCall) → Grants c d.ab place → (path : ℕ) × (grants_byte A path place (note_of w.books pass (Ask.Send A c)) ≡ true)
+    by (SendCall.Grant path most standby) h =
+        (path, and_from (path == path) _ (eq-eqb path path refl) (subst (λ send. covers place (send_reply send (SendCall.Grant path most standby)) ≡ true) (same A) h))
+    by (SendCall.Write bytes) h = absurd h
+    by SendCall.Close h = absurd h
+    by (SendCall.AckIn next window) h = absurd h
+    by (SendCall.Return path) h = absurd h
+    by SendCall.GoIdentity h = absurd h
+    by (SendCall.GoInfinite path) h = absurd h
+    by SendCall.Abort h = absurd h
+note_grants B (Ask.Send B c) pass d w place same h = by c h
   where
-    by : (c : SendCall) → Grants c d.ba place → (path : ℕ) × (grants_byte B path place (note_of w.books pass (desk.Send B c)) ≡ true)
-    by (send_calls.Grant path most standby) h =
-        (path, and_from (path == path) _ (eq-eqb path path refl) (subst (λ send. covers place (send_reply send (send_calls.Grant path most standby)) ≡ true) (same B) h))
-    by (send_calls.Write bytes) h = absurd h
-    by send_calls.Close h = absurd h
-    by (send_calls.AckIn next window) h = absurd h
-    by (send_calls.Return path) h = absurd h
-    by send_calls.GoIdentity h = absurd h
-    by (send_calls.GoInfinite path) h = absurd h
-    by send_calls.Abort h = absurd h
-note_grants A (desk.Send B c) pass d w place same h = absurd h
-note_grants B (desk.Send A c) pass d w place same h = absurd h
-note_grants A (desk.Reassembly r c) pass d w place same h = absurd h
-note_grants B (desk.Reassembly r c) pass d w place same h = absurd h
-note_grants A (desk.Control r c) pass d w place same h = absurd h
-note_grants B (desk.Control r c) pass d w place same h = absurd h
-note_grants A (desk.Local step) pass d w place same h = absurd h
-note_grants B (desk.Local step) pass d w place same h = absurd h
+    by : (c : SendCall) → Grants c d.ba place → (path : ℕ) × (grants_byte B path place (note_of w.books pass (Ask.Send B c)) ≡ true)
+    by (SendCall.Grant path most standby) h =
+        (path, and_from (path == path) _ (eq-eqb path path refl) (subst (λ send. covers place (send_reply send (SendCall.Grant path most standby)) ≡ true) (same B) h))
+    by (SendCall.Write bytes) h = absurd h
+    by SendCall.Close h = absurd h
+    by (SendCall.AckIn next window) h = absurd h
+    by (SendCall.Return path) h = absurd h
+    by SendCall.GoIdentity h = absurd h
+    by (SendCall.GoInfinite path) h = absurd h
+    by SendCall.Abort h = absurd h
+note_grants A (Ask.Send B c) pass d w place same h = absurd h
+note_grants B (Ask.Send A c) pass d w place same h = absurd h
+note_grants A (Ask.Reassembly r c) pass d w place same h = absurd h
+note_grants B (Ask.Reassembly r c) pass d w place same h = absurd h
+note_grants A (Ask.Control r c) pass d w place same h = absurd h
+note_grants B (Ask.Control r c) pass d w place same h = absurd h
+note_grants A (Ask.Local step) pass d w place same h = absurd h
+note_grants B (Ask.Local step) pass d w place same h = absurd h
 
 -- what was granted stays so, and what the turn grants is granted
 turn_grants : (s : Side) (place : ℕ) (turn : Turn) (d : Duo) (w : WorldState Carried) → SameBooks d w → WasGranted s place w.crew ⊎ TurnGrants s (asked_in turn w) d place

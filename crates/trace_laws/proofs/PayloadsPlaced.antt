@@ -44,11 +44,9 @@ use Rattle.path_core.specs.Fallback.{breaks_by_ack}
 use Rattle.path_core.specs.DssIn.{is_clash}
 use Rattle.path_core.specs.Treating.{item_of}
 use Rattle.path_agenda.specs.declared.duty.Duty.{Duty}
-use Rattle.path_agenda.specs.declared.duty.Duty.TheVariants as duties
-use Rattle.path_agenda.specs.declared.duty.SendDuty.TheVariants as sends_of
-use Rattle.path_agenda.specs.declared.duty.StepDuty.TheVariants as steps_of
+use Rattle.path_agenda.specs.declared.duty.SendDuty.{SendDuty}
+use Rattle.path_agenda.specs.declared.duty.StepDuty.{StepDuty}
 use Rattle.path_agenda.specs.declared.heard.Heard.{Heard}
-use Rattle.path_agenda.specs.declared.heard.Heard.TheVariants as says
 use Rattle.link_trace.specs.declared.carried.Carried.{Carried}
 use Rattle.path_core.specs.Octets.{made, octets}
 use Rattle.path_core.specs.OptionsOut.{ack_said, carried_said, noted_said, record_options, record_or_ack, record_said, reset_said, syn_ack_said}
@@ -350,7 +348,7 @@ module _ (start : Start) (p : PathState (List ℕ)) (n : ℕ) (ends : (s : Side)
       reset_none s reason = refl
 
   heard_does : (s : Side) (o : Option Heard) → IfSome (option_map (departing_as p) (heard_sends s o p)) Sends
-  heard_does s (Some (says.Mapping fin)) = only_if (is_clash (end_at s p)) _ (broken_sends s 1)
+  heard_does s (Some (Heard.Mapping fin)) = only_if (is_clash (end_at s p)) _ (broken_sends s 1)
   heard_does s _ = tt
 
   data_does : (s : Side) (o : Option Record) → IfSome (option_map (departing_as p) (unsent_sends s o)) Sends
@@ -358,21 +356,21 @@ module _ (start : Start) (p : PathState (List ℕ)) (n : ℕ) (ends : (s : Side)
   data_does s (Some r) = (_, (refl, of_unsent s))
 
   pub by_duty : (d : Duty) → IfSome (option_map (departing_as p) (duty_sends d p)) Sends
-  by_duty (duties.Send (sends_of.Syn s)) = (_, (refl, of_unsent s))
-  by_duty (duties.Send (sends_of.FastClose s)) = (_, (refl, of_carried s (end_at s p).notices.carrier))
-  by_duty (duties.Send (sends_of.Notice s)) = (_, (refl, of_noted s (first_of (end_at s p).notices.queue)))
-  by_duty (duties.Send (sends_of.Again s)) = (_, (refl, of_first s))
-  by_duty (duties.Send (sends_of.Answer s)) = (_, (refl, of_answer s))
-  by_duty (duties.Send (sends_of.Resend s)) = (_, (refl, of_resend s))
-  by_duty (duties.Step (steps_of.Data s)) = data_does s (first_unsent (end_at s p))
-  by_duty (duties.Step (steps_of.Heard s index)) = heard_does s (item_of index (end_at s p))
-  by_duty (duties.Step (steps_of.PlainAck s)) = only_if (breaks_by_ack p.profile (end_at s p)) _ (broken_sends s 6)
-  by_duty (duties.Step (steps_of.Unmapped s)) = broken_sends s 6
-  by_duty (duties.Step (steps_of.Look s)) = tt
-  by_duty (duties.Step steps_of.Events) = tt
-  by_duty (duties.Ask d) = tt
-  by_duty (duties.Silent d) = tt
-  by_duty duties.End = tt
+  by_duty (Duty.Send (SendDuty.Syn s)) = (_, (refl, of_unsent s))
+  by_duty (Duty.Send (SendDuty.FastClose s)) = (_, (refl, of_carried s (end_at s p).notices.carrier))
+  by_duty (Duty.Send (SendDuty.Notice s)) = (_, (refl, of_noted s (first_of (end_at s p).notices.queue)))
+  by_duty (Duty.Send (SendDuty.Again s)) = (_, (refl, of_first s))
+  by_duty (Duty.Send (SendDuty.Answer s)) = (_, (refl, of_answer s))
+  by_duty (Duty.Send (SendDuty.Resend s)) = (_, (refl, of_resend s))
+  by_duty (Duty.Step (StepDuty.Data s)) = data_does s (first_unsent (end_at s p))
+  by_duty (Duty.Step (StepDuty.Heard s index)) = heard_does s (item_of index (end_at s p))
+  by_duty (Duty.Step (StepDuty.PlainAck s)) = only_if (breaks_by_ack p.profile (end_at s p)) _ (broken_sends s 6)
+  by_duty (Duty.Step (StepDuty.Unmapped s)) = broken_sends s 6
+  by_duty (Duty.Step (StepDuty.Look s)) = tt
+  by_duty (Duty.Step StepDuty.Events) = tt
+  by_duty (Duty.Ask d) = tt
+  by_duty (Duty.Silent d) = tt
+  by_duty Duty.End = tt
   by_duty _ = (_, (refl, inl refl))
 
   -- what is sent is on a path, and its payload ends within the file

@@ -14,28 +14,21 @@ use Rattle.stream_lanes.proofs.Lists.{in_set, in_map}
 use Rattle.subflow_tcp.specs.States.{is_dead}
 use Rattle.address_manager.specs.IdSet.{is_member, no_ids}
 use Rattle.control_book.specs.declared.call.ControlCall.{ControlCall}
-use Rattle.control_book.specs.declared.call.ControlCall.TheVariants as control_calls
 use Rattle.control_book.specs.declared.call.ControlReply.{ControlReply}
-use Rattle.control_book.specs.declared.call.ControlReply.TheVariants as control_replies
 use Rattle.control_book.specs.declared.call.Notice.{Notice}
-use Rattle.control_book.specs.declared.call.Notice.TheVariants as told
 use Rattle.control_book.specs.Replies as controlling
 use Rattle.control_book.specs.Steps as control
 use Rattle.actor_desk.specs.declared.ask.Ask.{Ask}
-use Rattle.actor_desk.specs.declared.ask.Ask.TheVariants as asks
 use Rattle.actor_desk.specs.declared.ask.Note.{Note}
 use Rattle.actor_desk.specs.declared.ask.Reply.{Reply}
-use Rattle.actor_desk.specs.declared.ask.Reply.TheVariants as replies
 use Rattle.actor_desk.specs.Books.{StampedBooks, books_in, after_entry}
 use Rattle.actor_desk.specs.Desk.{control_of, reply_of}
 use Rattle.actor_desk.specs.Words.{is_nil}
 use Rattle.path_agenda.specs.Agenda.{start_of_turn}
 use Rattle.path_agenda.specs.declared.duty.Duty.{Duty}
-use Rattle.path_agenda.specs.declared.duty.Duty.TheVariants as duties
-use Rattle.path_agenda.specs.declared.duty.SendDuty.TheVariants as send_duties
-use Rattle.path_agenda.specs.declared.duty.StepDuty.TheVariants as step_duties
+use Rattle.path_agenda.specs.declared.duty.SendDuty.{SendDuty}
+use Rattle.path_agenda.specs.declared.duty.StepDuty.{StepDuty}
 use Rattle.path_agenda.specs.declared.notice.OwnNotice.{OwnNotice}
-use Rattle.path_agenda.specs.declared.notice.OwnNotice.TheVariants as notes
 use Rattle.path_core.specs.Codec.{Codec}
 use Rattle.path_core.specs.Duties.{stands, ask_for, passed, answered}
 use Rattle.path_core.specs.End.{PathEnd}
@@ -84,41 +77,41 @@ queued_some id (notice ∷ queue) h = refl
 
 -- a look puts nothing there but what it tells, where the end may note it
 look_end : (id : ℕ) (r : Reply) (e : PathEnd) → is_noted id (after_look r e) ≡ true → (is_noted id e ≡ true) ⊎ ((told_to_announce r ≡ Some id) × (may_note (after_look r e) ≡ true))
-look_end id (replies.Control (control_replies.Standing mode standby sole notice)) e h = by (is_dead e.tcp.state) notice h
+look_end id (Reply.Control (ControlReply.Standing mode standby sole notice)) e h = by (is_dead e.tcp.state) notice h
   where
-    new : (other : ℕ) → is_queued id (e.notices.queue ++ notes.AddAddr other ∷ []) ≡ true → may_note e ≡ true
-        → (is_noted id e ≡ true) ⊎ ((told_to_announce (replies.Control (control_replies.Standing mode standby sole (told.Announce other))) ≡ Some id) × (may_note e ≡ true))
-    new other h may = elim (pushed id e.notices.queue (notes.AddAddr other) h) [ inl old ↦ inl old | inr is ↦ inr (ap (λ n. Some n) (eqb-true other id is), may) ]
+    new : (other : ℕ) → is_queued id (e.notices.queue ++ OwnNotice.AddAddr other ∷ []) ≡ true → may_note e ≡ true
+        → (is_noted id e ≡ true) ⊎ ((told_to_announce (Reply.Control (ControlReply.Standing mode standby sole (Notice.Announce other))) ≡ Some id) × (may_note e ≡ true))
+    new other h may = elim (pushed id e.notices.queue (OwnNotice.AddAddr other) h) [ inl old ↦ inl old | inr is ↦ inr (ap (λ n. Some n) (eqb-true other id is), may) ]
 
-    announced : (other : ℕ) (may : Bool) → may_note e ≡ may → is_queued id (if may then record e.notices { queue = e.notices.queue ++ notes.AddAddr other ∷ [] } else e.notices).queue ≡ true
-        → (is_noted id e ≡ true) ⊎ ((told_to_announce (replies.Control (control_replies.Standing mode standby sole (told.Announce other))) ≡ Some id) × (may_note e ≡ true))
+    announced : (other : ℕ) (may : Bool) → may_note e ≡ may → is_queued id (if may then record e.notices { queue = e.notices.queue ++ OwnNotice.AddAddr other ∷ [] } else e.notices).queue ≡ true
+        → (is_noted id e ≡ true) ⊎ ((told_to_announce (Reply.Control (ControlReply.Standing mode standby sole (Notice.Announce other))) ≡ Some id) × (may_note e ≡ true))
     announced other true may h = new other h may
     announced other false may h = inl h
 
-    removed : (other : ℕ) → is_queued id (e.notices.queue ++ notes.Removes other ∷ []) ≡ true → is_noted id e ≡ true
-    removed other h = elim (pushed id e.notices.queue (notes.Removes other) h) [ inl old ↦ old | inr never ↦ absurd (false≢true never) ]
+    removed : (other : ℕ) → is_queued id (e.notices.queue ++ OwnNotice.Removes other ∷ []) ≡ true → is_noted id e ≡ true
+    removed other h = elim (pushed id e.notices.queue (OwnNotice.Removes other) h) [ inl old ↦ old | inr never ↦ absurd (false≢true never) ]
 
     by : (dead : Bool) (notice : Notice) → is_queued id (if dead then e.notices else after_notice notice (may_note e) e.notices).queue ≡ true
-        → (is_noted id e ≡ true) ⊎ ((told_to_announce (replies.Control (control_replies.Standing mode standby sole notice)) ≡ Some id) × (may_note e ≡ true))
+        → (is_noted id e ≡ true) ⊎ ((told_to_announce (Reply.Control (ControlReply.Standing mode standby sole notice)) ≡ Some id) × (may_note e ≡ true))
     by true notice h = inl h
-    by false told.Nothing h = inl h
-    by false (told.Announce other) h = announced other (may_note e) refl h
-    by false (told.Withdraw other) h = inl (removed other h)
-    by false (told.Carrier key) h = inl h
-    by false told.Reset h = inl h
+    by false Notice.Nothing h = inl h
+    by false (Notice.Announce other) h = announced other (may_note e) refl h
+    by false (Notice.Withdraw other) h = inl (removed other h)
+    by false (Notice.Carrier key) h = inl h
+    by false Notice.Reset h = inl h
 look_end id _ e h = inl h
 
 -- a duty is a look or isn't
-look_or : (d : Duty) → MayNotLook d ⊎ ((t : Side) × (d ≡ duties.Step (step_duties.Look t)))
-look_or (duties.Step (step_duties.Look t)) = inr (t, refl)
+look_or : (d : Duty) → MayNotLook d ⊎ ((t : Side) × (d ≡ Duty.Step (StepDuty.Look t)))
+look_or (Duty.Step (StepDuty.Look t)) = inr (t, refl)
 look_or _ = inl tt
 
 module _ {C : Type 0} (k : Codec C) (s : Side) where
   -- ---- what comes to nothing
 
   -- the duty that notes stands as long as the end may note something
-  note_left : (p : PathState C) (id : ℕ) → stands (duties.Send (send_duties.Notice s)) p ≡ false → is_noted id (end_at s p) ≡ true → may_note (end_at s p) ≡ true → ⊥
-  note_left p id off noted may = both_ways (stands (duties.Send (send_duties.Notice s)) p) off (ap (λ b. b && not (is_nil (end_at s p).notices.queue)) may ∙ queued_some id (end_at s p).notices.queue noted)
+  note_left : (p : PathState C) (id : ℕ) → stands (Duty.Send (SendDuty.Notice s)) p ≡ false → is_noted id (end_at s p) ≡ true → may_note (end_at s p) ≡ true → ⊥
+  note_left p id off noted may = both_ways (stands (Duty.Send (SendDuty.Notice s)) p) off (ap (λ b. b && not (is_nil (end_at s p).notices.queue)) may ∙ queued_some id (end_at s p).notices.queue noted)
 
   abbrev Each : (ℕ → Type 0) → List Duty → PathState C → ℕ → Type 0
   Each Told ds p id = Told id × (may_note (end_at s p) ≡ true) × (comes s ds ≡ true)
@@ -183,8 +176,8 @@ module _ {C : Type 0} (k : Codec C) (s : Side) where
             ]
 
 -- a look, of the side or of the other one
-look_goes : {C : Type 0} (k : Codec C) (s t : Side) (Told New : ℕ → Type 0) (ds : List Duty) (r : Reply) (p : PathState C) → Stays s Told New (ask_for k (duties.Step (step_duties.Look t)) p)
-    → Comes s New (ask_for k (duties.Step (step_duties.Look t)) p) r → Knows s Told (duties.Step (step_duties.Look t) ∷ ds) p
+look_goes : {C : Type 0} (k : Codec C) (s t : Side) (Told New : ℕ → Type 0) (ds : List Duty) (r : Reply) (p : PathState C) → Stays s Told New (ask_for k (Duty.Step (StepDuty.Look t)) p)
+    → Comes s New (ask_for k (Duty.Step (StepDuty.Look t)) p) r → Knows s Told (Duty.Step (StepDuty.Look t) ∷ ds) p
     → Knows s New ds (goes_on t (after_look r (end_at t p)) ds p)
 look_goes k A A Told New ds r p stays comes_so h = record { ready = h.ready.1; each = at }
   where
@@ -201,16 +194,16 @@ module _ {C : Type 0} (k : Codec C) (s : Side) (Told New : ℕ → Type 0) where
   duty_goes : (d : Duty) (ds : List Duty) (r : Reply) (p : PathState C) → stands d (with_agenda (d ∷ ds) p) ≡ true → Stays s Told New (ask_for k d (with_agenda (d ∷ ds) p))
       → Comes s New (ask_for k d (with_agenda (d ∷ ds) p)) r → Knows s Told (d ∷ ds) (with_agenda (d ∷ ds) p)
       → Knows s New (answered k d r (with_agenda (d ∷ ds) p)).agenda (answered k d r (with_agenda (d ∷ ds) p))
-  duty_goes (duties.Step (step_duties.Look t)) ds r p on stays comes_so h = look_goes k s t Told New ds r (with_agenda (duties.Step (step_duties.Look t) ∷ ds) p) stays comes_so h
-  duty_goes (duties.Step (step_duties.Data t)) ds r p on stays comes_so h = free_goes k s Told New (duties.Step (step_duties.Data t)) ds r p tt on stays h
-  duty_goes (duties.Step step_duties.Events) ds r p on stays comes_so h = free_goes k s Told New (duties.Step step_duties.Events) ds r p tt on stays h
-  duty_goes (duties.Step (step_duties.Heard t index)) ds r p on stays comes_so h = free_goes k s Told New (duties.Step (step_duties.Heard t index)) ds r p tt on stays h
-  duty_goes (duties.Step (step_duties.PlainAck t)) ds r p on stays comes_so h = free_goes k s Told New (duties.Step (step_duties.PlainAck t)) ds r p tt on stays h
-  duty_goes (duties.Step (step_duties.Unmapped t)) ds r p on stays comes_so h = free_goes k s Told New (duties.Step (step_duties.Unmapped t)) ds r p tt on stays h
-  duty_goes (duties.Ask ask) ds r p on stays comes_so h = free_goes k s Told New (duties.Ask ask) ds r p tt on stays h
-  duty_goes (duties.Send send) ds r p on stays comes_so h = free_goes k s Told New (duties.Send send) ds r p tt on stays h
-  duty_goes (duties.Silent silent) ds r p on stays comes_so h = free_goes k s Told New (duties.Silent silent) ds r p tt on stays h
-  duty_goes duties.End ds r p on stays comes_so h = free_goes k s Told New duties.End ds r p tt on stays h
+  duty_goes (Duty.Step (StepDuty.Look t)) ds r p on stays comes_so h = look_goes k s t Told New ds r (with_agenda (Duty.Step (StepDuty.Look t) ∷ ds) p) stays comes_so h
+  duty_goes (Duty.Step (StepDuty.Data t)) ds r p on stays comes_so h = free_goes k s Told New (Duty.Step (StepDuty.Data t)) ds r p tt on stays h
+  duty_goes (Duty.Step StepDuty.Events) ds r p on stays comes_so h = free_goes k s Told New (Duty.Step StepDuty.Events) ds r p tt on stays h
+  duty_goes (Duty.Step (StepDuty.Heard t index)) ds r p on stays comes_so h = free_goes k s Told New (Duty.Step (StepDuty.Heard t index)) ds r p tt on stays h
+  duty_goes (Duty.Step (StepDuty.PlainAck t)) ds r p on stays comes_so h = free_goes k s Told New (Duty.Step (StepDuty.PlainAck t)) ds r p tt on stays h
+  duty_goes (Duty.Step (StepDuty.Unmapped t)) ds r p on stays comes_so h = free_goes k s Told New (Duty.Step (StepDuty.Unmapped t)) ds r p tt on stays h
+  duty_goes (Duty.Ask ask) ds r p on stays comes_so h = free_goes k s Told New (Duty.Ask ask) ds r p tt on stays h
+  duty_goes (Duty.Send send) ds r p on stays comes_so h = free_goes k s Told New (Duty.Send send) ds r p tt on stays h
+  duty_goes (Duty.Silent silent) ds r p on stays comes_so h = free_goes k s Told New (Duty.Silent silent) ds r p tt on stays h
+  duty_goes Duty.End ds r p on stays comes_so h = free_goes k s Told New Duty.End ds r p tt on stays h
 
   takes_knows : (x : Ask) (r : Reply) (p : PathState C) → asks_of k p ≡ Some x → IsSettled p → Stays s Told New x → Comes s New x r → Knows s Told p.agenda p
       → Knows s New (takes k r p).agenda (takes k r p)
@@ -248,67 +241,67 @@ told_more s id notes later journal longer look more grows h = record {
 }
 
 journal_more : (s : Side) (x : Ask) (pass : Pass) (books : StampedBooks) → (more : Journal) × ((control_journal s (after_entry x pass books)).journal ≡ (control_journal s books).journal ++ more)
-journal_more s (asks.Send t call) pass books = ([], sym (append-nil (control_journal s books).journal))
-journal_more s (asks.Reassembly t call) pass books = ([], sym (append-nil (control_journal s books).journal))
-journal_more s (asks.Local step) pass books = ([], sym (append-nil (control_journal s books).journal))
-journal_more A (asks.Control A call) pass books = (entry_of controlling.reply_to control.after books.control_a pass call ∷ [], refl)
-journal_more B (asks.Control B call) pass books = (entry_of controlling.reply_to control.after books.control_b pass call ∷ [], refl)
-journal_more A (asks.Control B call) pass books = ([], sym (append-nil books.control_a.journal))
-journal_more B (asks.Control A call) pass books = ([], sym (append-nil books.control_b.journal))
+journal_more s (Ask.Send t call) pass books = ([], sym (append-nil (control_journal s books).journal))
+journal_more s (Ask.Reassembly t call) pass books = ([], sym (append-nil (control_journal s books).journal))
+journal_more s (Ask.Local step) pass books = ([], sym (append-nil (control_journal s books).journal))
+journal_more A (Ask.Control A call) pass books = (entry_of controlling.reply_to control.after books.control_a pass call ∷ [], refl)
+journal_more B (Ask.Control B call) pass books = (entry_of controlling.reply_to control.after books.control_b pass call ∷ [], refl)
+journal_more A (Ask.Control B call) pass books = ([], sym (append-nil books.control_a.journal))
+journal_more B (Ask.Control A call) pass books = ([], sym (append-nil books.control_b.journal))
 
 -- an id that is due is wanted by the calls of the journal
 abbrev BooksAre : StampedBooks → Type 0
 BooksAre books = (s : Side) (id : ℕ) → Wants id (control_of s (books_in books)) (is_wanted id false (control_journal s books).journal)
 
 books_keep : (x : Ask) (pass : Pass) (books : StampedBooks) → BooksAre books → BooksAre (after_entry x pass books)
-books_keep (asks.Send t call) pass books h = λ s id. h s id
-books_keep (asks.Reassembly t call) pass books h = λ s id. h s id
-books_keep (asks.Local step) pass books h = h
-books_keep (asks.Control t call) pass books h = λ s id. by t s id
+books_keep (Ask.Send t call) pass books h = λ s id. h s id
+books_keep (Ask.Reassembly t call) pass books h = λ s id. h s id
+books_keep (Ask.Local step) pass books h = h
+books_keep (Ask.Control t call) pass books h = λ s id. by t s id
   where
-    by : (t s : Side) (id : ℕ) → Wants id (control_of s (books_in (after_entry (asks.Control t call) pass books))) (is_wanted id false (control_journal s (after_entry (asks.Control t call) pass books)).journal)
+    by : (t s : Side) (id : ℕ) → Wants id (control_of s (books_in (after_entry (Ask.Control t call) pass books))) (is_wanted id false (control_journal s (after_entry (Ask.Control t call) pass books)).journal)
     by A A id =
         let e = entry_of controlling.reply_to control.after books.control_a pass call in
-        subst (λ six. Wants id six.control_a (is_wanted id false (books.control_a.journal ++ e ∷ []))) (sym (books_after (asks.Control A call) pass books))
+        subst (λ six. Wants id six.control_a (is_wanted id false (books.control_a.journal ++ e ∷ []))) (sym (books_after (Ask.Control A call) pass books))
         (subst (Wants id (control.after (books_in books).control_a call)) (sym (wanted_push id false books.control_a.journal e))
         (wants_once (books_in books).control_a call id (is_wanted id false books.control_a.journal) (h A id)))
     by B B id =
         let e = entry_of controlling.reply_to control.after books.control_b pass call in
-        subst (λ six. Wants id six.control_b (is_wanted id false (books.control_b.journal ++ e ∷ []))) (sym (books_after (asks.Control B call) pass books))
+        subst (λ six. Wants id six.control_b (is_wanted id false (books.control_b.journal ++ e ∷ []))) (sym (books_after (Ask.Control B call) pass books))
         (subst (Wants id (control.after (books_in books).control_b call)) (sym (wanted_push id false books.control_b.journal e))
         (wants_once (books_in books).control_b call id (is_wanted id false books.control_b.journal) (h B id)))
     by A B id = h B id
     by B A id = h A id
 
 -- a look of the side that tells to announce an id
-look_tells : (s : Side) (path id : ℕ) (notes : List Note) (pass : Pass) (books : StampedBooks) → BooksAre books → told_to_announce (reply_of (books_in books) (asks.Control s (control_calls.Look path))) ≡ Some id
-    → WasTold s id (notes ++ note_of books pass (asks.Control s (control_calls.Look path)) ∷ []) (control_journal s (after_entry (asks.Control s (control_calls.Look path)) pass books)).journal
+look_tells : (s : Side) (path id : ℕ) (notes : List Note) (pass : Pass) (books : StampedBooks) → BooksAre books → told_to_announce (reply_of (books_in books) (Ask.Control s (ControlCall.Look path))) ≡ Some id
+    → WasTold s id (notes ++ note_of books pass (Ask.Control s (ControlCall.Look path)) ∷ []) (control_journal s (after_entry (Ask.Control s (ControlCall.Look path)) pass books)).journal
 look_tells A path id notes pass books h told = record {
-  look = note_of books pass (asks.Control A (control_calls.Look path));
-  in_turn = look_push A None notes (note_of books pass (asks.Control A (control_calls.Look path)));
+  look = note_of books pass (Ask.Control A (ControlCall.Look path));
+  in_turn = look_push A None notes (note_of books pass (Ask.Control A (ControlCall.Look path)));
   told = told;
   earlier = books.control_a.journal;
-  entry = entry_of controlling.reply_to control.after books.control_a pass (control_calls.Look path);
+  entry = entry_of controlling.reply_to control.after books.control_a pass (ControlCall.Look path);
   later = [];
   parts = refl;
   entered = refl;
   wanted = (h A id (look_due (books_in books).control_a path id told)).1;
 }
 look_tells B path id notes pass books h told = record {
-  look = note_of books pass (asks.Control B (control_calls.Look path));
-  in_turn = look_push B None notes (note_of books pass (asks.Control B (control_calls.Look path)));
+  look = note_of books pass (Ask.Control B (ControlCall.Look path));
+  in_turn = look_push B None notes (note_of books pass (Ask.Control B (ControlCall.Look path)));
   told = told;
   earlier = books.control_b.journal;
-  entry = entry_of controlling.reply_to control.after books.control_b pass (control_calls.Look path);
+  entry = entry_of controlling.reply_to control.after books.control_b pass (ControlCall.Look path);
   later = [];
   parts = refl;
   entered = refl;
   wanted = (h B id (look_due (books_in books).control_b path id told)).1;
 }
 
-look_is : (s : Side) (x : Ask) → looks s x ≡ true → (path : ℕ) × (x ≡ asks.Control s (control_calls.Look path))
-look_is A (asks.Control A (control_calls.Look path)) is = (path, refl)
-look_is B (asks.Control B (control_calls.Look path)) is = (path, refl)
+look_is : (s : Side) (x : Ask) → looks s x ≡ true → (path : ℕ) × (x ≡ Ask.Control s (ControlCall.Look path))
+look_is A (Ask.Control A (ControlCall.Look path)) is = (path, refl)
+look_is B (Ask.Control B (ControlCall.Look path)) is = (path, refl)
 look_is A _ is = absurd (false≢true is)
 look_is B _ is = absurd (false≢true is)
 

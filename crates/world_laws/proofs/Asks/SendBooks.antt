@@ -21,7 +21,7 @@ use Rattle.send_book.proofs.PathSets.{contains-insert}
 use Rattle.stream_lanes.specs.Words.{Every}
 use Rattle.stream_lanes.proofs.Lists.{Every-append, in_take, in_drop, in_map, in_replicate}
 use Rattle.actor_desk.specs.declared.ask.Note.{Note}
-use Rattle.actor_desk.specs.declared.ask.Reply.TheVariants as replies
+use Rattle.actor_desk.specs.declared.ask.Reply.{Reply}
 use Rattle.path_core.specs.Emission.{grant_in}
 use Rattle.world_laws.specs.RoundEnd.{asks_grant}
 use Rattle.world_laws.specs.RoundNumbers.{taken_len, is_standby, standby_after, last_on_standby, last_asked, AskedForAll}
@@ -468,11 +468,11 @@ module _ (path written : ℕ) (b : Sending) (h : IsOnes path written b) where
       by true is = let same : taken_len path b.marks ≡ from = cc in omega (arith, same, edge)
       by false is = cc
 
-  at_place : (most : ℕ) (o : Option ℕ) → position (is_free_for path) b.marks ≡ o → grant_in (replies.Send (reply_by (span_at path most b o) b)) ≡ None → AllTaken b
+  at_place : (most : ℕ) (o : Option ℕ) → position (is_free_for path) b.marks ≡ o → grant_in (Reply.Send (reply_by (span_at path most b o) b)) ≡ None → AllTaken b
   at_place most None is none = none_found is
   at_place most (Some from) is none = by (nat_le b.edge from) refl none
     where
-      by : (c : Bool) → nat_le b.edge from ≡ c → grant_in (replies.Send (reply_by (if c then Err WindowShut else Ok (record { from = from; to = from + run_len path most b from })) b)) ≡ None → AllTaken b
+      by : (c : Bool) → nat_le b.edge from ≡ c → grant_in (Reply.Send (reply_by (if c then Err WindowShut else Ok (record { from = from; to = from + run_len path most b from })) b)) ≡ None → AllTaken b
       by true edge none = shut_at from is (leb-true b.edge from edge)
       by false edge none = cc
 
@@ -481,14 +481,14 @@ module _ (path written : ℕ) (b : Sending) (h : IsOnes path written b) where
   Refused standby = AllTaken b ⊎ ((standby ≡ true) ⊎ ((is_for path b.owner ≡ false) ⊎ (b.aborted ≡ true)))
 
   refused_by : (max : ℕ) (standby done own : Bool) → is_for path b.owner ≡ own → (done ≡ true → AllTaken b ⊎ (b.aborted ≡ true))
-      → grant_in (replies.Send (reply_by (if done then Err Ended else (if standby then Err Backup else span_at path max b (if own then position (is_free_for path) b.marks else None))) b)) ≡ None
+      → grant_in (Reply.Send (reply_by (if done then Err Ended else (if standby then Err Backup else span_at path max b (if own then position (is_free_for path) b.marks else None))) b)) ≡ None
       → Refused standby
   refused_by max standby true own is all none = ⊎_elim (λ taken. inl taken) (λ stopped. inr (inr (inr stopped))) (all refl)
   refused_by max true false own is all none = inr (inl refl)
   refused_by max false false false is all none = inr (inr (inl is))
   refused_by max false false true is all none = inl (at_place max (position (is_free_for path) b.marks) refl none)
 
-  refused_all : (max : ℕ) (standby : Bool) → grant_in (replies.Send (reply_by (decision path max standby b) b)) ≡ None → Refused standby
+  refused_all : (max : ℕ) (standby : Bool) → grant_in (Reply.Send (reply_by (decision path max standby b) b)) ≡ None → Refused standby
   refused_all max standby none = refused_by max standby (b.aborted || (b.closed && (acked_len b.marks == length b.written))) (is_for path b.owner) refl all none
     where
       whole : (b.closed && (acked_len b.marks == length b.written)) ≡ true → AllTaken b
@@ -500,12 +500,12 @@ module _ (path written : ℕ) (b : Sending) (h : IsOnes path written b) where
       all done = ⊎_elim (λ stopped. inr stopped) (λ closed. inl (whole closed)) (or_cases b.aborted (b.closed && (acked_len b.marks == length b.written)) done)
 
   -- after a refusal the book is the same
-  same_given : (o : Result Span Why) → grant_in (replies.Send (reply_by o b)) ≡ None → given_by path o b ≡ b
+  same_given : (o : Result Span Why) → grant_in (Reply.Send (reply_by o b)) ≡ None → given_by path o b ≡ b
   same_given (Ok span) none = cc
   same_given (Err why) none = refl
 
   pub grant_refused : (s : Side) (steps : List Note) (n : Note) (max : ℕ) (standby : Bool) → ((before : Bool) → standby_after s n before ≡ standby)
-      → grant_in (replies.Send (reply_by (decision path max standby b) b)) ≡ None → AskedForAll path s (steps ++ n ∷ []) written (after_call b (Grant path max standby))
+      → grant_in (Reply.Send (reply_by (decision path max standby b) b)) ≡ None → AskedForAll path s (steps ++ n ∷ []) written (after_call b (Grant path max standby))
   grant_refused s steps n max standby told none =
       subst (AskedForAll path s (steps ++ n ∷ []) written) (sym (same_given (decision path max standby b) none))
       (⊎_elim (λ all. Taken all) (λ other. ⊎_elim (λ is. Standby (last_more s false steps n ∙ told (last_on_standby s false steps) ∙ is))

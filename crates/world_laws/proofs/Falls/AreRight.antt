@@ -9,7 +9,7 @@ use Rattle.sides.specs.declared.side.Side.TheVariants.{A, B}
 use Rattle.dss_mapping.specs.declared.kept.KeptMapping.{KeptMapping}
 use Rattle.control_book.specs.Replies.{is_aborted}
 use Rattle.fallback_state.specs.Modes.{is_identity}
-use Rattle.send_book.specs.declared.call.SendCall.TheVariants as send_calls
+use Rattle.send_book.specs.declared.call.SendCall.{SendCall}
 use Rattle.subflow_send.specs.declared.record.RecordKind.{RecordKind}
 use Rattle.subflow_send.specs.declared.record.RecordKind.TheVariants.{Syn, Data, Fin}
 use Rattle.subflow_send.specs.Records.{Record}
@@ -21,19 +21,16 @@ use Rattle.stream_lanes.specs.View.{View}
 use Rattle.stream_lanes.proofs.Duos.{any_held}
 use Rattle.stream_lanes.proofs.Lists.{Every-map, in_map, in_set}
 use Rattle.actor_desk.specs.declared.ask.Ask.{Ask}
-use Rattle.actor_desk.specs.declared.ask.Ask.TheVariants as asks
 use Rattle.actor_desk.specs.Books.{books_in}
 use Rattle.actor_desk.specs.Desk.{SixBooks, control_of, after_ask}
 use Rattle.stream_apps.specs.declared.duty.AppDuty.{AppDuty}
-use Rattle.stream_apps.specs.declared.duty.AppDuty.TheVariants as app_duties
 use Rattle.stream_apps.specs.Apps.{AppState}
 use Rattle.stream_apps.specs.AppSteps.{app_ask, app_asks_first}
 use Rattle.path_agenda.specs.declared.duty.Duty.{Duty}
-use Rattle.path_agenda.specs.declared.duty.Duty.TheVariants as duties
-use Rattle.path_agenda.specs.declared.duty.AskDuty.TheVariants as ask_duties
-use Rattle.path_agenda.specs.declared.duty.SendDuty.TheVariants as send_duties
-use Rattle.path_agenda.specs.declared.duty.SilentDuty.TheVariants as silent_duties
-use Rattle.path_agenda.specs.declared.duty.StepDuty.TheVariants as step_duties
+use Rattle.path_agenda.specs.declared.duty.AskDuty.{AskDuty}
+use Rattle.path_agenda.specs.declared.duty.SendDuty.{SendDuty}
+use Rattle.path_agenda.specs.declared.duty.SilentDuty.{SilentDuty}
+use Rattle.path_agenda.specs.declared.duty.StepDuty.{StepDuty}
 use Rattle.path_core.specs.Duties.{stands, ask_for}
 use Rattle.path_core.specs.Emission.{first_unsent, data_stands, data_ask}
 use Rattle.path_core.specs.Octets.{octets}
@@ -73,26 +70,26 @@ use Rattle.world_laws.proofs.Weaving.WholeRounds.{run_append}
 abbrev asks_some : Ask → Bool
 asks_some x = asks_grant A x || asks_grant B x
 
-written_none : (s : Side) (bytes : List ℕ) → asks_some (asks.Send s (send_calls.Write bytes)) ≡ false
+written_none : (s : Side) (bytes : List ℕ) → asks_some (Ask.Send s (SendCall.Write bytes)) ≡ false
 written_none A bytes = refl
 written_none B bytes = refl
 
-closed_none : (s : Side) → asks_some (asks.Send s send_calls.Close) ≡ false
+closed_none : (s : Side) → asks_some (Ask.Send s SendCall.Close) ≡ false
 closed_none A = refl
 closed_none B = refl
 
-aborted_none : (s : Side) → asks_some (asks.Send s send_calls.Abort) ≡ false
+aborted_none : (s : Side) → asks_some (Ask.Send s SendCall.Abort) ≡ false
 aborted_none A = refl
 aborted_none B = refl
 
 app_asks_none : (d : AppDuty) (a : AppState) → asks_some (app_ask d a) ≡ false
-app_asks_none app_duties.FastClose a = refl
-app_asks_none app_duties.AbortSend a = aborted_none a.side
-app_asks_none app_duties.AbortReceive a = refl
-app_asks_none app_duties.Write a = written_none a.side _
-app_asks_none app_duties.Close a = closed_none a.side
-app_asks_none app_duties.Read a = refl
-app_asks_none app_duties.End a = refl
+app_asks_none AppDuty.FastClose a = refl
+app_asks_none AppDuty.AbortSend a = aborted_none a.side
+app_asks_none AppDuty.AbortReceive a = refl
+app_asks_none AppDuty.Write a = written_none a.side _
+app_asks_none AppDuty.Close a = closed_none a.side
+app_asks_none AppDuty.Read a = refl
+app_asks_none AppDuty.End a = refl
 
 module _ (p : PathState Carried) where
   nothing_asked : {X : Type 0} (d : Duty) → MayNotAsk d → asks_some (ask_for values d p) ≡ true → X
@@ -106,10 +103,10 @@ module _ (p : PathState Carried) where
 
   -- an end asks for bytes only where it may finish
   asking_finishes : (d : Duty) → stands d p ≡ true → asks_some (ask_for values d p) ≡ true → (t : Side) × (may_finish (end_at t p).tcp.state ≡ true)
-  asking_finishes (duties.Step (step_duties.Data s)) is asks = data_finishes s (first_unsent (end_at s p)) is asks
-  asking_finishes (duties.Ask ask_duties.JoinAgain) is asks = nothing_asked (duties.Ask ask_duties.JoinAgain) tt asks
-  asking_finishes (duties.Send (send_duties.Update s)) is asks = nothing_asked (duties.Send (send_duties.Update s)) tt asks
-  asking_finishes (duties.Silent (silent_duties.Timer s)) is asks = nothing_asked (duties.Silent (silent_duties.Timer s)) tt asks
+  asking_finishes (Duty.Step (StepDuty.Data s)) is asks = data_finishes s (first_unsent (end_at s p)) is asks
+  asking_finishes (Duty.Ask AskDuty.JoinAgain) is asks = nothing_asked (Duty.Ask AskDuty.JoinAgain) tt asks
+  asking_finishes (Duty.Send (SendDuty.Update s)) is asks = nothing_asked (Duty.Send (SendDuty.Update s)) tt asks
+  asking_finishes (Duty.Silent (SilentDuty.Timer s)) is asks = nothing_asked (Duty.Silent (SilentDuty.Timer s)) tt asks
   asking_finishes d is asks = nothing_asked d tt asks
 
 module _ (key_a key_b : ℕ) where

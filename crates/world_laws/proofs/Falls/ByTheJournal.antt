@@ -15,7 +15,6 @@ use Rattle.control_book.specs.Control.{Control}
 use Rattle.control_book.specs.Replies as controlling
 use Rattle.control_book.specs.Steps as control
 use Rattle.actor_desk.specs.declared.ask.Ask.{Ask}
-use Rattle.actor_desk.specs.declared.ask.Ask.TheVariants as asks
 use Rattle.actor_desk.specs.Books.{StampedBooks, books_in, after_entry}
 use Rattle.actor_desk.specs.Desk.{control_of}
 use Rattle.actor_desk.specs.Words.{pick}
@@ -82,26 +81,26 @@ module _ (such : Mode → Bool) where
 
   pub was_more : (x : Ask) (pass : Pass) (books : StampedBooks) (s : Side) → Was such (after_entry x pass books) s
       → Was such books s ⊎ (such (control_of s (books_in (after_entry x pass books))).fall.mode ≡ true)
-  was_more (asks.Control A call) pass books A is = was_by_more such books.control_a.opening books.control_a.journal (entry_of controlling.reply_to control.after books.control_a pass call) is
-  was_more (asks.Control A call) pass books B is = inl is
-  was_more (asks.Control B call) pass books A is = inl is
-  was_more (asks.Control B call) pass books B is = was_by_more such books.control_b.opening books.control_b.journal (entry_of controlling.reply_to control.after books.control_b pass call) is
-  was_more (asks.Send t call) pass books A is = inl is
-  was_more (asks.Send t call) pass books B is = inl is
-  was_more (asks.Reassembly t call) pass books A is = inl is
-  was_more (asks.Reassembly t call) pass books B is = inl is
-  was_more (asks.Local step) pass books s is = inl is
+  was_more (Ask.Control A call) pass books A is = was_by_more such books.control_a.opening books.control_a.journal (entry_of controlling.reply_to control.after books.control_a pass call) is
+  was_more (Ask.Control A call) pass books B is = inl is
+  was_more (Ask.Control B call) pass books A is = inl is
+  was_more (Ask.Control B call) pass books B is = was_by_more such books.control_b.opening books.control_b.journal (entry_of controlling.reply_to control.after books.control_b pass call) is
+  was_more (Ask.Send t call) pass books A is = inl is
+  was_more (Ask.Send t call) pass books B is = inl is
+  was_more (Ask.Reassembly t call) pass books A is = inl is
+  was_more (Ask.Reassembly t call) pass books B is = inl is
+  was_more (Ask.Local step) pass books s is = inl is
 
   pub was_stays : (x : Ask) (pass : Pass) (books : StampedBooks) (s : Side) → Was such books s → Was such (after_entry x pass books) s
-  was_stays (asks.Control A call) pass books A is = was_by_still such books.control_a.opening books.control_a.journal _ is
-  was_stays (asks.Control A call) pass books B is = is
-  was_stays (asks.Control B call) pass books A is = is
-  was_stays (asks.Control B call) pass books B is = was_by_still such books.control_b.opening books.control_b.journal _ is
-  was_stays (asks.Send t call) pass books A is = is
-  was_stays (asks.Send t call) pass books B is = is
-  was_stays (asks.Reassembly t call) pass books A is = is
-  was_stays (asks.Reassembly t call) pass books B is = is
-  was_stays (asks.Local step) pass books s is = is
+  was_stays (Ask.Control A call) pass books A is = was_by_still such books.control_a.opening books.control_a.journal _ is
+  was_stays (Ask.Control A call) pass books B is = is
+  was_stays (Ask.Control B call) pass books A is = is
+  was_stays (Ask.Control B call) pass books B is = was_by_still such books.control_b.opening books.control_b.journal _ is
+  was_stays (Ask.Send t call) pass books A is = is
+  was_stays (Ask.Send t call) pass books B is = is
+  was_stays (Ask.Reassembly t call) pass books A is = is
+  was_stays (Ask.Reassembly t call) pass books B is = is
+  was_stays (Ask.Local step) pass books s is = is
 
   -- ---- turns
 

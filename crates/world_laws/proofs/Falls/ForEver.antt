@@ -6,7 +6,6 @@ use Rattle.sides.specs.declared.side.Side.TheVariants.{A, B}
 use Rattle.stamped_book.specs.declared.stamped.Pass.{Pass}
 use Rattle.fallback_state.specs.Modes.{is_identity}
 use Rattle.actor_desk.specs.declared.ask.Ask.{Ask}
-use Rattle.actor_desk.specs.declared.ask.Ask.TheVariants as asks
 use Rattle.actor_desk.specs.Books.{StampedBooks, books_in, after_entry}
 use Rattle.actor_desk.specs.Desk.{SixBooks, control_of, after_ask}
 use Rattle.path_core.specs.Values.{Carried, values}
@@ -35,19 +34,19 @@ fell_more x pass books s is = was_more is_identity x pass books s is
 -- ---- calls
 
 pub ask_right : (six : SixBooks) (x : Ask) (s : Side) → IsUnjoined (control_of s six).fall → IsUnjoined (control_of s (after_ask x six)).fall
-ask_right six (asks.Control A call) A h = unjoined_stays six.control_a call h
-ask_right six (asks.Control A call) B h = h
-ask_right six (asks.Control B call) A h = h
-ask_right six (asks.Control B call) B h = unjoined_stays six.control_b call h
-ask_right six (asks.Send A call) A h = h
-ask_right six (asks.Send A call) B h = h
-ask_right six (asks.Send B call) A h = h
-ask_right six (asks.Send B call) B h = h
-ask_right six (asks.Reassembly A call) A h = h
-ask_right six (asks.Reassembly A call) B h = h
-ask_right six (asks.Reassembly B call) A h = h
-ask_right six (asks.Reassembly B call) B h = h
-ask_right six (asks.Local step) s h = h
+ask_right six (Ask.Control A call) A h = unjoined_stays six.control_a call h
+ask_right six (Ask.Control A call) B h = h
+ask_right six (Ask.Control B call) A h = h
+ask_right six (Ask.Control B call) B h = unjoined_stays six.control_b call h
+ask_right six (Ask.Send A call) A h = h
+ask_right six (Ask.Send A call) B h = h
+ask_right six (Ask.Send B call) A h = h
+ask_right six (Ask.Send B call) B h = h
+ask_right six (Ask.Reassembly A call) A h = h
+ask_right six (Ask.Reassembly A call) B h = h
+ask_right six (Ask.Reassembly B call) A h = h
+ask_right six (Ask.Reassembly B call) B h = h
+ask_right six (Ask.Local step) s h = h
 
 fell_so : (six : SixBooks) (s : Side) → IsUnjoined (control_of s six).fall → IsFallen six s → FellBack six s
 fell_so six A h is = fell_plain six.control_a.fall h is

@@ -6,24 +6,18 @@ use Rattle.sides.specs.declared.side.Side.{Side}
 use Rattle.sides.specs.declared.side.Side.TheVariants.{A, B}
 use Rattle.stamped_book.specs.declared.stamped.Pass.{Pass}
 use Rattle.fallback_state.specs.declared.fall.Event.{Event as FallEvent}
-use Rattle.fallback_state.specs.declared.fall.Event.TheVariants as events
 use Rattle.fallback_state.specs.declared.fall.Fall.{Fall}
 use Rattle.fallback_state.specs.declared.fall.Mode.{Mode}
-use Rattle.fallback_state.specs.declared.fall.Mode.TheVariants as modes
 use Rattle.fallback_state.specs.declared.fall.Verdict.{Verdict}
-use Rattle.fallback_state.specs.declared.fall.Verdict.TheVariants as verdicts
 use Rattle.fallback_state.specs.Modes.{is_starting, is_identity, reads_mappings, writes_mappings, receiving, sending}
 use Rattle.fallback_state.specs.Table.{is_failed_path, goes, stays, breaks, fall_step}
 use Rattle.control_book.specs.declared.call.ControlCall.{ControlCall}
-use Rattle.control_book.specs.declared.call.ControlCall.TheVariants as control_calls
 use Rattle.control_book.specs.declared.call.Notice.{Notice}
-use Rattle.control_book.specs.declared.call.Notice.TheVariants as notices
 use Rattle.control_book.specs.Control.{Control}
 use Rattle.control_book.specs.Registry.{sole as sole_path}
 use Rattle.control_book.specs.Replies as control
 use Rattle.control_book.specs.Steps as controlling
 use Rattle.actor_desk.specs.declared.ask.Ask.{Ask}
-use Rattle.actor_desk.specs.declared.ask.Ask.TheVariants as asks
 use Rattle.actor_desk.specs.Books.{StampedBooks, books_in, after_entry}
 use Rattle.actor_desk.specs.Desk.{SixBooks, control_of, after_ask}
 use Rattle.path_core.specs.Codec.{Codec}
@@ -50,68 +44,68 @@ unread_if true f x y is isnt = is refl
 unread_if false f x y is isnt = isnt refl
 
 starting_reads : (m : Mode) → is_starting m ≡ true → Unread m → ⊥
-starting_reads modes.Starting is unread = false≢true (sym unread)
-starting_reads modes.Sure is unread = false≢true is
-starting_reads modes.Identity is unread = false≢true is
-starting_reads modes.InfiniteSend is unread = false≢true is
-starting_reads modes.InfiniteReceive is unread = false≢true is
-starting_reads modes.InfiniteBoth is unread = false≢true is
-starting_reads modes.Aborted is unread = false≢true is
+starting_reads Mode.Starting is unread = false≢true (sym unread)
+starting_reads Mode.Sure is unread = false≢true is
+starting_reads Mode.Identity is unread = false≢true is
+starting_reads Mode.InfiniteSend is unread = false≢true is
+starting_reads Mode.InfiniteReceive is unread = false≢true is
+starting_reads Mode.InfiniteBoth is unread = false≢true is
+starting_reads Mode.Aborted is unread = false≢true is
 
 sending_unread : (m : Mode) → writes_mappings m ≡ true → Unread m → Unread (sending m)
-sending_unread modes.Starting writes unread = absurd (false≢true (sym unread))
-sending_unread modes.Sure writes unread = absurd (false≢true (sym unread))
-sending_unread modes.InfiniteSend writes unread = absurd (false≢true (sym unread))
-sending_unread modes.Identity writes unread = absurd (false≢true writes)
-sending_unread modes.InfiniteReceive writes unread = refl
-sending_unread modes.InfiniteBoth writes unread = absurd (false≢true writes)
-sending_unread modes.Aborted writes unread = absurd (false≢true writes)
+sending_unread Mode.Starting writes unread = absurd (false≢true (sym unread))
+sending_unread Mode.Sure writes unread = absurd (false≢true (sym unread))
+sending_unread Mode.InfiniteSend writes unread = absurd (false≢true (sym unread))
+sending_unread Mode.Identity writes unread = absurd (false≢true writes)
+sending_unread Mode.InfiniteReceive writes unread = refl
+sending_unread Mode.InfiniteBoth writes unread = absurd (false≢true writes)
+sending_unread Mode.Aborted writes unread = absurd (false≢true writes)
 
 receiving_unread : (m : Mode) → Unread (receiving m)
-receiving_unread modes.Starting = refl
-receiving_unread modes.Sure = refl
-receiving_unread modes.Identity = refl
-receiving_unread modes.InfiniteSend = refl
-receiving_unread modes.InfiniteReceive = refl
-receiving_unread modes.InfiniteBoth = refl
-receiving_unread modes.Aborted = refl
+receiving_unread Mode.Starting = refl
+receiving_unread Mode.Sure = refl
+receiving_unread Mode.Identity = refl
+receiving_unread Mode.InfiniteSend = refl
+receiving_unread Mode.InfiniteReceive = refl
+receiving_unread Mode.InfiniteBoth = refl
+receiving_unread Mode.Aborted = refl
 
 not_twice : (b : Bool) → not b ≡ false → b ≡ true
 not_twice true is = refl
 not_twice false is = absurd (false≢true (sym is))
 
-plain_unread : (f : Fall) → GoesUnread f (if is_starting f.mode && not f.joined then goes modes.Identity f else stays f).0
-plain_unread f = unread_if (is_starting f.mode && not f.joined) f (goes modes.Identity f) (stays f) (λ is unread. refl) (λ isnt unread. unread)
+plain_unread : (f : Fall) → GoesUnread f (if is_starting f.mode && not f.joined then goes Mode.Identity f else stays f).0
+plain_unread f = unread_if (is_starting f.mode && not f.joined) f (goes Mode.Identity f) (stays f) (λ is unread. refl) (λ isnt unread. unread)
 
-sign_unread : (f : Fall) → GoesUnread f (if is_starting f.mode then goes modes.Sure f else stays f).0
-sign_unread f = unread_if (is_starting f.mode) f (goes modes.Sure f) (stays f) (λ is unread. absurd (starting_reads f.mode is unread)) (λ isnt unread. unread)
+sign_unread : (f : Fall) → GoesUnread f (if is_starting f.mode then goes Mode.Sure f else stays f).0
+sign_unread f = unread_if (is_starting f.mode) f (goes Mode.Sure f) (stays f) (λ is unread. absurd (starting_reads f.mode is unread)) (λ isnt unread. unread)
 
 event_unread : (path : ℕ) (sole : Bool) (event : FallEvent) (f : Fall) → GoesUnread f (fall_step f path sole event).0
-event_unread path sole events.PlainHandshake f = plain_unread f
-event_unread path sole events.PlainData f = plain_unread f
-event_unread path sole events.PlainAck f = plain_unread f
-event_unread path sole events.MappingHeard f = sign_unread f
-event_unread path sole events.AckHeard f = sign_unread f
-event_unread path sole events.KeysHeard f =
-    unread_if (is_identity f.mode) f (stays f) (record f { confirmed = true }, verdicts.Stay) (λ is unread. unread) (λ isnt unread. unread)
-event_unread path sole events.InfiniteHeard f =
+event_unread path sole FallEvent.PlainHandshake f = plain_unread f
+event_unread path sole FallEvent.PlainData f = plain_unread f
+event_unread path sole FallEvent.PlainAck f = plain_unread f
+event_unread path sole FallEvent.MappingHeard f = sign_unread f
+event_unread path sole FallEvent.AckHeard f = sign_unread f
+event_unread path sole FallEvent.KeysHeard f =
+    unread_if (is_identity f.mode) f (stays f) (record f { confirmed = true }, Verdict.Stay) (λ is unread. unread) (λ isnt unread. unread)
+event_unread path sole FallEvent.InfiniteHeard f =
     let falls : Bool = writes_mappings f.mode && not f.joined && is_none f.failed in
-    let last : Fall × Verdict = if falls then goes modes.Identity f else breaks 1 f in
+    let last : Fall × Verdict = if falls then goes Mode.Identity f else breaks 1 f in
     let rest : Fall × Verdict = if sole && is_failed_path f.failed path then goes (receiving f.mode) f else last in
     unread_if (not (reads_mappings f.mode)) f (stays f) rest (λ is unread. unread)
     (λ reads. unread_if (sole && is_failed_path f.failed path) f (goes (receiving f.mode) f) last (λ is unread. receiving_unread f.mode)
-    (λ isnt. unread_if falls f (goes modes.Identity f) (breaks 1 f) (λ is unread. refl) (λ other unread. unread)))
-event_unread path sole events.CheckFailed f =
-    let noted : Fall × Verdict = (record f { failed = Some path }, verdicts.SendFail) in
+    (λ isnt. unread_if falls f (goes Mode.Identity f) (breaks 1 f) (λ is unread. refl) (λ other unread. unread)))
+event_unread path sole FallEvent.CheckFailed f =
+    let noted : Fall × Verdict = (record f { failed = Some path }, Verdict.SendFail) in
     let rest : Fall × Verdict = if sole then noted else breaks 6 f in
     unread_if (not (reads_mappings f.mode)) f (stays f) rest (λ is unread. unread)
     (λ reads. unread_if sole f noted (breaks 6 f) (λ is unread. unread) (λ isnt unread. unread))
-event_unread path sole (events.FailHeard contiguous) f =
+event_unread path sole (FallEvent.FailHeard contiguous) f =
     let rest : Fall × Verdict = if sole && contiguous then goes (sending f.mode) f else breaks 1 f in
     unread_if (not (writes_mappings f.mode)) f (stays f) rest (λ is unread. unread)
     (λ writes. unread_if (sole && contiguous) f (goes (sending f.mode) f) (breaks 1 f) (λ is unread. sending_unread f.mode (not_twice (writes_mappings f.mode) writes) unread)
     (λ isnt unread. unread))
-event_unread path sole events.Stop f = λ unread. refl
+event_unread path sole FallEvent.Stop f = λ unread. refl
 
 -- ---- one call
 
@@ -120,31 +114,31 @@ if_unread true f c d x y = x
 if_unread false f c d x y = y
 
 notice_unread : (n : Notice) (path : ℕ) (c : Control) → GoesUnread c.fall (controlling.after_notice n path c).fall
-notice_unread (notices.Withdraw id) path c = λ unread. unread
-notice_unread notices.Nothing path c = λ unread. unread
-notice_unread (notices.Announce id) path c = λ unread. unread
-notice_unread (notices.Carrier key) path c = λ unread. unread
-notice_unread notices.Reset path c = λ unread. unread
+notice_unread (Notice.Withdraw id) path c = λ unread. unread
+notice_unread Notice.Nothing path c = λ unread. unread
+notice_unread (Notice.Announce id) path c = λ unread. unread
+notice_unread (Notice.Carrier key) path c = λ unread. unread
+notice_unread Notice.Reset path c = λ unread. unread
 
 call_unread : (c : Control) (call : ControlCall) → GoesUnread c.fall (controlling.after c call).fall
-call_unread c (control_calls.Look path) = notice_unread (control.notice_on c path) path c
-call_unread c (control_calls.PeerKey key) = λ unread. unread
-call_unread c (control_calls.Keys own other) =
-    if_unread (own == c.keys.own) c.fall (controlling.after_event 0 false events.KeysHeard (controlling.after_peer_key other c)) c (event_unread 0 false events.KeysHeard c.fall) (λ unread. unread)
-call_unread c (control_calls.Fell path event) = event_unread path (sole_path c.paths path) event c.fall
-call_unread c (control_calls.JoinBegin path) = if_unread (control.may_join c) c.fall _ c (λ unread. unread) (λ unread. unread)
-call_unread c (control_calls.JoinHeard path token) = if_unread _ c.fall (controlling.after_join c) c (λ unread. unread) (λ unread. unread)
-call_unread c (control_calls.Live path backup) = λ unread. unread
-call_unread c (control_calls.Dead path) = λ unread. unread
-call_unread c (control_calls.Rate path window rtt) = λ unread. unread
-call_unread c (control_calls.Backup path on) = λ unread. unread
-call_unread c (control_calls.Announce id) = λ unread. unread
-call_unread c (control_calls.Withdraw id) = if_unread _ c.fall _ c (λ unread. unread) (λ unread. unread)
-call_unread c (control_calls.Heard id address port hmac) = λ unread. unread
-call_unread c (control_calls.Echoed id) = if_unread _ c.fall _ c (λ unread. unread) (λ unread. unread)
-call_unread c (control_calls.Removed id) = if_unread _ c.fall _ c (λ unread. unread) (λ unread. unread)
-call_unread c control_calls.FastClose = λ unread. refl
-call_unread c (control_calls.FastHeard key) = if_unread (key == c.keys.own) c.fall (controlling.after_event 0 false events.Stop c) c (λ unread. refl) (λ unread. unread)
+call_unread c (ControlCall.Look path) = notice_unread (control.notice_on c path) path c
+call_unread c (ControlCall.PeerKey key) = λ unread. unread
+call_unread c (ControlCall.Keys own other) =
+    if_unread (own == c.keys.own) c.fall (controlling.after_event 0 false FallEvent.KeysHeard (controlling.after_peer_key other c)) c (event_unread 0 false FallEvent.KeysHeard c.fall) (λ unread. unread)
+call_unread c (ControlCall.Fell path event) = event_unread path (sole_path c.paths path) event c.fall
+call_unread c (ControlCall.JoinBegin path) = if_unread (control.may_join c) c.fall _ c (λ unread. unread) (λ unread. unread)
+call_unread c (ControlCall.JoinHeard path token) = if_unread _ c.fall (controlling.after_join c) c (λ unread. unread) (λ unread. unread)
+call_unread c (ControlCall.Live path backup) = λ unread. unread
+call_unread c (ControlCall.Dead path) = λ unread. unread
+call_unread c (ControlCall.Rate path window rtt) = λ unread. unread
+call_unread c (ControlCall.Backup path on) = λ unread. unread
+call_unread c (ControlCall.Announce id) = λ unread. unread
+call_unread c (ControlCall.Withdraw id) = if_unread _ c.fall _ c (λ unread. unread) (λ unread. unread)
+call_unread c (ControlCall.Heard id address port hmac) = λ unread. unread
+call_unread c (ControlCall.Echoed id) = if_unread _ c.fall _ c (λ unread. unread) (λ unread. unread)
+call_unread c (ControlCall.Removed id) = if_unread _ c.fall _ c (λ unread. unread) (λ unread. unread)
+call_unread c ControlCall.FastClose = λ unread. refl
+call_unread c (ControlCall.FastHeard key) = if_unread (key == c.keys.own) c.fall (controlling.after_event 0 false FallEvent.Stop c) c (λ unread. refl) (λ unread. unread)
 
 -- ---- one ask
 
@@ -152,29 +146,29 @@ abbrev UnreadAt : SixBooks → Side → Type 0
 UnreadAt six s = Unread (control_of s six).fall.mode
 
 ask_unread : (six : SixBooks) (x : Ask) (s : Side) → UnreadAt six s → UnreadAt (after_ask x six) s
-ask_unread six (asks.Control A call) A unread = call_unread six.control_a call unread
-ask_unread six (asks.Control A call) B unread = unread
-ask_unread six (asks.Control B call) A unread = unread
-ask_unread six (asks.Control B call) B unread = call_unread six.control_b call unread
-ask_unread six (asks.Send A call) A unread = unread
-ask_unread six (asks.Send A call) B unread = unread
-ask_unread six (asks.Send B call) A unread = unread
-ask_unread six (asks.Send B call) B unread = unread
-ask_unread six (asks.Reassembly A call) A unread = unread
-ask_unread six (asks.Reassembly A call) B unread = unread
-ask_unread six (asks.Reassembly B call) A unread = unread
-ask_unread six (asks.Reassembly B call) B unread = unread
-ask_unread six (asks.Local step) s unread = unread
+ask_unread six (Ask.Control A call) A unread = call_unread six.control_a call unread
+ask_unread six (Ask.Control A call) B unread = unread
+ask_unread six (Ask.Control B call) A unread = unread
+ask_unread six (Ask.Control B call) B unread = call_unread six.control_b call unread
+ask_unread six (Ask.Send A call) A unread = unread
+ask_unread six (Ask.Send A call) B unread = unread
+ask_unread six (Ask.Send B call) A unread = unread
+ask_unread six (Ask.Send B call) B unread = unread
+ask_unread six (Ask.Reassembly A call) A unread = unread
+ask_unread six (Ask.Reassembly A call) B unread = unread
+ask_unread six (Ask.Reassembly B call) A unread = unread
+ask_unread six (Ask.Reassembly B call) B unread = unread
+ask_unread six (Ask.Local step) s unread = unread
 
 -- where a side fell back, they count no more
 fallback_unread : (m : Mode) → is_fallback m ≡ true → Unread m
-fallback_unread modes.Identity is = refl
-fallback_unread modes.InfiniteReceive is = refl
-fallback_unread modes.InfiniteBoth is = refl
-fallback_unread modes.Starting is = absurd (false≢true is)
-fallback_unread modes.Sure is = absurd (false≢true is)
-fallback_unread modes.InfiniteSend is = absurd (false≢true is)
-fallback_unread modes.Aborted is = absurd (false≢true is)
+fallback_unread Mode.Identity is = refl
+fallback_unread Mode.InfiniteReceive is = refl
+fallback_unread Mode.InfiniteBoth is = refl
+fallback_unread Mode.Starting is = absurd (false≢true is)
+fallback_unread Mode.Sure is = absurd (false≢true is)
+fallback_unread Mode.InfiniteSend is = absurd (false≢true is)
+fallback_unread Mode.Aborted is = absurd (false≢true is)
 
 abbrev IsUnread : StampedBooks → Side → Type 0
 IsUnread books s = Was is_fallback books s → UnreadAt (books_in books) s

@@ -10,7 +10,7 @@ use Rattle.sides.specs.declared.side.Side.{Side}
 use Rattle.sides.specs.declared.side.Side.TheVariants.{A, B}
 use Rattle.sides.specs.Side.{peer}
 use Rattle.send_book.specs.declared.call.SendCall.TheVariants.{GoInfinite as GoInfiniteBook}
-use Rattle.send_book.specs.declared.call.SendReply.TheVariants as send_replies
+use Rattle.send_book.specs.declared.call.SendReply.{SendReply}
 use Rattle.send_book.specs.declared.mark.ByteMark.{ByteMark}
 use Rattle.send_book.specs.declared.mark.ByteMark.TheVariants.{Acked, Held, Free}
 use Rattle.send_book.specs.Marks.{is_acked, has_tried, is_untouched}
@@ -29,14 +29,12 @@ use Rattle.stream_lanes.specs.View.{View, view_of}
 use Rattle.stream_lanes.specs.Holding.{HasPlace, SendHolds, IsEndless, LaneHolds, Holds}
 use Rattle.stream_lanes.proofs.MarkLists.{untouched_unspent}
 use Rattle.actor_desk.specs.declared.ask.Ask.{Ask}
-use Rattle.actor_desk.specs.declared.ask.Ask.TheVariants as asks
-use Rattle.actor_desk.specs.declared.ask.Reply.TheVariants as replies
+use Rattle.actor_desk.specs.declared.ask.Reply.{Reply}
 use Rattle.actor_desk.specs.Desk.{SixBooks, send_of, reassembly_of, reply_of}
 use Rattle.actor_desk.specs.Words.{pick}
 use Rattle.path_agenda.specs.Words.{replaced}
 use Rattle.path_agenda.specs.declared.duty.Duty.{Duty}
-use Rattle.path_agenda.specs.declared.duty.Duty.TheVariants as duties
-use Rattle.path_agenda.specs.declared.duty.AskDuty.TheVariants as ask_duties
+use Rattle.path_agenda.specs.declared.duty.AskDuty.{AskDuty}
 use Rattle.path_store.specs.declared.granted_piece.GrantedPiece.{GrantedPiece}
 use Rattle.path_store.specs.declared.infinite_mapping.InfiniteMapping.{InfiniteMapping}
 use Rattle.path_core.specs.End.{PathEnd}
@@ -194,14 +192,14 @@ module _ (c : Profile) (six : SixBooks) (others : Others) where
 
   pub infinite_side : (s : Side) (p q : PathState Carried) (ab ba : Lane) (pos : ℕ) (b : Bool) → PathShows c p ab ba → is_gathered others.number (send_of s six) ≡ b
       → (b ≡ true → may_go others.number pos (send_of s six) (pick s ab ba) ≡ true)
-      → SideDid c s p q ab ba (if b then with_pair (pair_of s pos) (pick s ab ba) else pick s ab ba) (pick s ba ab) → Answered c six others (asks.Send s (GoInfiniteBook others.number)) q ab ba
+      → SideDid c s p q ab ba (if b then with_pair (pair_of s pos) (pick s ab ba) else pick s ab ba) (pick s ba ab) → Answered c six others (Ask.Send s (GoInfiniteBook others.number)) q ab ba
   infinite_side A p q ab ba pos b h is may d =
-      side_answered c six others A p q ab ba ab ba (if b then with_pair (pair_of A pos) ab else ab) ba (asks.Send A (GoInfiniteBook others.number)) (Some (ToB (GoInfinite others.number pos))) h
+      side_answered c six others A p q ab ba ab ba (if b then with_pair (pair_of A pos) ab else ab) ba (Ask.Send A (GoInfiniteBook others.number)) (Some (ToB (GoInfinite others.number pos))) h
       (record { by = []; calm = refl; to = refl }) (record { by = []; calm = refl; to = refl })
       (GoInfinite others.number pos, refl, (pos, refl))
       (ap (λ d. record (duo_at six ab ba others) { ab = d }) (given_there (flags_of others.links A six) others.lanes_ab others.number six.send_a six.reassembly_b others.reader_b others.within_ab ab pos b is may)) d
   infinite_side B p q ab ba pos b h is may d =
-      side_answered c six others B p q ab ba ba ab (if b then with_pair (pair_of B pos) ba else ba) ab (asks.Send B (GoInfiniteBook others.number)) (Some (ToA (GoInfinite others.number pos))) h
+      side_answered c six others B p q ab ba ba ab (if b then with_pair (pair_of B pos) ba else ba) ab (Ask.Send B (GoInfiniteBook others.number)) (Some (ToA (GoInfinite others.number pos))) h
       (record { by = []; calm = refl; to = refl }) (record { by = []; calm = refl; to = refl })
       (GoInfinite others.number pos, refl, (pos, refl))
       (ap (λ d. record (duo_at six ab ba others) { ba = d }) (given_there (flags_of others.links B six) others.lanes_ba others.number six.send_b six.reassembly_a others.reader_a others.within_ba ba pos b is may)) d
@@ -365,7 +363,7 @@ module _ (six : SixBooks) (others : Others) (p : PathState Carried) (ab ba : Lan
       absurd (both_ways (is_none book.owner) (ap is_none given.2) (and_parts (is_none book.owner) _ gathers).0)
 
   abbrev Answers : ℕ → Type 0
-  Answers path = Makes (asks.Send s (GoInfiniteBook path)) (book_answered s (reply_of six (asks.Send s (GoInfiniteBook path))) p)
+  Answers path = Makes (Ask.Send s (GoInfiniteBook path)) (book_answered s (reply_of six (Ask.Send s (GoInfiniteBook path))) p)
 
   module _ (opened : out.opened ≡ true) (alters : out.alters ≡ true) (short : length book.marks < 2 ^ 63) (goes : may_go_infinite e ≡ true) where
     tail : is_tail e.sending.granted e.tcp.send.nxt ≡ true
@@ -375,10 +373,10 @@ module _ (six : SixBooks) (others : Others) (p : PathState Carried) (ab ba : Lan
     at_path = by (is_gathered others.number book) refl
       where
         ds : List Duty
-        ds = replaced (duties.Ask (ask_duties.FailHeard s)) p.agenda
+        ds = replaced (Duty.Ask (AskDuty.FailHeard s)) p.agenda
 
         by : (b : Bool) → is_gathered others.number book ≡ b
-            → Makes (asks.Send s (GoInfiniteBook others.number)) (goes_on s (with_infinite (replies.Send (if b then send_replies.Infinite (acked_len book.marks) else send_replies.Scattered)) e) ds p)
+            → Makes (Ask.Send s (GoInfiniteBook others.number)) (goes_on s (with_infinite (Reply.Send (if b then SendReply.Infinite (acked_len book.marks) else SendReply.Scattered)) e) ds p)
         by false scattered =
             infinite_side p.profile six others s p _ ab ba 0 false h scattered (λ yes. absurd (false≢true yes))
             (side_kept p.profile p ab ba h s out back (record e { treated = record e.treated { infinite_mapping = None } }) ds

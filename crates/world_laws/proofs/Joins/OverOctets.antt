@@ -13,7 +13,7 @@ use Rattle.path_segments.specs.Laws.{IsFresh, meant}
 use Rattle.path_segments.specs.declared.expected.Expected.{Expected}
 use Rattle.stream_lanes.proofs.Lists.{in_map}
 use Rattle.actor_desk.specs.Words.{is_nil}
-use Rattle.path_core.specs.declared.events.Event.TheVariants as happenings
+use Rattle.path_core.specs.declared.events.Event.{Event}
 use Rattle.path_core.specs.Arrival.{expected_by, judged_in, heard_in}
 use Rattle.path_core.specs.Events.{next_event}
 use Rattle.path_core.specs.MpJoin.{is_joined}
@@ -51,7 +51,7 @@ same_end_at A p = refl
 same_end_at B p = refl
 
 -- a fresh copy is heard as it was meant, or it is a reset
-module _ (p : PathState Carried) (fresh : NextIsFresh p) (welcomes : NextIsWelcome values p) (due : Due) (heard : HeardSegment) (next : next_event p ≡ Some (happenings.Arrives due))
+module _ (p : PathState Carried) (fresh : NextIsFresh p) (welcomes : NextIsWelcome values p) (due : Due) (heard : HeardSegment) (next : next_event p ≡ Some (Event.Arrives due))
     (some : is_nil heard.options ≡ false) where
   abbrev side : Side
   side = peer due.to

@@ -22,9 +22,7 @@ use Rattle.path_segments.specs.declared.segment.PathOption.TheVariants.{Join}
 use Rattle.path_segments.specs.Laws.{meant, window_told, meant_option}
 use Rattle.path_segments.specs.Spelled.{PlainSegment}
 use Rattle.subflow_tcp.specs.declared.handshake.State.{State as EndPhase}
-use Rattle.subflow_tcp.specs.declared.handshake.State.TheVariants as phase
 use Rattle.subflow_tcp.specs.declared.verdicts.Meaning.{Meaning}
-use Rattle.subflow_tcp.specs.declared.verdicts.Meaning.TheVariants as means
 use Rattle.subflow_tcp.specs.Judging.{is_syn_alone, meaning_at, meaning_of}
 use Rattle.subflow_tcp.specs.Segments.{Copy}
 use Rattle.subflow_tcp.specs.State.{EndState}
@@ -32,10 +30,8 @@ use Rattle.subflow_tcp.specs.States.{is_closed_to_segments, is_half_open}
 use Rattle.stream_lanes.specs.Words.{Every}
 use Rattle.path_agenda.specs.Items.{is_of_step, join_heard, join_in}
 use Rattle.path_agenda.specs.declared.heard.Heard.{Heard}
-use Rattle.path_agenda.specs.declared.heard.Heard.TheVariants as says
 use Rattle.path_agenda.specs.declared.heard.JoinStep.{JoinStep}
-use Rattle.path_agenda.specs.declared.heard.JoinStep.TheVariants as step
-use Rattle.path_core.specs.declared.judged.Judged.TheVariants as judged
+use Rattle.path_core.specs.declared.judged.Judged.{Judged}
 use Rattle.path_core.specs.Arrival.{copy_of, judged_in, heard_in}
 use Rattle.path_core.specs.Judged.{is_forged, is_passed_over, join_judged}
 use Rattle.path_core.specs.OptionsIn.{items_in, items_of}
@@ -86,17 +82,17 @@ of_form of_step (item ∷ items) form is = by item (λ rest. of_form of_step ite
     at f false later of is = later is
 
     by : (item : Heard) → (join_heard of_step items ≡ Some form → is_of_step of_step form ≡ true) → option_or (join_in of_step item) (join_heard of_step items) ≡ Some form → is_of_step of_step form ≡ true
-    by (says.Join f) later is = at f (is_of_step of_step f) later refl is
-    by says.Dss later is = later is
+    by (Heard.Join f) later is = at f (is_of_step of_step f) later refl is
+    by Heard.Dss later is = later is
     by _ later is = later is
 
 -- what a SYN tells an end of this side: A hears an answer, and B that a join is asked for
 abbrev pub TellsJoin : Side → List Heard → Type 0
-TellsJoin A items = is_some (join_heard step.Answer items) ≡ true
-TellsJoin B items = is_some (join_heard step.Syn items) ≡ true
+TellsJoin A items = is_some (join_heard JoinStep.Answer items) ≡ true
+TellsJoin B items = is_some (join_heard JoinStep.Syn items) ≡ true
 
 -- the first option is among what B hears
-first_asked : (window : ℕ) (options : List PlainOption) → asks_first options ≡ true → is_some (join_heard step.Syn (flat_map (items_in true B window) (map meant_option options))) ≡ true
+first_asked : (window : ℕ) (options : List PlainOption) → asks_first options ≡ true → is_some (join_heard JoinStep.Syn (flat_map (items_in true B window) (map meant_option options))) ≡ true
 first_asked window (Join (Syn backup id token nonce) ∷ options) is = refl
 first_asked window _ is = cc
 
@@ -112,7 +108,7 @@ some_meant (o ∷ options) some = refl
 
 module _ (k : Secrets) (w : Side → Type 0) (did : Deed → Side → Type 0) (s : Side) (e : PathEnd) (h : EndIs k true w did true s e) (items : List Heard) (said : Every (ItemIs k true w did true s) items) where
   -- A takes what B answers
-  answer_right : is_up e.tcp ≡ true → s ≡ A → (o : Option JoinForm) → is_some o ≡ true → IfSome o (λ form. (is_of_step step.Answer form ≡ true) × ((true ≡ true) → JoinIs k true (peer s) form))
+  answer_right : is_up e.tcp ≡ true → s ≡ A → (o : Option JoinForm) → is_some o ≡ true → IfSome o (λ form. (is_of_step JoinStep.Answer form ≡ true) × ((true ≡ true) → JoinIs k true (peer s) form))
       → is_some (result_ok (answer_taken e.modes.own_key (peer_key_of e.modes) e.modes.own_nonce (answer_heard (join_value o)))) ≡ true
   answer_right up side None some form = absurd (false≢true some)
   answer_right up side (Some (Syn backup id token nonce)) some form = absurd (false≢true form.0)
@@ -153,9 +149,9 @@ module _ (k : Secrets) (w : Side → Type 0) (did : Deed → Side → Type 0) (s
 
 -- no reset means one of these
 abbrev is_firm : Meaning → Bool
-is_firm means.Opens = true
-is_firm (means.Accepts acknowledged) = true
-is_firm (means.Taken pos acknowledged) = true
+is_firm Meaning.Opens = true
+is_firm (Meaning.Accepts acknowledged) = true
+is_firm (Meaning.Taken pos acknowledged) = true
 is_firm _ = false
 
 not_reset : (c : Copy) → is_syn_alone c ≡ true → c.rst ≡ false
@@ -177,38 +173,38 @@ other_fits state c m opens accepts taken = record {
 }
   where
     firm : (m : Meaning) → is_opens m ≡ false → is_accepts m ≡ false → (is_taken m ≡ true → c.rst ≡ false) → is_firm m ≡ true → c.rst ≡ false
-    firm means.Opens opens accepts taken is = absurd (false≢true (sym opens))
-    firm (means.Accepts acknowledged) opens accepts taken is = absurd (false≢true (sym accepts))
-    firm (means.Taken pos acknowledged) opens accepts taken is = taken refl
+    firm Meaning.Opens opens accepts taken is = absurd (false≢true (sym opens))
+    firm (Meaning.Accepts acknowledged) opens accepts taken is = absurd (false≢true (sym accepts))
+    firm (Meaning.Taken pos acknowledged) opens accepts taken is = taken refl
     firm _ opens accepts taken is = absurd (false≢true is)
 
 state_fits : (state : EndPhase) (c : Copy) (s : EndState) → FitsState state c (meaning_at state c s)
-state_fits phase.Dead c s = by c.rst
+state_fits EndPhase.Dead c s = by c.rst
   where
-    by : (b : Bool) → FitsState phase.Dead c (if b then means.Ignored else means.Unwanted)
-    by true = other_fits phase.Dead c means.Ignored refl refl (λ is. absurd (false≢true is))
-    by false = other_fits phase.Dead c means.Unwanted refl refl (λ is. absurd (false≢true is))
-state_fits phase.Waiting c s = other_fits phase.Waiting c means.Ignored refl refl (λ is. absurd (false≢true is))
-state_fits phase.Listen c s = by (is_syn_alone c) refl
+    by : (b : Bool) → FitsState EndPhase.Dead c (if b then Meaning.Ignored else Meaning.Unwanted)
+    by true = other_fits EndPhase.Dead c Meaning.Ignored refl refl (λ is. absurd (false≢true is))
+    by false = other_fits EndPhase.Dead c Meaning.Unwanted refl refl (λ is. absurd (false≢true is))
+state_fits EndPhase.Waiting c s = other_fits EndPhase.Waiting c Meaning.Ignored refl refl (λ is. absurd (false≢true is))
+state_fits EndPhase.Listen c s = by (is_syn_alone c) refl
   where
-    by : (b : Bool) → is_syn_alone c ≡ b → FitsState phase.Listen c (if b then means.Opens else means.Ignored)
+    by : (b : Bool) → is_syn_alone c ≡ b → FitsState EndPhase.Listen c (if b then Meaning.Opens else Meaning.Ignored)
     by true alone = record { opens = λ is. (refl, (and_parts c.syn _ alone).0); accepts = λ is. absurd (false≢true is); alive = λ is. absurd (false≢true is); firm = λ is. not_reset c alone }
-    by false alone = other_fits phase.Listen c means.Ignored refl refl (λ is. absurd (false≢true is))
-state_fits phase.SynSent c s =
-    opening_meaning c s (FitsState phase.SynSent c) (other_fits phase.SynSent c means.Ignored refl refl (λ is. absurd (false≢true is))) (other_fits phase.SynSent c means.Kills refl refl (λ is. absurd (false≢true is)))
+    by false alone = other_fits EndPhase.Listen c Meaning.Ignored refl refl (λ is. absurd (false≢true is))
+state_fits EndPhase.SynSent c s =
+    opening_meaning c s (FitsState EndPhase.SynSent c) (other_fits EndPhase.SynSent c Meaning.Ignored refl refl (λ is. absurd (false≢true is))) (other_fits EndPhase.SynSent c Meaning.Kills refl refl (λ is. absurd (false≢true is)))
     (λ acknowledged syn plain. record { opens = λ is. absurd (false≢true is); accepts = λ is. (refl, syn); alive = λ is. refl; firm = λ is. plain })
-state_fits phase.SynReceived c s = connected_meaning c s (FitsState phase.SynReceived c) (other_fits phase.SynReceived c)
-state_fits phase.Established c s = connected_meaning c s (FitsState phase.Established c) (other_fits phase.Established c)
-state_fits phase.FinWait1 c s = connected_meaning c s (FitsState phase.FinWait1 c) (other_fits phase.FinWait1 c)
-state_fits phase.FinWait2 c s = connected_meaning c s (FitsState phase.FinWait2 c) (other_fits phase.FinWait2 c)
-state_fits phase.CloseWait c s = connected_meaning c s (FitsState phase.CloseWait c) (other_fits phase.CloseWait c)
-state_fits phase.Closing c s = connected_meaning c s (FitsState phase.Closing c) (other_fits phase.Closing c)
-state_fits phase.LastAck c s = connected_meaning c s (FitsState phase.LastAck c) (other_fits phase.LastAck c)
-state_fits phase.TimeWait c s = connected_meaning c s (FitsState phase.TimeWait c) (other_fits phase.TimeWait c)
+state_fits EndPhase.SynReceived c s = connected_meaning c s (FitsState EndPhase.SynReceived c) (other_fits EndPhase.SynReceived c)
+state_fits EndPhase.Established c s = connected_meaning c s (FitsState EndPhase.Established c) (other_fits EndPhase.Established c)
+state_fits EndPhase.FinWait1 c s = connected_meaning c s (FitsState EndPhase.FinWait1 c) (other_fits EndPhase.FinWait1 c)
+state_fits EndPhase.FinWait2 c s = connected_meaning c s (FitsState EndPhase.FinWait2 c) (other_fits EndPhase.FinWait2 c)
+state_fits EndPhase.CloseWait c s = connected_meaning c s (FitsState EndPhase.CloseWait c) (other_fits EndPhase.CloseWait c)
+state_fits EndPhase.Closing c s = connected_meaning c s (FitsState EndPhase.Closing c) (other_fits EndPhase.Closing c)
+state_fits EndPhase.LastAck c s = connected_meaning c s (FitsState EndPhase.LastAck c) (other_fits EndPhase.LastAck c)
+state_fits EndPhase.TimeWait c s = connected_meaning c s (FitsState EndPhase.TimeWait c) (other_fits EndPhase.TimeWait c)
 
 half_open_is : (state : EndPhase) → is_half_open state ≡ true → (is_apart A state ≡ true) × (is_closed_to_segments state ≡ false)
-half_open_is phase.SynReceived is = (refl, refl)
-half_open_is phase.Waiting is = absurd (false≢true is)
+half_open_is EndPhase.SynReceived is = (refl, refl)
+half_open_is EndPhase.Waiting is = absurd (false≢true is)
 half_open_is _ is = absurd (false≢true is)
 
 -- ---- what an end of a path that joins makes of it
@@ -234,9 +230,9 @@ module _ (k : Secrets) (w : Side → Type 0) (did : Deed → Side → Type 0) (s
       by B none = absurd (both_ways _ none apart)
 
   asks_to_join : s ≡ B → (copy_of heard).syn ≡ true → is_some (join_asked items) ≡ true
-  asks_to_join side syn = by (join_heard step.Syn items) (subst (λ t. TellsJoin t items) side (tells syn)) (λ form. of_form step.Syn items form)
+  asks_to_join side syn = by (join_heard JoinStep.Syn items) (subst (λ t. TellsJoin t items) side (tells syn)) (λ form. of_form JoinStep.Syn items form)
     where
-      by : (o : Option JoinForm) → is_some o ≡ true → ((form : JoinForm) → o ≡ Some form → is_of_step step.Syn form ≡ true) → is_some (syn_heard (join_value o)) ≡ true
+      by : (o : Option JoinForm) → is_some o ≡ true → ((form : JoinForm) → o ≡ Some form → is_of_step JoinStep.Syn form ≡ true) → is_some (syn_heard (join_value o)) ≡ true
       by None some form = absurd (false≢true some)
       by (Some (Syn backup id token nonce)) some form = refl
       by (Some (Answer backup id hmac nonce)) some form = absurd (false≢true (form (Answer backup id hmac nonce) refl))
@@ -244,11 +240,11 @@ module _ (k : Secrets) (w : Side → Type 0) (did : Deed → Side → Type 0) (s
 
   answers_join : s ≡ A → is_up e.tcp ≡ true → (copy_of heard).syn ≡ true → is_some (join_answer items e.modes) ≡ true
   answers_join side up syn =
-      answer_right k w did s e h items said up side (join_heard step.Answer items) (subst (λ t. TellsJoin t items) side (tells syn))
-      (by (join_heard step.Answer items) (join_found k true w did true s step.Answer items said) (λ form. of_form step.Answer items form))
+      answer_right k w did s e h items said up side (join_heard JoinStep.Answer items) (subst (λ t. TellsJoin t items) side (tells syn))
+      (by (join_heard JoinStep.Answer items) (join_found k true w did true s JoinStep.Answer items said) (λ form. of_form JoinStep.Answer items form))
     where
-      by : (o : Option JoinForm) → IfSome o (λ form. (true ≡ true) × (IsFor s form × (w (peer s) × ((true ≡ true) → JoinIs k true (peer s) form)))) → ((form : JoinForm) → o ≡ Some form → is_of_step step.Answer form ≡ true)
-          → IfSome o (λ form. (is_of_step step.Answer form ≡ true) × ((true ≡ true) → JoinIs k true (peer s) form))
+      by : (o : Option JoinForm) → IfSome o (λ form. (true ≡ true) × (IsFor s form × (w (peer s) × ((true ≡ true) → JoinIs k true (peer s) form)))) → ((form : JoinForm) → o ≡ Some form → is_of_step JoinStep.Answer form ≡ true)
+          → IfSome o (λ form. (is_of_step JoinStep.Answer form ≡ true) × ((true ≡ true) → JoinIs k true (peer s) form))
       by None found form = tt
       by (Some f) found form = (form f refl, found.1.1.1)
 
@@ -258,8 +254,8 @@ module _ (k : Secrets) (w : Side → Type 0) (did : Deed → Side → Type 0) (s
       third : is_half_open e.tcp.state ≡ true → is_some (third_in items) ≡ true → is_third_right items e.modes ≡ true
       third half some =
           let is = half_open_is e.tcp.state half in
-          third_right k w did s e h items said (open_is_up e.tcp is.1) (at_b is.0) (join_heard step.Third items) some
-          (found (join_heard step.Third items) (join_found k true w did true s step.Third items said))
+          third_right k w did s e h items said (open_is_up e.tcp is.1) (at_b is.0) (join_heard JoinStep.Third items) some
+          (found (join_heard JoinStep.Third items) (join_found k true w did true s JoinStep.Third items said))
         where
           found : (o : Option JoinForm) → IfSome o (λ form. (true ≡ true) × (IsFor s form × (w (peer s) × ((true ≡ true) → JoinIs k true (peer s) form)))) → IfSome o (λ form. (true ≡ true) → JoinIs k true (peer s) form)
           found None is = tt
@@ -274,54 +270,54 @@ module _ (k : Secrets) (w : Side → Type 0) (did : Deed → Side → Type 0) (s
       by false is heeded = refl
       by true is heeded = ap not (third is (some_third heard.rst (third_in items) plain heeded))
 
-  silent_welcome : (b : Bool) (m : Meaning) → IsWelcome (if b then judged.As means.Ignored else judged.As m)
+  silent_welcome : (b : Bool) (m : Meaning) → IsWelcome (if b then Judged.As Meaning.Ignored else Judged.As m)
   silent_welcome true m = tt
   silent_welcome false m = tt
 
   welcome : (m : Meaning) → FitsState e.tcp.state (copy_of heard) m → IsWelcome (join_judged heard.rst items m e)
-  welcome means.Opens fit =
+  welcome Meaning.Opens fit =
       let opens = fit.opens refl in
-      subst (λ (b : Bool). IsWelcome (if b then judged.Asks else judged.Lacks)) (sym (asks_to_join (at_b opens.0) opens.1)) tt
-  welcome (means.Accepts acknowledged) fit =
+      subst (λ (b : Bool). IsWelcome (if b then Judged.Asks else Judged.Lacks)) (sym (asks_to_join (at_b opens.0) opens.1)) tt
+  welcome (Meaning.Accepts acknowledged) fit =
       let accepts = fit.accepts refl in
-      subst (λ (b : Bool). IsWelcome (if b then judged.As (means.Accepts acknowledged) else judged.Forged))
+      subst (λ (b : Bool). IsWelcome (if b then Judged.As (Meaning.Accepts acknowledged) else Judged.Forged))
       (sym (answers_join (at_a accepts.0) (open_is_up e.tcp (fit.alive refl)) accepts.1)) tt
-  welcome means.RepeatedSyn fit = tt
-  welcome (means.Taken pos acknowledged) fit = by (is_passed_over heard.rst items e) refl
+  welcome Meaning.RepeatedSyn fit = tt
+  welcome (Meaning.Taken pos acknowledged) fit = by (is_passed_over heard.rst items e) refl
     where
       by : (silent : Bool) → is_passed_over heard.rst items e ≡ silent
-          → IsWelcome (if silent then judged.As means.Ignored else (if is_forged items e then judged.Forged else judged.As (means.Taken pos acknowledged)))
+          → IsWelcome (if silent then Judged.As Meaning.Ignored else (if is_forged items e then Judged.Forged else Judged.As (Meaning.Taken pos acknowledged)))
       by true is = tt
-      by false is = subst (λ (b : Bool). IsWelcome (if b then judged.Forged else judged.As (means.Taken pos acknowledged))) (sym (not_forged (fit.firm refl) is)) tt
-  welcome means.Ignored fit = silent_welcome (is_passed_over heard.rst items e) means.Ignored
-  welcome means.Unwanted fit = silent_welcome (is_passed_over heard.rst items e) means.Unwanted
-  welcome means.Outside fit = silent_welcome (is_passed_over heard.rst items e) means.Outside
-  welcome means.Kills fit = silent_welcome (is_passed_over heard.rst items e) means.Kills
-  welcome means.Challenged fit = silent_welcome (is_passed_over heard.rst items e) means.Challenged
-  welcome means.Unacknowledging fit = silent_welcome (is_passed_over heard.rst items e) means.Unacknowledging
-  welcome means.Ahead fit = silent_welcome (is_passed_over heard.rst items e) means.Ahead
+      by false is = subst (λ (b : Bool). IsWelcome (if b then Judged.Forged else Judged.As (Meaning.Taken pos acknowledged))) (sym (not_forged (fit.firm refl) is)) tt
+  welcome Meaning.Ignored fit = silent_welcome (is_passed_over heard.rst items e) Meaning.Ignored
+  welcome Meaning.Unwanted fit = silent_welcome (is_passed_over heard.rst items e) Meaning.Unwanted
+  welcome Meaning.Outside fit = silent_welcome (is_passed_over heard.rst items e) Meaning.Outside
+  welcome Meaning.Kills fit = silent_welcome (is_passed_over heard.rst items e) Meaning.Kills
+  welcome Meaning.Challenged fit = silent_welcome (is_passed_over heard.rst items e) Meaning.Challenged
+  welcome Meaning.Unacknowledging fit = silent_welcome (is_passed_over heard.rst items e) Meaning.Unacknowledging
+  welcome Meaning.Ahead fit = silent_welcome (is_passed_over heard.rst items e) Meaning.Ahead
 
   pub end_welcomes : IsWelcome (judged_in true s heard e)
   end_welcomes = welcome (meaning_of (copy_of heard) e.tcp) (state_fits e.tcp.state (copy_of heard) e.tcp)
 
 -- a reset is never refused
 module _ (s : Side) (e : PathEnd) (heard : HeardSegment) (reset : (copy_of heard).rst ≡ true) where
-  silent_reset : (b : Bool) (m : Meaning) → IsWelcome (if b then judged.As means.Ignored else judged.As m)
+  silent_reset : (b : Bool) (m : Meaning) → IsWelcome (if b then Judged.As Meaning.Ignored else Judged.As m)
   silent_reset true m = tt
   silent_reset false m = tt
 
   reset_as : (m : Meaning) → FitsState e.tcp.state (copy_of heard) m → IsWelcome (join_judged heard.rst (items_of true s heard) m e)
-  reset_as means.Opens fit = absurd (both_ways _ (fit.firm refl) reset)
-  reset_as (means.Accepts acknowledged) fit = absurd (both_ways _ (fit.firm refl) reset)
-  reset_as (means.Taken pos acknowledged) fit = absurd (both_ways _ (fit.firm refl) reset)
-  reset_as means.RepeatedSyn fit = tt
-  reset_as means.Ignored fit = silent_reset (is_passed_over heard.rst (items_of true s heard) e) means.Ignored
-  reset_as means.Unwanted fit = silent_reset (is_passed_over heard.rst (items_of true s heard) e) means.Unwanted
-  reset_as means.Outside fit = silent_reset (is_passed_over heard.rst (items_of true s heard) e) means.Outside
-  reset_as means.Kills fit = silent_reset (is_passed_over heard.rst (items_of true s heard) e) means.Kills
-  reset_as means.Challenged fit = silent_reset (is_passed_over heard.rst (items_of true s heard) e) means.Challenged
-  reset_as means.Unacknowledging fit = silent_reset (is_passed_over heard.rst (items_of true s heard) e) means.Unacknowledging
-  reset_as means.Ahead fit = silent_reset (is_passed_over heard.rst (items_of true s heard) e) means.Ahead
+  reset_as Meaning.Opens fit = absurd (both_ways _ (fit.firm refl) reset)
+  reset_as (Meaning.Accepts acknowledged) fit = absurd (both_ways _ (fit.firm refl) reset)
+  reset_as (Meaning.Taken pos acknowledged) fit = absurd (both_ways _ (fit.firm refl) reset)
+  reset_as Meaning.RepeatedSyn fit = tt
+  reset_as Meaning.Ignored fit = silent_reset (is_passed_over heard.rst (items_of true s heard) e) Meaning.Ignored
+  reset_as Meaning.Unwanted fit = silent_reset (is_passed_over heard.rst (items_of true s heard) e) Meaning.Unwanted
+  reset_as Meaning.Outside fit = silent_reset (is_passed_over heard.rst (items_of true s heard) e) Meaning.Outside
+  reset_as Meaning.Kills fit = silent_reset (is_passed_over heard.rst (items_of true s heard) e) Meaning.Kills
+  reset_as Meaning.Challenged fit = silent_reset (is_passed_over heard.rst (items_of true s heard) e) Meaning.Challenged
+  reset_as Meaning.Unacknowledging fit = silent_reset (is_passed_over heard.rst (items_of true s heard) e) Meaning.Unacknowledging
+  reset_as Meaning.Ahead fit = silent_reset (is_passed_over heard.rst (items_of true s heard) e) Meaning.Ahead
 
   pub reset_welcome : (joined : Bool) → IsWelcome (judged_in joined s heard e)
   reset_welcome false = tt

@@ -24,14 +24,11 @@ use Rattle.subflow_send.specs.declared.record.RecordKind.{RecordKind}
 use Rattle.subflow_send.specs.declared.record.RecordKind.TheVariants.{Syn, Data, Fin}
 use Rattle.subflow_send.specs.Records.{Record}
 use Rattle.subflow_tcp.specs.declared.handshake.State.{State as EndPhase}
-use Rattle.subflow_tcp.specs.declared.handshake.State.TheVariants as phase
 use Rattle.subflow_tcp.specs.States.{is_closed_to_segments}
 use Rattle.stream_lanes.specs.Words.{Every}
 use Rattle.stream_lanes.proofs.Lists.{Every-nil, Every-append, Every-push}
 use Rattle.path_agenda.specs.declared.heard.Heard.{Heard}
-use Rattle.path_agenda.specs.declared.heard.Heard.TheVariants as says
 use Rattle.path_agenda.specs.declared.notice.PeerNotice.{PeerNotice}
-use Rattle.path_agenda.specs.declared.notice.PeerNotice.TheVariants as notes
 use Rattle.world_laws.proofs.Announcements.NothingKnown.{removed_each}
 use Rattle.path_core.specs.declared.modes.Modes.{Modes}
 use Rattle.path_core.specs.Addresses.{address_items}
@@ -46,7 +43,6 @@ use Rattle.path_core.specs.OptionsOut.{announcement, capable_options, syn_option
 use Rattle.path_core.specs.DssOut.{fail_options, fail_beside, data_fin_mapping, is_first_piece, first_piece_options, mapped_options, piece_options, infinite_or, piece_mapping, owes_mapping, plain_options, fin_options}
 use Rattle.path_core.specs.Profile.{Profile}
 use Rattle.path_agenda.specs.declared.notice.OwnNotice.{OwnNotice}
-use Rattle.path_agenda.specs.declared.notice.OwnNotice.TheVariants as own_notes
 use Rattle.dss_mapping.specs.Mappings.{octets_in}
 
 every_one : {X : Type 0} {P : X → Type 0} (x : X) → P x → Every P (x ∷ [])
@@ -99,10 +95,10 @@ is_woken e = not (is_closed_to_segments e.tcp.state) || is_some e.tcp.timing.tim
 
 -- the peer's SYN came, and it isn't dead
 abbrev pub is_past : EndPhase → Bool
-is_past phase.Waiting = false
-is_past phase.Listen = false
-is_past phase.SynSent = false
-is_past phase.Dead = false
+is_past EndPhase.Waiting = false
+is_past EndPhase.Listen = false
+is_past EndPhase.SynSent = false
+is_past EndPhase.Dead = false
 is_past _ = true
 
 -- what is said of B's side alone
@@ -235,19 +231,19 @@ module _ (k : Secrets) (right : Bool) (w : Side → Type 0) (did : Deed → Side
   KeysFor B = did Deed.Keyed A
 
   abbrev pub PeerNoteIs : Side → PeerNotice → Type 0
-  PeerNoteIs s (notes.AddAddr id address port hmac) = HmacIs (peer s) s id address (unwrap_or port 0) hmac
-  PeerNoteIs s (notes.AddEcho id) = Unit {0}
-  PeerNoteIs s (notes.Removed id) = Unit {0}
-  PeerNoteIs s (notes.Prio backup) = Unit {0}
+  PeerNoteIs s (PeerNotice.AddAddr id address port hmac) = HmacIs (peer s) s id address (unwrap_or port 0) hmac
+  PeerNoteIs s (PeerNotice.AddEcho id) = Unit {0}
+  PeerNoteIs s (PeerNotice.Removed id) = Unit {0}
+  PeerNoteIs s (PeerNotice.Prio backup) = Unit {0}
 
   abbrev pub ItemIs : Bool → Side → Heard → Type 0
-  ItemIs joined s (says.Keys own other) = (joined ≡ false) × ((own ≡ drawn_key k right s) × (other ≡ drawn_key k right (peer s)) × KeysFor s)
-  ItemIs joined s (says.PeerKey key) = key ≡ drawn_key k right (peer s)
-  ItemIs joined s (says.Join form) = (joined ≡ true) × (IsFor s form × (w (peer s) × (right ≡ true → JoinIs k right (peer s) form)))
-  ItemIs joined s says.Dss = joined ≡ true → OfB (peer s) (w B)
-  ItemIs joined s says.Fail = joined ≡ true → OfB (peer s) (w B)
-  ItemIs joined s (says.FastClose key) = did Deed.Closed (peer s)
-  ItemIs joined s (says.Notice notice) = PeerNoteIs s notice
+  ItemIs joined s (Heard.Keys own other) = (joined ≡ false) × ((own ≡ drawn_key k right s) × (other ≡ drawn_key k right (peer s)) × KeysFor s)
+  ItemIs joined s (Heard.PeerKey key) = key ≡ drawn_key k right (peer s)
+  ItemIs joined s (Heard.Join form) = (joined ≡ true) × (IsFor s form × (w (peer s) × (right ≡ true → JoinIs k right (peer s) form)))
+  ItemIs joined s Heard.Dss = joined ≡ true → OfB (peer s) (w B)
+  ItemIs joined s Heard.Fail = joined ≡ true → OfB (peer s) (w B)
+  ItemIs joined s (Heard.FastClose key) = did Deed.Closed (peer s)
+  ItemIs joined s (Heard.Notice notice) = PeerNoteIs s notice
   ItemIs joined s _ = Unit {0}
 
   -- ---- an end
@@ -258,10 +254,10 @@ module _ (k : Secrets) (right : Bool) (w : Side → Type 0) (did : Deed → Side
 
   -- B alone announces addresses, and A's book has its key then
   abbrev pub NoteIs : Side → OwnNotice → Type 0
-  NoteIs s (own_notes.AddAddr id) = (s ≡ B) × did Deed.Keyed (peer s)
-  NoteIs s (own_notes.AddEcho id address port) = Unit {0}
-  NoteIs s (own_notes.Removes id) = Unit {0}
-  NoteIs s (own_notes.Prio backup) = Unit {0}
+  NoteIs s (OwnNotice.AddAddr id) = (s ≡ B) × did Deed.Keyed (peer s)
+  NoteIs s (OwnNotice.AddEcho id address port) = Unit {0}
+  NoteIs s (OwnNotice.Removes id) = Unit {0}
+  NoteIs s (OwnNotice.Prio backup) = Unit {0}
 
   pub record ModesAre (joined : Bool) (s : Side) (m : Modes) : Type 0 where
     pub own : m.own_key ≡ drawn_key k right s
@@ -410,10 +406,10 @@ module _ (k : Secrets) (right : Bool) (w : Side → Type 0) (did : Deed → Side
     )
 
     pub noted_is : (is_joined c ≡ true → OfB s (w B)) → e.modes.clear ≡ true → (o : Option OwnNotice) → IfSome o (NoteIs s) → SegmentIs c s (noted_said c s o e)
-    noted_is knows clear (Some (own_notes.AddAddr id)) is = every_two _ _ knows (announced id clear is)
-    noted_is knows clear (Some (own_notes.AddEcho id address port)) is = every_two _ _ knows tt
-    noted_is knows clear (Some (own_notes.Removes id)) is = every_two _ _ knows tt
-    noted_is knows clear (Some (own_notes.Prio backup)) is = every_two _ _ knows tt
+    noted_is knows clear (Some (OwnNotice.AddAddr id)) is = every_two _ _ knows (announced id clear is)
+    noted_is knows clear (Some (OwnNotice.AddEcho id address port)) is = every_two _ _ knows tt
+    noted_is knows clear (Some (OwnNotice.Removes id)) is = every_two _ _ knows tt
+    noted_is knows clear (Some (OwnNotice.Prio backup)) is = every_two _ _ knows tt
     noted_is knows clear None is = ack_options_are None
 
     -- where it knows what it has to, its SYN is right, and so is its DSS
@@ -505,28 +501,28 @@ module _ (k : Secrets) (right : Bool) (w : Side → Type 0) (did : Deed → Side
     ack_items_are s (Some None) window = Every-nil _
     ack_items_are s (Some (Some next)) window = by (nat_lt next (2 ^ 62))
       where
-        by : (b : Bool) → Every (ItemIs joined s) (if b then says.DataAck next window ∷ [] else [])
+        by : (b : Bool) → Every (ItemIs joined s) (if b then Heard.DataAck next window ∷ [] else [])
         by true = every_one _ tt
         by false = Every-nil _
 
     mapping_items_are : (s : Side) (place position count : ℕ) (fin : Bool) → Every (ItemIs joined s) (mapping_items place position count fin)
     mapping_items_are s place position count fin = by (is_mapping place position count)
       where
-        by : (b : Bool) → Every (ItemIs joined s) (if b then says.Mapping fin ∷ [] else [])
+        by : (b : Bool) → Every (ItemIs joined s) (if b then Heard.Mapping fin ∷ [] else [])
         by true = every_one _ tt
         by false = Every-nil _
 
     end_items_are : (s : Side) (place : ℕ) → Every (ItemIs joined s) (data_fin_items place)
     end_items_are s place = by (nat_le place (2 ^ 62))
       where
-        by : (b : Bool) → Every (ItemIs joined s) (if b then says.DataFin place ∷ [] else [])
+        by : (b : Bool) → Every (ItemIs joined s) (if b then Heard.DataFin place ∷ [] else [])
         by true = every_one _ tt
         by false = Every-nil _
 
     infinite_items_are : (s : Side) (place : ℕ) (position : Option ℕ) → Every (ItemIs joined s) (infinite_items place position)
     infinite_items_are s place position = by (nat_lt place (2 ^ 62))
       where
-        by : (b : Bool) → Every (ItemIs joined s) (if b then (says.InfiniteMapping place position) ∷ [] else [])
+        by : (b : Bool) → Every (ItemIs joined s) (if b then (Heard.InfiniteMapping place position) ∷ [] else [])
         by true = every_one _ tt
         by false = Every-nil _
 
@@ -563,7 +559,7 @@ module _ (k : Secrets) (right : Bool) (w : Side → Type 0) (did : Deed → Side
   key_items_are B NoKey h shown = Every-nil _
   key_items_are B (Sender sender) h shown = Every-nil _
   key_items_are B (Both sender receiver) h shown = every_one _ (refl, (h.1, h.0, shown))
-  key_items_are B (WithData sender receiver len checksum) h shown = Every-append {xs = says.Keys receiver sender ∷ []} (every_one _ (refl, (h.1, h.0, shown))) (first_items_are len)
+  key_items_are B (WithData sender receiver len checksum) h shown = Every-append {xs = Heard.Keys receiver sender ∷ []} (every_one _ (refl, (h.1, h.0, shown))) (first_items_are len)
 
   -- MP_CAPABLE says nothing on a path that joins
   capable_heard : (joined : Bool) (s : Side) (keys : CapableKeys) → (sure_if k right joined ≡ true → KeysAre k right (peer s) keys) × (joined ≡ false → ShownBy (peer s) keys)
@@ -582,14 +578,14 @@ module _ (k : Secrets) (right : Bool) (w : Side → Type 0) (did : Deed → Side
         → Every (ItemIs joined s) (items_in joined s window (meant_option o))
     items_in_are s window (Capable flag_a flag_c keys) h = capable_heard joined s keys h
     items_in_are s window (Dss next mapping) h =
-        Every-append {xs = says.Dss ∷ []} (every_one _ h)
+        Every-append {xs = Heard.Dss ∷ []} (every_one _ h)
         (Every-append (ack_items_are joined s (option_map (λ n. Some n) next) window) (map_items_are joined s (option_map meant_mapping mapping)))
     items_in_are s window (Join form) h = join_items_are joined s form h
     items_in_are s window (AddAddr echo id address port hmac) h = address_heard joined s echo id address port hmac h
     items_in_are s window (Remove ids) h = removed_each (λ id. tt) ids
-    items_in_are s window (Prio backup) h = every_one (says.Notice (notes.Prio backup)) tt
-    items_in_are s window (Fail place) h = every_one says.Fail h
-    items_in_are s window (FastClose key) h = every_one (says.FastClose key) h
+    items_in_are s window (Prio backup) h = every_one (Heard.Notice (PeerNotice.Prio backup)) tt
+    items_in_are s window (Fail place) h = every_one Heard.Fail h
+    items_in_are s window (FastClose key) h = every_one (Heard.FastClose key) h
     items_in_are s window (Reset transient reason) h = Every-nil _
 
     all_items : (s : Side) (window : ℕ) (options : List PlainOption) → Every (OptionIs joined (peer s)) options

@@ -10,7 +10,6 @@ use Rattle.loss_recovery.specs.declared.windows.Told.{Told}
 use Rattle.mptcp_options.specs.declared.capable.CapableKeys.{CapableKeys}
 use Rattle.mptcp_options.specs.declared.capable.CapableKeys.TheVariants.{NoKey, Sender, Both, WithData}
 use Rattle.mptcp_options.specs.declared.join.JoinForm.{JoinForm}
-use Rattle.mptcp_options.specs.declared.join.JoinForm.TheVariants as joins
 use Rattle.path_segments.specs.declared.segment.PathMapping.{PathMapping}
 use Rattle.path_segments.specs.declared.segment.PathMapping.TheVariants.{Bytes, End, Infinite}
 use Rattle.path_segments.specs.declared.segment.PathOption.TheVariants.{Capable, Join, Dss, AddAddr, Remove, Prio, Fail, FastClose, Reset}
@@ -18,9 +17,8 @@ use Rattle.path_segments.specs.Laws.{meant_option, meant_mapping}
 use Rattle.path_segments.specs.Options.{PlainOption}
 use Rattle.subflow_recv.specs.Receiving.{after_accept}
 use Rattle.subflow_send.specs.declared.record.AckKind.{AckKind}
-use Rattle.subflow_send.specs.declared.record.AckKind.TheVariants as acks
 use Rattle.subflow_send.specs.Rules.{after_acknowledge, ack_kind, sample_of}
-use Rattle.subflow_tcp.specs.declared.handshake.State.TheVariants as phase
+use Rattle.subflow_tcp.specs.declared.handshake.State.{State}
 use Rattle.subflow_tcp.specs.declared.segments.Hint.{Hint}
 use Rattle.subflow_tcp.specs.Segments.{Copy}
 use Rattle.subflow_tcp.specs.State.{EndState}
@@ -30,8 +28,7 @@ use Rattle.stream_lanes.specs.Lane.{AckCopy, Lane}
 use Rattle.stream_lanes.specs.Words.{Every}
 use Rattle.stream_lanes.proofs.Lists.{Every-nil, Every-append}
 use Rattle.path_agenda.specs.declared.heard.Heard.{Heard}
-use Rattle.path_agenda.specs.declared.heard.Heard.TheVariants as says
-use Rattle.path_agenda.specs.declared.notice.PeerNotice.TheVariants as notes
+use Rattle.path_agenda.specs.declared.notice.PeerNotice.{PeerNotice}
 use Rattle.path_core.specs.DssIn.{ack_items, is_mapping, mapping_items, map_items, first_items, held_if, map_held, key_held, held_in, checksum_heard, kept_of}
 use Rattle.path_core.specs.MpCapable.{key_items}
 use Rattle.path_core.specs.MpJoin.{join_items, is_joined}
@@ -58,8 +55,8 @@ module _ (acks : List AckCopy) (p : Lane) (window : ℕ) where
   mapping_says : (place position len : ℕ) → Says (mapping_items place position len false)
   mapping_says place position len = by (is_mapping place position len)
     where
-      by : (b : Bool) → Says (if b then says.Mapping false ∷ [] else [])
-      by true = one (says.Mapping false) tt
+      by : (b : Bool) → Says (if b then Heard.Mapping false ∷ [] else [])
+      by true = one (Heard.Mapping false) tt
       by false = Every-nil _
 
   first_says : (len : ℕ) → Says (first_items len)
@@ -73,12 +70,12 @@ module _ (acks : List AckCopy) (p : Lane) (window : ℕ) where
   map_says c from None h = Every-nil _
   map_says c from (Some (Bytes place position len true checksum)) h = absurd h
   map_says c from (Some (Bytes place position len false checksum)) h = mapping_says place position len
-  map_says c from (Some (End place checksum)) h = said_if (nat_le place (2 ^ 62)) (says.DataFin place) h
-  map_says c from (Some (Infinite place position)) h = said_if (nat_lt place (2 ^ 62)) (says.InfiniteMapping place (Some position)) h
+  map_says c from (Some (End place checksum)) h = said_if (nat_le place (2 ^ 62)) (Heard.DataFin place) h
+  map_says c from (Some (Infinite place position)) h = said_if (nat_lt place (2 ^ 62)) (Heard.InfiniteMapping place (Some position)) h
 
   acks_say : (o : Option ℕ) → IfSome o (λ n. HasAck acks n window) → Says (ack_items (option_map (λ n. Some n) o) window)
   acks_say None h = Every-nil _
-  acks_say (Some n) h = said_if (nat_lt n (2 ^ 62)) (says.DataAck n window) h
+  acks_say (Some n) h = said_if (nat_lt n (2 ^ 62)) (Heard.DataAck n window) h
 
   keys_say : (s : Side) (keys : CapableKeys) → Says (key_items s keys)
   keys_say A NoKey = Every-nil _
@@ -91,12 +88,12 @@ module _ (acks : List AckCopy) (p : Lane) (window : ℕ) where
   keys_say B (WithData sender receiver len checksum) = every_cons _ _ tt (first_says len)
 
   join_says : (s : Side) (form : JoinForm) → Says (join_items s form)
-  join_says A (joins.Answer backup id hmac nonce) = one _ tt
-  join_says A (joins.Syn backup id token nonce) = Every-nil _
-  join_says A (joins.Third hmac) = Every-nil _
-  join_says B (joins.Syn backup id token nonce) = one _ tt
-  join_says B (joins.Third hmac) = one _ tt
-  join_says B (joins.Answer backup id hmac nonce) = Every-nil _
+  join_says A (JoinForm.Answer backup id hmac nonce) = one _ tt
+  join_says A (JoinForm.Syn backup id token nonce) = Every-nil _
+  join_says A (JoinForm.Third hmac) = Every-nil _
+  join_says B (JoinForm.Syn backup id token nonce) = one _ tt
+  join_says B (JoinForm.Third hmac) = one _ tt
+  join_says B (JoinForm.Answer backup id hmac nonce) = Every-nil _
 
   key_items_say : (joined : Bool) (s : Side) (keys : CapableKeys) → Says (if joined then [] else key_items s keys)
   key_items_say true s keys = Every-nil _
@@ -104,13 +101,13 @@ module _ (acks : List AckCopy) (p : Lane) (window : ℕ) where
 
   option_says : (c : Profile) (from : Side) (joined : Bool) (s : Side) (o : PlainOption) → OptionShows c from window acks p o → Says (items_in joined s window (meant_option o))
   option_says c from joined s (Capable flag_a flag_c keys) h = key_items_say joined s keys
-  option_says c from joined s (Dss next mapping) h = every_cons says.Dss _ tt (Every-append (acks_say next h.0) (map_says c from mapping h.1))
+  option_says c from joined s (Dss next mapping) h = every_cons Heard.Dss _ tt (Every-append (acks_say next h.0) (map_says c from mapping h.1))
   option_says c from joined s (Join form) h = join_says s form
   option_says c from joined s (AddAddr echo id address port hmac) h = address_noted (λ notice. tt) echo id address port hmac
   option_says c from joined s (Remove ids) h = removed_noted (λ notice. tt) ids
-  option_says c from joined s (Prio backup) h = noted (λ notice. tt) (notes.Prio backup)
-  option_says c from joined s (Fail place) h = one says.Fail h
-  option_says c from joined s (FastClose key) h = one (says.FastClose key) tt
+  option_says c from joined s (Prio backup) h = noted (λ notice. tt) (PeerNotice.Prio backup)
+  option_says c from joined s (Fail place) h = one Heard.Fail h
+  option_says c from joined s (FastClose key) h = one (Heard.FastClose key) tt
   option_says c from joined s (Reset transient reason) h = Every-nil _
 
   pub options_say : (c : Profile) (from : Side) (joined : Bool) (s : Side) (os : List PlainOption) → Every (OptionShows c from window acks p) os → Says (flat_map (items_in joined s window) (map meant_option os))
@@ -187,14 +184,14 @@ module _ (c : Profile) (s : Side) (k : Knowledge) (live : List KeptMapping) (out
       v = acknowledged_shows c s k out pos tcp.state tcp.send h.sender
 
       by : (kind : AckKind) → Halved (taking.after_ack_kind kind (sample_of pos tcp.send) now (record tcp { send = after_acknowledge pos tcp.send }))
-      by (acks.New octets) = record { sender = new (taking.is_fin_acked (after_acknowledge pos tcp.send)); receiver = h.receiver }
+      by (AckKind.New octets) = record { sender = new (taking.is_fin_acked (after_acknowledge pos tcp.send)); receiver = h.receiver }
         where
           new : (b : Bool) → SenderShows c s (if b then states.after_fin_acked tcp.state else tcp.state) (after_acknowledge pos tcp.send) k out
           new true = state_shows c s k out tcp.state _ _ (fin_acked_back tcp.state) v
           new false = v
-      by acks.Duplicate = record { sender = v; receiver = h.receiver }
-      by acks.Old = record { sender = v; receiver = h.receiver }
-      by acks.Future = record { sender = v; receiver = h.receiver }
+      by AckKind.Duplicate = record { sender = v; receiver = h.receiver }
+      by AckKind.Old = record { sender = v; receiver = h.receiver }
+      by AckKind.Future = record { sender = v; receiver = h.receiver }
 
   row_both : (kind : AckKind) (told : Told) (copy : Copy) (tcp : EndState) → Halved tcp → Halved (taking.after_row kind told copy tcp)
   row_both kind told copy tcp h = by (taking.is_duplicate kind told copy tcp)
@@ -238,13 +235,13 @@ module _ (c : Profile) (s : Side) (k : Knowledge) (live : List KeptMapping) (out
   pub syn_both : (hint : Hint) (copy : Copy) (tcp : EndState) → hint.keep ≡ false → copy.fin ≡ false → (is_unfinished tcp.state ≡ true) → Halved tcp → Halved (taking.after_syn hint copy tcp)
   syn_both hint copy tcp keep fin un h =
       let p = payload_both 1 hint copy tcp keep (λ is. absurd (both_ways copy.fin fin is)) h in
-      record { sender = state_shows c s k out tcp.state phase.SynReceived tcp.send (λ x. un) p.sender; receiver = p.receiver }
+      record { sender = state_shows c s k out tcp.state State.SynReceived tcp.send (λ x. un) p.sender; receiver = p.receiver }
 
   pub syn_ack_both : (acknowledged : ℕ) (hint : Hint) (now : ℕ) (copy : Copy) (tcp : EndState) → hint.keep ≡ false → copy.fin ≡ false → (is_unfinished tcp.state ≡ true) → Halved tcp
       → Halved (taking.after_syn_ack acknowledged hint now copy tcp)
   syn_ack_both acknowledged hint now copy tcp keep fin un h =
       let p = payload_both 1 hint copy tcp keep (λ is. absurd (both_ways copy.fin fin is)) h in
-      let t : EndState = record (taking.after_hearing (taking.after_payload 1 hint copy tcp)) { state = phase.Established } in
-      let e : Halved t = record { sender = state_shows c s k out tcp.state phase.Established tcp.send (λ x. un) p.sender; receiver = p.receiver } in
+      let t : EndState = record (taking.after_hearing (taking.after_payload 1 hint copy tcp)) { state = State.Established } in
+      let e : Halved t = record { sender = state_shows c s k out tcp.state State.Established tcp.send (λ x. un) p.sender; receiver = p.receiver } in
       let a = acknowledged_both acknowledged now t e in
       record { sender = a.sender; receiver = a.receiver }

@@ -7,8 +7,8 @@ use Rattle.std.specs.List.{slice_get}
 use Rattle.sides.specs.declared.side.Side.{Side}
 use Rattle.send_book.specs.declared.call.Span.{Span}
 use Rattle.send_book.specs.declared.call.Why.{Why}
-use Rattle.send_book.specs.declared.call.SendReply.TheVariants as send_replies
-use Rattle.reassembly_book.specs.declared.call.ReassemblyReply.TheVariants as reassembly_replies
+use Rattle.send_book.specs.declared.call.SendReply.{SendReply}
+use Rattle.reassembly_book.specs.declared.call.ReassemblyReply.{ReassemblyReply}
 use Rattle.stream_lanes.specs.Lane.{Cell, Mapping, Pair, DataCopy, AckCopy, Lane}
 use Rattle.stream_lanes.specs.Lane.Ask.{Nothing, AskGrant, AskAckIn, AskFin, AskAckOut}
 use Rattle.stream_lanes.specs.Moves.Move.{SendPair, SendPlainPair, SendFinPair, HearSubAck, WantGrant, HearAck, SendPiece, SendAltered, SendDataFin, SendFin, HearDataFin, WantAckOut, SendAck, WantFin}
@@ -66,7 +66,7 @@ least a b most = omega (arith, most)
 -- the windows of the reply show on the lane after these moves
 module _ (next window sub : ℕ) (p : Lane) where
   abbrev pub told_lane : Lane
-  told_lane = takes_ack_out (reassembly_replies.Ack next window) p
+  told_lane = takes_ack_out (ReassemblyReply.Ack next window) p
 
   abbrev pub told_acks : List AckCopy
   told_acks = ack_copy next (32 * (window / 32)) sub told_lane ∷ ack_copy 0 (32 * (window / 32)) 0 told_lane ∷ ack_copy 0 (min 65535 window) 0 told_lane ∷ []
@@ -152,7 +152,7 @@ place_is c s place position len small = place_back (numbers_of c.spelling s).ids
 -- the piece is granted, and its segment may be sent from now on
 module _ (span : Span) (piece : List ℕ) (p : Lane) where
   abbrev pub granted_lane : Lane
-  granted_lane = takes_grant (send_replies.Granted span piece) p
+  granted_lane = takes_grant (SendReply.Granted span piece) p
 
   abbrev pub mapping_granted : Mapping
   mapping_granted = record { pos = length p.sent; place = span.from; len = length piece }
@@ -241,7 +241,7 @@ module _ (span : Span) (piece : List ℕ) (p : Lane) where
 -- the end that it told is sent from now on
 module _ (why : Why) (told : Option ℕ) (p : Lane) where
   abbrev pub refused_lane : Lane
-  refused_lane = takes_grant (send_replies.NoGrant why told) p
+  refused_lane = takes_grant (SendReply.NoGrant why told) p
 
   abbrev pub with_end : Lane
   with_end = record refused_lane { data_fins = p.data_fins ++ known (later_end told p.known_end) }

@@ -22,8 +22,7 @@ use Rattle.stream_apps.specs.Apps.{AppState}
 use Rattle.stream_apps.specs.AppSteps.{app_ask, app_asks_first, app_next_round, fresh_turn, start_of_app}
 use Rattle.stream_apps.specs.Turns.{FirstAppStands}
 use Rattle.path_agenda.specs.declared.duty.Duty.{Duty}
-use Rattle.path_agenda.specs.declared.duty.Duty.TheVariants as duties
-use Rattle.path_agenda.specs.declared.duty.StepDuty.TheVariants as step_duties
+use Rattle.path_agenda.specs.declared.duty.StepDuty.{StepDuty}
 use Rattle.path_agenda.specs.Agenda.{start_of_turn}
 use Rattle.path_core.specs.Duties.{stands, ask_for, passed, answered}
 use Rattle.path_core.specs.MpJoin.{is_joined}
@@ -407,7 +406,7 @@ module _ (start : Start) (can : Carries start) where
 
       -- where MP_FAIL is heard the lane is open
       pub fails_open : (duty : Duty) → FailsJoined six number p duty → FailOpens p readied.ab readied.ba duty
-      fails_open (duties.Step (step_duties.Heard s index)) fails = λ fail. opens_where number p readied.ab readied.ba readied.stands s (λ n is. readied.opens s (fails n is fail))
+      fails_open (Duty.Step (StepDuty.Heard s index)) fails = λ fail. opens_where number p readied.ab readied.ba readied.stands s (λ n is. readied.opens s (fails n is fail))
       fails_open _ fails = tt
 
       turn_of : (duty : Duty) (ds : List Duty) (is : p.agenda ≡ duty ∷ ds) → DutyIsFirm can.links six p duty

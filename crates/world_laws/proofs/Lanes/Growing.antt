@@ -20,7 +20,6 @@ use Rattle.stream_lanes.specs.Lane.{Cell, Mapping, Pair, DataCopy, AckCopy, Told
 use Rattle.stream_lanes.specs.Moves.{bytes_of}
 use Rattle.stream_lanes.proofs.Lists.{Every-map, Has-more, IfSome-map}
 use Rattle.path_agenda.specs.declared.heard.Heard.{Heard}
-use Rattle.path_agenda.specs.declared.heard.Heard.TheVariants as says
 use Rattle.path_core.specs.End.{PathEnd}
 use Rattle.path_core.specs.Treated.{Treated}
 use Rattle.path_store.specs.declared.infinite_mapping.InfiniteMapping.{InfiniteMapping}
@@ -239,10 +238,10 @@ module _ {acks acks_after : List AckCopy} {p q : Lane} (l : Longer acks acks_aft
   }
 
   item_longer : (item : Heard) → ItemShows acks p item → ItemShows acks_after q item
-  item_longer (says.DataAck next window) h = ack_longer next window h
-  item_longer (says.DataFin place) h = number_longer place h
-  item_longer (says.InfiniteMapping place position) h = IfSome-map position (λ n has. pair_longer place n has) h
-  item_longer says.Fail h = l.alters_is ∙ h
+  item_longer (Heard.DataAck next window) h = ack_longer next window h
+  item_longer (Heard.DataFin place) h = number_longer place h
+  item_longer (Heard.InfiniteMapping place position) h = IfSome-map position (λ n has. pair_longer place n has) h
+  item_longer Heard.Fail h = l.alters_is ∙ h
   item_longer _ h = tt
 
   pub treated_longer : (t : Treated) → TreatedShows t acks p → TreatedShows t acks_after q

@@ -21,7 +21,6 @@ use Rattle.actor_desk.specs.declared.ask.Reply.{Reply}
 use Rattle.actor_desk.specs.Desk.{SixBooks}
 use Rattle.actor_desk.specs.Words.{pick, tail_of}
 use Rattle.path_core.specs.declared.events.Event.{Event}
-use Rattle.path_core.specs.declared.events.Event.TheVariants as happenings
 use Rattle.path_store.specs.declared.lines.LineLeft.{LineLeft}
 use Rattle.path_agenda.specs.declared.duty.Duty.{Duty}
 use Rattle.path_agenda.specs.Agenda.{rest_of_turn, emission, leaves, announces, withdraws}
@@ -35,7 +34,6 @@ use Rattle.path_core.specs.Breaking.{path_died}
 use Rattle.path_core.specs.Timer.{after_firing, template_fired, timer_fired}
 use Rattle.path_core.specs.Addresses.{with_priority}
 use Rattle.path_store.specs.declared.lines.LineAction.{LineAction}
-use Rattle.path_store.specs.declared.lines.LineAction.TheVariants as actions
 use Rattle.path_core.specs.Profile.{Profile}
 use Rattle.path_core.specs.Values.{Carried, as_arrived, values}
 use Rattle.world_laws.proofs.Lanes.Arrived.{arrived_end}
@@ -138,10 +136,10 @@ module _ (six : SixBooks) (others : Others) (p : PathState Carried) (ab ba : Lan
   }
 
   line_shows : (action : LineAction) (q : PathState Carried) → AreCalm q → PathShows p.profile q ab ba → Strolled p.profile (after_line action q) ab ba
-  line_shows actions.Die q calm x = died_shows q calm x
-  line_shows (actions.Prio s backup) q calm x = noted_shows s backup q x
-  line_shows (actions.Announce s id) q calm x = rest_shows (announces s id) q x
-  line_shows (actions.Withdraw s id) q calm x = rest_shows (withdraws s id) q x
+  line_shows LineAction.Die q calm x = died_shows q calm x
+  line_shows (LineAction.Prio s backup) q calm x = noted_shows s backup q x
+  line_shows (LineAction.Announce s id) q calm x = rest_shows (announces s id) q x
+  line_shows (LineAction.Withdraw s id) q calm x = rest_shows (withdraws s id) q x
 
   -- at another tick the ends are the same
   same_calm : (q : PathState Carried) → q.a ≡ p.a → q.b ≡ p.b → AreCalm q
@@ -234,13 +232,13 @@ module _ (six : SixBooks) (others : Others) (p : PathState Carried) (ab ba : Lan
   -- ---- the earliest
 
   event_step : (event : Event) (r : Reply) → Steps (step_for (path_of p) (Some event)) (happens values event r p)
-  event_step (happenings.Joins tick) r =
-      join_step (step_for (path_of p) (Some (happenings.Joins tick))) r (leaves A) (emission A) (record (at_tick tick p) { joined_at = None }) tt
+  event_step (Event.Joins tick) r =
+      join_step (step_for (path_of p) (Some (Event.Joins tick))) r (leaves A) (emission A) (record (at_tick tick p) { joined_at = None }) tt
       (same_calm (record (at_tick tick p) { joined_at = None }) refl refl) (record { profile = h.profile; may = h.may; a = h.a; b = h.b; copies = h.copies })
-  event_step (happenings.Takes line) r =
-      quiet p.profile six others (step_for (path_of p) (Some (happenings.Takes line))) (line_taken line p) ab ba tt (line_shows line.action (record (at_tick line.tick p) { lines = tail_of p.lines }) (same_calm (record (at_tick line.tick p) { lines = tail_of p.lines }) refl refl) (ticked line.tick (tail_of p.lines)))
-  event_step (happenings.Arrives due) r = copy_step due (step_for (path_of p) (Some (happenings.Arrives due))) tt
-  event_step (happenings.Fires s tick) r = fire_step s tick (step_for (path_of p) (Some (happenings.Fires s tick))) tt
+  event_step (Event.Takes line) r =
+      quiet p.profile six others (step_for (path_of p) (Some (Event.Takes line))) (line_taken line p) ab ba tt (line_shows line.action (record (at_tick line.tick p) { lines = tail_of p.lines }) (same_calm (record (at_tick line.tick p) { lines = tail_of p.lines }) refl refl) (ticked line.tick (tail_of p.lines)))
+  event_step (Event.Arrives due) r = copy_step due (step_for (path_of p) (Some (Event.Arrives due))) tt
+  event_step (Event.Fires s tick) r = fire_step s tick (step_for (path_of p) (Some (Event.Fires s tick))) tt
 
   pub events_step : (o : Option Event) (r : Reply) → Steps (step_for (path_of p) o) (happens_if values o r p)
   events_step None r = quiet p.profile six others (step_for (path_of p) None) (with_agenda rest_of_turn p) ab ba tt (rest_shows rest_of_turn p h)

@@ -13,7 +13,7 @@ use Rattle.dss_mapping.specs.declared.learn.Learn.TheVariants.{New, Same, Clash}
 use Rattle.dss_mapping.specs.Learning.{first_of, others_of, learn_of, after_skip_held, learned_if}
 use Rattle.dss_mapping.specs.Mappings.{Mappings, run_of, mapping_at, after_learn, octets_of}
 use Rattle.dss_mapping.specs.Runs.{covers}
-use Rattle.reassembly_book.specs.declared.call.ReassemblyReply.TheVariants as reassembly_replies
+use Rattle.reassembly_book.specs.declared.call.ReassemblyReply.{ReassemblyReply}
 use Rattle.subflow_recv.specs.Receiving.{Receiving, filled, after_pass}
 use Rattle.subflow_tcp.specs.Closing.{is_fin_next, after_passing_fin}
 use Rattle.subflow_tcp.specs.Judging.{is_at}
@@ -530,9 +530,9 @@ module _ (c : Profile) (s : Side) (out back : Lane) where
 
   -- what was placed is behind the edge of the lane too
   pub placed_end : (new : ℕ) (e : PathEnd) (piece : Piece) → IsAtEdge e.tcp.recv back → EndShows c s e out back
-      → Did c s (having_asked (after_piece piece e)) out out back (takes_placed (length piece.octets) (reassembly_replies.Placed new) back)
+      → Did c s (having_asked (after_piece piece e)) out out back (takes_placed (length piece.octets) (ReassemblyReply.Placed new) back)
   placed_end new e piece at h =
-      let q : Lane = takes_placed (length piece.octets) (reassembly_replies.Placed new) back in
+      let q : Lane = takes_placed (length piece.octets) (ReassemblyReply.Placed new) back in
       record {
         out_after = out;
         back_after = q;

@@ -12,7 +12,6 @@ use Rattle.subflow_send.specs.Rules.{is_unsent, uncovered, first_unsent_sent, fi
 use Rattle.subflow_send.specs.Sendings.{sent_again}
 use Rattle.subflow_tcp.specs.declared.handshake.State.{State as EndPhase}
 use Rattle.subflow_tcp.specs.declared.segments.Occasion.{Occasion}
-use Rattle.subflow_tcp.specs.declared.segments.Occasion.TheVariants as to_send
 use Rattle.subflow_tcp.specs.Emitting.{syn_resent}
 use Rattle.stream_lanes.specs.Lane.{Lane}
 use Rattle.stream_lanes.specs.Words.{Every}
@@ -158,9 +157,9 @@ module _ (c : Profile) (s : Side) (k : Knowledge) (p : Lane) where
 -- an end that has sent a segment
 pub sent_end : (c : Profile) (s : Side) (out back : Lane) (occasion : Occasion) (now : ℕ) (sg : PlainSegment) (e : PathEnd) → EndShows c s e out back
     → EndShows c s (having_sent occasion now sg e) out back
-sent_end c s out back to_send.Reset now sg e h = record { sender = h.sender; receiver = h.receiver; acks = h.acks; told = h.told; treated = h.treated; held = h.held; pairs = h.pairs }
-sent_end c s out back to_send.Answer now sg e h = record { sender = h.sender; receiver = h.receiver; acks = h.acks; told = h.told; treated = h.treated; held = h.held; pairs = h.pairs }
-sent_end c s out back to_send.SynAck now sg e h = record {
+sent_end c s out back Occasion.Reset now sg e h = record { sender = h.sender; receiver = h.receiver; acks = h.acks; told = h.told; treated = h.treated; held = h.held; pairs = h.pairs }
+sent_end c s out back Occasion.Answer now sg e h = record { sender = h.sender; receiver = h.receiver; acks = h.acks; told = h.told; treated = h.treated; held = h.held; pairs = h.pairs }
+sent_end c s out back Occasion.SynAck now sg e h = record {
   sender = syn_resent_shows c s _ out now e.tcp.state e.tcp.send h.sender;
   receiver = h.receiver;
   acks = h.acks;
@@ -169,9 +168,9 @@ sent_end c s out back to_send.SynAck now sg e h = record {
   pairs = h.pairs;
   held = h.held;
 }
-sent_end c s out back to_send.Ack now sg e h = record { sender = h.sender; receiver = h.receiver; acks = h.acks; told = h.told; treated = h.treated; held = h.held; pairs = h.pairs }
-sent_end c s out back to_send.Probe now sg e h = record { sender = h.sender; receiver = h.receiver; acks = h.acks; told = h.told; treated = h.treated; held = h.held; pairs = h.pairs }
-sent_end c s out back to_send.First now sg e h = record {
+sent_end c s out back Occasion.Ack now sg e h = record { sender = h.sender; receiver = h.receiver; acks = h.acks; told = h.told; treated = h.treated; held = h.held; pairs = h.pairs }
+sent_end c s out back Occasion.Probe now sg e h = record { sender = h.sender; receiver = h.receiver; acks = h.acks; told = h.told; treated = h.treated; held = h.held; pairs = h.pairs }
+sent_end c s out back Occasion.First now sg e h = record {
   sender = resent_shows c s _ out now e.tcp.state e.tcp.send h.sender;
   receiver = h.receiver;
   acks = h.acks;
@@ -180,7 +179,7 @@ sent_end c s out back to_send.First now sg e h = record {
   pairs = h.pairs;
   held = h.held;
 }
-sent_end c s out back to_send.Unsent now sg e h = record {
+sent_end c s out back Occasion.Unsent now sg e h = record {
   sender = sent_shows c s _ out now e.tcp.state e.tcp.send h.sender;
   receiver = h.receiver;
   acks = h.acks;
@@ -189,7 +188,7 @@ sent_end c s out back to_send.Unsent now sg e h = record {
   pairs = h.pairs;
   held = h.held;
 }
-sent_end c s out back to_send.Fin now sg e h = record {
+sent_end c s out back Occasion.Fin now sg e h = record {
   sender = fin_sent_shows c s _ out now e.tcp.state e.tcp.send h.sender;
   receiver = h.receiver;
   acks = h.acks;

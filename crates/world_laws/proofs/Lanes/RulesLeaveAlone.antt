@@ -7,15 +7,13 @@ use Rattle.dss_mapping.specs.declared.kept.KeptMapping.{KeptMapping}
 use Rattle.loss_recovery.specs.declared.windows.Congestion.{Congestion}
 use Rattle.loss_recovery.specs.declared.windows.Pending.{Pending}
 use Rattle.loss_recovery.specs.Windows as windows
-use Rattle.fallback_state.specs.declared.fall.Verdict.TheVariants as verdicts
-use Rattle.fallback_state.specs.declared.fall.Event.TheVariants as events
+use Rattle.fallback_state.specs.declared.fall.Verdict.{Verdict}
 use Rattle.fallback_state.specs.declared.fall.Event.{Event}
-use Rattle.control_book.specs.declared.call.ControlReply.TheVariants as control_replies
+use Rattle.control_book.specs.declared.call.ControlReply.{ControlReply}
 use Rattle.byte_pieces.specs.Places.{cut}
 use Rattle.stream_lanes.specs.Words.{Every}
 use Rattle.subflow_recv.specs.Receiving.{after_forget_from, without_held, after_keep_held}
 use Rattle.subflow_tcp.specs.declared.handshake.State.{State as EndPhase}
-use Rattle.subflow_tcp.specs.declared.handshake.State.TheVariants as phase
 use Rattle.subflow_tcp.specs.Expiring as expiring
 use Rattle.subflow_tcp.specs.Opening.{after_begin}
 use Rattle.subflow_tcp.specs.State.{is_behind}
@@ -24,7 +22,6 @@ use Rattle.subflow_tcp.specs.Taking as taking
 use Rattle.stream_lanes.specs.Lane.{Lane, AckCopy}
 use Rattle.stream_lanes.proofs.Lists.{Every-nil, Has-map}
 use Rattle.actor_desk.specs.declared.ask.Reply.{Reply}
-use Rattle.actor_desk.specs.declared.ask.Reply.TheVariants as replies
 use Rattle.path_core.specs.Timer.{after_timer, after_firing}
 use Rattle.path_core.specs.End.{PathEnd, died}
 use Rattle.path_core.specs.Treated.{Treated, nothing_treated}
@@ -56,39 +53,39 @@ grown_told growth None c = refl
 grown_told growth (Some p) c = refl
 
 waiting_unfinished : (state : EndPhase) → states.is_waiting state ≡ true → is_unfinished state ≡ true
-waiting_unfinished phase.Waiting is = refl
+waiting_unfinished EndPhase.Waiting is = refl
 waiting_unfinished _ is = absurd (false≢true is)
 
 listening_unfinished : (state : EndPhase) → is_listening state ≡ true → is_unfinished state ≡ true
-listening_unfinished phase.Listen is = refl
-listening_unfinished phase.Waiting is = refl
-listening_unfinished phase.SynSent is = refl
-listening_unfinished phase.SynReceived is = refl
-listening_unfinished phase.Established is = refl
-listening_unfinished phase.CloseWait is = refl
-listening_unfinished phase.FinWait1 is = absurd (false≢true is)
-listening_unfinished phase.FinWait2 is = absurd (false≢true is)
-listening_unfinished phase.Closing is = absurd (false≢true is)
-listening_unfinished phase.LastAck is = absurd (false≢true is)
-listening_unfinished phase.TimeWait is = absurd (false≢true is)
-listening_unfinished phase.Dead is = absurd (false≢true is)
+listening_unfinished EndPhase.Listen is = refl
+listening_unfinished EndPhase.Waiting is = refl
+listening_unfinished EndPhase.SynSent is = refl
+listening_unfinished EndPhase.SynReceived is = refl
+listening_unfinished EndPhase.Established is = refl
+listening_unfinished EndPhase.CloseWait is = refl
+listening_unfinished EndPhase.FinWait1 is = absurd (false≢true is)
+listening_unfinished EndPhase.FinWait2 is = absurd (false≢true is)
+listening_unfinished EndPhase.Closing is = absurd (false≢true is)
+listening_unfinished EndPhase.LastAck is = absurd (false≢true is)
+listening_unfinished EndPhase.TimeWait is = absurd (false≢true is)
+listening_unfinished EndPhase.Dead is = absurd (false≢true is)
 
 -- the modes that an end knows of, but for the fallback
 told_alike : (r : Reply) (m : Modes) → Alike (modes_told r m) m
-told_alike (replies.Control (control_replies.Standing mode standby sole notice)) m = record { identity = refl; own = refl; peer = refl; failed = refl }
+told_alike (Reply.Control (ControlReply.Standing mode standby sole notice)) m = record { identity = refl; own = refl; peer = refl; failed = refl }
 told_alike _ m = record { identity = refl; own = refl; peer = refl; failed = refl }
 
 went_alike : (r : Reply) (m : Modes) → Alike (mode_in r m) m
-went_alike (replies.Control (control_replies.Verdict (verdicts.Went mode))) m = record { identity = refl; own = refl; peer = refl; failed = refl }
+went_alike (Reply.Control (ControlReply.Verdict (Verdict.Went mode))) m = record { identity = refl; own = refl; peer = refl; failed = refl }
 went_alike _ m = record { identity = refl; own = refl; peer = refl; failed = refl }
 
 pub fell_alike : (event : Event) (r : Reply) (m : Modes) → Alike (fell_in event r m) m
-fell_alike events.PlainData r m = let a = went_alike r m in record { identity = a.identity; own = a.own; peer = a.peer; failed = a.failed }
-fell_alike events.PlainAck r m = let a = went_alike r m in record { identity = a.identity; own = a.own; peer = a.peer; failed = a.failed }
+fell_alike Event.PlainData r m = let a = went_alike r m in record { identity = a.identity; own = a.own; peer = a.peer; failed = a.failed }
+fell_alike Event.PlainAck r m = let a = went_alike r m in record { identity = a.identity; own = a.own; peer = a.peer; failed = a.failed }
 fell_alike _ r m = went_alike r m
 
 keyed_alike : (r : Reply) (keys : Option KeyPair) (m : Modes) → Alike (keys_in r keys m) m
-keyed_alike (replies.Control control_replies.Noted) (Some keys) m = record { identity = refl; own = refl; peer = refl; failed = refl }
+keyed_alike (Reply.Control ControlReply.Noted) (Some keys) m = record { identity = refl; own = refl; peer = refl; failed = refl }
 keyed_alike _ keys m = record { identity = refl; own = refl; peer = refl; failed = refl }
 
 -- where nothing is acknowledged, position 0 is
@@ -124,7 +121,7 @@ module _ (c : Profile) (s : Side) (out back : Lane) where
 
   -- a check failed, which acknowledgements tell, or the reset of the path
   pub failure_shows : (o : Option KeptMapping) (r : Reply) (e : PathEnd) → IfSome o (λ _. out.alters ≡ true) → Shows e → Shows (with_failure o r e)
-  failure_shows (Some kept) (replies.Control (control_replies.Verdict verdicts.SendFail)) e may h = record {
+  failure_shows (Some kept) (Reply.Control (ControlReply.Verdict Verdict.SendFail)) e may h = record {
     sender = h.sender;
     receiver = h.receiver;
     acks = h.acks;
@@ -133,7 +130,7 @@ module _ (c : Profile) (s : Side) (out back : Lane) where
     pairs = (h.pairs.0, h.pairs.1, h.pairs.2, h.pairs.3, may, h.pairs.5);
     held = h.held;
   }
-  failure_shows (Some kept) (replies.Control (control_replies.Verdict (verdicts.BreakPath reason))) e may h = record {
+  failure_shows (Some kept) (Reply.Control (ControlReply.Verdict (Verdict.BreakPath reason))) e may h = record {
     sender = h.sender;
     receiver = h.receiver;
     acks = h.acks;
@@ -221,7 +218,7 @@ module _ (c : Profile) (s : Side) (out back : Lane) where
   -- the waiting end opens
   opened_state : (b : Bool) (e : PathEnd) → (b ≡ true → is_unfinished e.tcp.state ≡ true) → Shows e → Shows (record e { tcp = if b then after_begin e.tcp else e.tcp })
   opened_state true e un h = record {
-    sender = state_shows c s _ out e.tcp.state phase.SynSent e.tcp.send (λ x. un refl) h.sender;
+    sender = state_shows c s _ out e.tcp.state EndPhase.SynSent e.tcp.send (λ x. un refl) h.sender;
     receiver = h.receiver;
     acks = h.acks;
     told = h.told;
@@ -262,7 +259,7 @@ module _ (c : Profile) (s : Side) (out back : Lane) where
   dead_tcp : (reset : Bool) (e : PathEnd) (t : Treated) → TreatedShows t out.acks back → (t.asked ≡ false → e.treated.asked ≡ false) → PairsShow e.modes t.infinite_mapping t.failed_mapping out back → Shows e
       → Shows (record e { tcp = taking.after_death reset e.tcp; treated = t })
   dead_tcp reset e t shows calm pairs h = record {
-    sender = state_shows c s _ out e.tcp.state phase.Dead _ (λ no_more. absurd (false≢true no_more))
+    sender = state_shows c s _ out e.tcp.state EndPhase.Dead _ (λ no_more. absurd (false≢true no_more))
         (acknowledged_shows c s _ out e.tcp.send.nxt e.tcp.state e.tcp.send h.sender);
     receiver = cut_shows e.tcp.fin_at e.receiving.mappings.live (identity_of e) back (e.tcp.recv.edge - e.tcp.recv.edge) (omega arith) e.tcp.recv h.receiver;
     acks = calmer _ _ calm h.acks;

@@ -33,7 +33,6 @@ use Rattle.path_core.specs.Profile.{Profile}
 use Rattle.path_core.specs.Choices.{is_side_a}
 use Rattle.path_core.specs.DssIn.{checksum_heard}
 use Rattle.path_agenda.specs.declared.notice.OwnNotice.{OwnNotice}
-use Rattle.path_agenda.specs.declared.notice.OwnNotice.TheVariants as notes
 use Rattle.world_laws.proofs.Lanes.Records.{every_cons}
 use Rattle.world_laws.proofs.Lanes.Showing.{PairTold, HasSub, HasNone, HasMapping, HasNumber, HasFin, KindShows, RecordShows, WindowShows, OptionShows, SegmentShows, IsSummed}
 
@@ -231,10 +230,10 @@ module _ (c : Profile) (s : Side) (e : PathEnd) (acks : List AckCopy) (p : Lane)
     }
       where
         shows : (window : ℕ) (notice : OwnNotice) → OptionShows c s window acks p (notice_option notice e.modes)
-        shows window (notes.AddAddr id) = tt
-        shows window (notes.AddEcho id address port) = tt
-        shows window (notes.Removes id) = tt
-        shows window (notes.Prio backup) = tt
+        shows window (OwnNotice.AddAddr id) = tt
+        shows window (OwnNotice.AddEcho id address port) = tt
+        shows window (OwnNotice.Removes id) = tt
+        shows window (OwnNotice.Prio backup) = tt
 
     pub fin_says : TellsPlain e p (fin_position e.tcp.send) → HasFin p.fins (fin_position e.tcp.send) → SegmentShows c s acks p (fin_said c e)
     fin_says plain h = record {

@@ -19,14 +19,12 @@ use Rattle.subflow_send.specs.declared.record.RecordKind.{RecordKind}
 use Rattle.subflow_send.specs.declared.record.RecordKind.TheVariants.{Syn, Data, Fin}
 use Rattle.subflow_send.specs.Records.{Record, SendState}
 use Rattle.subflow_tcp.specs.declared.handshake.State.{State as EndPhase}
-use Rattle.subflow_tcp.specs.declared.handshake.State.TheVariants as phase
 use Rattle.subflow_recv.specs.Receiving.{Receiving, by_place, merged}
 use Rattle.stream_lanes.specs.Lane.{Cell, Mapping, Pair, DataCopy, AckCopy, Lane}
 use Rattle.stream_lanes.specs.Words.{Every, Has}
 use Rattle.stream_lanes.specs.Holding.{HasPlace}
 use Rattle.stream_lanes.specs.Moves.{bytes_of}
 use Rattle.path_agenda.specs.declared.heard.Heard.{Heard}
-use Rattle.path_agenda.specs.declared.heard.Heard.TheVariants as says
 use Rattle.path_core.specs.End.{PathEnd}
 use Rattle.path_core.specs.Treated.{Treated}
 use Rattle.path_store.specs.declared.infinite_mapping.InfiniteMapping.{InfiniteMapping}
@@ -170,12 +168,12 @@ RecordShows c s alters sent datas fins r = KindShows c s alters sent datas fins 
 
 -- no FIN was sent, and the end isn't dead
 abbrev pub is_unfinished : EndPhase → Bool
-is_unfinished phase.Waiting = true
-is_unfinished phase.Listen = true
-is_unfinished phase.SynSent = true
-is_unfinished phase.SynReceived = true
-is_unfinished phase.Established = true
-is_unfinished phase.CloseWait = true
+is_unfinished EndPhase.Waiting = true
+is_unfinished EndPhase.Listen = true
+is_unfinished EndPhase.SynSent = true
+is_unfinished EndPhase.SynReceived = true
+is_unfinished EndPhase.Established = true
+is_unfinished EndPhase.CloseWait = true
 is_unfinished _ = false
 
 -- the lane was granted the last place of a piece
@@ -282,10 +280,10 @@ pub record ReceiverShows (recv : Receiving) (fin_at : Option ℕ) (live : List K
 
 -- a thing that a copy said: acknowledgements were sent on the one lane, the rest on the other
 abbrev pub ItemShows : List AckCopy → Lane → Heard → Type 0
-ItemShows acks p (says.DataAck next window) = HasAck acks next window
-ItemShows acks p (says.DataFin place) = HasNumber p.data_fins place
-ItemShows acks p (says.InfiniteMapping place position) = IfSome position (PairTold p.pairs p.fins place)
-ItemShows acks p says.Fail = p.alters ≡ true
+ItemShows acks p (Heard.DataAck next window) = HasAck acks next window
+ItemShows acks p (Heard.DataFin place) = HasNumber p.data_fins place
+ItemShows acks p (Heard.InfiniteMapping place position) = IfSome position (PairTold p.pairs p.fins place)
+ItemShows acks p Heard.Fail = p.alters ≡ true
 ItemShows acks p _ = Unit {0}
 
 pub record TreatedShows (t : Treated) (acks : List AckCopy) (p : Lane) : Type 0 where

@@ -9,7 +9,6 @@ use Rattle.sides.specs.declared.side.Side.TheVariants.{A, B}
 use Rattle.link_model.specs.declared.flight.Flight.{Flight}
 use Rattle.link_model.specs.Steps.{arriving}
 use Rattle.reassembly_book.specs.declared.call.ReassemblyCall.{ReassemblyCall}
-use Rattle.reassembly_book.specs.declared.call.ReassemblyCall.TheVariants as calls
 use Rattle.reassembly_book.specs.State.{Arriving}
 use Rattle.reassembly_book.specs.Steps.{is_taken, fin_clash, places_after, after_reading, after_call}
 use Rattle.send_book.specs.State.{Sending}
@@ -26,11 +25,9 @@ use Rattle.stream_lanes.specs.Words.{Every, From}
 use Rattle.stream_lanes.proofs.Duos.{any_held}
 use Rattle.stream_lanes.proofs.Lists.{Every-nil, in_map, in_set}
 use Rattle.actor_desk.specs.declared.ask.Ask.{Ask}
-use Rattle.actor_desk.specs.declared.ask.Ask.TheVariants as asks
 use Rattle.actor_desk.specs.Books.{books_in}
 use Rattle.actor_desk.specs.Desk.{SixBooks, send_of, reassembly_of, control_of, reply_of, after_ask}
 use Rattle.stream_apps.specs.declared.duty.AppDuty.{AppDuty}
-use Rattle.stream_apps.specs.declared.duty.AppDuty.TheVariants as app_duties
 use Rattle.stream_apps.specs.Apps.{AppState}
 use Rattle.stream_apps.specs.AppSteps.{app_ask, app_asks_first}
 use Rattle.path_agenda.specs.declared.duty.Duty.{Duty}
@@ -83,34 +80,34 @@ use Rattle.world_laws.proofs.Lanes.Saying.{every_one}
 -- ---- the room of a reassembly book never changes
 
 call_room : (b : Arriving) (call : ReassemblyCall) → (after_call b call).capacity ≡ b.capacity
-call_room b (calls.Place at bytes) = by (is_taken at bytes b)
+call_room b (ReassemblyCall.Place at bytes) = by (is_taken at bytes b)
   where
     by : (c : Bool) → (if c then record b { places = places_after at bytes b } else b).capacity ≡ b.capacity
     by true = refl
     by false = refl
-call_room b (calls.Fin at) = by (is_some (fin_clash b.known_end at b))
+call_room b (ReassemblyCall.Fin at) = by (is_some (fin_clash b.known_end at b))
   where
     by : (c : Bool) → (if c then b else record b { known_end = Some at }).capacity ≡ b.capacity
     by true = refl
     by false = refl
-call_room b (calls.Read most) = by (is_some b.aborted)
+call_room b (ReassemblyCall.Read most) = by (is_some b.aborted)
   where
     by : (c : Bool) → (if c then b else after_reading most b).capacity ≡ b.capacity
     by true = refl
     by false = refl
-call_room b calls.AckOut = refl
-call_room b (calls.Abort by_peer) = refl
+call_room b ReassemblyCall.AckOut = refl
+call_room b (ReassemblyCall.Abort by_peer) = refl
 
 record RoomsAre (n : ℕ) (books : SixBooks) : Type 0 where
   a : books.reassembly_a.capacity ≡ n
   b : books.reassembly_b.capacity ≡ n
 
 ask_rooms : (n : ℕ) (ask : Ask) (books : SixBooks) → RoomsAre n books → RoomsAre n (after_ask ask books)
-ask_rooms n (asks.Reassembly A call) books h = record { a = call_room books.reassembly_a call ∙ h.a; b = h.b }
-ask_rooms n (asks.Reassembly B call) books h = record { a = h.a; b = call_room books.reassembly_b call ∙ h.b }
-ask_rooms n (asks.Send s call) books h = record { a = h.a; b = h.b }
-ask_rooms n (asks.Control s call) books h = record { a = h.a; b = h.b }
-ask_rooms n (asks.Local step) books h = h
+ask_rooms n (Ask.Reassembly A call) books h = record { a = call_room books.reassembly_a call ∙ h.a; b = h.b }
+ask_rooms n (Ask.Reassembly B call) books h = record { a = h.a; b = call_room books.reassembly_b call ∙ h.b }
+ask_rooms n (Ask.Send s call) books h = record { a = h.a; b = h.b }
+ask_rooms n (Ask.Control s call) books h = record { a = h.a; b = h.b }
+ask_rooms n (Ask.Local step) books h = h
 
 -- ---- books of short files
 
@@ -207,13 +204,13 @@ from_cast start t tells rooms keys = record { members = each_actor (λ actor c. 
 
 -- an application tells no key
 app_tells : (d : AppDuty) (a : AppState) → AskTells (app_ask d a)
-app_tells app_duties.FastClose a = tt
-app_tells app_duties.AbortSend a = tt
-app_tells app_duties.AbortReceive a = tt
-app_tells app_duties.Write a = tt
-app_tells app_duties.Close a = tt
-app_tells app_duties.Read a = tt
-app_tells app_duties.End a = tt
+app_tells AppDuty.FastClose a = tt
+app_tells AppDuty.AbortSend a = tt
+app_tells AppDuty.AbortReceive a = tt
+app_tells AppDuty.Write a = tt
+app_tells AppDuty.Close a = tt
+app_tells AppDuty.Read a = tt
+app_tells AppDuty.End a = tt
 
 module _ (start : Start) (plain : Carries start) (free : NoneIsFirm plain.links) (fit : NumbersFit start) where
   books_short : (t : Cast Carried) → Fare start t → RoomsAre start.buffer (books_in t.books) → BooksKeepShort (books_in t.books) → BooksAreShort (books_in t.books)

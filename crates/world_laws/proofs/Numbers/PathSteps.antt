@@ -21,9 +21,8 @@ use Rattle.control_book.specs.declared.book.Keys.{Keys}
 use Rattle.actor_desk.specs.Desk.{SixBooks, send_of, reassembly_of, control_of}
 use Rattle.actor_desk.specs.Words.{pick, tail_of}
 use Rattle.path_agenda.specs.declared.duty.Duty.{Duty}
-use Rattle.path_agenda.specs.declared.duty.Duty.TheVariants as duties
-use Rattle.path_agenda.specs.declared.duty.AskDuty.TheVariants as ask_duties
-use Rattle.path_agenda.specs.declared.duty.SendDuty.TheVariants as send_duties
+use Rattle.path_agenda.specs.declared.duty.AskDuty.{AskDuty}
+use Rattle.path_agenda.specs.declared.duty.SendDuty.{SendDuty}
 use Rattle.path_core.specs.End.{PathEnd}
 use Rattle.path_core.specs.Handover.{handed, sent_on}
 use Rattle.path_core.specs.State.{PathState, end_at, goes_on, with_agenda}
@@ -45,8 +44,8 @@ pub record CopyTells (c : Profile) (to : Side) (carried : Carried) : Type 0 wher
 
 -- a reason is an octet
 abbrev pub is_fair : Duty → Bool
-is_fair (duties.Ask (ask_duties.BreakAck s reason)) = nat_lt reason 256
-is_fair (duties.Send (send_duties.BreakReset s reason)) = nat_lt reason 256
+is_fair (Duty.Ask (AskDuty.BreakAck s reason)) = nat_lt reason 256
+is_fair (Duty.Send (SendDuty.BreakReset s reason)) = nat_lt reason 256
 is_fair _ = true
 
 abbrev pub AreFair : List Duty → Type 0

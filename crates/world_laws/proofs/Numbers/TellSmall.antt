@@ -15,7 +15,7 @@ use Rattle.key_material.specs.KeyDigest.{token_of}
 use Rattle.key_material.proofs.Bounds.{token_of_below, join_b64_of_below, AreOctets-join_a160_of, length-join_a160_of, add_addr64_of_below}
 use Rattle.mptcp_options.specs.declared.capable.CapableKeys.{CapableKeys}
 use Rattle.mptcp_options.specs.declared.capable.CapableKeys.TheVariants.{NoKey, Sender, Both, WithData}
-use Rattle.mptcp_options.specs.declared.join.JoinForm.TheVariants as join
+use Rattle.mptcp_options.specs.declared.join.JoinForm.{JoinForm}
 use Rattle.mptcp_options.specs.declared.dss.DataNumber.{DataNumber}
 use Rattle.mptcp_options.specs.declared.dss.DataNumber.TheVariants.{Whole, Low}
 use Rattle.mptcp_options.specs.Dss.{DataNumberFits}
@@ -43,7 +43,6 @@ use Rattle.subflow_tcp.specs.Segments.{one_if, occupied}
 use Rattle.subflow_tcp.specs.States.{is_opening}
 use Rattle.stream_lanes.specs.Words.{Every}
 use Rattle.path_agenda.specs.declared.heard.Heard.{Heard}
-use Rattle.path_agenda.specs.declared.heard.Heard.TheVariants as says
 use Rattle.path_core.specs.Arrival.{copy_of, expected_by}
 use Rattle.path_core.specs.declared.modes.Modes.{Modes}
 use Rattle.path_core.specs.End.{PathEnd}
@@ -62,9 +61,7 @@ use Rattle.key_material.specs.declared.address.Address.TheVariants.{V4, V6}
 use Rattle.mptcp_options.specs.Address.{AddressFits}
 use Rattle.control_book.specs.Steps.{path_address}
 use Rattle.path_agenda.specs.declared.notice.OwnNotice.{OwnNotice}
-use Rattle.path_agenda.specs.declared.notice.OwnNotice.TheVariants as notes
 use Rattle.path_agenda.specs.declared.notice.PeerNotice.{PeerNotice}
-use Rattle.path_agenda.specs.declared.notice.PeerNotice.TheVariants as peer_notes
 use Rattle.path_core.proofs.Sayable.{noted_can, carried_can}
 use Rattle.segment_wire.specs.Changes.{with_turned_bit}
 use Rattle.path_store.specs.declared.infinite_mapping.InfiniteMapping.{InfiniteMapping}
@@ -245,33 +242,33 @@ AddressTells id address port = (id < 256) × AddressFits address × IsBelow (2 ^
 
 -- what an end has to note
 abbrev pub NoteTells : OwnNotice → Type 0
-NoteTells (notes.AddAddr id) = id < 256
-NoteTells (notes.AddEcho id address port) = AddressTells id address port
-NoteTells (notes.Removes id) = id < 256
-NoteTells (notes.Prio backup) = Unit {0}
+NoteTells (OwnNotice.AddAddr id) = id < 256
+NoteTells (OwnNotice.AddEcho id address port) = AddressTells id address port
+NoteTells (OwnNotice.Removes id) = id < 256
+NoteTells (OwnNotice.Prio backup) = Unit {0}
 
 pub has_address : (notice : OwnNotice) → NoteTells notice → HasAddress notice
-has_address (notes.AddAddr id) is = tt
-has_address (notes.AddEcho id (V4 octets) port) is = let four = is.1.1 in omega (arith, four)
-has_address (notes.AddEcho id (V6 octets) port) is = let sixteen = is.1.1 in omega (arith, sixteen)
-has_address (notes.Removes id) is = tt
-has_address (notes.Prio backup) is = tt
+has_address (OwnNotice.AddAddr id) is = tt
+has_address (OwnNotice.AddEcho id (V4 octets) port) is = let four = is.1.1 in omega (arith, four)
+has_address (OwnNotice.AddEcho id (V6 octets) port) is = let sixteen = is.1.1 in omega (arith, sixteen)
+has_address (OwnNotice.Removes id) is = tt
+has_address (OwnNotice.Prio backup) is = tt
 
 -- what a copy noted
 abbrev pub PeerTells : PeerNotice → Type 0
-PeerTells (peer_notes.AddAddr id address port hmac) = AddressTells id address port
-PeerTells (peer_notes.AddEcho id) = Unit {0}
-PeerTells (peer_notes.Removed id) = Unit {0}
-PeerTells (peer_notes.Prio backup) = Unit {0}
+PeerTells (PeerNotice.AddAddr id address port hmac) = AddressTells id address port
+PeerTells (PeerNotice.AddEcho id) = Unit {0}
+PeerTells (PeerNotice.Removed id) = Unit {0}
+PeerTells (PeerNotice.Prio backup) = Unit {0}
 
 -- a thing that a copy said
 abbrev pub ItemTells : Heard → Type 0
-ItemTells (says.Notice notice) = PeerTells notice
-ItemTells (says.DataAck next window) = IsShort next
-ItemTells (says.DataFin place) = IsShort place
-ItemTells (says.PeerKey key) = IsKey key
-ItemTells (says.Keys own peer) = IsKey own × IsKey peer
-ItemTells (says.Join form) = FormFits form
+ItemTells (Heard.Notice notice) = PeerTells notice
+ItemTells (Heard.DataAck next window) = IsShort next
+ItemTells (Heard.DataFin place) = IsShort place
+ItemTells (Heard.PeerKey key) = IsKey key
+ItemTells (Heard.Keys own peer) = IsKey own × IsKey peer
+ItemTells (Heard.Join form) = FormFits form
 ItemTells _ = Unit {0}
 
 -- none after a fallback
@@ -407,15 +404,15 @@ fail_little : (number : ℕ) → length (option_text (wire.Fail number)) ≤ 12
 unfolding option_text
 fail_little number = omega arith
 
-join_syn_length : (backup : Bool) (id token nonce : ℕ) → length (option_text (wire.Join (join.Syn backup id token nonce))) ≤ 28
+join_syn_length : (backup : Bool) (id token nonce : ℕ) → length (option_text (wire.Join (JoinForm.Syn backup id token nonce))) ≤ 28
 unfolding option_text
 join_syn_length backup id token nonce = omega arith
 
-join_answer_length : (backup : Bool) (id hmac nonce : ℕ) → length (option_text (wire.Join (join.Answer backup id hmac nonce))) ≤ 28
+join_answer_length : (backup : Bool) (id hmac nonce : ℕ) → length (option_text (wire.Join (JoinForm.Answer backup id hmac nonce))) ≤ 28
 unfolding option_text
 join_answer_length backup id hmac nonce = omega arith
 
-third_length : (key_a key_b nonce_a nonce_b : ℕ) → length (option_text (wire.Join (join.Third (join_a160_of key_a key_b nonce_a nonce_b)))) ≤ 28
+third_length : (key_a key_b nonce_a nonce_b : ℕ) → length (option_text (wire.Join (JoinForm.Third (join_a160_of key_a key_b nonce_a nonce_b)))) ≤ 28
 unfolding option_text
 third_length key_a key_b nonce_a nonce_b = omega (arith, length-join_a160_of key_a key_b nonce_a nonce_b)
 
@@ -785,7 +782,7 @@ module _ (c : Profile) (s : Side) (path : c.spelling.path ≤ 15) (mss : c.mss <
   }
 
   note_tells : (notice : OwnNotice) → NoteTells notice → OptionTells c s (notice_option notice e.modes)
-  note_tells (notes.AddAddr id) is = record {
+  note_tells (OwnNotice.AddAddr id) is = record {
     fits = (
       is,
       (
@@ -798,9 +795,9 @@ module _ (c : Profile) (s : Side) (path : c.spelling.path ≤ 15) (mss : c.mss <
     );
     short = tt;
   }
-  note_tells (notes.AddEcho id address port) is = record { fits = (is.0, is.1, is.2, tt); short = tt }
-  note_tells (notes.Removes id) is = record { fits = All-cons (λ (n : ℕ). n < 256) id [] is (All-nil (λ (n : ℕ). n < 256)); short = tt }
-  note_tells (notes.Prio backup) is = record { fits = tt; short = tt }
+  note_tells (OwnNotice.AddEcho id address port) is = record { fits = (is.0, is.1, is.2, tt); short = tt }
+  note_tells (OwnNotice.Removes id) is = record { fits = All-cons (λ (n : ℕ). n < 256) id [] is (All-nil (λ (n : ℕ). n < 256)); short = tt }
+  note_tells (OwnNotice.Prio backup) is = record { fits = tt; short = tt }
 
   -- a DSS and a notice behind it
   pub noted_tells : (o : Option OwnNotice) → IfSome o NoteTells → SegmentTells c s (noted_said c s o e)

@@ -11,7 +11,6 @@ use Rattle.send_book.specs.declared.call.Why.{Why}
 use Rattle.send_book.specs.State.{Sending}
 use Rattle.send_book.specs.Steps.{bytes_taken, decision, given_by, is_future, is_gathered, after_call}
 use Rattle.actor_desk.specs.declared.ask.Ask.{Ask}
-use Rattle.actor_desk.specs.declared.ask.Ask.TheVariants as asks
 use Rattle.actor_desk.specs.Books.{books_in}
 use Rattle.actor_desk.specs.Desk.{SixBooks, send_of, after_ask}
 use Rattle.path_core.specs.Codec.{Codec}
@@ -49,15 +48,15 @@ abbrev AreBounded : SixBooks → Type 0
 AreBounded six = (s : Side) → IsBounded (send_of s six)
 
 ask_bounded : (x : Ask) (six : SixBooks) → AreBounded six → AreBounded (after_ask x six)
-ask_bounded (asks.Send A call) six h A = call_bounded six.send_a call (h A)
-ask_bounded (asks.Send A call) six h B = h B
-ask_bounded (asks.Send B call) six h A = h A
-ask_bounded (asks.Send B call) six h B = call_bounded six.send_b call (h B)
-ask_bounded (asks.Reassembly t call) six h A = h A
-ask_bounded (asks.Reassembly t call) six h B = h B
-ask_bounded (asks.Control t call) six h A = h A
-ask_bounded (asks.Control t call) six h B = h B
-ask_bounded (asks.Local step) six h s = h s
+ask_bounded (Ask.Send A call) six h A = call_bounded six.send_a call (h A)
+ask_bounded (Ask.Send A call) six h B = h B
+ask_bounded (Ask.Send B call) six h A = h A
+ask_bounded (Ask.Send B call) six h B = call_bounded six.send_b call (h B)
+ask_bounded (Ask.Reassembly t call) six h A = h A
+ask_bounded (Ask.Reassembly t call) six h B = h B
+ask_bounded (Ask.Control t call) six h A = h A
+ask_bounded (Ask.Control t call) six h B = h B
+ask_bounded (Ask.Local step) six h s = h s
 
 module _ {C : Type 0} (k : Codec C) where
   abbrev WorldIsBounded : WorldState C → Type 0

@@ -17,7 +17,6 @@ use Rattle.send_book.specs.Steps.{reply_to, after_call}
 use Rattle.send_book.specs.Laws.{after_calls, is_asked_by, covers, times_granted as times_called}
 use Rattle.send_book.proofs.Grants.{granted_at_most_once}
 use Rattle.actor_desk.specs.declared.ask.Ask.{Ask}
-use Rattle.actor_desk.specs.declared.ask.Ask.TheVariants as asks
 use Rattle.actor_desk.specs.declared.ask.Note.{Note}
 use Rattle.actor_desk.specs.Books.{SendJournal, StampedBooks, after_entry}
 use Rattle.actor_desk.specs.Words.{pick}
@@ -68,20 +67,20 @@ module _ (path place : ℕ) where
 
   entered : (s : Side) (pass : Pass) (ask : Ask) (books : StampedBooks)
       → in_journal (journal_at s (after_entry ask pass books)) ≡ in_journal (journal_at s books) + bit (grants_byte s path place (note_of books pass ask))
-  entered A pass (asks.Send A call) books = journal_more books.send_a pass call
-  entered A pass (asks.Send B call) books = nothing_more _
-  entered A pass (asks.Reassembly A call) books = nothing_more _
-  entered A pass (asks.Reassembly B call) books = nothing_more _
-  entered A pass (asks.Control A call) books = nothing_more _
-  entered A pass (asks.Control B call) books = nothing_more _
-  entered A pass (asks.Local step) books = nothing_more _
-  entered B pass (asks.Send B call) books = journal_more books.send_b pass call
-  entered B pass (asks.Send A call) books = nothing_more _
-  entered B pass (asks.Reassembly A call) books = nothing_more _
-  entered B pass (asks.Reassembly B call) books = nothing_more _
-  entered B pass (asks.Control A call) books = nothing_more _
-  entered B pass (asks.Control B call) books = nothing_more _
-  entered B pass (asks.Local step) books = nothing_more _
+  entered A pass (Ask.Send A call) books = journal_more books.send_a pass call
+  entered A pass (Ask.Send B call) books = nothing_more _
+  entered A pass (Ask.Reassembly A call) books = nothing_more _
+  entered A pass (Ask.Reassembly B call) books = nothing_more _
+  entered A pass (Ask.Control A call) books = nothing_more _
+  entered A pass (Ask.Control B call) books = nothing_more _
+  entered A pass (Ask.Local step) books = nothing_more _
+  entered B pass (Ask.Send B call) books = journal_more books.send_b pass call
+  entered B pass (Ask.Send A call) books = nothing_more _
+  entered B pass (Ask.Reassembly A call) books = nothing_more _
+  entered B pass (Ask.Reassembly B call) books = nothing_more _
+  entered B pass (Ask.Control A call) books = nothing_more _
+  entered B pass (Ask.Control B call) books = nothing_more _
+  entered B pass (Ask.Local step) books = nothing_more _
 
   -- ---- the lists of all actors
 

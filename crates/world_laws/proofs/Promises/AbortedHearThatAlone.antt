@@ -5,15 +5,12 @@ use Rattle.std.proofs.lemmas.List.Elements.{All-nil, All-head, All-tail, All-pus
 use Rattle.sides.specs.declared.side.Side.{Side}
 use Rattle.sides.specs.declared.side.Side.TheVariants.{A, B}
 use Rattle.reassembly_book.specs.declared.call.ReassemblyCall.{ReassemblyCall}
-use Rattle.reassembly_book.specs.declared.call.ReassemblyCall.TheVariants as calls
-use Rattle.reassembly_book.specs.declared.call.ReassemblyReply.TheVariants as reassembly_replies
+use Rattle.reassembly_book.specs.declared.call.ReassemblyReply.{ReassemblyReply}
 use Rattle.reassembly_book.specs.State.{Arriving}
 use Rattle.reassembly_book.specs.Steps.{is_taken, places_after, fin_clash, first_abort, reading, after_reading, after_call}
 use Rattle.actor_desk.specs.declared.ask.Ask.{Ask}
-use Rattle.actor_desk.specs.declared.ask.Ask.TheVariants as asks
 use Rattle.actor_desk.specs.declared.ask.Note.{Note}
 use Rattle.actor_desk.specs.declared.ask.Reply.{Reply}
-use Rattle.actor_desk.specs.declared.ask.Reply.TheVariants as replies
 use Rattle.actor_desk.specs.Books.{books_in}
 use Rattle.actor_desk.specs.Desk.{SixBooks, reassembly_of, reply_of, after_ask}
 use Rattle.actor_desk.specs.Words.{pick}
@@ -37,38 +34,38 @@ use Rattle.world_laws.proofs.Weaving.Journals.{books_after}
 
 -- an aborted book stays so, by the same side
 call_aborted : (by_peer : Bool) (b : Arriving) (call : ReassemblyCall) → b.aborted ≡ Some by_peer → (after_call b call).aborted ≡ Some by_peer
-call_aborted by_peer b (calls.Place at bytes) is = by (is_taken at bytes b)
+call_aborted by_peer b (ReassemblyCall.Place at bytes) is = by (is_taken at bytes b)
   where
     by : (c : Bool) → (if c then record b { places = places_after at bytes b } else b).aborted ≡ Some by_peer
     by true = is
     by false = is
-call_aborted by_peer b (calls.Fin at) is = by (is_some (fin_clash b.known_end at b))
+call_aborted by_peer b (ReassemblyCall.Fin at) is = by (is_some (fin_clash b.known_end at b))
   where
     by : (c : Bool) → (if c then b else record b { known_end = Some at }).aborted ≡ Some by_peer
     by true = is
     by false = is
-call_aborted by_peer b (calls.Read max) is = by (is_some b.aborted)
+call_aborted by_peer b (ReassemblyCall.Read max) is = by (is_some b.aborted)
   where
     by : (c : Bool) → (if c then b else after_reading max b).aborted ≡ Some by_peer
     by true = is
     by false = is
-call_aborted by_peer b calls.AckOut is = is
-call_aborted by_peer b (calls.Abort other) is = ap (λ o. first_abort o other) is
+call_aborted by_peer b ReassemblyCall.AckOut is = is
+call_aborted by_peer b (ReassemblyCall.Abort other) is = ap (λ o. first_abort o other) is
 
 ask_aborted : (by_peer : Bool) (s : Side) (six : SixBooks) (ask : Ask) → (reassembly_of s six).aborted ≡ Some by_peer → (reassembly_of s (after_ask ask six)).aborted ≡ Some by_peer
-ask_aborted by_peer A six (asks.Reassembly A call) is = call_aborted by_peer six.reassembly_a call is
-ask_aborted by_peer A six (asks.Reassembly B call) is = is
-ask_aborted by_peer B six (asks.Reassembly A call) is = is
-ask_aborted by_peer B six (asks.Reassembly B call) is = call_aborted by_peer six.reassembly_b call is
-ask_aborted by_peer A six (asks.Send A call) is = is
-ask_aborted by_peer A six (asks.Send B call) is = is
-ask_aborted by_peer B six (asks.Send A call) is = is
-ask_aborted by_peer B six (asks.Send B call) is = is
-ask_aborted by_peer A six (asks.Control A call) is = is
-ask_aborted by_peer A six (asks.Control B call) is = is
-ask_aborted by_peer B six (asks.Control A call) is = is
-ask_aborted by_peer B six (asks.Control B call) is = is
-ask_aborted by_peer s six (asks.Local step) is = is
+ask_aborted by_peer A six (Ask.Reassembly A call) is = call_aborted by_peer six.reassembly_a call is
+ask_aborted by_peer A six (Ask.Reassembly B call) is = is
+ask_aborted by_peer B six (Ask.Reassembly A call) is = is
+ask_aborted by_peer B six (Ask.Reassembly B call) is = call_aborted by_peer six.reassembly_b call is
+ask_aborted by_peer A six (Ask.Send A call) is = is
+ask_aborted by_peer A six (Ask.Send B call) is = is
+ask_aborted by_peer B six (Ask.Send A call) is = is
+ask_aborted by_peer B six (Ask.Send B call) is = is
+ask_aborted by_peer A six (Ask.Control A call) is = is
+ask_aborted by_peer A six (Ask.Control B call) is = is
+ask_aborted by_peer B six (Ask.Control A call) is = is
+ask_aborted by_peer B six (Ask.Control B call) is = is
+ask_aborted by_peer s six (Ask.Local step) is = is
 
 -- ---- the reader
 
@@ -101,8 +98,8 @@ app_told by_peer six a Close is = by a.side
     by B = tt
 app_told by_peer six a Read is = by a.side is
   where
-    told : (b : Arriving) → b.aborted ≡ Some by_peer → TellsAbortAlone by_peer (replies.Reassembly (reading b.aborted 65536 b))
-    told b none = subst (λ (o : Option Bool). TellsAbortAlone by_peer (replies.Reassembly (reading o 65536 b))) (sym none) refl
+    told : (b : Arriving) → b.aborted ≡ Some by_peer → TellsAbortAlone by_peer (Reply.Reassembly (reading b.aborted 65536 b))
+    told b none = subst (λ (o : Option Bool). TellsAbortAlone by_peer (Reply.Reassembly (reading o 65536 b))) (sym none) refl
 
     by : (s : Side) → (reassembly_of s six).aborted ≡ Some by_peer → TellsAbortAlone by_peer (reply_of six (app_ask Read (record a { side = s })))
     by A is = told six.reassembly_a is
@@ -111,7 +108,7 @@ app_told by_peer six a End is = tt
 
 -- such answers bring no byte
 nothing_came : (by_peer : Bool) (r : Reply) → TellsAbortAlone by_peer r → bytes_in r ≡ []
-nothing_came by_peer (replies.Reassembly (reassembly_replies.Bytes bytes)) told = absurd told
+nothing_came by_peer (Reply.Reassembly (ReassemblyReply.Bytes bytes)) told = absurd told
 nothing_came by_peer _ told = refl
 
 nothing_read : (by_peer : Bool) (steps : List Note) → All (λ n. TellsAbortAlone by_peer n.reply) steps → read_by steps ≡ []

@@ -20,7 +20,7 @@ use Rattle.path_segments.specs.declared.segment.PathMapping.TheVariants.{Bytes, 
 use Rattle.path_segments.specs.declared.segment.PathOption.TheVariants.{Dss}
 use Rattle.stream_lanes.specs.Words.{Every}
 use Rattle.stream_lanes.proofs.Lists.{Every-nil, in_map}
-use Rattle.path_core.specs.declared.events.Event.TheVariants as happenings
+use Rattle.path_core.specs.declared.events.Event.{Event}
 use Rattle.path_core.specs.Arrival.{expected_by, heard_in}
 use Rattle.path_core.specs.End.{PathEnd}
 use Rattle.path_core.specs.Events.{next_event}
@@ -72,7 +72,7 @@ module _ (c : Profile) (s : Side) (e : PathEnd) where
 
 -- ---- a path
 
-module _ (p : PathState Carried) (fresh : NextIsFresh p) (rights : Every (FlightIsRight p) p.link.under_way) (due : Due) (heard : HeardSegment) (next : next_event p ≡ Some (happenings.Arrives due)) where
+module _ (p : PathState Carried) (fresh : NextIsFresh p) (rights : Every (FlightIsRight p) p.link.under_way) (due : Due) (heard : HeardSegment) (next : next_event p ≡ Some (Event.Arrives due)) where
   abbrev side : Side
   side = peer due.to
 

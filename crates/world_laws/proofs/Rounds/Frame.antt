@@ -5,8 +5,8 @@ use Rattle.sides.specs.declared.side.Side.{Side}
 use Rattle.actor_desk.specs.declared.ask.Reply.{Reply}
 use Rattle.actor_desk.specs.Words.{is_nil, tail_of}
 use Rattle.path_agenda.specs.Agenda.{start_of_turn}
-use Rattle.path_agenda.specs.declared.duty.Duty.TheVariants as duties
-use Rattle.path_agenda.specs.declared.duty.AskDuty.TheVariants as ask_duties
+use Rattle.path_agenda.specs.declared.duty.Duty.{Duty}
+use Rattle.path_agenda.specs.declared.duty.AskDuty.{AskDuty}
 use Rattle.path_core.specs.Codec.{Codec}
 use Rattle.path_core.specs.Duties.{stands}
 use Rattle.path_core.specs.State.{PathState, with_agenda, path_of}
@@ -41,7 +41,7 @@ module _ {C : Type 0} where
 
   -- something is to be done when a round begins
   pub first_stands : (p : PathState C) → is_nil (begins_turn p).agenda ≡ false
-  first_stands p = by (stands (duties.Ask ask_duties.JoinAgain) q)
+  first_stands p = by (stands (Duty.Ask AskDuty.JoinAgain) q)
     where
       q : PathState C
       q = with_agenda start_of_turn p

@@ -5,15 +5,12 @@ use Rattle.std.proofs.lemmas.List.{append_assoc}
 use Rattle.std.proofs.lemmas.Option.{same_Some}
 use Rattle.sides.specs.declared.side.Side.{Side}
 use Rattle.sides.specs.declared.side.Side.TheVariants.{A, B}
-use Rattle.reassembly_book.specs.declared.call.ReassemblyCall.TheVariants as reassembly_calls
+use Rattle.reassembly_book.specs.declared.call.ReassemblyCall.{ReassemblyCall}
 use Rattle.reassembly_book.specs.declared.call.ReassemblyReply.{ReassemblyReply}
-use Rattle.reassembly_book.specs.declared.call.ReassemblyReply.TheVariants as reassembly_replies
 use Rattle.stream_lanes.specs.Words.{Every}
 use Rattle.actor_desk.specs.declared.ask.Ask.{Ask}
-use Rattle.actor_desk.specs.declared.ask.Ask.TheVariants as asks
 use Rattle.actor_desk.specs.declared.ask.Note.{Note}
 use Rattle.actor_desk.specs.declared.ask.Reply.{Reply}
-use Rattle.actor_desk.specs.declared.ask.Reply.TheVariants as replies
 use Rattle.actor_desk.specs.Books.{StampedBooks, books_in}
 use Rattle.actor_desk.specs.Kinds.{IsReassemblyKind}
 use Rattle.actor_desk.specs.Words.{is_nil}
@@ -40,7 +37,7 @@ pub record LastIsNone (notes : List Note) : Type 0 where
   pub earlier : List Note
   pub read : Note
   pub parts : notes ≡ earlier ++ read ∷ []
-  pub none : read.reply ≡ replies.Reassembly reassembly_replies.NoneYet
+  pub none : read.reply ≡ Reply.Reassembly ReassemblyReply.NoneYet
 
 pub data HasRead (a : AppState) (notes : List Note) : Type 0 where
   Told : a.told ≡ true → HasRead a notes
@@ -109,22 +106,22 @@ some_there [] some is = omega (arith, some)
 some_there (byte ∷ bytes) some is = cc
 
 -- after a reply that ends the reading
-read_ends : (a : AppState) (ds : List AppDuty) (notes : List Note) (n : Note) (max : ℕ) (r : ReassemblyReply) → n.reply ≡ replies.Reassembly r → IsReassemblyKind (reassembly_calls.Read max) r
-    → app_reads_on (bytes_in (replies.Reassembly r)) a ≡ false
-    → HasRead (record a { count = a.count + length (bytes_in (replies.Reassembly r)); told = a.told || ends_in (replies.Reassembly r); agenda = ds }) (notes ++ n ∷ [])
-read_ends a ds notes n max (reassembly_replies.Bytes bytes) is kind stops = HasRead.Enough (⊎_elim
+read_ends : (a : AppState) (ds : List AppDuty) (notes : List Note) (n : Note) (max : ℕ) (r : ReassemblyReply) → n.reply ≡ Reply.Reassembly r → IsReassemblyKind (ReassemblyCall.Read max) r
+    → app_reads_on (bytes_in (Reply.Reassembly r)) a ≡ false
+    → HasRead (record a { count = a.count + length (bytes_in (Reply.Reassembly r)); told = a.told || ends_in (Reply.Reassembly r); agenda = ds }) (notes ++ n ∷ [])
+read_ends a ds notes n max (ReassemblyReply.Bytes bytes) is kind stops = HasRead.Enough (⊎_elim
     (λ nil. absurd (some_there bytes kind.some nil))
     (λ full. ltb-false (a.count + length bytes) a.buffer full)
     (and_cases (not (is_nil bytes)) (nat_lt (a.count + length bytes) a.buffer) stops))
-read_ends a ds notes n max reassembly_replies.End is kind stops = HasRead.Told (or_true a.told)
-read_ends a ds notes n max (reassembly_replies.Aborted by_peer) is kind stops = HasRead.Told (or_true a.told)
-read_ends a ds notes n max reassembly_replies.NoneYet is kind stops = HasRead.Nothing (record { earlier = notes; read = n; parts = refl; none = is })
-read_ends a ds notes n max (reassembly_replies.Placed count) is kind stops = absurd kind
-read_ends a ds notes n max (reassembly_replies.Beyond edge) is kind stops = absurd kind
-read_ends a ds notes n max reassembly_replies.FinSet is kind stops = absurd kind
-read_ends a ds notes n max (reassembly_replies.FinClash fin at) is kind stops = absurd kind
-read_ends a ds notes n max (reassembly_replies.Ack next window) is kind stops = absurd kind
-read_ends a ds notes n max reassembly_replies.Noted is kind stops = absurd kind
+read_ends a ds notes n max ReassemblyReply.End is kind stops = HasRead.Told (or_true a.told)
+read_ends a ds notes n max (ReassemblyReply.Aborted by_peer) is kind stops = HasRead.Told (or_true a.told)
+read_ends a ds notes n max ReassemblyReply.NoneYet is kind stops = HasRead.Nothing (record { earlier = notes; read = n; parts = refl; none = is })
+read_ends a ds notes n max (ReassemblyReply.Placed count) is kind stops = absurd kind
+read_ends a ds notes n max (ReassemblyReply.Beyond edge) is kind stops = absurd kind
+read_ends a ds notes n max ReassemblyReply.FinSet is kind stops = absurd kind
+read_ends a ds notes n max (ReassemblyReply.FinClash fin at) is kind stops = absurd kind
+read_ends a ds notes n max (ReassemblyReply.Ack next window) is kind stops = absurd kind
+read_ends a ds notes n max ReassemblyReply.Noted is kind stops = absurd kind
 
 -- the turn's end is one step more
 ended : (a : AppState) (ds : List AppDuty) (notes : List Note) (n : Note) → HasRead a notes → IsReaderDone (record a { agenda = ds }) (notes ++ n ∷ [])
@@ -142,16 +139,16 @@ ended a ds notes n (HasRead.Nothing last) = IsReaderDone.Nothing (record {
 
 -- what a book answers to a read
 abbrev pub IsAnswered : AppDuty → Reply → Type 0
-IsAnswered Read r = (x : ReassemblyReply) × (r ≡ replies.Reassembly x) × IsReassemblyKind (reassembly_calls.Read 65536) x
+IsAnswered Read r = (x : ReassemblyReply) × (r ≡ Reply.Reassembly x) × IsReassemblyKind (ReassemblyCall.Read 65536) x
 IsAnswered _ r = Unit {0}
 
-read_ready : (ds : List AppDuty) (a : AppState) (notes : List Note) (n : Note) (x : ReassemblyReply) → n.reply ≡ replies.Reassembly x → IsReassemblyKind (reassembly_calls.Read 65536) x → ds ≡ End ∷ []
-    → (b : Bool) → app_reads_on (bytes_in (replies.Reassembly x)) a ≡ b
+read_ready : (ds : List AppDuty) (a : AppState) (notes : List Note) (n : Note) (x : ReassemblyReply) → n.reply ≡ Reply.Reassembly x → IsReassemblyKind (ReassemblyCall.Read 65536) x → ds ≡ End ∷ []
+    → (b : Bool) → app_reads_on (bytes_in (Reply.Reassembly x)) a ≡ b
     → Ready (if b then Read ∷ ds else ds)
-    (record a { count = a.count + length (bytes_in (replies.Reassembly x)); told = a.told || ends_in (replies.Reassembly x); agenda = (if b then Read ∷ ds else ds) }) (notes ++ n ∷ [])
+    (record a { count = a.count + length (bytes_in (Reply.Reassembly x)); told = a.told || ends_in (Reply.Reassembly x); agenda = (if b then Read ∷ ds else ds) }) (notes ++ n ∷ [])
 read_ready ds a notes n x is kind then_end true on = then_end
 read_ready ds a notes n x is kind then_end false on =
-    subst (λ xs. Ready xs (record a { count = a.count + length (bytes_in (replies.Reassembly x)); told = a.told || ends_in (replies.Reassembly x); agenda = ds }) (notes ++ n ∷ [])) (sym then_end)
+    subst (λ xs. Ready xs (record a { count = a.count + length (bytes_in (Reply.Reassembly x)); told = a.told || ends_in (Reply.Reassembly x); agenda = ds }) (notes ++ n ∷ [])) (sym then_end)
     (refl, read_ends a ds notes n 65536 x is kind on)
 
 answered_ready : (d : AppDuty) (ds : List AppDuty) (a : AppState) (notes : List Note) (n : Note) (r : Reply) → n.reply ≡ r → IsAnswered d r → Ready (d ∷ ds) (record a { agenda = d ∷ ds }) notes
@@ -164,7 +161,7 @@ answered_ready Close ds a notes n r is answer h = subst (λ xs. Ready xs (app_an
 answered_ready Read ds a notes n r is answer h =
     let x = answer.0 in
     subst (λ y. Ready (app_answered Read y (record a { agenda = Read ∷ ds })).agenda (app_answered Read y (record a { agenda = Read ∷ ds })) (notes ++ n ∷ [])) (sym answer.1)
-    (read_ready ds (record a { agenda = Read ∷ ds }) notes n x (is ∙ answer.1) answer.2 h (app_reads_on (bytes_in (replies.Reassembly x)) a) refl)
+    (read_ready ds (record a { agenda = Read ∷ ds }) notes n x (is ∙ answer.1) answer.2 h (app_reads_on (bytes_in (Reply.Reassembly x)) a) refl)
 answered_ready End ds a notes n r is answer h = ended (record a { agenda = End ∷ ds }) [] notes n h.1
 
 takes_ready : (a : AppState) (notes : List Note) (n : Note) (r : Reply) (ds : List AppDuty) → a.agenda ≡ ds → n.reply ≡ r
@@ -176,9 +173,9 @@ takes_ready a notes n r (d ∷ ds) agenda is answers x asks h =
     settled_ready m.agenda m (notes ++ n ∷ []) (answered_ready d ds a notes n r is (answers d ds refl) h)
 
 -- a book answers a read so
-read_answered : (books : StampedBooks) (s : Side) → IsAnswered Read (answer_to books (asks.Reassembly s (reassembly_calls.Read 65536)))
-read_answered books A = (_, refl, reassembly_kind (books_in books).reassembly_a (reassembly_calls.Read 65536))
-read_answered books B = (_, refl, reassembly_kind (books_in books).reassembly_b (reassembly_calls.Read 65536))
+read_answered : (books : StampedBooks) (s : Side) → IsAnswered Read (answer_to books (Ask.Reassembly s (ReassemblyCall.Read 65536)))
+read_answered books A = (_, refl, reassembly_kind (books_in books).reassembly_a (ReassemblyCall.Read 65536))
+read_answered books B = (_, refl, reassembly_kind (books_in books).reassembly_b (ReassemblyCall.Read 65536))
 
 duty_answered : (books : StampedBooks) (a : AppState) (d : AppDuty) → IsAnswered d (answer_to books (app_ask d a))
 duty_answered books a FastClose = tt

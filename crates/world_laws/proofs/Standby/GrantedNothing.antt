@@ -12,17 +12,14 @@ use Rattle.send_book.specs.Steps.{decision, reply_by}
 use Rattle.stream_lanes.proofs.Lists.{in_set, in_map}
 use Rattle.actor_desk.specs.declared.ask.Ask.{Ask}
 use Rattle.actor_desk.specs.declared.ask.Note.{Note}
-use Rattle.actor_desk.specs.declared.ask.Reply.TheVariants as replies
+use Rattle.actor_desk.specs.declared.ask.Reply.{Reply}
 use Rattle.actor_desk.specs.Desk.{SixBooks, reply_of}
 use Rattle.actor_desk.specs.Books.{books_in}
 use Rattle.stream_apps.specs.declared.duty.AppDuty.{AppDuty}
-use Rattle.stream_apps.specs.declared.duty.AppDuty.TheVariants as app_duties
 use Rattle.stream_apps.specs.Apps.{AppState}
 use Rattle.stream_apps.specs.AppSteps.{app_ask, app_asks_first}
 use Rattle.path_agenda.specs.declared.duty.Duty.{Duty}
-use Rattle.path_agenda.specs.declared.duty.Duty.TheVariants as duties
 use Rattle.path_agenda.specs.declared.duty.StepDuty.{StepDuty}
-use Rattle.path_agenda.specs.declared.duty.StepDuty.TheVariants as step_duties
 use Rattle.path_core.specs.Codec.{Codec}
 use Rattle.path_core.specs.Duties.{ask_for}
 use Rattle.path_core.specs.Emission.{first_unsent, data_ask, payload_size}
@@ -55,11 +52,11 @@ free_push s before (note ∷ notes) n h free = (h.0, free_push s (standby_after 
 -- ---- a grant
 
 -- a path that stands by gets none
-no_backup : (path max : ℕ) (standby : Bool) (b : Sending) → is_grant (replies.Send (reply_by (decision path max standby b) b)) ≡ true → standby ≡ false
+no_backup : (path max : ℕ) (standby : Bool) (b : Sending) → is_grant (Reply.Send (reply_by (decision path max standby b) b)) ≡ true → standby ≡ false
 no_backup path max false b grants = refl
 no_backup path max true b grants = by (b.aborted || (b.closed && (acked_len b.marks == length b.written))) grants
   where
-    by : (x : Bool) → is_grant (replies.Send (reply_by (if x then Err Ended else Err Backup) b)) ≡ true → true ≡ false
+    by : (x : Bool) → is_grant (Reply.Send (reply_by (if x then Err Ended else Err Backup) b)) ≡ true → true ≡ false
     by true grants = absurd (false≢true grants)
     by false grants = absurd (false≢true grants)
 
@@ -83,19 +80,19 @@ module _ {C : Type 0} (k : Codec C) (six : SixBooks) (p : PathState C) where
   other_free d other s = no_ask s (ask_for k d p) (ask_isn't s (ask_for k d p) (asks_none k p d other))
 
   duty_free : (d : Duty) (s : Side) → IsFree s (ask_for k d p)
-  duty_free (duties.Step step) s = by step
+  duty_free (Duty.Step step) s = by step
     where
-      by : (step : StepDuty) → IsFree s (ask_for k (duties.Step step) p)
-      by (step_duties.Data t) = data_free s t (first_unsent (end_at t p))
-      by (step_duties.Look t) = other_free (duties.Step (step_duties.Look t)) tt s
-      by step_duties.Events = other_free (duties.Step step_duties.Events) tt s
-      by (step_duties.Heard t index) = other_free (duties.Step (step_duties.Heard t index)) tt s
-      by (step_duties.PlainAck t) = other_free (duties.Step (step_duties.PlainAck t)) tt s
-      by (step_duties.Unmapped t) = other_free (duties.Step (step_duties.Unmapped t)) tt s
-  duty_free (duties.Ask ask) s = other_free (duties.Ask ask) tt s
-  duty_free (duties.Send send) s = other_free (duties.Send send) tt s
-  duty_free (duties.Silent silent) s = other_free (duties.Silent silent) tt s
-  duty_free duties.End s = other_free duties.End tt s
+      by : (step : StepDuty) → IsFree s (ask_for k (Duty.Step step) p)
+      by (StepDuty.Data t) = data_free s t (first_unsent (end_at t p))
+      by (StepDuty.Look t) = other_free (Duty.Step (StepDuty.Look t)) tt s
+      by StepDuty.Events = other_free (Duty.Step StepDuty.Events) tt s
+      by (StepDuty.Heard t index) = other_free (Duty.Step (StepDuty.Heard t index)) tt s
+      by (StepDuty.PlainAck t) = other_free (Duty.Step (StepDuty.PlainAck t)) tt s
+      by (StepDuty.Unmapped t) = other_free (Duty.Step (StepDuty.Unmapped t)) tt s
+  duty_free (Duty.Ask ask) s = other_free (Duty.Ask ask) tt s
+  duty_free (Duty.Send send) s = other_free (Duty.Send send) tt s
+  duty_free (Duty.Silent silent) s = other_free (Duty.Silent silent) tt s
+  duty_free Duty.End s = other_free Duty.End tt s
 
   ask_free : (x : Ask) → asks_of k p ≡ Some x → (s : Side) → IsFree s x
   ask_free x is s = by p.agenda refl
@@ -107,50 +104,50 @@ module _ {C : Type 0} (k : Codec C) (six : SixBooks) (p : PathState C) where
 -- ---- an application neither looks nor asks for a grant
 
 app_quiet : (d : AppDuty) (a : AppState) (s : Side) → (looks s (app_ask d a) ≡ false) × (asks_grant s (app_ask d a) ≡ false)
-app_quiet app_duties.Write a s = by a.side s
+app_quiet AppDuty.Write a s = by a.side s
   where
-    by : (q s : Side) → (looks s (app_ask app_duties.Write (record a { side = q })) ≡ false) × (asks_grant s (app_ask app_duties.Write (record a { side = q })) ≡ false)
+    by : (q s : Side) → (looks s (app_ask AppDuty.Write (record a { side = q })) ≡ false) × (asks_grant s (app_ask AppDuty.Write (record a { side = q })) ≡ false)
     by A A = (refl, refl)
     by A B = (refl, refl)
     by B A = (refl, refl)
     by B B = (refl, refl)
-app_quiet app_duties.Close a s = by a.side s
+app_quiet AppDuty.Close a s = by a.side s
   where
-    by : (q s : Side) → (looks s (app_ask app_duties.Close (record a { side = q })) ≡ false) × (asks_grant s (app_ask app_duties.Close (record a { side = q })) ≡ false)
+    by : (q s : Side) → (looks s (app_ask AppDuty.Close (record a { side = q })) ≡ false) × (asks_grant s (app_ask AppDuty.Close (record a { side = q })) ≡ false)
     by A A = (refl, refl)
     by A B = (refl, refl)
     by B A = (refl, refl)
     by B B = (refl, refl)
-app_quiet app_duties.Read a s = by a.side s
+app_quiet AppDuty.Read a s = by a.side s
   where
-    by : (q s : Side) → (looks s (app_ask app_duties.Read (record a { side = q })) ≡ false) × (asks_grant s (app_ask app_duties.Read (record a { side = q })) ≡ false)
+    by : (q s : Side) → (looks s (app_ask AppDuty.Read (record a { side = q })) ≡ false) × (asks_grant s (app_ask AppDuty.Read (record a { side = q })) ≡ false)
     by A A = (refl, refl)
     by A B = (refl, refl)
     by B A = (refl, refl)
     by B B = (refl, refl)
-app_quiet app_duties.FastClose a s = by a.side s
+app_quiet AppDuty.FastClose a s = by a.side s
   where
-    by : (q s : Side) → (looks s (app_ask app_duties.FastClose (record a { side = q })) ≡ false) × (asks_grant s (app_ask app_duties.FastClose (record a { side = q })) ≡ false)
+    by : (q s : Side) → (looks s (app_ask AppDuty.FastClose (record a { side = q })) ≡ false) × (asks_grant s (app_ask AppDuty.FastClose (record a { side = q })) ≡ false)
     by A A = (refl, refl)
     by A B = (refl, refl)
     by B A = (refl, refl)
     by B B = (refl, refl)
-app_quiet app_duties.AbortSend a s = by a.side s
+app_quiet AppDuty.AbortSend a s = by a.side s
   where
-    by : (q s : Side) → (looks s (app_ask app_duties.AbortSend (record a { side = q })) ≡ false) × (asks_grant s (app_ask app_duties.AbortSend (record a { side = q })) ≡ false)
+    by : (q s : Side) → (looks s (app_ask AppDuty.AbortSend (record a { side = q })) ≡ false) × (asks_grant s (app_ask AppDuty.AbortSend (record a { side = q })) ≡ false)
     by A A = (refl, refl)
     by A B = (refl, refl)
     by B A = (refl, refl)
     by B B = (refl, refl)
-app_quiet app_duties.AbortReceive a s = by a.side s
+app_quiet AppDuty.AbortReceive a s = by a.side s
   where
-    by : (q s : Side) → (looks s (app_ask app_duties.AbortReceive (record a { side = q })) ≡ false) × (asks_grant s (app_ask app_duties.AbortReceive (record a { side = q })) ≡ false)
+    by : (q s : Side) → (looks s (app_ask AppDuty.AbortReceive (record a { side = q })) ≡ false) × (asks_grant s (app_ask AppDuty.AbortReceive (record a { side = q })) ≡ false)
     by A A = (refl, refl)
     by A B = (refl, refl)
     by B A = (refl, refl)
     by B B = (refl, refl)
-app_quiet app_duties.End a A = (refl, refl)
-app_quiet app_duties.End a B = (refl, refl)
+app_quiet AppDuty.End a A = (refl, refl)
+app_quiet AppDuty.End a B = (refl, refl)
 
 -- ---- an actor and its list
 

@@ -13,7 +13,6 @@ use Rattle.control_book.specs.Replies as controlling
 use Rattle.control_book.specs.Steps as control
 use Rattle.stream_lanes.specs.Words.{Every}
 use Rattle.actor_desk.specs.declared.ask.Ask.{Ask}
-use Rattle.actor_desk.specs.declared.ask.Ask.TheVariants as asks
 use Rattle.actor_desk.specs.declared.ask.Note.{Note}
 use Rattle.actor_desk.specs.Journals.{is_local, above, in_order, send_note, reassembly_note, control_note}
 use Rattle.path_core.specs.Codec.{Codec}
@@ -104,10 +103,10 @@ of_book make number each entries n there =
     let found = in_mapped make entries n there in ap (λ m. book_of_ask m.ask) (sym found.2) ∙ each found.0
 
 not_local : (ask : Ask) (number : ℕ) → book_of_ask ask ≡ number → number < 6 → is_local ask ≡ false
-not_local (asks.Send s call) number is small = refl
-not_local (asks.Reassembly s call) number is small = refl
-not_local (asks.Control s call) number is small = refl
-not_local (asks.Local step) number is small = absurd (omega (arith, is, small))
+not_local (Ask.Send s call) number is small = refl
+not_local (Ask.Reassembly s call) number is small = refl
+not_local (Ask.Control s call) number is small = refl
+not_local (Ask.Local step) number is small = absurd (omega (arith, is, small))
 
 module _ {C : Type 0} where
   -- ---- what an actor gained

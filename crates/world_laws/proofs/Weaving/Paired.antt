@@ -9,7 +9,6 @@ use Rattle.stamped_book.specs.declared.stamped.Pass.{Pass}
 use Rattle.stream_lanes.specs.Words.{From}
 use Rattle.stream_lanes.proofs.Lists.{Every-nil, Every-map, Every-push, From-put, in_map}
 use Rattle.actor_desk.specs.declared.ask.Ask.{Ask}
-use Rattle.actor_desk.specs.declared.ask.Ask.TheVariants as asks
 use Rattle.actor_desk.specs.declared.ask.Note.{Note}
 use Rattle.actor_desk.specs.Journals.{is_local, send_note, reassembly_note, control_note, ArePaired}
 use Rattle.path_core.specs.Codec.{Codec}
@@ -33,25 +32,25 @@ grown_journal f journal entry n is = map-append f journal (entry ∷ []) ∙ ap 
 -- it is at a book, or at none
 pub grown_journals : (pass : Pass) (ask : Ask) (books : StampedBooks) → is_local ask ≡ false
     → Grown (note_of books pass ask) (journals_of books) (journals_of (after_entry ask pass books))
-grown_journals pass (asks.Send A call) books at = grown_here _ _ _ _ (grown_journal (send_note A) books.send_a.journal _ _ refl)
-grown_journals pass (asks.Send B call) books at = grown_later _ _ _ _ (grown_here _ _ _ _ (grown_journal (send_note B) books.send_b.journal _ _ refl))
-grown_journals pass (asks.Reassembly A call) books at =
+grown_journals pass (Ask.Send A call) books at = grown_here _ _ _ _ (grown_journal (send_note A) books.send_a.journal _ _ refl)
+grown_journals pass (Ask.Send B call) books at = grown_later _ _ _ _ (grown_here _ _ _ _ (grown_journal (send_note B) books.send_b.journal _ _ refl))
+grown_journals pass (Ask.Reassembly A call) books at =
     grown_later _ _ _ _ (grown_later _ _ _ _ (grown_here _ _ _ _ (grown_journal (reassembly_note A) books.reassembly_a.journal _ _ refl)))
-grown_journals pass (asks.Reassembly B call) books at =
+grown_journals pass (Ask.Reassembly B call) books at =
     grown_later _ _ _ _ (grown_later _ _ _ _ (grown_later _ _ _ _ (grown_here _ _ _ _ (grown_journal (reassembly_note B) books.reassembly_b.journal _ _ refl))))
-grown_journals pass (asks.Control A call) books at =
+grown_journals pass (Ask.Control A call) books at =
     grown_later _ _ _ _ (grown_later _ _ _ _ (grown_later _ _ _ _ (grown_later _ _ _ _
     (grown_here _ _ _ _ (grown_journal (control_note A) books.control_a.journal _ _ refl)))))
-grown_journals pass (asks.Control B call) books at =
+grown_journals pass (Ask.Control B call) books at =
     grown_later _ _ _ _ (grown_later _ _ _ _ (grown_later _ _ _ _ (grown_later _ _ _ _ (grown_later _ _ _ _
     (grown_here _ _ _ _ (grown_journal (control_note B) books.control_b.journal _ _ refl))))))
-grown_journals pass (asks.Local step) books at = cc
+grown_journals pass (Ask.Local step) books at = cc
 
 same_journals : (pass : Pass) (ask : Ask) (books : StampedBooks) → is_local ask ≡ true → after_entry ask pass books ≡ books
-same_journals pass (asks.Send s call) books at = cc
-same_journals pass (asks.Reassembly s call) books at = cc
-same_journals pass (asks.Control s call) books at = cc
-same_journals pass (asks.Local step) books at = refl
+same_journals pass (Ask.Send s call) books at = cc
+same_journals pass (Ask.Reassembly s call) books at = cc
+same_journals pass (Ask.Control s call) books at = cc
+same_journals pass (Ask.Local step) books at = refl
 
 -- each entry has a stamp above 0
 journals_above : (books : StampedBooks) → BooksAreStamped books → (n : Note) → Occurs n (journals_of books) → 0 < n.stamp

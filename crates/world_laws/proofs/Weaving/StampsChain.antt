@@ -8,7 +8,6 @@ use Rattle.stamped_book.specs.declared.stamped.Pass.{Pass}
 use Rattle.stamped_book.specs.Journal.{last_stamp}
 use Rattle.stream_lanes.specs.Words.{Every}
 use Rattle.actor_desk.specs.declared.ask.Ask.{Ask}
-use Rattle.actor_desk.specs.declared.ask.Ask.TheVariants as asks
 use Rattle.actor_desk.specs.declared.ask.Note.{Note}
 use Rattle.actor_desk.specs.Journals.{is_local, AreChained}
 use Rattle.world_laws.specs.Fine.{NotesRise, last_noted, AreStamped, BooksAreStamped, IsChainedAbove}
@@ -18,16 +17,16 @@ use Rattle.world_laws.proofs.Weaving.Occurring.{In}
 -- ---- the stamp of a step
 
 pub stamp_rises : (books : StampedBooks) (pass : Pass) (ask : Ask) → pass.stamp < stamp_of ask books pass
-stamp_rises books pass (asks.Send s call) = omega arith
-stamp_rises books pass (asks.Reassembly s call) = omega arith
-stamp_rises books pass (asks.Control s call) = omega arith
-stamp_rises books pass (asks.Local step) = omega arith
+stamp_rises books pass (Ask.Send s call) = omega arith
+stamp_rises books pass (Ask.Reassembly s call) = omega arith
+stamp_rises books pass (Ask.Control s call) = omega arith
+stamp_rises books pass (Ask.Local step) = omega arith
 
 pub local_stamp : (books : StampedBooks) (pass : Pass) (ask : Ask) → is_local ask ≡ true → stamp_of ask books pass ≡ pass.stamp + 1
-local_stamp books pass (asks.Send s call) is = cc
-local_stamp books pass (asks.Reassembly s call) is = cc
-local_stamp books pass (asks.Control s call) is = cc
-local_stamp books pass (asks.Local step) is = refl
+local_stamp books pass (Ask.Send s call) is = cc
+local_stamp books pass (Ask.Reassembly s call) is = cc
+local_stamp books pass (Ask.Control s call) is = cc
+local_stamp books pass (Ask.Local step) is = refl
 
 -- ---- lists
 
@@ -104,7 +103,7 @@ module _ {C R : Type 0} where
   entries_above f same last (entry ∷ entries) n stamped (inr there) = entries_above f same entry.stamp entries n stamped.1 there
 
 pub stamped_more : (pass : Pass) (ask : Ask) (books : StampedBooks) → BooksAreStamped books → BooksAreStamped (after_entry ask pass books)
-stamped_more pass (asks.Send A call) books h = record {
+stamped_more pass (Ask.Send A call) books h = record {
   send_a = AreStamped-more 0 books.send_a.journal _ h.send_a refl;
   send_b = h.send_b;
   reassembly_a = h.reassembly_a;
@@ -112,7 +111,7 @@ stamped_more pass (asks.Send A call) books h = record {
   control_a = h.control_a;
   control_b = h.control_b;
 }
-stamped_more pass (asks.Send B call) books h = record {
+stamped_more pass (Ask.Send B call) books h = record {
   send_a = h.send_a;
   send_b = AreStamped-more 0 books.send_b.journal _ h.send_b refl;
   reassembly_a = h.reassembly_a;
@@ -120,7 +119,7 @@ stamped_more pass (asks.Send B call) books h = record {
   control_a = h.control_a;
   control_b = h.control_b;
 }
-stamped_more pass (asks.Reassembly A call) books h = record {
+stamped_more pass (Ask.Reassembly A call) books h = record {
   send_a = h.send_a;
   send_b = h.send_b;
   reassembly_a = AreStamped-more 0 books.reassembly_a.journal _ h.reassembly_a refl;
@@ -128,7 +127,7 @@ stamped_more pass (asks.Reassembly A call) books h = record {
   control_a = h.control_a;
   control_b = h.control_b;
 }
-stamped_more pass (asks.Reassembly B call) books h = record {
+stamped_more pass (Ask.Reassembly B call) books h = record {
   send_a = h.send_a;
   send_b = h.send_b;
   reassembly_a = h.reassembly_a;
@@ -136,7 +135,7 @@ stamped_more pass (asks.Reassembly B call) books h = record {
   control_a = h.control_a;
   control_b = h.control_b;
 }
-stamped_more pass (asks.Control A call) books h = record {
+stamped_more pass (Ask.Control A call) books h = record {
   send_a = h.send_a;
   send_b = h.send_b;
   reassembly_a = h.reassembly_a;
@@ -144,7 +143,7 @@ stamped_more pass (asks.Control A call) books h = record {
   control_a = AreStamped-more 0 books.control_a.journal _ h.control_a refl;
   control_b = h.control_b;
 }
-stamped_more pass (asks.Control B call) books h = record {
+stamped_more pass (Ask.Control B call) books h = record {
   send_a = h.send_a;
   send_b = h.send_b;
   reassembly_a = h.reassembly_a;
@@ -152,4 +151,4 @@ stamped_more pass (asks.Control B call) books h = record {
   control_a = h.control_a;
   control_b = AreStamped-more 0 books.control_b.journal _ h.control_b refl;
 }
-stamped_more pass (asks.Local step) books h = h
+stamped_more pass (Ask.Local step) books h = h

@@ -16,9 +16,8 @@ use Rattle.control_book.specs.Steps as control
 use Rattle.stream_lanes.specs.Words.{Every}
 use Rattle.stream_lanes.proofs.Lists.{Every-nil, Every-push, in_set}
 use Rattle.actor_desk.specs.declared.ask.Ask.{Ask}
-use Rattle.actor_desk.specs.declared.ask.Ask.TheVariants as asks
 use Rattle.actor_desk.specs.declared.ask.Note.{Note}
-use Rattle.actor_desk.specs.declared.ask.Reply.TheVariants as replies
+use Rattle.actor_desk.specs.declared.ask.Reply.{Reply}
 use Rattle.actor_desk.specs.Books.{StampedBooks, after_entry}
 use Rattle.actor_desk.specs.Journals.{is_local}
 use Rattle.path_core.specs.Codec.{Codec}
@@ -78,7 +77,7 @@ same_books top books = record {
 }
 
 books_more : (top : ℕ) (old new : StampedBooks) (pass : Pass) (ask : Ask) → top ≤ pass.stamp → BooksGrew top old new → BooksGrew top old (after_entry ask pass new)
-books_more top old new pass (asks.Send A call) known h = record {
+books_more top old new pass (Ask.Send A call) known h = record {
   send_a = grew_more sending.reply_to sending.after_call top old.send_a new.send_a pass call known h.send_a;
   send_b = h.send_b;
   reassembly_a = h.reassembly_a;
@@ -86,7 +85,7 @@ books_more top old new pass (asks.Send A call) known h = record {
   control_a = h.control_a;
   control_b = h.control_b;
 }
-books_more top old new pass (asks.Send B call) known h = record {
+books_more top old new pass (Ask.Send B call) known h = record {
   send_b = grew_more sending.reply_to sending.after_call top old.send_b new.send_b pass call known h.send_b;
   send_a = h.send_a;
   reassembly_a = h.reassembly_a;
@@ -94,7 +93,7 @@ books_more top old new pass (asks.Send B call) known h = record {
   control_a = h.control_a;
   control_b = h.control_b;
 }
-books_more top old new pass (asks.Reassembly A call) known h = record {
+books_more top old new pass (Ask.Reassembly A call) known h = record {
   reassembly_a = grew_more arriving.reply_to arriving.after_call top old.reassembly_a new.reassembly_a pass call known h.reassembly_a;
   send_a = h.send_a;
   send_b = h.send_b;
@@ -102,7 +101,7 @@ books_more top old new pass (asks.Reassembly A call) known h = record {
   control_a = h.control_a;
   control_b = h.control_b;
 }
-books_more top old new pass (asks.Reassembly B call) known h = record {
+books_more top old new pass (Ask.Reassembly B call) known h = record {
   reassembly_b = grew_more arriving.reply_to arriving.after_call top old.reassembly_b new.reassembly_b pass call known h.reassembly_b;
   send_a = h.send_a;
   send_b = h.send_b;
@@ -110,7 +109,7 @@ books_more top old new pass (asks.Reassembly B call) known h = record {
   control_a = h.control_a;
   control_b = h.control_b;
 }
-books_more top old new pass (asks.Control A call) known h = record {
+books_more top old new pass (Ask.Control A call) known h = record {
   control_a = grew_more controlling.reply_to control.after top old.control_a new.control_a pass call known h.control_a;
   send_a = h.send_a;
   send_b = h.send_b;
@@ -118,7 +117,7 @@ books_more top old new pass (asks.Control A call) known h = record {
   reassembly_b = h.reassembly_b;
   control_b = h.control_b;
 }
-books_more top old new pass (asks.Control B call) known h = record {
+books_more top old new pass (Ask.Control B call) known h = record {
   control_b = grew_more controlling.reply_to control.after top old.control_b new.control_b pass call known h.control_b;
   send_a = h.send_a;
   send_b = h.send_b;
@@ -126,13 +125,13 @@ books_more top old new pass (asks.Control B call) known h = record {
   reassembly_b = h.reassembly_b;
   control_a = h.control_a;
 }
-books_more top old new pass (asks.Local step) known h = h
+books_more top old new pass (Ask.Local step) known h = h
 
-no_answer : (books : StampedBooks) (ask : Ask) → is_local ask ≡ true → answer_to books ask ≡ replies.Done
-no_answer books (asks.Send s call) is = cc
-no_answer books (asks.Reassembly s call) is = cc
-no_answer books (asks.Control s call) is = cc
-no_answer books (asks.Local step) is = refl
+no_answer : (books : StampedBooks) (ask : Ask) → is_local ask ≡ true → answer_to books ask ≡ Reply.Done
+no_answer books (Ask.Send s call) is = cc
+no_answer books (Ask.Reassembly s call) is = cc
+no_answer books (Ask.Control s call) is = cc
+no_answer books (Ask.Local step) is = refl
 
 module _ {C : Type 0} where
   -- ---- an actor

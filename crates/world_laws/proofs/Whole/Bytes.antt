@@ -11,7 +11,6 @@ use Rattle.subflow_send.specs.Rules as sending
 use Rattle.subflow_tcp.specs.Emitting.{after_sending}
 use Rattle.subflow_tcp.specs.State.{EndState}
 use Rattle.subflow_tcp.specs.declared.segments.Occasion.{Occasion}
-use Rattle.subflow_tcp.specs.declared.segments.Occasion.TheVariants as to_send
 use Rattle.stream_lanes.specs.Words.{Every}
 use Rattle.stream_lanes.proofs.Lists.{Every-push}
 use Rattle.world_laws.proofs.Lanes.Records.{every_first, every_rest, unsent_sent_kept, first_sent_kept, fin_sent_kept, expired_kept, uncovered_kept}
@@ -164,14 +163,14 @@ module _ (v : SendState) where
       by false = remains_self v
 
 pub sent_remains : (o : Occasion) (now : ℕ) (s : EndState) → Remains s.send (after_sending o now s).send
-sent_remains to_send.SynAck now s = by (s.send.una == 0)
+sent_remains Occasion.SynAck now s = by (s.send.una == 0)
   where
     by : (b : Bool) → Remains s.send (if b then sending.after_resent now s.send else s.send)
     by true = resent_remains s.send now
     by false = remains_self s.send
-sent_remains to_send.First now s = resent_remains s.send now
-sent_remains to_send.Unsent now s = record { nxt = refl; records = unsent_sent_kept (IsOld s.send) (marked s.send) now s.send.records (old_all s.send) }
-sent_remains to_send.Fin now s = fin_sent_remains s.send now
+sent_remains Occasion.First now s = resent_remains s.send now
+sent_remains Occasion.Unsent now s = record { nxt = refl; records = unsent_sent_kept (IsOld s.send) (marked s.send) now s.send.records (old_all s.send) }
+sent_remains Occasion.Fin now s = fin_sent_remains s.send now
 sent_remains _ now s = remains_self s.send
 
 -- ---- what is pushed

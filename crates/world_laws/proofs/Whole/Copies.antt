@@ -24,7 +24,6 @@ use Rattle.subflow_tcp.specs.States.{is_opening}
 use Rattle.actor_desk.specs.Words.{is_nil}
 use Rattle.path_agenda.specs.Items.{key_heard}
 use Rattle.path_agenda.specs.declared.notice.OwnNotice.{OwnNotice}
-use Rattle.path_agenda.specs.declared.notice.OwnNotice.TheVariants as notes
 use Rattle.path_store.specs.declared.infinite_mapping.InfiniteMapping.{InfiniteMapping}
 use Rattle.path_core.specs.DssIn.{HeardOption}
 use Rattle.path_core.specs.Arrival.{position_in, acknowledged_in}
@@ -194,10 +193,10 @@ module _ (c : Profile) (s : Side) (e : PathEnd) (vs vt : SendState) (first : is_
 
   pub noted_is : (o : Option OwnNotice) → Speaks s e → Says (noted_said c s o e)
   noted_is None speaks = ack_is e.tcp.send.nxt None speaks
-  noted_is (Some (notes.AddAddr id)) speaks = dss_is (notice_option (notes.AddAddr id) e.modes ∷ []) refl
-  noted_is (Some (notes.AddEcho id address port)) speaks = dss_is (notice_option (notes.AddEcho id address port) e.modes ∷ []) refl
-  noted_is (Some (notes.Removes id)) speaks = dss_is (notice_option (notes.Removes id) e.modes ∷ []) refl
-  noted_is (Some (notes.Prio backup)) speaks = dss_is (notice_option (notes.Prio backup) e.modes ∷ []) refl
+  noted_is (Some (OwnNotice.AddAddr id)) speaks = dss_is (notice_option (OwnNotice.AddAddr id) e.modes ∷ []) refl
+  noted_is (Some (OwnNotice.AddEcho id address port)) speaks = dss_is (notice_option (OwnNotice.AddEcho id address port) e.modes ∷ []) refl
+  noted_is (Some (OwnNotice.Removes id)) speaks = dss_is (notice_option (OwnNotice.Removes id) e.modes ∷ []) refl
+  noted_is (Some (OwnNotice.Prio backup)) speaks = dss_is (notice_option (OwnNotice.Prio backup) e.modes ∷ []) refl
 
   pub carried_is : (o : Option ℕ) → Speaks s e → Says (carried_said c s o e)
   carried_is None speaks = ack_is e.tcp.send.nxt None speaks

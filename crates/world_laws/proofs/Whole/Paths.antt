@@ -18,9 +18,8 @@ use Rattle.subflow_send.specs.Records.{SendState}
 use Rattle.stream_lanes.specs.Words.{Every}
 use Rattle.path_agenda.specs.Agenda.{heard_and}
 use Rattle.path_agenda.specs.declared.duty.Duty.{Duty}
-use Rattle.path_agenda.specs.declared.duty.Duty.TheVariants as duties
-use Rattle.path_agenda.specs.declared.duty.AskDuty.TheVariants as ask_duties
-use Rattle.path_agenda.specs.declared.duty.SendDuty.TheVariants as send_duties
+use Rattle.path_agenda.specs.declared.duty.AskDuty.{AskDuty}
+use Rattle.path_agenda.specs.declared.duty.SendDuty.{SendDuty}
 use Rattle.path_core.specs.End.{PathEnd}
 use Rattle.path_core.specs.Handover.{sent_on}
 use Rattle.path_core.specs.MpJoin.{is_joined}
@@ -57,14 +56,14 @@ is_nobody (Mark.SaidBy s) = false
 is_nobody Mark.Never = true
 
 abbrev pub is_marked : Mark → Duty → Bool
-is_marked x (duties.Send (send_duties.SynAck t)) = is_by x t
-is_marked x (duties.Send (send_duties.Answer t)) = is_by x t
-is_marked x (duties.Send (send_duties.Resend t)) = is_by x t
-is_marked x (duties.Send (send_duties.Again t)) = is_by x t
-is_marked x (duties.Send (send_duties.Acknowledge t)) = is_by x t
-is_marked x (duties.Ask (ask_duties.PlainHandshake t)) = is_handshake x t
-is_marked x (duties.Ask (ask_duties.PeerKey t)) = is_nobody x
-is_marked x (duties.Ask (ask_duties.JoinHeard t)) = is_nobody x
+is_marked x (Duty.Send (SendDuty.SynAck t)) = is_by x t
+is_marked x (Duty.Send (SendDuty.Answer t)) = is_by x t
+is_marked x (Duty.Send (SendDuty.Resend t)) = is_by x t
+is_marked x (Duty.Send (SendDuty.Again t)) = is_by x t
+is_marked x (Duty.Send (SendDuty.Acknowledge t)) = is_by x t
+is_marked x (Duty.Ask (AskDuty.PlainHandshake t)) = is_handshake x t
+is_marked x (Duty.Ask (AskDuty.PeerKey t)) = is_nobody x
+is_marked x (Duty.Ask (AskDuty.JoinHeard t)) = is_nobody x
 is_marked x _ = false
 
 abbrev pub marks : Mark → List Duty → Bool
