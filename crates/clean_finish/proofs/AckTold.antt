@@ -41,10 +41,7 @@ tells_edge : (least : ℕ) (s : Side) (window : ℕ) (t : Telling) (b : Brings) 
 tells_edge least s window t OpensSubflow e f is = absurd (both_ways _ e refl)
 tells_edge least s window t ShowsKeys e f is = absurd (both_ways _ f refl)
 tells_edge least s window t (FirstPiece octets) e f is = absurd (both_ways _ f refl)
-tells_edge least s window t (Piece octets) e f is = (is.0, few (one_dss s) is.2)
-tells_edge least s window t Acknowledges e f is = (is.0, few (one_dss s) is.2)
-tells_edge least s window t (EndsStream place) e f is = (is.0, few (one_dss s) is.2)
-tells_edge least s window t EndsSubflow e f is = (is.0, few (one_dss s) is.2)
+tells_edge least s window t _ e f is = (is.0, few (one_dss s) is.2)
 
 more : {x y : ℕ} (z : ℕ) → x ≤ y → x ≤ max y z
 more z less = omega (arith, less)

@@ -245,18 +245,13 @@ module _ (start : Start) (plan : PathPlan) (k j : Setting) (s v : Lane) (t0 u0 :
         send_answered (SendDuty.Fin B) ds on h = fin_b start plan k j s v t0 u0 going going_back a b books p ds k_is j_is on h
         send_answered (SendDuty.SynAck A) ds on h = absurd (not_b h.treats.0.side)
         send_answered (SendDuty.SynAck B) ds on h = answers_syn_ack start plan k j s v t0 u0 going going_back a b books p ds k_is j_is h
-        send_answered (SendDuty.Refuse q) ds on h = absurd (both_ways _ refl h.treats.3)
         send_answered (SendDuty.Acknowledge A) ds on h = answers_acknowledge_a start plan k j s v t0 u0 going going_back a b books p k_is j_is ds on h
         send_answered (SendDuty.Acknowledge B) ds on h = answers_acknowledge_b start plan k j s v t0 u0 going going_back a b books p k_is j_is ds on h
         send_answered (SendDuty.Again A) ds on h = absurd (both_ways _ (again_waits p.a.tcp.due (has_records p.a.tcp) h.faces.owes h.faces.own.subflow.due) on)
         send_answered (SendDuty.Again B) ds on h = absurd (both_ways _ (again_waits p.b.tcp.due (has_records p.b.tcp) h.faces.owes_back h.faces.other.subflow.due) on)
-        send_answered (SendDuty.Answer q) ds on h = absurd (both_ways _ refl h.treats.3)
-        send_answered (SendDuty.ResetAnswer q) ds on h = absurd (both_ways _ refl h.treats.3)
-        send_answered (SendDuty.Resend q) ds on h = absurd (both_ways _ refl h.treats.3)
-        send_answered (SendDuty.BreakReset q reason) ds on h = absurd (both_ways _ refl h.treats.3)
-        send_answered (SendDuty.Reset q) ds on h = absurd (both_ways _ refl h.treats.3)
         send_answered (SendDuty.ResetNoted A) ds on h = absurd (both_ways _ (no_reset p.a h.faces.own.notices) on)
         send_answered (SendDuty.ResetNoted B) ds on h = absurd (both_ways _ (no_reset p.b h.faces.other.notices) on)
+        send_answered _ ds on h = absurd (both_ways _ refl h.treats.3)
 
         pub duty_answered : (d : Duty) (ds : List Duty) → Answered d ds
         duty_answered (Duty.Ask d) ds on h = ask_answered d ds on h

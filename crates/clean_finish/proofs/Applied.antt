@@ -42,52 +42,34 @@ use Rattle.clean_finish.proofs.Whole.{read_whole}
 
 from_write : (es ds : List AppDuty) → IsAppTurn es → es ≡ Write ∷ ds → es ≡ Write ∷ Close ∷ Read ∷ End ∷ []
 from_write _ ds Begun e = refl
-from_write _ ds Written e = cc
-from_write _ ds Closed e = cc
-from_write _ ds ReadAll e = cc
-from_write _ ds Ended e = cc
+from_write _ ds _ e = cc
 
 from_close : (es ds : List AppDuty) → IsAppTurn es → es ≡ Close ∷ ds → es ≡ Close ∷ Read ∷ End ∷ []
-from_close _ ds Begun e = cc
 from_close _ ds Written e = refl
-from_close _ ds Closed e = cc
-from_close _ ds ReadAll e = cc
-from_close _ ds Ended e = cc
+from_close _ ds _ e = cc
 
 from_read : (es ds : List AppDuty) → IsAppTurn es → es ≡ Read ∷ ds → es ≡ Read ∷ End ∷ []
-from_read _ ds Begun e = cc
-from_read _ ds Written e = cc
 from_read _ ds Closed e = refl
-from_read _ ds ReadAll e = cc
-from_read _ ds Ended e = cc
+from_read _ ds _ e = cc
 
 -- no turn stops the connection
 abbrev is_stop : AppDuty → Bool
 is_stop FastClose = true
 is_stop AbortSend = true
 is_stop AbortReceive = true
-is_stop Write = false
-is_stop Close = false
-is_stop Read = false
-is_stop End = false
+is_stop _ = false
 
 abbrev first_stops : List AppDuty → Bool
 first_stops [] = false
 first_stops (d ∷ ds) = is_stop d
 
 no_stop : (es : List AppDuty) (d : AppDuty) (ds : List AppDuty) → IsAppTurn es → es ≡ d ∷ ds → is_stop d ≡ true → ⊥
-no_stop _ d ds Begun e stops = both_ways (is_stop d) (sym (ap first_stops e)) stops
-no_stop _ d ds Written e stops = both_ways (is_stop d) (sym (ap first_stops e)) stops
-no_stop _ d ds Closed e stops = both_ways (is_stop d) (sym (ap first_stops e)) stops
-no_stop _ d ds ReadAll e stops = both_ways (is_stop d) (sym (ap first_stops e)) stops
 no_stop _ d ds Ended e stops = cc
+no_stop _ d ds _ e stops = both_ways (is_stop d) (sym (ap first_stops e)) stops
 
 from_end : (es ds : List AppDuty) → IsAppTurn es → es ≡ End ∷ ds → es ≡ End ∷ []
-from_end _ ds Begun e = cc
-from_end _ ds Written e = cc
-from_end _ ds Closed e = cc
 from_end _ ds ReadAll e = refl
-from_end _ ds Ended e = cc
+from_end _ ds _ e = cc
 
 some_left : (xs : List ℕ) → not (is_nil xs) ≡ true → 1 ≤ length xs
 some_left [] e = cc

@@ -91,20 +91,15 @@ control_some : (control keys control_then keys_then : ℕ) (b : Brings) → is_o
 control_some control keys control_then keys_then OpensSubflow e is = absurd (both_ways _ e refl)
 control_some control keys control_then keys_then ShowsKeys e is = some_one is.1
 control_some control keys control_then keys_then (FirstPiece octets) e is = some_one is.1
-control_some control keys control_then keys_then (Piece octets) e is = some_same is.0 is.1
-control_some control keys control_then keys_then Acknowledges e is = some_same is.0 is.1
-control_some control keys control_then keys_then (EndsStream place) e is = some_same is.0 is.1
 control_some control keys control_then keys_then EndsSubflow e is = some_two is.1
+control_some control keys control_then keys_then _ e is = some_same is.0 is.1
 
 -- all but A's SYN acknowledge a SYN
 tells_seen : (least : ℕ) (s : Side) (window : ℕ) (t : Telling) (b : Brings) → is_opening b ≡ false → TellsAs least s window t b → 1 ≤ t.seen
 tells_seen least s window t OpensSubflow e is = absurd (both_ways _ e refl)
 tells_seen least s window t ShowsKeys e is = some_one is.2
 tells_seen least s window t (FirstPiece octets) e is = some_one is.2
-tells_seen least s window t (Piece octets) e is = is.1
-tells_seen least s window t Acknowledges e is = is.1
-tells_seen least s window t (EndsStream place) e is = is.1
-tells_seen least s window t EndsSubflow e is = is.1
+tells_seen least s window t _ e is = is.1
 
 -- it stands at the edge of what came
 at_edge : (x : Sent) (received control keys : ℕ) → is_opening x.brings ≡ false → x.low ≡ received → CountsAs control keys x.control x.keys x.brings
@@ -124,10 +119,8 @@ at_edge x received control keys opens low counts = by x.brings opens counts
     by OpensSubflow e is = absurd (both_ways _ e refl)
     by ShowsKeys e is = let o = one_of is.0 is.1 in next low o.0 o.1
     by (FirstPiece octets) e is = let o = one_of is.0 is.1 in next low o.0 o.1
-    by (Piece octets) e is = next low is.1 is.0
-    by Acknowledges e is = next low is.1 is.0
-    by (EndsStream place) e is = next low is.1 is.0
     by EndsSubflow e is = fin low is.0 is.1
+    by _ e is = next low is.1 is.0
 
 -- with keys that never came before, and what acknowledges no SYN
 module _ {s : Side} {keys : Keys} {k j : Setting} {c : Profile} {begun begun_back : Lane} {m n : Half} {clock until : ℕ} (ticks t u : ℕ)
@@ -266,9 +259,7 @@ module _ {s : Side} {keys : Keys} {k j : Setting} {c : Profile} {begun begun_bac
                 key_sent = (lane_back.under_way.datas_are (copy_in x) (subst (λ (cs : List Copy). In (copy_in x) cs)
                     (sym (w.datas_are ∙ ap (λ (ys : List Sent). map copy_in ys) sent)) (inl refl))).2
     no_keys_again (Piece octets) is again empty e = refl
-    no_keys_again Acknowledges is again empty e = refl
-    no_keys_again (EndsStream place) is again empty e = refl
-    no_keys_again EndsSubflow is again empty e = refl
+    no_keys_again _ is again empty e = refl
 
     pub unsent : m.end.tcp.state ≡ State.SynReceived → m.end.tcp.send.finished ≡ false
     unsent is = h.own.subflow.records.finished ∙ by (cases_lt 1 h.out.control_sent)
@@ -487,13 +478,9 @@ module _ {s : Side} {keys : Keys} {k j : Setting} {c : Profile} {begun begun_bac
                     same p q r = omega (arith, p, q, r)
 
                     one_edge : (b : Brings) → shows_keys b ≡ true → is_third b ≡ false → BringsAs j.total x.low x.edge b → x.edge ≡ 1
-                    one_edge OpensSubflow e f is = absurd (both_ways false refl e)
                     one_edge ShowsKeys e f is = is
                     one_edge (FirstPiece octets) e f is = is.0
-                    one_edge (Piece octets) e f is = absurd (both_ways false refl e)
-                    one_edge Acknowledges e f is = absurd (both_ways false refl e)
-                    one_edge (EndsStream place) e f is = absurd (both_ways false refl e)
-                    one_edge EndsSubflow e f is = absurd (both_ways false refl e)
+                    one_edge _ e f is = absurd (both_ways false refl e)
 
         -- where a SYN or FIN is acknowledged for the first time, something new is
         rests_before : h.out.control_acked < x.telling.seen → (if fresh h x told answer then None else h.out.timer) ≡ None

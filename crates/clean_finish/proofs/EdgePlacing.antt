@@ -55,26 +55,18 @@ record IsOfBytes (b : Brings) : Type 0 where
   fins : fin_in b ≡ []
 
 of_bytes : (b : Brings) → 1 ≤ length (octets_of b) → IsOfBytes b
-of_bytes OpensSubflow some = absurd (omega (arith, some))
-of_bytes ShowsKeys some = absurd (omega (arith, some))
 of_bytes (FirstPiece octets) some = record { news = refl; fin = refl; owed = refl; ends = refl; fins = refl }
 of_bytes (Bytes octets) some = record { news = refl; fin = refl; owed = refl; ends = refl; fins = refl }
-of_bytes Acknowledges some = absurd (omega (arith, some))
-of_bytes (EndsStream place) some = absurd (omega (arith, some))
-of_bytes EndsSubflow some = absurd (omega (arith, some))
+of_bytes _ some = absurd (omega (arith, some))
 
 one_of : {x : ℕ} → x ≡ 1 → 1 ≤ x
 one_of is = omega (arith, is)
 
 pub same_counts : (control keys control_then keys_then : ℕ) (b : Brings) → 1 ≤ length (octets_of b) → CountsAs control keys control_then keys_then b
     → (1 ≤ control) × (control_then ≡ control) × (keys_then ≡ keys)
-same_counts control keys control_then keys_then OpensSubflow some is = absurd (omega (arith, some))
-same_counts control keys control_then keys_then ShowsKeys some is = absurd (omega (arith, some))
 same_counts control keys control_then keys_then (FirstPiece octets) some is = (one_of is.0, is.1 ∙ sym is.0, is.2 ∙ sym is.4)
 same_counts control keys control_then keys_then (Bytes octets) some is = (is.0, is.1, is.2)
-same_counts control keys control_then keys_then Acknowledges some is = absurd (omega (arith, some))
-same_counts control keys control_then keys_then (EndsStream place) some is = absurd (omega (arith, some))
-same_counts control keys control_then keys_then EndsSubflow some is = absurd (omega (arith, some))
+same_counts control keys control_then keys_then _ some is = absurd (omega (arith, some))
 
 pub kept_some : {X : Type 0} (octets : List ℕ) (y : X) → 1 ≤ length octets → (if is_nil octets then [] else y ∷ []) ≡ y ∷ []
 kept_some octets y some = ap (λ (b : Bool). if b then [] else y ∷ []) (some_nil octets some)

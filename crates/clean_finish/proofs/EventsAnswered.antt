@@ -33,12 +33,7 @@ use Rattle.clean_finish.proofs.Turned.{from_a}
 
 opening_is : (b : Brings) → is_opening b ≡ true → b ≡ OpensSubflow
 opening_is OpensSubflow e = refl
-opening_is ShowsKeys e = absurd (both_ways _ refl e)
-opening_is (FirstPiece octets) e = absurd (both_ways _ refl e)
-opening_is (Piece octets) e = absurd (both_ways _ refl e)
-opening_is Acknowledges e = absurd (both_ways _ refl e)
-opening_is (EndsStream place) e = absurd (both_ways _ refl e)
-opening_is EndsSubflow e = absurd (both_ways _ refl e)
+opening_is _ e = absurd (both_ways _ refl e)
 
 abbrev to_a : Flight Carried → Flight Carried
 to_a f = record f { to = A }

@@ -29,13 +29,9 @@ IsFirst b = (octets : List ℕ) × (b ≡ FirstPiece octets)
 
 -- the keys are shown by the third segment, or with the first bytes
 shown_by : (b : Brings) → shows_keys b ≡ true → (b ≡ ShowsKeys) ⊎ IsFirst b
-shown_by OpensSubflow e = absurd (both_ways false refl e)
 shown_by ShowsKeys e = inl refl
 shown_by (FirstPiece octets) e = inr (octets, refl)
-shown_by (Piece octets) e = absurd (both_ways false refl e)
-shown_by Acknowledges e = absurd (both_ways false refl e)
-shown_by (EndsStream place) e = absurd (both_ways false refl e)
-shown_by EndsSubflow e = absurd (both_ways false refl e)
+shown_by _ e = absurd (both_ways false refl e)
 
 module _ (start : Start) (plan : PathPlan) (k j : Setting) (s v : Lane) (t0 u0 : ℕ)
     (going : Going k s t0 all_left s) (going_back : Going j v u0 all_left v)

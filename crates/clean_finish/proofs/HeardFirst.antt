@@ -53,13 +53,8 @@ dss_passes : (o : Option Heard) (e : PathEnd) → o ≡ Some Heard.Dss → item_
 dss_passes o e is = ap (λ (y : Option Heard). item_stands y e) is
 
 pub third_only : (k : Brings) → is_third k ≡ true → k ≡ ShowsKeys
-third_only OpensSubflow e = absurd (both_ways false refl e)
 third_only ShowsKeys e = refl
-third_only (FirstPiece octets) e = absurd (both_ways false refl e)
-third_only (Piece octets) e = absurd (both_ways false refl e)
-third_only Acknowledges e = absurd (both_ways false refl e)
-third_only (EndsStream place) e = absurd (both_ways false refl e)
-third_only EndsSubflow e = absurd (both_ways false refl e)
+third_only _ e = absurd (both_ways false refl e)
 
 -- what opens by none of its things
 unopened : (e : PathEnd) → e.treated.opened ≡ false → (is_opened_by_keys e || is_opened_plainly e) ≡ false

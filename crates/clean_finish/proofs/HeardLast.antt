@@ -97,22 +97,16 @@ module _ (start : Start) (plan : PathPlan) (k j : Setting) (s v : Lane) (t0 u0 :
           last_a : (what : Brings) → TreatsCopy A keys AfterTwo (shows_keys what) what (own_bench h.faces) → count_in what ≡ 3
               → Beside A (own_bench h.faces) (other_bench h.faces) ds (payload_came A) → let o = item_of 2 p.a in Relation (after_ask (item_ask values A o q_a) books) (answered_item values A o (reply_of books (item_ask values A o q_a)) q_a)
           last_a OpensSubflow f last beside = absurd (both_ways _ f.kind refl)
-          last_a ShowsKeys f last beside = absurd (omega (arith, last))
-          last_a (FirstPiece octets) f last beside = absurd (omega (arith, last))
           last_a (Piece octets) f last beside = told_a octets f beside
-          last_a Acknowledges f last beside = absurd (omega (arith, last))
           last_a (EndsStream place) f last beside = ends_a place f beside
-          last_a EndsSubflow f last beside = absurd (omega (arith, last))
+          last_a _ f last beside = absurd (omega (arith, last))
 
           last_passed_a : (what : Brings) → TreatsCopy A keys AfterTwo (shows_keys what) what (own_bench h.faces) → count_in what ≡ 3
               → Beside A (own_bench h.faces) (other_bench h.faces) ds (payload_came A) → Relation books (with_agenda ds (with_end A (item_passed A (item_of 2 p.a) p.a) p))
           last_passed_a OpensSubflow f last beside = absurd (both_ways _ f.kind refl)
-          last_passed_a ShowsKeys f last beside = absurd (omega (arith, last))
-          last_passed_a (FirstPiece octets) f last beside = absurd (omega (arith, last))
           last_passed_a (Piece octets) f last beside = passed_a octets f beside
-          last_passed_a Acknowledges f last beside = absurd (omega (arith, last))
           last_passed_a (EndsStream place) f last beside = end_passes_a place f beside
-          last_passed_a EndsSubflow f last beside = absurd (omega (arith, last))
+          last_passed_a _ f last beside = absurd (omega (arith, last))
 
         pub answers_last_a : (ds : List Duty) → item_stands (item_of 2 p.a) p.a ≡ true → Relation books (with_agenda (Duty.Step (StepDuty.Heard A 2) ∷ ds) p)
             → let q = with_agenda (Duty.Step (StepDuty.Heard A 2) ∷ ds) p in let o = item_of 2 p.a in let ask = item_ask values A o q in
@@ -184,22 +178,16 @@ module _ (start : Start) (plan : PathPlan) (k j : Setting) (s v : Lane) (t0 u0 :
           last_b : (what : Brings) → TreatsCopy B keys AfterTwo (shows_keys what) what (other_bench h.faces) → count_in what ≡ 3
               → Beside B (own_bench h.faces) (other_bench h.faces) ds (payload_came B) → let o = item_of 2 p.b in Relation (after_ask (item_ask values B o q_b) books) (answered_item values B o (reply_of books (item_ask values B o q_b)) q_b)
           last_b OpensSubflow f last beside = absurd (both_ways _ f.kind refl)
-          last_b ShowsKeys f last beside = absurd (omega (arith, last))
-          last_b (FirstPiece octets) f last beside = absurd (omega (arith, last))
           last_b (Piece octets) f last beside = told_b octets f beside
-          last_b Acknowledges f last beside = absurd (omega (arith, last))
           last_b (EndsStream place) f last beside = ends_b place f beside
-          last_b EndsSubflow f last beside = absurd (omega (arith, last))
+          last_b _ f last beside = absurd (omega (arith, last))
 
           last_passed_b : (what : Brings) → TreatsCopy B keys AfterTwo (shows_keys what) what (other_bench h.faces) → count_in what ≡ 3
               → Beside B (own_bench h.faces) (other_bench h.faces) ds (payload_came B) → Relation books (with_agenda ds (with_end B (item_passed B (item_of 2 p.b) p.b) p))
           last_passed_b OpensSubflow f last beside = absurd (both_ways _ f.kind refl)
-          last_passed_b ShowsKeys f last beside = absurd (omega (arith, last))
-          last_passed_b (FirstPiece octets) f last beside = absurd (omega (arith, last))
           last_passed_b (Piece octets) f last beside = passed_b octets f beside
-          last_passed_b Acknowledges f last beside = absurd (omega (arith, last))
           last_passed_b (EndsStream place) f last beside = end_passes_b place f beside
-          last_passed_b EndsSubflow f last beside = absurd (omega (arith, last))
+          last_passed_b _ f last beside = absurd (omega (arith, last))
 
         pub answers_last_b : (ds : List Duty) → item_stands (item_of 2 p.b) p.b ≡ true → Relation books (with_agenda (Duty.Step (StepDuty.Heard B 2) ∷ ds) p)
             → let q = with_agenda (Duty.Step (StepDuty.Heard B 2) ∷ ds) p in let o = item_of 2 p.b in let ask = item_ask values B o q in

@@ -45,19 +45,13 @@ pub dss_first : (keys : Keys) (next window : ℕ) (k : Brings) → is_opening k 
 dss_first keys next window OpensSubflow e f = absurd (both_ways _ e refl)
 dss_first keys next window ShowsKeys e f = absurd (both_ways _ f refl)
 dss_first keys next window (FirstPiece octets) e f = absurd (both_ways _ f refl)
-dss_first keys next window (Piece octets) e f = refl
-dss_first keys next window Acknowledges e f = refl
-dss_first keys next window (EndsStream place) e f = refl
-dss_first keys next window EndsSubflow e f = refl
+dss_first keys next window _ e f = refl
 
 pub ack_second : (keys : Keys) (next window : ℕ) (k : Brings) → is_opening k ≡ false → shows_keys k ≡ false → item_at 1 (heard_by keys next window k) ≡ Some (Heard.DataAck next window)
 ack_second keys next window OpensSubflow e f = absurd (both_ways _ e refl)
 ack_second keys next window ShowsKeys e f = absurd (both_ways _ f refl)
 ack_second keys next window (FirstPiece octets) e f = absurd (both_ways _ f refl)
-ack_second keys next window (Piece octets) e f = refl
-ack_second keys next window Acknowledges e f = refl
-ack_second keys next window (EndsStream place) e f = refl
-ack_second keys next window EndsSubflow e f = refl
+ack_second keys next window _ e f = refl
 
 -- ---- without bytes no mapping is learned
 

@@ -266,22 +266,14 @@ module _ (q : Side) (keys : Keys) (x : Bench) where
 -- no FIN is passed before bytes
 fin_none : (b : Brings) (at : Option ℕ) (came received edge : ℕ) → 1 ≤ length (octets_of b) → came ≤ 1
     → at ≡ (if is_subflow_end b then Some edge else (if nat_lt 1 came then Some (received + 1) else None)) → at ≡ None
-fin_none OpensSubflow at came received edge some less is = absurd (omega (arith, some))
-fin_none ShowsKeys at came received edge some less is = absurd (omega (arith, some))
 fin_none (FirstPiece octets) at came received edge some less is = is ∙ ap (λ (y : Bool). if y then Some (received + 1) else None) (le-ltb 1 came less)
 fin_none (Piece octets) at came received edge some less is = is ∙ ap (λ (y : Bool). if y then Some (received + 1) else None) (le-ltb 1 came less)
-fin_none Acknowledges at came received edge some less is = absurd (omega (arith, some))
-fin_none (EndsStream place) at came received edge some less is = absurd (omega (arith, some))
-fin_none EndsSubflow at came received edge some less is = absurd (omega (arith, some))
+fin_none _ at came received edge some less is = absurd (omega (arith, some))
 
 of_news : (b : Brings) → 1 ≤ length (octets_of b) → is_news b ≡ true
-of_news OpensSubflow some = refl
 of_news ShowsKeys some = absurd (omega (arith, some))
-of_news (FirstPiece octets) some = refl
-of_news (Piece octets) some = refl
 of_news Acknowledges some = absurd (omega (arith, some))
-of_news (EndsStream place) some = refl
-of_news EndsSubflow some = refl
+of_news _ some = refl
 
 -- an end that may use the DSS says so
 pub clear_is : (n : ℕ) (b : Bool) → n ≡ one_if b → 1 ≤ n → b ≡ true

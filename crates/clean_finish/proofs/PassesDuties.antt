@@ -165,17 +165,11 @@ module _ (start : Start) (plan : PathPlan) (k j : Setting) (s v : Lane) (t0 u0 :
         send_passes (SendDuty.DataFin A) ds off h = passes_end_a start plan k j s v t0 u0 going going_back a b books p ds k_is j_is off h
         send_passes (SendDuty.DataFin B) ds off h = passes_end_b start plan k j s v t0 u0 going going_back a b books p ds k_is j_is off h
         send_passes (SendDuty.Fin q) ds off h = passes_fin start plan k j s v t0 u0 going going_back a b books p ds k_is j_is q h
-        send_passes (SendDuty.SynAck q) ds off h = always off
-        send_passes (SendDuty.Refuse q) ds off h = always off
         send_passes (SendDuty.Acknowledge A) ds off h = passes_acknowledge_a start plan k j s v t0 u0 going going_back a b books p k_is j_is ds off h
         send_passes (SendDuty.Acknowledge B) ds off h = passes_acknowledge_b start plan k j s v t0 u0 going going_back a b books p k_is j_is ds off h
         send_passes (SendDuty.Again q) ds off h = passes_again start plan k j s v t0 u0 going going_back a b books p ds k_is j_is q h
-        send_passes (SendDuty.Answer q) ds off h = always off
-        send_passes (SendDuty.ResetAnswer q) ds off h = always off
-        send_passes (SendDuty.Resend q) ds off h = always off
-        send_passes (SendDuty.BreakReset q reason) ds off h = always off
-        send_passes (SendDuty.Reset q) ds off h = always off
         send_passes (SendDuty.ResetNoted q) ds off h = passes_reset_noted start plan k j s v t0 u0 going going_back a b books p ds k_is j_is q h
+        send_passes _ ds off h = always off
 
         -- ---- duties that are silent
 

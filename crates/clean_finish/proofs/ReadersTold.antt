@@ -52,11 +52,7 @@ reads b none =
 module _ (six : SixBooks) (a : AppState) (notes : List Note) (n : Note) (none : (reassembly_of a.side six).aborted ≡ None) (h : TellsAs a notes) where
   duty_tells : (d : AppDuty) → n.reply ≡ reply_of six (app_ask d a) → TellsAs (app_answered d (reply_of six (app_ask d a)) a) (notes ++ n ∷ [])
   duty_tells FastClose is = quiet a _ notes n refl (ap tells_end is) (ap tells_abort is) h
-  duty_tells AbortSend is = quiet a _ notes n refl (ap tells_end is) (ap tells_abort is) h
-  duty_tells AbortReceive is = quiet a _ notes n refl (ap tells_end is) (ap tells_abort is) h
-  duty_tells Write is = quiet a _ notes n refl (ap tells_end is) (ap tells_abort is) h
-  duty_tells Close is = quiet a _ notes n refl (ap tells_end is) (ap tells_abort is) h
-  duty_tells End is = quiet a _ notes n refl (ap tells_end is) (ap tells_abort is) h
+  duty_tells _ is = quiet a _ notes n refl (ap tells_end is) (ap tells_abort is) h
   duty_tells Read is =
       let r = reply_of six (app_ask Read a) in
       let read = reads (reassembly_of a.side six) none in

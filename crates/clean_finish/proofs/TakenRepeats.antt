@@ -28,13 +28,10 @@ empty_nil [] e = refl
 empty_nil (octet ∷ octets) e = absurd (both_ways _ refl e)
 
 not_solid : (b : Brings) → is_empty (octets_of b) ≡ true → not (is_subflow_end b) ≡ true → is_solid b ≡ false
-not_solid OpensSubflow e f = refl
-not_solid ShowsKeys e f = refl
 not_solid (FirstPiece octets) e f = rw (empty_nil octets e) refl
 not_solid (Piece octets) e f = rw (empty_nil octets e) refl
-not_solid Acknowledges e f = refl
-not_solid (EndsStream place) e f = refl
 not_solid EndsSubflow e f = absurd (both_ways false refl f)
+not_solid _ e f = refl
 
 -- ---- what it tells, where it has a Data ACK
 

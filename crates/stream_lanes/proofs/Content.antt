@@ -85,19 +85,14 @@ call_writes place byte (WriteBytes bytes) s is = written_if place byte (s.closed
 call_writes place byte CloseBook s is = written_if place byte s.aborted s _ is is
 call_writes place byte (Grant path max standby) s is = given_writes place byte path (decision path max standby s) s is
 call_writes place byte (AckIn next window) s is = written_if place byte (is_future next s) s _ is is
-call_writes place byte (ReturnBytes path) s is = is
-call_writes place byte GoIdentityBook s is = is
 call_writes place byte (GoInfiniteBook path) s is = written_if place byte (is_gathered path s) _ s is is
-call_writes place byte AbortBook s is = is
+call_writes place byte _ s is = is
 
 module _ (f : Flags) (d : Direction) (place byte : ℕ) (is : Written d.send place byte) where
   asks_write : (path : ℕ) (a : Ask) (p : Lane) → Written (asks path a p d).send place byte
-  asks_write path Nothing p = is
   asks_write path (AskGrant max standby) p = call_writes place byte (Grant path max standby) d.send is
   asks_write path (AskAckIn next window) p = call_writes place byte (AckIn next window) d.send is
-  asks_write path (AskPlace at bytes) p = is
-  asks_write path (AskFin at) p = is
-  asks_write path AskAckOut p = is
+  asks_write path _ p = is
 
   asks_at_write : (path : ℕ) (o : Option Lane) → Written (asks_at path o d).send place byte
   asks_at_write path None = is
@@ -189,12 +184,9 @@ module _ (f : Flags) (d : Direction) (place byte : ℕ) (size : length d.reader.
   fin_if false at = is
 
   asks_place : (path : ℕ) (a : Ask) (p : Lane) → PlacedIn (asks path a p d) place byte
-  asks_place path Nothing p = is
-  asks_place path (AskGrant max standby) p = is
-  asks_place path (AskAckIn next window) p = is
   asks_place path (AskPlace at bytes) p = place_if (is_taken at bytes d.arrived) at bytes
   asks_place path (AskFin at) p = fin_if (is_some (fin_clash d.arrived.known_end at d.arrived)) at
-  asks_place path AskAckOut p = is
+  asks_place path _ p = is
 
   asks_at_place : (path : ℕ) (o : Option Lane) → PlacedIn (asks_at path o d) place byte
   asks_at_place path None = is
@@ -233,13 +225,9 @@ module _ (f : Flags) (d : Direction) (place byte : ℕ) (size : length d.reader.
   after_places (Read max) = reads_place max (is_done d.reader)
   after_places (Moves path move) = moves_place path move (slice_get d.lanes path)
   after_places (Asks path) = asks_at_place path (slice_get d.lanes path)
-  after_places (AbortRead by_peer) = is
-  after_places (Write bytes) = is
-  after_places Close = is
-  after_places (Return path) = is
   after_places GoIdentity = identity_places f.sender
   after_places (GoInfinite path pos) = infinite_places path pos (slice_get d.lanes path)
-  after_places AbortSend = is
+  after_places _ = is
 
 -- over every list of events
 stays_ab : (events : List Event) (w : Duo) (place byte : ℕ) → Holds w → Written w.ab.send place byte → PlacedIn w.ab place byte

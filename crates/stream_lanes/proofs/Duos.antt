@@ -207,15 +207,12 @@ stays_if m true n o at_true at_false = at_true
 stays_if m false n o at_true at_false = at_false
 
 event_stays : (event : Event) (w : Duo) → LinkStays w.modes (after_event event w).modes
-event_stays (ToB event) w = record { alters = refl; checked = refl }
-event_stays (ToA event) w = record { alters = refl; checked = refl }
 event_stays FallA w = stays_if w.modes w.modes.begun w.modes _ (record { alters = refl; checked = refl }) (record { alters = refl; checked = refl })
 event_stays FallB w = stays_if w.modes w.modes.answered w.modes _ (record { alters = refl; checked = refl }) (record { alters = refl; checked = refl })
-event_stays LoosenA w = record { alters = refl; checked = refl }
-event_stays LoosenB w = record { alters = refl; checked = refl }
 event_stays BeginJoin w = stays_if w.modes w.modes.plain_a w.modes _ (record { alters = refl; checked = refl }) (record { alters = refl; checked = refl })
 event_stays SendJoin w = stays_if w.modes w.modes.begun _ w.modes (record { alters = refl; checked = refl }) (record { alters = refl; checked = refl })
 event_stays HearJoin w = stays_if w.modes (w.modes.join_sent && not w.modes.plain_b) _ w.modes (record { alters = refl; checked = refl }) (record { alters = refl; checked = refl })
+event_stays _ w = record { alters = refl; checked = refl }
 
 pub link_stays : (events : List Event) (w : Duo) → ((after_events events w).modes.alters ≡ w.modes.alters) × ((after_events events w).modes.checked ≡ w.modes.checked)
 link_stays [] w = (refl, refl)

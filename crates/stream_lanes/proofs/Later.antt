@@ -204,12 +204,10 @@ module _ {Q : ℕ → Type 0} {v u : View} (l : Later Q v u) where
   }
 
   pub ask_later : (sent : List Cell) (opened : Bool) (edge : ℕ) (asking : Ask) → AskHolds v sent opened edge asking → AskHolds u sent opened edge asking
-  ask_later sent opened edge Nothing h = h
-  ask_later sent opened edge (AskGrant max standby) h = h
   ask_later sent opened edge (AskAckIn next window) h = ack_later next window h
   ask_later sent opened edge (AskPlace at bytes) h = place_later sent edge at bytes h
   ask_later sent opened edge (AskFin at) h = l.end at h
-  ask_later sent opened edge AskAckOut h = h
+  ask_later sent opened edge _ h = h
 
   -- one lemma for every step of another actor
   pub lane_later : (path : ℕ) (p : Lane) → Q path → ((n : ℕ) → AreNew n v.marks → v.received ≤ n) → LaneHolds v path p → LaneHolds u path p

@@ -79,12 +79,8 @@ module _ (v : View) (path : ℕ) where
   }) h
     where
       opened_ask : (a : Ask) → AskHolds v p.sent p.opened p.edge a → AskHolds v p.sent true p.edge a
-      opened_ask Nothing fits = fits
       opened_ask (AskGrant max standby) fits = (refl, fits.1)
-      opened_ask (AskAckIn next window) fits = fits
-      opened_ask (AskPlace at bytes) fits = fits
-      opened_ask (AskFin at) fits = fits
-      opened_ask AskAckOut fits = fits
+      opened_ask _ fits = fits
 
   pub look_at_sender_held : (f : Flags) (p : Lane) → FlagsFit f v → LaneHolds v path p → LaneHolds v path (record p { sender_plain = f.sender })
   look_at_sender_held f p flags h = record {

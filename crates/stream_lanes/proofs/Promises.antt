@@ -202,13 +202,7 @@ any_event_is_one_step alters checked paths buffer capacity events event =
     at : (w : Duo) → Holds w → EachEventIsOneStep w
     at w h (ToB event) = (event_moves (flags_ab w.modes) w.ab h.ab event, stays refl)
     at w h (ToA event) = (stays refl, event_moves (flags_ba w.modes) w.ba h.ba event)
-    at w h FallA = (stays refl, stays refl)
-    at w h FallB = (stays refl, stays refl)
-    at w h LoosenA = (stays refl, stays refl)
-    at w h LoosenB = (stays refl, stays refl)
-    at w h BeginJoin = (stays refl, stays refl)
-    at w h SendJoin = (stays refl, stays refl)
-    at w h HearJoin = (stays refl, stays refl)
+    at w h _ = (stays refl, stays refl)
 
 pub each_event_is_one_step : Always EachEventIsOneStep
 each_event_is_one_step paths buffer capacity events event = any_event_is_one_step false false paths buffer capacity events event

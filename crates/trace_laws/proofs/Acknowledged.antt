@@ -124,9 +124,7 @@ ack_send pos now t = by (ack_kind pos t.send)
   where
     by : (kind : AckKind) → (after_ack_kind kind (sample_of pos t.send) now (record t { send = after_acknowledge pos t.send })).send ≡ after_acknowledge pos t.send
     by (AckKind.New octets) = refl
-    by AckKind.Duplicate = refl
-    by AckKind.Old = refl
-    by AckKind.Future = refl
+    by _ = refl
 
 ack_may : (pos now : ℕ) (t : EndState) → states.may_finish (after_acknowledgement pos now t).state ≡ true → states.may_finish t.state ≡ true
 ack_may pos now t = by (ack_kind pos t.send)
@@ -140,9 +138,7 @@ ack_may pos now t = by (ack_kind pos t.send)
 
     by : (kind : AckKind) → states.may_finish (after_ack_kind kind (sample_of pos t.send) now u).state ≡ true → states.may_finish t.state ≡ true
     by (AckKind.New octets) is = fin (is_fin_acked u.send) is
-    by AckKind.Duplicate is = is
-    by AckKind.Old is = is
-    by AckKind.Future is = is
+    by _ is = is
 
 -- it is one of the SYN, or the SYN was acknowledged before
 acknowledgement_acks : (pos now : ℕ) (t : EndState) → (states.may_finish t.state ≡ true → (1 ≤ t.send.una) ⊎ ((1 ≤ pos) × (pos ≤ t.send.nxt))) → Acks (after_acknowledgement pos now t)
@@ -298,12 +294,8 @@ arrival_acks Meaning.Unwanted hint now c t fits h = h
 arrival_acks Meaning.Opens hint now c t fits h = λ may. absurd (false≢true may)
 arrival_acks (Meaning.Accepts acknowledged) hint now c t fits h =
     acknowledgement_acks acknowledged now (record (after_hearing (after_payload 1 hint c t)) { state = EndPhase.Established }) (λ may. inr fits)
-arrival_acks Meaning.RepeatedSyn hint now c t fits h = h
-arrival_acks Meaning.Outside hint now c t fits h = h
 arrival_acks Meaning.Kills hint now c t fits h = λ may. absurd (false≢true may)
-arrival_acks Meaning.Challenged hint now c t fits h = h
-arrival_acks Meaning.Unacknowledging hint now c t fits h = h
-arrival_acks Meaning.Ahead hint now c t fits h = h
+arrival_acks _ hint now c t fits h = h
 arrival_acks (Meaning.Taken pos acknowledged) hint now c t fits h =
     let u : EndState = after_established (after_hearing (after_payload pos hint c t)) in
     row_acks _ _ c (after_acknowledgement acknowledged now u)
@@ -397,13 +389,8 @@ module _ {C : Type 0} where
       by : (b : Bool) → Acks (if b then with_data_fin place (end_at s p) else end_at s p).tcp
       by true = same_goes s (with_data_fin place (end_at s p)) p refl refl h
       by false = ack_at s p h
-  item_goes s (Some (Heard.InfiniteMapping place position)) p h = ack_at s p h
-  item_goes s (Some (Heard.PeerKey key)) p h = ack_at s p h
-  item_goes s (Some (Heard.Keys own other)) p h = ack_at s p h
-  item_goes s (Some (Heard.Join form)) p h = ack_at s p h
-  item_goes s (Some (Heard.Notice notice)) p h = ack_at s p h
   item_goes s (Some Heard.Fail) p h = ack_at s p h
-  item_goes s (Some (Heard.FastClose key)) p h = ack_at s p h
+  item_goes s _ p h = ack_at s p h
 
   edge_goes : (s : Side) (checksums : Bool) (o : Option KeptMapping) (p : PathState C) → BothAck p → Acks (forgotten_by checksums o (end_at s p)).tcp
   edge_goes s checksums None p h = ack_at s p h
@@ -542,12 +529,10 @@ module _ {C : Type 0} where
     heard_answered s (Heard.InfiniteMapping place position) r p h =
         infinite_came_so (λ e. BothAck (goes_on s e (fell_duties s r p) p)) place position r (end_at s p) (λ other. same_on s (infinite_so r other (end_at s p)) (fell_duties s r p) p refl refl h)
     heard_answered s (Heard.Keys mine other) r p h = keys_acks s r (Some (record { own = mine; peer = other })) p h
-    heard_answered s Heard.Dss r p h = agenda_acks (left p) p h
-    heard_answered s (Heard.PeerKey key) r p h = agenda_acks (left p) p h
-    heard_answered s (Heard.Join form) r p h = agenda_acks (left p) p h
     heard_answered s (Heard.Notice notice) r p h = same_on s (after_peer_notice notice r (end_at s p)) (left p) p refl refl h
     heard_answered s Heard.Fail r p h = fail_answered_so BothAck s r p (same_on s (with_infinite r (end_at s p)) _ p refl refl h) (told_acks s (FallEvent.FailHeard false) r p h)
     heard_answered s (Heard.FastClose key) r p h = agenda_acks (if is_stopped_by r then stops s else left p) p h
+    heard_answered s _ r p h = agenda_acks (left p) p h
 
     item_answered : (s : Side) (o : Option Heard) (r : Reply) (p : PathState C) → BothAck p → BothAck (answered_item k s o r p)
     item_answered s None r p h = agenda_acks (left p) p h
@@ -602,14 +587,8 @@ module _ {C : Type 0} where
         resent false = ack_at s p h
 
         by : (o : Occasion) → Acks (after_sending o p.clock tcp)
-        by Occasion.Reset = ack_at s p h
-        by Occasion.Answer = ack_at s p h
         by Occasion.SynAck = resent (tcp.send.una == 0)
-        by Occasion.Ack = ack_at s p h
-        by Occasion.Probe = ack_at s p h
-        by Occasion.First = ack_at s p h
-        by Occasion.Unsent = ack_at s p h
-        by Occasion.Fin = ack_at s p h
+        by _ = ack_at s p h
 
     answered_acks : (d : Duty) (r : Reply) (p : PathState C) → BothAck p → BothAck (answered k d r p)
     answered_acks (Duty.Ask AskDuty.JoinAgain) r p h = begun_acks r (replaced (Duty.Ask (AskDuty.Leave A)) p.agenda) (left p) p h

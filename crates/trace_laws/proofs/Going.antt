@@ -88,12 +88,7 @@ call_asks : (s : Side) (path : ℕ) (c : SendCall) → is_asked_by path c ≡ tr
 call_asks s path (SendCall.Grant asker most standby) is =
     record { most = most; standby = standby; is = ap (λ (n : ℕ). Ask.Send s (SendCall.Grant n most standby)) (eqb-true asker path is) }
 call_asks s path (SendCall.Write bytes) is = absurd (false≢true is)
-call_asks s path SendCall.Close is = absurd (false≢true is)
-call_asks s path (SendCall.AckIn next window) is = absurd (false≢true is)
-call_asks s path (SendCall.Return asker) is = absurd (false≢true is)
-call_asks s path SendCall.GoIdentity is = absurd (false≢true is)
-call_asks s path (SendCall.GoInfinite asker) is = absurd (false≢true is)
-call_asks s path SendCall.Abort is = absurd (false≢true is)
+call_asks s path _ is = absurd (false≢true is)
 
 ask_asks : (s : Side) (path : ℕ) (ask : Ask) → asks_for s path ask ≡ true → AsksBytes s path ask
 ask_asks A path (Ask.Send A c) is = call_asks A path c is
@@ -110,12 +105,7 @@ ask_asks B path (Ask.Local step) is = absurd (false≢true is)
 -- no application asks for bytes
 app_asks_none : (d : AppDuty) (a : AppState) (s : Side) (path most : ℕ) (standby : Bool) → app_ask d a ≡ Ask.Send s (SendCall.Grant path most standby) → ⊥
 app_asks_none AppDuty.FastClose a s path most standby is = cc
-app_asks_none AppDuty.AbortSend a s path most standby is = cc
-app_asks_none AppDuty.AbortReceive a s path most standby is = cc
-app_asks_none AppDuty.Write a s path most standby is = cc
-app_asks_none AppDuty.Close a s path most standby is = cc
-app_asks_none AppDuty.Read a s path most standby is = cc
-app_asks_none AppDuty.End a s path most standby is = cc
+app_asks_none _ a s path most standby is = cc
 
 -- ---- a path asks for bytes by one duty alone
 
@@ -140,8 +130,6 @@ module _ (p : PathState (List ℕ)) (s : Side) (path most : ℕ) (standby : Bool
   duty_asks : (d : Duty) → ask_for octets d p ≡ Grant → AsksByData s most d p
   duty_asks (Duty.Step (StepDuty.Data t)) is = data_asks t (first_unsent (end_at t p)) refl is
   duty_asks (Duty.Step (StepDuty.Heard t index)) is = absurd (subst (IsHeardAsk (path_of p) t) is (heard_asks octets p t (item_of index (end_at t p))))
-  duty_asks (Duty.Ask (AskDuty.SynHeard t)) is = cc
-  duty_asks (Duty.Ask (AskDuty.SynAnswered t)) is = cc
   duty_asks (Duty.Ask (AskDuty.SubflowAck t)) is = absurd (subflow_acks_so (λ x. x ≡ Grant → ⊥) t (end_at t p) (λ none. cc) (λ next none. cc) is)
   duty_asks (Duty.Step StepDuty.Events) is = absurd (quiet_never (Duty.Step StepDuty.Events) tt is)
   duty_asks (Duty.Step (StepDuty.Look t)) is = absurd (quiet_never (Duty.Step (StepDuty.Look t)) tt is)
@@ -157,7 +145,6 @@ module _ (p : PathState (List ℕ)) (s : Side) (path most : ℕ) (standby : Bool
   duty_asks (Duty.Ask (AskDuty.AckHeard t)) is = absurd (quiet_never (Duty.Ask (AskDuty.AckHeard t)) tt is)
   duty_asks (Duty.Ask (AskDuty.FailHeard t)) is = absurd (quiet_never (Duty.Ask (AskDuty.FailHeard t)) tt is)
   duty_asks (Duty.Ask (AskDuty.PlainData t)) is = absurd (quiet_never (Duty.Ask (AskDuty.PlainData t)) tt is)
-  duty_asks (Duty.Ask (AskDuty.GoIdentity t)) is = cc
   duty_asks (Duty.Ask (AskDuty.Edge t)) is = absurd (quiet_never (Duty.Ask (AskDuty.Edge t)) tt is)
   duty_asks (Duty.Ask (AskDuty.CheckFailed t)) is = absurd (quiet_never (Duty.Ask (AskDuty.CheckFailed t)) tt is)
   duty_asks (Duty.Ask (AskDuty.HeardFin t index)) is = absurd (quiet_never (Duty.Ask (AskDuty.HeardFin t index)) tt is)
@@ -176,6 +163,7 @@ module _ (p : PathState (List ℕ)) (s : Side) (path most : ℕ) (standby : Bool
   duty_asks (Duty.Send d) is = absurd (quiet_never (Duty.Send d) tt is)
   duty_asks (Duty.Silent d) is = absurd (quiet_never (Duty.Silent d) tt is)
   duty_asks Duty.End is = absurd (quiet_never Duty.End tt is)
+  duty_asks _ is = cc
 
 -- ---- what was granted, and isn't sent yet
 

@@ -264,24 +264,12 @@ same_grants A (Ask.Send A c) d e place same h = same_in c h
   where
     same_in : (c : SendCall) → Grants c e.ab place → Grants c d.ab place
     same_in (SendCall.Grant path most standby) h = subst (λ send. covers place (send_reply send (SendCall.Grant path most standby)) ≡ true) (same A) h
-    same_in (SendCall.Write bytes) h = h
-    same_in SendCall.Close h = h
-    same_in (SendCall.AckIn next window) h = h
-    same_in (SendCall.Return path) h = h
-    same_in SendCall.GoIdentity h = h
-    same_in (SendCall.GoInfinite path) h = h
-    same_in SendCall.Abort h = h
+    same_in _ h = h
 same_grants B (Ask.Send B c) d e place same h = same_in c h
   where
     same_in : (c : SendCall) → Grants c e.ba place → Grants c d.ba place
     same_in (SendCall.Grant path most standby) h = subst (λ send. covers place (send_reply send (SendCall.Grant path most standby)) ≡ true) (same B) h
-    same_in (SendCall.Write bytes) h = h
-    same_in SendCall.Close h = h
-    same_in (SendCall.AckIn next window) h = h
-    same_in (SendCall.Return path) h = h
-    same_in SendCall.GoIdentity h = h
-    same_in (SendCall.GoInfinite path) h = h
-    same_in SendCall.Abort h = h
+    same_in _ h = h
 same_grants A (Ask.Send B c) d e place same h = h
 same_grants B (Ask.Send A c) d e place same h = h
 same_grants A (Ask.Reassembly r c) d e place same h = h

@@ -96,24 +96,14 @@ note_grants A (Ask.Send A c) pass d w place same h = by c h
     by (SendCall.Grant path most standby) h =
         (path, and_from (path == path) _ (eq-eqb path path refl) (subst (λ send. covers place (send_reply send (SendCall.Grant path most standby)) ≡ true) (same A) h))
     by (SendCall.Write bytes) h = absurd h
-    by SendCall.Close h = absurd h
-    by (SendCall.AckIn next window) h = absurd h
-    by (SendCall.Return path) h = absurd h
-    by SendCall.GoIdentity h = absurd h
-    by (SendCall.GoInfinite path) h = absurd h
-    by SendCall.Abort h = absurd h
+    by _ h = absurd h
 note_grants B (Ask.Send B c) pass d w place same h = by c h
   where
     by : (c : SendCall) → Grants c d.ba place → (path : ℕ) × (grants_byte B path place (note_of w.books pass (Ask.Send B c)) ≡ true)
     by (SendCall.Grant path most standby) h =
         (path, and_from (path == path) _ (eq-eqb path path refl) (subst (λ send. covers place (send_reply send (SendCall.Grant path most standby)) ≡ true) (same B) h))
     by (SendCall.Write bytes) h = absurd h
-    by SendCall.Close h = absurd h
-    by (SendCall.AckIn next window) h = absurd h
-    by (SendCall.Return path) h = absurd h
-    by SendCall.GoIdentity h = absurd h
-    by (SendCall.GoInfinite path) h = absurd h
-    by SendCall.Abort h = absurd h
+    by _ h = absurd h
 note_grants A (Ask.Send B c) pass d w place same h = absurd h
 note_grants B (Ask.Send A c) pass d w place same h = absurd h
 note_grants A (Ask.Reassembly r c) pass d w place same h = absurd h

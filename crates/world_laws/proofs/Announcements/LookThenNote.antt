@@ -145,9 +145,7 @@ module _ (q : Side) where
 
   judged_ready : (joined : Bool) (s : Side) (count : ℕ) (verdict : Judged) → IsReady q (template_judged joined s count verdict)
   judged_ready joined s count (Judged.As meaning) = template_ready joined s count meaning
-  judged_ready joined s count Judged.Asks = tt
-  judged_ready joined s count Judged.Lacks = tt
-  judged_ready joined s count Judged.Forged = tt
+  judged_ready joined s count _ = tt
 
   died_ready : (dead_a dead_b : Bool) → IsReady q ((if dead_a then [] else Duty.Ask (AskDuty.Leave A) ∷ []) ++ ((if dead_b then [] else Duty.Ask (AskDuty.Leave B) ∷ []) ++ rest_of_turn))
   died_ready true true = tt
@@ -167,9 +165,7 @@ module _ {C : Type 0} (q : Side) where
 
   line_ready : (action : LineAction) (p : PathState C) → IsReady q (after_line action p).agenda
   line_ready LineAction.Die p = died_ready q (is_dead p.a.tcp.state) (is_dead p.b.tcp.state)
-  line_ready (LineAction.Prio s backup) p = tt
-  line_ready (LineAction.Announce s id) p = tt
-  line_ready (LineAction.Withdraw s id) p = tt
+  line_ready _ p = tt
 
   -- a join is begun or not, with these to be done
   begun_ready : (r : Reply) (dead living : List Duty) (p : PathState C) → IsReady q dead → IsReady q living → IsReady q (join_begun r dead living p).agenda
@@ -257,18 +253,14 @@ module _ {C : Type 0} (q : Side) where
       stopped_ready false = left_ready
 
       item_ready : (o : Option Heard) → IsReady q (answered_item k s o r p).agenda
-      item_ready None = left_ready
       item_ready (Some (Heard.DataAck next window)) = told_ready _
       item_ready (Some (Heard.Mapping fin)) = mapping_ready
       item_ready (Some (Heard.DataFin place)) = fell_ready s r p left_ready told
       item_ready (Some (Heard.InfiniteMapping place position)) = fell_ready s r p left_ready told
-      item_ready (Some (Heard.Keys own peer)) = left_ready
-      item_ready (Some (Heard.PeerKey key)) = left_ready
-      item_ready (Some (Heard.Join form)) = left_ready
-      item_ready (Some (Heard.Notice notice)) = left_ready
       item_ready (Some Heard.Fail) = fail_answered_so (λ (x : PathState C). IsReady q x.agenda) s r p failed_ready (fell_ready s r p left_ready told)
       item_ready (Some (Heard.FastClose key)) = stopped_ready (is_stopped_by r)
       item_ready (Some Heard.Dss) = left_ready
+      item_ready _ = left_ready
 
   join_ready : (s : Side) (keys : Option KeyPair) (asked : Option JoinSyn) (r : Reply) (ds : List Duty) (p : PathState C) → IsReady q ds → IsReady q (join_taken s keys asked r (with_agenda (Duty.Ask (AskDuty.JoinHeard s) ∷ ds) p)).agenda
   join_ready s None (Some asked) r ds p a = a

@@ -52,12 +52,9 @@ module _ (P : OwnNotice → Type 0) (removes : (id : ℕ) → P (OwnNotice.Remov
   echo_queued (PeerNotice.Prio backup) r queue each = each
 
   told_queued : (notice : Notice) (may : Bool) (n : Notices) → IfSome (announced_in notice) (λ id. P (OwnNotice.AddAddr id)) → Every P n.queue → Every P (after_notice notice may n).queue
-  told_queued Notice.Nothing may n said each = each
   told_queued (Notice.Announce id) true n said each = Every-push (OwnNotice.AddAddr id) each said
-  told_queued (Notice.Announce id) false n said each = each
   told_queued (Notice.Withdraw id) may n said each = Every-push (OwnNotice.Removes id) each (removes id)
-  told_queued (Notice.Carrier key) may n said each = each
-  told_queued Notice.Reset may n said each = each
+  told_queued _ may n said each = each
 
   pub look_queued : (r : Reply) (e : PathEnd) → IfSome (announced_told r) (λ id. P (OwnNotice.AddAddr id)) → Every P e.notices.queue → Every P (notices_told r e).queue
   look_queued (Reply.Control (ControlReply.Standing mode standby sole notice)) e said each = by (is_dead e.tcp.state)
@@ -66,7 +63,4 @@ module _ (P : OwnNotice → Type 0) (removes : (id : ℕ) → P (OwnNotice.Remov
       by true = each
       by false = told_queued notice (may_note e) e.notices said each
   look_queued (Reply.Control ControlReply.Noted) e said each = each
-  look_queued (Reply.Control _) e said each = each
-  look_queued (Reply.Send reply) e said each = each
-  look_queued (Reply.Reassembly reply) e said each = each
-  look_queued Reply.Done e said each = each
+  look_queued _ e said each = each

@@ -136,9 +136,7 @@ module _ (id : ℕ) (c : Profile) (s : Side) (e : PathEnd) where
   -- it announces where it is an announcement
   option_notes : (notice : OwnNotice) → announces id (notice_option notice e.modes) || false ≡ true → is_note id notice ≡ true
   option_notes (OwnNotice.AddAddr other) is = elim (or_cases (other == id) false is) [ inl here ↦ here | inr never ↦ absurd (false≢true never) ]
-  option_notes (OwnNotice.AddEcho other address port) is = absurd (false≢true is)
-  option_notes (OwnNotice.Removes other) is = absurd (false≢true is)
-  option_notes (OwnNotice.Prio backup) is = absurd (false≢true is)
+  option_notes _ is = absurd (false≢true is)
 
   first_notes : (queue : List OwnNotice) → is_announcement id (noted_said c s (first_of queue) e) ≡ true → is_queued id queue ≡ true
   first_notes [] is = absurd (both_ways (is_announcement id (noted_said c s None e)) (ack_none None) is)

@@ -145,22 +145,16 @@ removed_wants id other c wanted false is h = either (λ d. Wants id d wanted) (i
 
 pub wants_once : (c : Control) (asked : ControlCall) (id : ℕ) (wanted : Bool) → Wants id c wanted → Wants id (after c asked) (wanted_after id asked wanted)
 wants_once c (ControlCall.Look path) id wanted h = told (λ d. Wants id d wanted) (notice_on c path) path c (λ other. h) h
-wants_once c (ControlCall.PeerKey key) id wanted h = h
 wants_once c (ControlCall.Keys own peer) id wanted h = either (λ d. Wants id d wanted) _ _ c h h
-wants_once c (ControlCall.Fell path event) id wanted h = h
 wants_once c (ControlCall.JoinBegin path) id wanted h = either (λ d. Wants id d wanted) _ _ c h h
 wants_once c (ControlCall.JoinHeard path token) id wanted h = either (λ d. Wants id d wanted) _ _ c h h
-wants_once c (ControlCall.Live path backup) id wanted h = h
-wants_once c (ControlCall.Dead path) id wanted h = h
-wants_once c (ControlCall.Backup path on) id wanted h = h
-wants_once c (ControlCall.Rate path window rtt) id wanted h = h
 wants_once c (ControlCall.Announce other) id wanted h = announce_wants id other _ wanted (other == id) c.addresses refl h
 wants_once c (ControlCall.Withdraw other) id wanted h = either (λ d. Wants id d wanted) _ _ c h h
 wants_once c (ControlCall.Heard other address port hmac) id wanted h = heard_wants id wanted (is_right other address port hmac c) _ c.addresses h h
 wants_once c (ControlCall.Echoed other) id wanted h = echoed_wants id other c wanted (other == id) refl h
 wants_once c (ControlCall.Removed other) id wanted h = removed_wants id other c wanted (other == id) refl h
-wants_once c ControlCall.FastClose id wanted h = h
 wants_once c (ControlCall.FastHeard key) id wanted h = either (λ d. Wants id d wanted) _ _ c h h
+wants_once c _ id wanted h = h
 
 -- ---- journals
 
@@ -178,10 +172,7 @@ told_by _ = None
 
 told_in : (mode : Mode) (standby sole : Bool) (notice : Notice) → told_to_announce (Reply.Control (ControlReply.Standing mode standby sole notice)) ≡ told_by notice
 told_in mode standby sole Notice.Nothing = refl
-told_in mode standby sole (Notice.Announce id) = refl
-told_in mode standby sole (Notice.Withdraw id) = refl
-told_in mode standby sole (Notice.Carrier key) = refl
-told_in mode standby sole Notice.Reset = refl
+told_in mode standby sole _ = refl
 
 -- an id that a look tells to announce is due
 pub look_due : (c : Control) (path id : ℕ) → told_to_announce (Reply.Control (reply_to c (ControlCall.Look path))) ≡ Some id → is_member c.addresses.due id ≡ true

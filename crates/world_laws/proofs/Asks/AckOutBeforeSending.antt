@@ -136,9 +136,7 @@ template_sheltered joined s count _ = refl
 
 judged_sheltered : (joined : Bool) (s : Side) (count : ℕ) (verdict : Judged) → is_sheltered (template_judged joined s count verdict) ≡ true
 judged_sheltered joined s count (Judged.As meaning) = template_sheltered joined s count meaning
-judged_sheltered joined s count Judged.Asks = refl
-judged_sheltered joined s count Judged.Lacks = refl
-judged_sheltered joined s count Judged.Forged = refl
+judged_sheltered joined s count _ = refl
 
 died_sheltered : (dead_a dead_b : Bool) → is_sheltered ((if dead_a then [] else Duty.Ask (AskDuty.Leave A) ∷ []) ++ ((if dead_b then [] else Duty.Ask (AskDuty.Leave B) ∷ []) ++ rest_of_turn)) ≡ true
 died_sheltered true true = refl

@@ -23,11 +23,8 @@ use Rattle.world_laws.specs.Writes.{side_of}
 
 -- not a read
 abbrev pub IsArrival : ReassemblyCall → Type 0
-IsArrival (ReassemblyCall.Place at bytes) = Unit {0}
-IsArrival (ReassemblyCall.Fin at) = Unit {0}
-IsArrival ReassemblyCall.AckOut = Unit {0}
-IsArrival (ReassemblyCall.Abort by_peer) = Unit {0}
 IsArrival (ReassemblyCall.Read max) = ⊥
+IsArrival _ = Unit {0}
 
 abbrev pub IsPathAsk : Ask → Type 0
 IsPathAsk (Ask.Reassembly s call) = IsArrival call

@@ -206,14 +206,8 @@ pub record IsOnes (path written : ℕ) (b : Sending) : Type 0 where
 
 -- a call of an application, or of a path, and no grant to another path
 abbrev pub IsOrdinary : ℕ → SendCall → Type 0
-IsOrdinary path (Write bytes) = Unit {0}
-IsOrdinary path Close = Unit {0}
 IsOrdinary path (Grant asker max standby) = asker ≡ path
-IsOrdinary path (AckIn next window) = Unit {0}
-IsOrdinary path (Return asker) = Unit {0}
-IsOrdinary path GoIdentity = Unit {0}
-IsOrdinary path (GoInfinite asker) = Unit {0}
-IsOrdinary path Abort = Unit {0}
+IsOrdinary path _ = Unit {0}
 
 -- neither a grant nor an acknowledgement, and no return of another path
 abbrev pub IsQuiet : ℕ → SendCall → Type 0
@@ -323,11 +317,9 @@ module _ (path written : ℕ) (b : Sending) (h : IsOnes path written b) where
   taken_after (Return asker) is all =
       let more = taken_returned path b.marks h.tried in
       subst (λ n. AllTaken (record b { marks = map (returned n) b.marks })) (sym is) (omega (arith, all, more))
-  taken_after (Grant asker max standby) is all = absurd is
-  taken_after (AckIn next window) is all = absurd is
   taken_after GoIdentity is all = all
-  taken_after (GoInfinite asker) is all = absurd is
   taken_after Abort is all = all
+  taken_after _ is all = absurd is
 
   -- where another path alone is given bytes, it is for ever
   barred_fell : (owner : Option ℕ) → is_for path owner ≡ false → is_for 0 owner ≡ true → is_for path (Some 0) ≡ false
@@ -350,10 +342,8 @@ module _ (path written : ℕ) (b : Sending) (h : IsOnes path written b) where
       by false = barred
   barred_after (Return asker) is falls barred = barred
   barred_after GoIdentity is falls barred = barred_fell b.owner barred falls
-  barred_after (Grant asker max standby) is falls barred = absurd is
-  barred_after (AckIn next window) is falls barred = absurd is
-  barred_after (GoInfinite asker) is falls barred = absurd is
   barred_after Abort is falls barred = barred
+  barred_after _ is falls barred = absurd is
 
   -- a stopped book stays so
   stopped_after : (call : SendCall) → IsQuiet path call → b.aborted ≡ true → (after_call b call).aborted ≡ true
@@ -373,9 +363,7 @@ module _ (path written : ℕ) (b : Sending) (h : IsOnes path written b) where
   stopped_after (Return asker) is stopped = stopped
   stopped_after GoIdentity is stopped = stopped
   stopped_after Abort is stopped = refl
-  stopped_after (Grant asker max standby) is stopped = absurd is
-  stopped_after (AckIn next window) is stopped = absurd is
-  stopped_after (GoInfinite asker) is stopped = absurd is
+  stopped_after _ is stopped = absurd is
 
   -- an acknowledgement by which the window reaches no further
   pub all_acknowledged : (s : Side) (steps : List Note) (next window : ℕ) → next + window ≤ b.edge → AskedForAll path s steps written b

@@ -83,13 +83,10 @@ aborted_none A = refl
 aborted_none B = refl
 
 app_asks_none : (d : AppDuty) (a : AppState) → asks_some (app_ask d a) ≡ false
-app_asks_none AppDuty.FastClose a = refl
 app_asks_none AppDuty.AbortSend a = aborted_none a.side
-app_asks_none AppDuty.AbortReceive a = refl
 app_asks_none AppDuty.Write a = written_none a.side _
 app_asks_none AppDuty.Close a = closed_none a.side
-app_asks_none AppDuty.Read a = refl
-app_asks_none AppDuty.End a = refl
+app_asks_none _ a = refl
 
 module _ (p : PathState Carried) where
   nothing_asked : {X : Type 0} (d : Duty) → MayNotAsk d → asks_some (ask_for values d p) ≡ true → X

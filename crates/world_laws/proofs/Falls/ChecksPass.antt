@@ -120,12 +120,7 @@ untold _ harmless = refl
 
 app_harmless : (d : AppDuty) (a : AppState) → IsHarmless (app_ask d a)
 app_harmless AppDuty.FastClose a = tt
-app_harmless AppDuty.AbortSend a = tt
-app_harmless AppDuty.AbortReceive a = tt
-app_harmless AppDuty.Write a = tt
-app_harmless AppDuty.Close a = tt
-app_harmless AppDuty.Read a = tt
-app_harmless AppDuty.End a = tt
+app_harmless _ a = tt
 
 -- ---- a path
 
@@ -144,9 +139,7 @@ module _ (p : PathState Carried) (h : PathPasses p) where
   step_harmless : (o : Option Event) → IsHarmless (step_for (path_of p) o)
   step_harmless None = tt
   step_harmless (Some (Event.Joins tick)) = tt
-  step_harmless (Some (Event.Takes line)) = tt
-  step_harmless (Some (Event.Arrives due)) = tt
-  step_harmless (Some (Event.Fires s tick)) = tt
+  step_harmless _ = tt
 
   key_harmless : (s : Side) (o : Option ℕ) → IsHarmless (peer_key_ask s o p)
   key_harmless s None = tt
@@ -183,9 +176,7 @@ module _ (p : PathState Carried) (h : PathPasses p) where
 
   notice_harmless : (notice : PeerNotice) → CallIsHarmless (notice_call (path_of p) notice)
   notice_harmless (PeerNotice.AddAddr id address port hmac) = tt
-  notice_harmless (PeerNotice.AddEcho id) = tt
-  notice_harmless (PeerNotice.Removed id) = tt
-  notice_harmless (PeerNotice.Prio backup) = tt
+  notice_harmless _ = tt
 
   item_harmless : (s : Side) (o : Option Heard) → IsHarmless (item_ask values s o p)
   item_harmless s (Some (Heard.Mapping fin)) = mapping_harmless s
@@ -375,17 +366,12 @@ module _ (c : Control) (u : IsUnfailed c.fall) where
   call_unfailed (ControlCall.Fell path event) harmless = event_unfailed c.fall path (sole c.paths path) event harmless u
   call_unfailed (ControlCall.JoinBegin path) harmless = either_unfailed _ _ c joined_unfailed u
   call_unfailed (ControlCall.JoinHeard path token) harmless = either_unfailed _ _ c joined_unfailed u
-  call_unfailed (ControlCall.Live path backup) harmless = u
-  call_unfailed (ControlCall.Dead path) harmless = u
-  call_unfailed (ControlCall.Rate path window rtt) harmless = u
-  call_unfailed (ControlCall.Backup path on) harmless = u
-  call_unfailed (ControlCall.Announce id) harmless = u
   call_unfailed (ControlCall.Withdraw id) harmless = either_unfailed (controlling.is_known id c) _ c u u
-  call_unfailed (ControlCall.Heard id address port hmac) harmless = u
   call_unfailed (ControlCall.Echoed id) harmless = either_unfailed (controlling.is_known id c) _ c u u
   call_unfailed (ControlCall.Removed id) harmless = either_unfailed (controlling.is_known id c) _ c u u
   call_unfailed ControlCall.FastClose harmless = event_unfailed c.fall 0 false FallEvent.Stop tt u
   call_unfailed (ControlCall.FastHeard key) harmless = either_unfailed (key == c.keys.own) (controlling.after_event 0 false FallEvent.Stop c) c (event_unfailed c.fall 0 false FallEvent.Stop tt u) u
+  call_unfailed _ harmless = u
 
 abbrev AreUnfailed : SixBooks → Type 0
 AreUnfailed six = IsUnfailed six.control_a.fall × IsUnfailed six.control_b.fall

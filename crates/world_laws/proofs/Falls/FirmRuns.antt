@@ -55,12 +55,7 @@ always_fell start turns =
 -- plain TCP is a fallback
 identity_falls : (m : Mode) → is_identity m ≡ true → is_fallback m ≡ true
 identity_falls Mode.Identity is = refl
-identity_falls Mode.Starting is = absurd (false≢true is)
-identity_falls Mode.Sure is = absurd (false≢true is)
-identity_falls Mode.InfiniteSend is = absurd (false≢true is)
-identity_falls Mode.InfiniteReceive is = absurd (false≢true is)
-identity_falls Mode.InfiniteBoth is = absurd (false≢true is)
-identity_falls Mode.Aborted is = absurd (false≢true is)
+identity_falls _ is = absurd (false≢true is)
 
 -- ---- a turn
 

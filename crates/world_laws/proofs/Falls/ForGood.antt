@@ -45,30 +45,18 @@ unread_if false f x y is isnt = isnt refl
 
 starting_reads : (m : Mode) → is_starting m ≡ true → Unread m → ⊥
 starting_reads Mode.Starting is unread = false≢true (sym unread)
-starting_reads Mode.Sure is unread = false≢true is
-starting_reads Mode.Identity is unread = false≢true is
-starting_reads Mode.InfiniteSend is unread = false≢true is
-starting_reads Mode.InfiniteReceive is unread = false≢true is
-starting_reads Mode.InfiniteBoth is unread = false≢true is
-starting_reads Mode.Aborted is unread = false≢true is
+starting_reads _ is unread = false≢true is
 
 sending_unread : (m : Mode) → writes_mappings m ≡ true → Unread m → Unread (sending m)
-sending_unread Mode.Starting writes unread = absurd (false≢true (sym unread))
-sending_unread Mode.Sure writes unread = absurd (false≢true (sym unread))
-sending_unread Mode.InfiniteSend writes unread = absurd (false≢true (sym unread))
 sending_unread Mode.Identity writes unread = absurd (false≢true writes)
 sending_unread Mode.InfiniteReceive writes unread = refl
 sending_unread Mode.InfiniteBoth writes unread = absurd (false≢true writes)
 sending_unread Mode.Aborted writes unread = absurd (false≢true writes)
+sending_unread _ writes unread = absurd (false≢true (sym unread))
 
 receiving_unread : (m : Mode) → Unread (receiving m)
 receiving_unread Mode.Starting = refl
-receiving_unread Mode.Sure = refl
-receiving_unread Mode.Identity = refl
-receiving_unread Mode.InfiniteSend = refl
-receiving_unread Mode.InfiniteReceive = refl
-receiving_unread Mode.InfiniteBoth = refl
-receiving_unread Mode.Aborted = refl
+receiving_unread _ = refl
 
 not_twice : (b : Bool) → not b ≡ false → b ≡ true
 not_twice true is = refl
@@ -115,10 +103,7 @@ if_unread false f c d x y = y
 
 notice_unread : (n : Notice) (path : ℕ) (c : Control) → GoesUnread c.fall (controlling.after_notice n path c).fall
 notice_unread (Notice.Withdraw id) path c = λ unread. unread
-notice_unread Notice.Nothing path c = λ unread. unread
-notice_unread (Notice.Announce id) path c = λ unread. unread
-notice_unread (Notice.Carrier key) path c = λ unread. unread
-notice_unread Notice.Reset path c = λ unread. unread
+notice_unread _ path c = λ unread. unread
 
 call_unread : (c : Control) (call : ControlCall) → GoesUnread c.fall (controlling.after c call).fall
 call_unread c (ControlCall.Look path) = notice_unread (control.notice_on c path) path c
@@ -128,17 +113,12 @@ call_unread c (ControlCall.Keys own other) =
 call_unread c (ControlCall.Fell path event) = event_unread path (sole_path c.paths path) event c.fall
 call_unread c (ControlCall.JoinBegin path) = if_unread (control.may_join c) c.fall _ c (λ unread. unread) (λ unread. unread)
 call_unread c (ControlCall.JoinHeard path token) = if_unread _ c.fall (controlling.after_join c) c (λ unread. unread) (λ unread. unread)
-call_unread c (ControlCall.Live path backup) = λ unread. unread
-call_unread c (ControlCall.Dead path) = λ unread. unread
-call_unread c (ControlCall.Rate path window rtt) = λ unread. unread
-call_unread c (ControlCall.Backup path on) = λ unread. unread
-call_unread c (ControlCall.Announce id) = λ unread. unread
 call_unread c (ControlCall.Withdraw id) = if_unread _ c.fall _ c (λ unread. unread) (λ unread. unread)
-call_unread c (ControlCall.Heard id address port hmac) = λ unread. unread
 call_unread c (ControlCall.Echoed id) = if_unread _ c.fall _ c (λ unread. unread) (λ unread. unread)
 call_unread c (ControlCall.Removed id) = if_unread _ c.fall _ c (λ unread. unread) (λ unread. unread)
 call_unread c ControlCall.FastClose = λ unread. refl
 call_unread c (ControlCall.FastHeard key) = if_unread (key == c.keys.own) c.fall (controlling.after_event 0 false FallEvent.Stop c) c (λ unread. refl) (λ unread. unread)
+call_unread c _ = λ unread. unread
 
 -- ---- one ask
 
@@ -165,10 +145,7 @@ fallback_unread : (m : Mode) → is_fallback m ≡ true → Unread m
 fallback_unread Mode.Identity is = refl
 fallback_unread Mode.InfiniteReceive is = refl
 fallback_unread Mode.InfiniteBoth is = refl
-fallback_unread Mode.Starting is = absurd (false≢true is)
-fallback_unread Mode.Sure is = absurd (false≢true is)
-fallback_unread Mode.InfiniteSend is = absurd (false≢true is)
-fallback_unread Mode.Aborted is = absurd (false≢true is)
+fallback_unread _ is = absurd (false≢true is)
 
 abbrev IsUnread : StampedBooks → Side → Type 0
 IsUnread books s = Was is_fallback books s → UnreadAt (books_in books) s

@@ -48,11 +48,7 @@ RowLoosens row = is_infinite_receive (Reply.Control (ControlReply.Verdict row.1)
 goes_loose : (m : Mode) (f : Fall) → RowLoosens (goes m f)
 goes_loose Mode.InfiniteReceive f is = (refl, refl, refl)
 goes_loose Mode.InfiniteBoth f is = (refl, refl, refl)
-goes_loose Mode.Starting f is = absurd (false≢true is)
-goes_loose Mode.Sure f is = absurd (false≢true is)
-goes_loose Mode.Identity f is = absurd (false≢true is)
-goes_loose Mode.InfiniteSend f is = absurd (false≢true is)
-goes_loose Mode.Aborted f is = absurd (false≢true is)
+goes_loose _ f is = absurd (false≢true is)
 
 loosens_if : (b : Bool) (x y : Fall × Verdict) → RowLoosens x → RowLoosens y → RowLoosens (if b then x else y)
 loosens_if true x y h k = h

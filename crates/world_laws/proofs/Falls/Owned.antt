@@ -116,30 +116,20 @@ ask_owned six (Ask.Local step) goes s h = h
 -- an application asks for no book alone
 pub app_goes : (six : SixBooks) (d : AppDuty) (a : AppState) → GoesSo six (app_ask d a)
 app_goes six AppDuty.FastClose a = tt
-app_goes six AppDuty.AbortSend a = tt
-app_goes six AppDuty.AbortReceive a = tt
-app_goes six AppDuty.Write a = tt
-app_goes six AppDuty.Close a = tt
-app_goes six AppDuty.Read a = tt
-app_goes six AppDuty.End a = tt
+app_goes six _ a = tt
 
 -- ---- a path
 
 module _ {C : Type 0} (k : Codec C) (six : SixBooks) (p : PathState C) (awake : Awake k (HasJoined six) (FellBack six) p) (numbered : is_joined p.profile ≡ nat_lt 0 (path_of p)) where
   quiet_goes : (ask : Ask) → IsQuietAsk (path_of p) ask → GoesSo six ask
   quiet_goes (Ask.Send s (SendCall.GoInfinite path)) quiet = absurd quiet
-  quiet_goes (Ask.Send s call) quiet = tt
-  quiet_goes (Ask.Reassembly s call) quiet = tt
-  quiet_goes (Ask.Control s call) quiet = tt
-  quiet_goes (Ask.Local step) quiet = tt
+  quiet_goes _ quiet = tt
 
   heard_goes : (s : Side) (ask : Ask) → IsHeardAsk (path_of p) s ask → (path_of p ≡ 0) ⊎ HasJoined six s → GoesSo six ask
   heard_goes s (Ask.Send t (SendCall.GoInfinite path)) heard so =
       ⊎_elim (λ first. inl (heard.1 ∙ first)) (λ joined. inr (subst (HasJoined six) (sym heard.0) joined)) so
   heard_goes s (Ask.Send t call) heard so = tt
-  heard_goes s (Ask.Reassembly t call) heard so = tt
-  heard_goes s (Ask.Control t call) heard so = tt
-  heard_goes s (Ask.Local step) heard so = tt
+  heard_goes s _ heard so = tt
 
   -- path 0, or a side that said something, and joined
   number_so : (s : Side) → speaks (Voice.Says s) p.agenda ≡ true → (path_of p ≡ 0) ⊎ HasJoined six s
@@ -178,17 +168,11 @@ module _ {C : Type 0} (k : Codec C) (six : SixBooks) (p : PathState C) (awake : 
 
   quiet_falls : (ask : Ask) → IsQuietAsk (path_of p) ask → FallsAsk six ask
   quiet_falls (Ask.Send s SendCall.GoIdentity) quiet = absurd quiet
-  quiet_falls (Ask.Send s call) quiet = tt
-  quiet_falls (Ask.Reassembly s call) quiet = tt
-  quiet_falls (Ask.Control s call) quiet = tt
-  quiet_falls (Ask.Local step) quiet = tt
+  quiet_falls _ quiet = tt
 
   heard_falls : (s : Side) (ask : Ask) → IsHeardAsk (path_of p) s ask → FallsAsk six ask
   heard_falls s (Ask.Send t SendCall.GoIdentity) heard = absurd heard
-  heard_falls s (Ask.Send t call) heard = tt
-  heard_falls s (Ask.Reassembly t call) heard = tt
-  heard_falls s (Ask.Control t call) heard = tt
-  heard_falls s (Ask.Local step) heard = tt
+  heard_falls s _ heard = tt
 
   data_falls : (s : Side) (o : Option Record) → FallsAsk six (data_ask k s o p)
   data_falls s None = tt

@@ -46,6 +46,4 @@ module _ {C : Type 0} (P : List Duty → Type 0) (s : Side) (p : PathState C) wh
   pub fell_cases : (r : Reply) → (is_fall r ≡ true → P (replaced (Duty.Ask (AskDuty.GoIdentity s)) p.agenda)) → ((reason : ℕ) → P (breaks s reason)) → ((reason : ℕ) → P (resets s reason)) → P (left p)
       → P (fell_duties s r p)
   fell_cases (Reply.Control reply) falls broken reset done = control_cases reply falls broken reset done
-  fell_cases (Reply.Send reply) falls broken reset done = done
-  fell_cases (Reply.Reassembly reply) falls broken reset done = done
-  fell_cases Reply.Done falls broken reset done = done
+  fell_cases _ falls broken reset done = done

@@ -24,11 +24,7 @@ use Rattle.path_core.specs.Fallback.{is_fall}
 abbrev pub plain_of : Mode → Bool → Bool
 plain_of Mode.Identity joined = not joined
 plain_of Mode.Aborted joined = not joined
-plain_of Mode.Starting joined = false
-plain_of Mode.Sure joined = false
-plain_of Mode.InfiniteSend joined = false
-plain_of Mode.InfiniteReceive joined = false
-plain_of Mode.InfiniteBoth joined = false
+plain_of _ joined = false
 
 abbrev pub is_plain : Fall → Bool
 is_plain f = plain_of f.mode f.joined
@@ -44,10 +40,7 @@ abbrev pub loose_of : Mode → Bool
 loose_of Mode.InfiniteReceive = true
 loose_of Mode.InfiniteBoth = true
 loose_of Mode.Aborted = true
-loose_of Mode.Starting = false
-loose_of Mode.Sure = false
-loose_of Mode.Identity = false
-loose_of Mode.InfiniteSend = false
+loose_of _ = false
 
 abbrev pub is_loose : Fall → Bool
 is_loose f = loose_of f.mode
@@ -57,40 +50,24 @@ abbrev pub Loosened : Fall → Fall → Type 0
 Loosened f g = (is_loose g ≡ is_loose f) ⊎ (is_loose g ≡ true)
 
 reads_tight : (m : Mode) → reads_mappings m ≡ true → loose_of m ≡ false
-reads_tight Mode.Starting is = refl
-reads_tight Mode.Sure is = refl
-reads_tight Mode.InfiniteSend is = refl
-reads_tight Mode.Identity is = refl
 reads_tight Mode.InfiniteReceive is = absurd (false≢true is)
 reads_tight Mode.InfiniteBoth is = absurd (false≢true is)
 reads_tight Mode.Aborted is = absurd (false≢true is)
+reads_tight _ is = refl
 
 starting_tight : (m : Mode) → is_starting m ≡ true → loose_of m ≡ false
-starting_tight Mode.Starting is = refl
-starting_tight Mode.Sure is = refl
-starting_tight Mode.InfiniteSend is = refl
-starting_tight Mode.Identity is = refl
 starting_tight Mode.InfiniteReceive is = absurd (false≢true is)
 starting_tight Mode.InfiniteBoth is = absurd (false≢true is)
 starting_tight Mode.Aborted is = absurd (false≢true is)
+starting_tight _ is = refl
 
 receiving_loose : (m : Mode) → loose_of (receiving m) ≡ true
 receiving_loose Mode.Starting = refl
-receiving_loose Mode.Sure = refl
-receiving_loose Mode.Identity = refl
-receiving_loose Mode.InfiniteSend = refl
-receiving_loose Mode.InfiniteReceive = refl
-receiving_loose Mode.InfiniteBoth = refl
-receiving_loose Mode.Aborted = refl
+receiving_loose _ = refl
 
 sending_loose : (m : Mode) → writes_mappings m ≡ true → loose_of (sending m) ≡ loose_of m
-sending_loose Mode.Starting is = refl
-sending_loose Mode.Sure is = refl
-sending_loose Mode.InfiniteReceive is = refl
-sending_loose Mode.Identity is = refl
-sending_loose Mode.InfiniteSend is = refl
-sending_loose Mode.InfiniteBoth is = refl
 sending_loose Mode.Aborted is = absurd (false≢true is)
+sending_loose _ is = refl
 
 -- ---- what becomes of a fall
 
@@ -123,67 +100,35 @@ same_fall : (f : Fall) → Fallen f f
 same_fall f = inl (record { mode = refl; joined = refl; loose = inl refl; unjoined = λ h. h })
 
 starting_plain : (m : Mode) (joined : Bool) → is_starting m ≡ true → plain_of m joined ≡ false
-starting_plain Mode.Starting joined is = refl
-starting_plain Mode.Sure joined is = refl
 starting_plain Mode.Identity joined is = absurd (false≢true is)
-starting_plain Mode.InfiniteSend joined is = refl
-starting_plain Mode.InfiniteReceive joined is = refl
-starting_plain Mode.InfiniteBoth joined is = refl
 starting_plain Mode.Aborted joined is = absurd (false≢true is)
+starting_plain _ joined is = refl
 
 reads_plain : (m : Mode) (joined : Bool) → reads_mappings m ≡ true → plain_of m joined ≡ false
-reads_plain Mode.Starting joined is = refl
-reads_plain Mode.Sure joined is = refl
 reads_plain Mode.Identity joined is = absurd (false≢true is)
-reads_plain Mode.InfiniteSend joined is = refl
-reads_plain Mode.InfiniteReceive joined is = refl
-reads_plain Mode.InfiniteBoth joined is = refl
 reads_plain Mode.Aborted joined is = absurd (false≢true is)
+reads_plain _ joined is = refl
 
 writes_plain : (m : Mode) (joined : Bool) → writes_mappings m ≡ true → plain_of m joined ≡ false
-writes_plain Mode.Starting joined is = refl
-writes_plain Mode.Sure joined is = refl
 writes_plain Mode.Identity joined is = absurd (false≢true is)
-writes_plain Mode.InfiniteSend joined is = refl
-writes_plain Mode.InfiniteReceive joined is = refl
-writes_plain Mode.InfiniteBoth joined is = refl
 writes_plain Mode.Aborted joined is = absurd (false≢true is)
+writes_plain _ joined is = refl
 
 receiving_plain : (m : Mode) (joined : Bool) → plain_of (receiving m) joined ≡ false
 receiving_plain Mode.Starting joined = refl
-receiving_plain Mode.Sure joined = refl
-receiving_plain Mode.Identity joined = refl
-receiving_plain Mode.InfiniteSend joined = refl
-receiving_plain Mode.InfiniteReceive joined = refl
-receiving_plain Mode.InfiniteBoth joined = refl
-receiving_plain Mode.Aborted joined = refl
+receiving_plain _ joined = refl
 
 sending_plain : (m : Mode) (joined : Bool) → plain_of (sending m) joined ≡ false
 sending_plain Mode.Starting joined = refl
-sending_plain Mode.Sure joined = refl
-sending_plain Mode.Identity joined = refl
-sending_plain Mode.InfiniteSend joined = refl
-sending_plain Mode.InfiniteReceive joined = refl
-sending_plain Mode.InfiniteBoth joined = refl
-sending_plain Mode.Aborted joined = refl
+sending_plain _ joined = refl
 
 receiving_apart : (m : Mode) → is_identity (receiving m) ≡ false
 receiving_apart Mode.Starting = refl
-receiving_apart Mode.Sure = refl
-receiving_apart Mode.Identity = refl
-receiving_apart Mode.InfiniteSend = refl
-receiving_apart Mode.InfiniteReceive = refl
-receiving_apart Mode.InfiniteBoth = refl
-receiving_apart Mode.Aborted = refl
+receiving_apart _ = refl
 
 sending_apart : (m : Mode) → is_identity (sending m) ≡ false
 sending_apart Mode.Starting = refl
-sending_apart Mode.Sure = refl
-sending_apart Mode.Identity = refl
-sending_apart Mode.InfiniteSend = refl
-sending_apart Mode.InfiniteReceive = refl
-sending_apart Mode.InfiniteBoth = refl
-sending_apart Mode.Aborted = refl
+sending_apart _ = refl
 
 -- of a row that applies where this holds
 fallen_if : (b : Bool) (f : Fall) (x y : Fall × Verdict) → (b ≡ true → Fallen f x.0) → (b ≡ false → Fallen f y.0) → Fallen f (if b then x else y).0
@@ -245,12 +190,7 @@ keys_falls f =
 -- where a side is stopped: one that joined nothing may have fallen back before
 aborted_plain : (m : Mode) → false ≡ plain_of m true
 aborted_plain Mode.Starting = refl
-aborted_plain Mode.Sure = refl
-aborted_plain Mode.Identity = refl
-aborted_plain Mode.InfiniteSend = refl
-aborted_plain Mode.InfiniteReceive = refl
-aborted_plain Mode.InfiniteBoth = refl
-aborted_plain Mode.Aborted = refl
+aborted_plain _ = refl
 
 stop_falls : (f : Fall) → Fallen f (goes Mode.Aborted f).0
 stop_falls f = by f.joined
@@ -262,14 +202,12 @@ stop_falls f = by f.joined
 pub event_falls : (path : ℕ) (sole : Bool) (event : FallEvent) (f : Fall) → Fallen f (fall_step f path sole event).0
 event_falls path sole FallEvent.MappingHeard f = sign_falls f
 event_falls path sole FallEvent.AckHeard f = sign_falls f
-event_falls path sole FallEvent.PlainHandshake f = plain_falls f
-event_falls path sole FallEvent.PlainData f = plain_falls f
-event_falls path sole FallEvent.PlainAck f = plain_falls f
 event_falls path sole FallEvent.InfiniteHeard f = infinite_falls path sole f
 event_falls path sole FallEvent.KeysHeard f = keys_falls f
 event_falls path sole FallEvent.CheckFailed f = check_falls path sole f
 event_falls path sole (FallEvent.FailHeard contiguous) f = fail_falls path sole contiguous f
 event_falls path sole FallEvent.Stop f = stop_falls f
+event_falls path sole _ f = plain_falls f
 
 -- ---- what becomes of a book
 
@@ -289,46 +227,25 @@ if_joined false c d is = inl (record { mode = refl; joined = refl; loose = inl r
 
 notice_falls : (n : Notice) (path : ℕ) (c : Control) → Fallen c.fall (controlling.after_notice n path c).fall
 notice_falls (Notice.Withdraw id) path c = same_fall c.fall
-notice_falls Notice.Nothing path c = same_fall c.fall
-notice_falls (Notice.Announce id) path c = same_fall c.fall
-notice_falls (Notice.Carrier key) path c = same_fall c.fall
-notice_falls Notice.Reset path c = same_fall c.fall
+notice_falls _ path c = same_fall c.fall
 
 sure_plain : (m : Mode) (joined : Bool) → control.is_sure m ≡ true → plain_of m joined ≡ false
-sure_plain Mode.Starting joined is = refl
-sure_plain Mode.Sure joined is = refl
 sure_plain Mode.Identity joined is = absurd (false≢true is)
-sure_plain Mode.InfiniteSend joined is = refl
-sure_plain Mode.InfiniteReceive joined is = refl
-sure_plain Mode.InfiniteBoth joined is = refl
 sure_plain Mode.Aborted joined is = absurd (false≢true is)
+sure_plain _ joined is = refl
 
 begun_plain : (m : Mode) (joined : Bool) → control.is_starting m || control.is_sure m ≡ true → plain_of m joined ≡ false
-begun_plain Mode.Starting joined is = refl
-begun_plain Mode.Sure joined is = refl
 begun_plain Mode.Identity joined is = absurd (false≢true is)
-begun_plain Mode.InfiniteSend joined is = refl
-begun_plain Mode.InfiniteReceive joined is = refl
-begun_plain Mode.InfiniteBoth joined is = refl
 begun_plain Mode.Aborted joined is = absurd (false≢true is)
+begun_plain _ joined is = refl
 
 sure_apart : (m : Mode) → control.is_sure m ≡ true → is_identity m ≡ false
-sure_apart Mode.Starting is = refl
-sure_apart Mode.Sure is = refl
 sure_apart Mode.Identity is = absurd (false≢true is)
-sure_apart Mode.InfiniteSend is = refl
-sure_apart Mode.InfiniteReceive is = refl
-sure_apart Mode.InfiniteBoth is = refl
-sure_apart Mode.Aborted is = refl
+sure_apart _ is = refl
 
 begun_apart : (m : Mode) → control.is_starting m || control.is_sure m ≡ true → is_identity m ≡ false
-begun_apart Mode.Starting is = refl
-begun_apart Mode.Sure is = refl
 begun_apart Mode.Identity is = absurd (false≢true is)
-begun_apart Mode.InfiniteSend is = refl
-begun_apart Mode.InfiniteReceive is = refl
-begun_apart Mode.InfiniteBoth is = refl
-begun_apart Mode.Aborted is = refl
+begun_apart _ is = refl
 
 pub call_falls : (c : Control) (call : ControlCall) → Called call c.fall (controlling.after c call).fall
 call_falls c (ControlCall.Look path) = notice_falls (control.notice_on c path) path c
@@ -349,17 +266,12 @@ call_falls c (ControlCall.JoinHeard path token) =
       loose = inl refl;
       unjoined = begun_apart c.fall.mode may;
     })
-call_falls c (ControlCall.Live path backup) = same_fall c.fall
-call_falls c (ControlCall.Dead path) = same_fall c.fall
-call_falls c (ControlCall.Rate path window rtt) = same_fall c.fall
-call_falls c (ControlCall.Backup path on) = same_fall c.fall
-call_falls c (ControlCall.Announce id) = same_fall c.fall
 call_falls c (ControlCall.Withdraw id) = if_fallen _ c.fall _ c (same_fall c.fall) (same_fall c.fall)
-call_falls c (ControlCall.Heard id address port hmac) = same_fall c.fall
 call_falls c (ControlCall.Echoed id) = if_fallen _ c.fall _ c (same_fall c.fall) (same_fall c.fall)
 call_falls c (ControlCall.Removed id) = if_fallen _ c.fall _ c (same_fall c.fall) (same_fall c.fall)
 call_falls c ControlCall.FastClose = stop_falls c.fall
 call_falls c (ControlCall.FastHeard key) = if_fallen _ c.fall _ c (stop_falls c.fall) (same_fall c.fall)
+call_falls c _ = same_fall c.fall
 
 -- ---- what stays
 
@@ -451,11 +363,7 @@ unjoined_stays c (ControlCall.FastHeard key) h = fallen_unjoined c.fall _ (call_
 plain_unjoined : (m : Mode) (joined : Bool) → plain_of m joined ≡ true → joined ≡ false
 plain_unjoined Mode.Identity joined is = not_true joined is
 plain_unjoined Mode.Aborted joined is = not_true joined is
-plain_unjoined Mode.Starting joined is = absurd (false≢true is)
-plain_unjoined Mode.Sure joined is = absurd (false≢true is)
-plain_unjoined Mode.InfiniteSend joined is = absurd (false≢true is)
-plain_unjoined Mode.InfiniteReceive joined is = absurd (false≢true is)
-plain_unjoined Mode.InfiniteBoth joined is = absurd (false≢true is)
+plain_unjoined _ joined is = absurd (false≢true is)
 
 pub fell_unjoined : (f : Fall) → is_plain f ≡ true → f.joined ≡ false
 fell_unjoined f is = plain_unjoined f.mode f.joined is
@@ -463,12 +371,7 @@ fell_unjoined f is = plain_unjoined f.mode f.joined is
 -- one in plain TCP that joined nothing is
 identity_plain : (m : Mode) (joined : Bool) → is_identity m ≡ true → joined ≡ false → plain_of m joined ≡ true
 identity_plain Mode.Identity joined is none = ap not none
-identity_plain Mode.Aborted joined is none = absurd (false≢true is)
-identity_plain Mode.Starting joined is none = absurd (false≢true is)
-identity_plain Mode.Sure joined is none = absurd (false≢true is)
-identity_plain Mode.InfiniteSend joined is none = absurd (false≢true is)
-identity_plain Mode.InfiniteReceive joined is none = absurd (false≢true is)
-identity_plain Mode.InfiniteBoth joined is none = absurd (false≢true is)
+identity_plain _ joined is none = absurd (false≢true is)
 
 pub fell_plain : (f : Fall) → IsUnjoined f → is_identity f.mode ≡ true → is_plain f ≡ true
 fell_plain f h is = identity_plain f.mode f.joined is (h is)
@@ -477,11 +380,7 @@ fell_plain f h is = identity_plain f.mode f.joined is (h is)
 plain_or_stopped : (m : Mode) (joined : Bool) → plain_of m joined ≡ true → (is_identity m || control.is_aborted m) ≡ true
 plain_or_stopped Mode.Identity joined is = refl
 plain_or_stopped Mode.Aborted joined is = refl
-plain_or_stopped Mode.Starting joined is = absurd (false≢true is)
-plain_or_stopped Mode.Sure joined is = absurd (false≢true is)
-plain_or_stopped Mode.InfiniteSend joined is = absurd (false≢true is)
-plain_or_stopped Mode.InfiniteReceive joined is = absurd (false≢true is)
-plain_or_stopped Mode.InfiniteBoth joined is = absurd (false≢true is)
+plain_or_stopped _ joined is = absurd (false≢true is)
 
 pub fell_or_stopped : (f : Fall) → is_plain f ≡ true → (is_identity f.mode || control.is_aborted f.mode) ≡ true
 fell_or_stopped f is = plain_or_stopped f.mode f.joined is
@@ -501,21 +400,11 @@ row_if false x y is isnt = isnt refl
 
 receiving_tells : (m : Mode) → tells_fall (Verdict.Went (receiving m)) ≡ false
 receiving_tells Mode.Starting = refl
-receiving_tells Mode.Sure = refl
-receiving_tells Mode.Identity = refl
-receiving_tells Mode.InfiniteSend = refl
-receiving_tells Mode.InfiniteReceive = refl
-receiving_tells Mode.InfiniteBoth = refl
-receiving_tells Mode.Aborted = refl
+receiving_tells _ = refl
 
 sending_tells : (m : Mode) → tells_fall (Verdict.Went (sending m)) ≡ false
 sending_tells Mode.Starting = refl
-sending_tells Mode.Sure = refl
-sending_tells Mode.Identity = refl
-sending_tells Mode.InfiniteSend = refl
-sending_tells Mode.InfiniteReceive = refl
-sending_tells Mode.InfiniteBoth = refl
-sending_tells Mode.Aborted = refl
+sending_tells _ = refl
 
 calm_row : (row : Fall × Verdict) → tells_fall row.1 ≡ false → RowFalls row
 calm_row row calm tells = absurd (false≢true (sym calm ∙ tells))

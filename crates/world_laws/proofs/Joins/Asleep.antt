@@ -188,11 +188,8 @@ unsure_begin c unsure =
     by false = refl
 
 unsure_step : (six : SixBooks) (path : ℕ) (o : Option Event) → is_sure six.control_a.fall.mode ≡ false → IsOwn o → keys_begun (reply_of six (step_for path o)) ≡ None
-unsure_step six path None unsure own = refl
 unsure_step six path (Some (Event.Joins tick)) unsure own = unsure_begin six.control_a unsure
-unsure_step six path (Some (Event.Takes line)) unsure own = refl
-unsure_step six path (Some (Event.Arrives due)) unsure own = refl
-unsure_step six path (Some (Event.Fires s tick)) unsure own = refl
+unsure_step six path _ unsure own = refl
 
 -- ---- the path
 

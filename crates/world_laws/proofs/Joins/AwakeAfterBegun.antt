@@ -105,10 +105,8 @@ meant_calm t joined s count (Meaning.Taken pos acknowledged) = came_calm t s cou
 meant_calm t joined s count _ = refl
 
 template_calm : (t : Side) (joined : Bool) (s : Side) (count : ℕ) (v : Judged) → speaks (Voice.Falls t) (template_judged joined s count v) ≡ false
-template_calm t joined s count Judged.Asks = refl
-template_calm t joined s count Judged.Lacks = refl
-template_calm t joined s count Judged.Forged = refl
 template_calm t joined s count (Judged.As m) = meant_calm t joined s count m
+template_calm t joined s count _ = refl
 
 -- a side says what an end says that is up, where it heard a copy
 template_said : (t s : Side) (count : ℕ) (v : Judged) (tcp : EndState) → WakesNone (taken_as v) tcp → speaks (Voice.Says t) (template_judged true s count v) ≡ true → (t ≡ s) × (is_up tcp ≡ true)
@@ -144,10 +142,7 @@ fell_identity event r m = ap (λ (x : Known). x.identity) (fell_leaves event r m
 keys_identity : (r : Reply) (o : Option KeyPair) (m : Modes) → (keys_in r o m).identity ≡ m.identity
 keys_identity (Reply.Control ControlReply.Noted) (Some keys) m = refl
 keys_identity (Reply.Control ControlReply.Noted) None m = refl
-keys_identity (Reply.Control _) o m = refl
-keys_identity (Reply.Send reply) o m = refl
-keys_identity (Reply.Reassembly reply) o m = refl
-keys_identity Reply.Done o m = refl
+keys_identity _ o m = refl
 
 -- ---- a path, where W is that a side's book joined, and F that it fell back by its book
 
@@ -242,13 +237,8 @@ module _ {C : Type 0} (k : Codec C) (W F : Side → Type 0) where
       by : (b : Bool) → Goes s p (if b then with_data_fin place (end_at s p) else end_at s p)
       by true = same_goes s (with_data_fin place (end_at s p)) p refl refl refl
       by false = same_goes s (end_at s p) p refl refl refl
-  item_goes s (Some (Heard.InfiniteMapping place position)) p = same_goes s (end_at s p) p refl refl refl
-  item_goes s (Some (Heard.PeerKey key)) p = same_goes s (end_at s p) p refl refl refl
-  item_goes s (Some (Heard.Keys own other)) p = same_goes s (end_at s p) p refl refl refl
-  item_goes s (Some (Heard.Join form)) p = same_goes s (end_at s p) p refl refl refl
-  item_goes s (Some (Heard.Notice notice)) p = same_goes s (end_at s p) p refl refl refl
   item_goes s (Some Heard.Fail) p = same_goes s (end_at s p) p refl refl refl
-  item_goes s (Some (Heard.FastClose key)) p = same_goes s (end_at s p) p refl refl refl
+  item_goes s _ p = same_goes s (end_at s p) p refl refl refl
 
   edge_goes : (s : Side) (checksums : Bool) (o : Option KeptMapping) (p : PathState C) → Goes s p (forgotten_by checksums o (end_at s p))
   edge_goes s checksums None p = same_goes s (end_at s p) p refl refl refl

@@ -162,9 +162,7 @@ module _ {C : Type 0} (k : Codec C) where
 
   pub ask_so : (six : SixBooks) (x : Ask) → So k (HasJoined (after_ask x six)) (FellBack (after_ask x six)) x (reply_of six x)
   ask_so six (Ask.Control s call) = call_so six s call
-  ask_so six (Ask.Send s call) = tt
-  ask_so six (Ask.Reassembly s call) = tt
-  ask_so six (Ask.Local step) = tt
+  ask_so six _ = tt
 
   -- ---- every list of turns
 

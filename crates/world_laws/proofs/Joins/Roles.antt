@@ -210,13 +210,8 @@ item_goes s (Some (Heard.DataFin place)) p h = by (counts (end_at s p))
     by : (b : Bool) → Goes s p (if b then with_data_fin place (end_at s p) else end_at s p)
     by true = same_goes s (with_data_fin place (end_at s p)) p refl refl h
     by false = same_goes s (end_at s p) p refl refl h
-item_goes s (Some (Heard.InfiniteMapping place position)) p h = same_goes s (end_at s p) p refl refl h
-item_goes s (Some (Heard.PeerKey key)) p h = same_goes s (end_at s p) p refl refl h
-item_goes s (Some (Heard.Keys own other)) p h = same_goes s (end_at s p) p refl refl h
-item_goes s (Some (Heard.Join form)) p h = same_goes s (end_at s p) p refl refl h
-item_goes s (Some (Heard.Notice notice)) p h = same_goes s (end_at s p) p refl refl h
 item_goes s (Some Heard.Fail) p h = same_goes s (end_at s p) p refl refl h
-item_goes s (Some (Heard.FastClose key)) p h = same_goes s (end_at s p) p refl refl h
+item_goes s _ p h = same_goes s (end_at s p) p refl refl h
 
 edge_goes : (s : Side) (checksums : Bool) (o : Option KeptMapping) (p : PathState Carried) → HasRoles p → Goes s p (forgotten_by checksums o (end_at s p))
 edge_goes s checksums None p h = same_goes s (end_at s p) p refl refl h

@@ -200,11 +200,7 @@ HasKey c = is_some c.keys.peer ≡ true
 abbrev pub is_gone : Mode → Bool
 is_gone Mode.Starting = false
 is_gone Mode.Sure = false
-is_gone Mode.Identity = true
-is_gone Mode.InfiniteSend = true
-is_gone Mode.InfiniteReceive = true
-is_gone Mode.InfiniteBoth = true
-is_gone Mode.Aborted = true
+is_gone _ = true
 
 abbrev pub Knew : Control → Type 0
 Knew c = HasKey c ⊎ (is_gone c.fall.mode ≡ true)
@@ -217,11 +213,7 @@ pub record Fine (c : Control) : Type 0 where
 sure_or_gone : (m : Mode) → is_starting m ≡ false → (control.is_sure m ≡ true) ⊎ (is_gone m ≡ true)
 sure_or_gone Mode.Starting is = absurd (false≢true (sym is))
 sure_or_gone Mode.Sure is = inl refl
-sure_or_gone Mode.Identity is = inr refl
-sure_or_gone Mode.InfiniteSend is = inr refl
-sure_or_gone Mode.InfiniteReceive is = inr refl
-sure_or_gone Mode.InfiniteBoth is = inr refl
-sure_or_gone Mode.Aborted is = inr refl
+sure_or_gone _ is = inr refl
 
 knew_past : (c : Control) → Fine c → is_starting c.fall.mode ≡ false → Knew c
 knew_past c fine is = ⊎_elim (λ sure. inl (fine.sure sure)) (λ gone. inr gone) (sure_or_gone c.fall.mode is)
@@ -229,20 +221,11 @@ knew_past c fine is = ⊎_elim (λ sure. inl (fine.sure sure)) (λ gone. inr gon
 gone_stays_out : (m : Mode) → is_gone m ≡ true → (is_starting m ≡ false) × (control.is_sure m ≡ false)
 gone_stays_out Mode.Starting is = absurd (false≢true is)
 gone_stays_out Mode.Sure is = absurd (false≢true is)
-gone_stays_out Mode.Identity is = (refl, refl)
-gone_stays_out Mode.InfiniteSend is = (refl, refl)
-gone_stays_out Mode.InfiniteReceive is = (refl, refl)
-gone_stays_out Mode.InfiniteBoth is = (refl, refl)
-gone_stays_out Mode.Aborted is = (refl, refl)
+gone_stays_out _ is = (refl, refl)
 
 receiving_gone : (m : Mode) → is_gone (receiving m) ≡ true
 receiving_gone Mode.Starting = refl
-receiving_gone Mode.Sure = refl
-receiving_gone Mode.Identity = refl
-receiving_gone Mode.InfiniteSend = refl
-receiving_gone Mode.InfiniteReceive = refl
-receiving_gone Mode.InfiniteBoth = refl
-receiving_gone Mode.Aborted = refl
+receiving_gone _ = refl
 
 -- what an event makes of a fall: it is gone, or sure as before, or it starts and a sign of B came; and the verdict tells the mode
 record Turned (sign : Bool) (f : Fall) (row : Fall × Verdict) : Type 0 where
@@ -289,12 +272,7 @@ check_turned sign path sole f =
 
 sending_gone : (m : Mode) → is_gone (sending m) ≡ true
 sending_gone Mode.Starting = refl
-sending_gone Mode.Sure = refl
-sending_gone Mode.Identity = refl
-sending_gone Mode.InfiniteSend = refl
-sending_gone Mode.InfiniteReceive = refl
-sending_gone Mode.InfiniteBoth = refl
-sending_gone Mode.Aborted = refl
+sending_gone _ = refl
 
 fail_turned : (sign : Bool) (path : ℕ) (sole contiguous : Bool) (f : Fall) → Turned sign f (fall_step f path sole (FallEvent.FailHeard contiguous))
 fail_turned sign path sole contiguous f =
@@ -304,14 +282,12 @@ fail_turned sign path sole contiguous f =
 event_turned : (path : ℕ) (sole : Bool) (event : FallEvent) (f : Fall) → IsSign event → Turned (is_sign event) f (fall_step f path sole event)
 event_turned path sole FallEvent.MappingHeard f is = sign_turned f
 event_turned path sole FallEvent.AckHeard f is = sign_turned f
-event_turned path sole FallEvent.PlainHandshake f is = plain_turned false f
-event_turned path sole FallEvent.PlainData f is = plain_turned false f
-event_turned path sole FallEvent.PlainAck f is = plain_turned false f
 event_turned path sole FallEvent.InfiniteHeard f is = infinite_turned false path sole f
 event_turned path sole FallEvent.KeysHeard f is = absurd is
 event_turned path sole FallEvent.CheckFailed f is = check_turned false path sole f
 event_turned path sole (FallEvent.FailHeard contiguous) f is = fail_turned false path sole contiguous f
 event_turned path sole FallEvent.Stop f is = absurd is
+event_turned path sole _ f is = plain_turned false f
 
 -- what a call makes of a book
 record Keeps (c d : Control) : Type 0 where
@@ -339,10 +315,7 @@ if_keeps false c d e x y = y
 
 notice_keys : (n : Notice) (path : ℕ) (c : Control) → ((controlling.after_notice n path c).keys ≡ c.keys) × ((controlling.after_notice n path c).fall ≡ c.fall)
 notice_keys (Notice.Withdraw id) path c = (refl, refl)
-notice_keys Notice.Nothing path c = (refl, refl)
-notice_keys (Notice.Announce id) path c = (refl, refl)
-notice_keys (Notice.Carrier key) path c = (refl, refl)
-notice_keys Notice.Reset path c = (refl, refl)
+notice_keys _ path c = (refl, refl)
 
 -- a book that has the key is fine
 keyed_keeps : (c d : Control) → HasKey d → (is_gone c.fall.mode ≡ true → is_gone d.fall.mode ≡ true) → Keeps c d
@@ -399,16 +372,11 @@ module _ (key_a key_b : ℕ) where
       let d : Control = controlling.after_join (record c { paths = with_phase path Opening c.paths }) in
       if_keeps (control.may_join c) c d c (λ may. keyed_keeps c d (fine.sure (and_parts (control.is_sure c.fall.mode) (is_none c.fall.failed) may).0) (λ gone. gone)) (same_keeps c c refl refl)
   call_keeps six c (ControlCall.JoinHeard path token) is sign fine = cc
-  call_keeps six c (ControlCall.Live path backup) is sign fine = same_keeps c _ refl refl
-  call_keeps six c (ControlCall.Dead path) is sign fine = same_keeps c _ refl refl
-  call_keeps six c (ControlCall.Rate path window rtt) is sign fine = same_keeps c _ refl refl
-  call_keeps six c (ControlCall.Backup path on) is sign fine = same_keeps c _ refl refl
-  call_keeps six c (ControlCall.Announce id) is sign fine = same_keeps c _ refl refl
   call_keeps six c (ControlCall.Withdraw id) is sign fine = if_keeps (controlling.is_known id c) c _ c (λ known. same_keeps c _ refl refl) (same_keeps c c refl refl)
-  call_keeps six c (ControlCall.Heard id address port hmac) is sign fine = same_keeps c _ refl refl
   call_keeps six c (ControlCall.Echoed id) is sign fine = if_keeps (controlling.is_known id c) c _ c (λ known. same_keeps c _ refl refl) (same_keeps c c refl refl)
   call_keeps six c (ControlCall.Removed id) is sign fine = if_keeps (controlling.is_known id c) c _ c (λ known. same_keeps c _ refl refl) (same_keeps c c refl refl)
   call_keeps six c ControlCall.FastClose is sign fine = stop_keeps c _ refl refl refl
+  call_keeps six c _ is sign fine = same_keeps c _ refl refl
   call_keeps six c (ControlCall.FastHeard key) is sign fine =
       if_keeps (key == c.keys.own) c (controlling.after_event 0 false FallEvent.Stop c) c (λ own. stop_keeps c _ refl refl refl) (same_keeps c c refl refl)
 
@@ -494,9 +462,7 @@ module _ (key_a key_b : ℕ) where
       by (ControlCall.FastHeard key) is keeps = (stop_told (Knew (controlling.after c (ControlCall.FastHeard key))) key c, tt)
       by _ is keeps = (tt, tt)
   gains six (Ask.Control B call) is keeps fine = tt
-  gains six (Ask.Send s call) is keeps fine = tt
-  gains six (Ask.Reassembly s call) is keeps fine = tt
-  gains six (Ask.Local step) is keeps fine = tt
+  gains six _ is keeps fine = tt
 
   -- ---- actors
 

@@ -307,9 +307,6 @@ module _ (s : Side) (e : PathEnd) (heard : HeardSegment) (reset : (copy_of heard
   silent_reset false m = tt
 
   reset_as : (m : Meaning) → FitsState e.tcp.state (copy_of heard) m → IsWelcome (join_judged heard.rst (items_of true s heard) m e)
-  reset_as Meaning.Opens fit = absurd (both_ways _ (fit.firm refl) reset)
-  reset_as (Meaning.Accepts acknowledged) fit = absurd (both_ways _ (fit.firm refl) reset)
-  reset_as (Meaning.Taken pos acknowledged) fit = absurd (both_ways _ (fit.firm refl) reset)
   reset_as Meaning.RepeatedSyn fit = tt
   reset_as Meaning.Ignored fit = silent_reset (is_passed_over heard.rst (items_of true s heard) e) Meaning.Ignored
   reset_as Meaning.Unwanted fit = silent_reset (is_passed_over heard.rst (items_of true s heard) e) Meaning.Unwanted
@@ -318,6 +315,7 @@ module _ (s : Side) (e : PathEnd) (heard : HeardSegment) (reset : (copy_of heard
   reset_as Meaning.Challenged fit = silent_reset (is_passed_over heard.rst (items_of true s heard) e) Meaning.Challenged
   reset_as Meaning.Unacknowledging fit = silent_reset (is_passed_over heard.rst (items_of true s heard) e) Meaning.Unacknowledging
   reset_as Meaning.Ahead fit = silent_reset (is_passed_over heard.rst (items_of true s heard) e) Meaning.Ahead
+  reset_as _ fit = absurd (both_ways _ (fit.firm refl) reset)
 
   pub reset_welcome : (joined : Bool) → IsWelcome (judged_in joined s heard e)
   reset_welcome false = tt

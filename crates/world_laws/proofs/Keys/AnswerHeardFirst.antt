@@ -93,9 +93,7 @@ ack_met pos now s = by (ack_kind pos s.send)
 
     by : (kind : AckKind) → is_met (after_ack_kind kind (sample_of pos s.send) now t).state ≡ is_met s.state
     by (AckKind.New octets) = new (is_fin_acked t.send)
-    by AckKind.Duplicate = refl
-    by AckKind.Old = refl
-    by AckKind.Future = refl
+    by _ = refl
 
 taken_met : (pos acknowledged : ℕ) (hint : Hint) (now : ℕ) (c : Copy) (s : EndState) → is_met (after_taken pos acknowledged hint now c s).state ≡ is_met s.state
 taken_met pos acknowledged hint now c s = by (is_duplicate (ack_kind acknowledged opened.send) (told_by hint c) c acked)
@@ -162,9 +160,7 @@ ack_apart side pos now s = by (ack_kind pos s.send)
 
     by : (kind : AckKind) → is_apart side (after_ack_kind kind (sample_of pos s.send) now t).state ≡ is_apart side s.state
     by (AckKind.New octets) = new (is_fin_acked t.send)
-    by AckKind.Duplicate = refl
-    by AckKind.Old = refl
-    by AckKind.Future = refl
+    by _ = refl
 
 taken_apart : (side : Side) (pos acknowledged : ℕ) (hint : Hint) (now : ℕ) (c : Copy) (s : EndState) → is_apart side (after_taken pos acknowledged hint now c s).state ≡ true → is_apart side s.state ≡ true
 taken_apart side pos acknowledged hint now c s = by (is_duplicate (ack_kind acknowledged opened.send) (told_by hint c) c acked)
@@ -419,17 +415,11 @@ arrived_state m owes hint now c octets s = owing_state owes (after_arrival m hin
 -- what isn't accepted leaves an end unmet that was
 pub unmet_stays : (m : Meaning) (hint : Hint) (now : ℕ) (c : Copy) (octets : List ℕ) (s : EndState) → is_accepts m ≡ false → (is_opens_or_taken m ≡ true → is_met s.state ≡ true)
     → is_met (after_arrival m hint now c (with_payload m octets s)).state ≡ true → is_met s.state ≡ true
-unmet_stays Meaning.Ignored hint now c octets s none met is = is
-unmet_stays Meaning.Unwanted hint now c octets s none met is = is
 unmet_stays Meaning.Opens hint now c octets s none met is = met refl
 unmet_stays (Meaning.Accepts acknowledged) hint now c octets s none met is = absurd (false≢true (sym none))
-unmet_stays Meaning.RepeatedSyn hint now c octets s none met is = is
-unmet_stays Meaning.Outside hint now c octets s none met is = is
 unmet_stays Meaning.Kills hint now c octets s none met is = absurd (false≢true is)
-unmet_stays Meaning.Challenged hint now c octets s none met is = is
-unmet_stays Meaning.Unacknowledging hint now c octets s none met is = is
-unmet_stays Meaning.Ahead hint now c octets s none met is = is
 unmet_stays (Meaning.Taken pos acknowledged) hint now c octets s none met is = met refl
+unmet_stays _ hint now c octets s none met is = is
 
 -- no copy but a SYN lets an end be where it never is
 pub apart_stays : (side : Side) (m : Meaning) (hint : Hint) (now : ℕ) (c : Copy) (octets : List ℕ) (s : EndState) → is_opens m ≡ false
@@ -440,12 +430,8 @@ apart_stays side Meaning.Opens hint now c octets s none is = absurd (false≢tru
 apart_stays side (Meaning.Accepts acknowledged) hint now c octets s none is =
     let opened : EndState = record (after_hearing (after_payload 1 hint c s)) { state = EndPhase.Established } in
     absurd (false≢true (sym (ack_apart side acknowledged now opened) ∙ is))
-apart_stays side Meaning.RepeatedSyn hint now c octets s none is = is
-apart_stays side Meaning.Outside hint now c octets s none is = is
 apart_stays side Meaning.Kills hint now c octets s none is = absurd (false≢true is)
-apart_stays side Meaning.Challenged hint now c octets s none is = is
-apart_stays side Meaning.Unacknowledging hint now c octets s none is = is
-apart_stays side Meaning.Ahead hint now c octets s none is = is
+apart_stays side _ hint now c octets s none is = is
 apart_stays side (Meaning.Taken pos acknowledged) hint now c octets s none is =
     let held : EndState = with_payload (Meaning.Taken pos acknowledged) octets s in
     ap (is_apart side) (sym (payload_met (Meaning.Taken pos acknowledged) octets s)) ∙ taken_apart side pos acknowledged hint now c held is

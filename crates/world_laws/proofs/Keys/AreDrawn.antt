@@ -232,9 +232,7 @@ module _ (k : Secrets) (right : Bool) (w : Side → Type 0) (did : Deed → Side
 
   abbrev pub PeerNoteIs : Side → PeerNotice → Type 0
   PeerNoteIs s (PeerNotice.AddAddr id address port hmac) = HmacIs (peer s) s id address (unwrap_or port 0) hmac
-  PeerNoteIs s (PeerNotice.AddEcho id) = Unit {0}
-  PeerNoteIs s (PeerNotice.Removed id) = Unit {0}
-  PeerNoteIs s (PeerNotice.Prio backup) = Unit {0}
+  PeerNoteIs s _ = Unit {0}
 
   abbrev pub ItemIs : Bool → Side → Heard → Type 0
   ItemIs joined s (Heard.Keys own other) = (joined ≡ false) × ((own ≡ drawn_key k right s) × (other ≡ drawn_key k right (peer s)) × KeysFor s)
@@ -255,9 +253,7 @@ module _ (k : Secrets) (right : Bool) (w : Side → Type 0) (did : Deed → Side
   -- B alone announces addresses, and A's book has its key then
   abbrev pub NoteIs : Side → OwnNotice → Type 0
   NoteIs s (OwnNotice.AddAddr id) = (s ≡ B) × did Deed.Keyed (peer s)
-  NoteIs s (OwnNotice.AddEcho id address port) = Unit {0}
-  NoteIs s (OwnNotice.Removes id) = Unit {0}
-  NoteIs s (OwnNotice.Prio backup) = Unit {0}
+  NoteIs s _ = Unit {0}
 
   pub record ModesAre (joined : Bool) (s : Side) (m : Modes) : Type 0 where
     pub own : m.own_key ≡ drawn_key k right s
@@ -407,10 +403,8 @@ module _ (k : Secrets) (right : Bool) (w : Side → Type 0) (did : Deed → Side
 
     pub noted_is : (is_joined c ≡ true → OfB s (w B)) → e.modes.clear ≡ true → (o : Option OwnNotice) → IfSome o (NoteIs s) → SegmentIs c s (noted_said c s o e)
     noted_is knows clear (Some (OwnNotice.AddAddr id)) is = every_two _ _ knows (announced id clear is)
-    noted_is knows clear (Some (OwnNotice.AddEcho id address port)) is = every_two _ _ knows tt
-    noted_is knows clear (Some (OwnNotice.Removes id)) is = every_two _ _ knows tt
-    noted_is knows clear (Some (OwnNotice.Prio backup)) is = every_two _ _ knows tt
     noted_is knows clear None is = ack_options_are None
+    noted_is knows clear _ is = every_two _ _ knows tt
 
     -- where it knows what it has to, its SYN is right, and so is its DSS
     module _ (knows : is_joined c ≡ true → Knows s e.modes) where

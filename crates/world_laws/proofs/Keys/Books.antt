@@ -111,14 +111,12 @@ fail_confirms sole contiguous f = by (not (writes_mappings f.mode)) (sole && con
 fell_confirms : (path : ℕ) (sole : Bool) (e : FallEvent) (f : Fall) → IsSign e → (fall_step f path sole e).0.confirmed ≡ f.confirmed
 fell_confirms path sole FallEvent.MappingHeard f is = sign_confirms f
 fell_confirms path sole FallEvent.AckHeard f is = sign_confirms f
-fell_confirms path sole FallEvent.PlainHandshake f is = plain_confirms f
-fell_confirms path sole FallEvent.PlainData f is = plain_confirms f
-fell_confirms path sole FallEvent.PlainAck f is = plain_confirms f
 fell_confirms path sole FallEvent.InfiniteHeard f is = infinite_confirms path sole f
 fell_confirms path sole FallEvent.KeysHeard f is = absurd is
 fell_confirms path sole FallEvent.CheckFailed f is = check_confirms path sole f
 fell_confirms path sole (FallEvent.FailHeard contiguous) f is = fail_confirms sole contiguous f
 fell_confirms path sole FallEvent.Stop f is = absurd is
+fell_confirms path sole _ f is = plain_confirms f
 
 keys_told : (own other : ℕ) (T : Type 0) (mine peer_key : ℕ) (c : Control) → peer_key ≡ other → T → BookIs own other T c → BookIs own other T (controlling.after_keys mine peer_key c)
 keys_told own other T mine peer_key c is holds h =
@@ -137,16 +135,10 @@ call_is k right w did s c (ControlCall.JoinBegin path) is h =
 call_is k right w did s c (ControlCall.JoinHeard path token) is h =
     if_book _ _ _ (token == token_of c.keys.own && c.fall.confirmed && (control.is_starting c.fall.mode || control.is_sure c.fall.mode))
     (controlling.after_join c) c (same_book _ _ _ c (controlling.after_join c) refl refl h) h
-call_is k right w did s c (ControlCall.Live path backup) is h = same_book _ _ _ c _ refl refl h
-call_is k right w did s c (ControlCall.Dead path) is h = same_book _ _ _ c _ refl refl h
-call_is k right w did s c (ControlCall.Rate path window rtt) is h = same_book _ _ _ c _ refl refl h
-call_is k right w did s c (ControlCall.Backup path on) is h = same_book _ _ _ c _ refl refl h
-call_is k right w did s c (ControlCall.Announce id) is h = same_book _ _ _ c _ refl refl h
 call_is k right w did s c (ControlCall.Withdraw id) is h = if_book _ _ _ (controlling.is_known id c) _ c (same_book _ _ _ c _ refl refl h) h
-call_is k right w did s c (ControlCall.Heard id address port hmac) is h = same_book _ _ _ c _ refl refl h
 call_is k right w did s c (ControlCall.Echoed id) is h = if_book _ _ _ (controlling.is_known id c) _ c (same_book _ _ _ c _ refl refl h) h
 call_is k right w did s c (ControlCall.Removed id) is h = if_book _ _ _ (controlling.is_known id c) _ c (same_book _ _ _ c _ refl refl h) h
-call_is k right w did s c ControlCall.FastClose is h = same_book _ _ _ c _ refl refl h
+call_is k right w did s c _ is h = same_book _ _ _ c _ refl refl h
 call_is k right w did s c (ControlCall.FastHeard key) is h =
     let d : Control = controlling.after_event 0 false FallEvent.Stop c in
     if_book _ _ _ (key == c.keys.own) d c (same_book _ _ _ c d refl refl h) h
@@ -175,10 +167,7 @@ fell_joined path sole FallEvent.Stop f is = is
 
 notice_joined : (n : Notice) (path : ℕ) (c : Control) → c.fall.joined ≡ true → (controlling.after_notice n path c).fall.joined ≡ true
 notice_joined (Notice.Withdraw id) path c is = is
-notice_joined Notice.Nothing path c is = is
-notice_joined (Notice.Announce id) path c is = is
-notice_joined (Notice.Carrier key) path c is = is
-notice_joined Notice.Reset path c is = is
+notice_joined _ path c is = is
 
 pub call_joined : (c : Control) (call : ControlCall) → c.fall.joined ≡ true → (controlling.after c call).fall.joined ≡ true
 call_joined c (ControlCall.Look path) is = notice_joined (control.notice_on c path) path c is
@@ -188,17 +177,11 @@ call_joined c (ControlCall.Fell path event) is = fell_joined path (sole_path c.p
 call_joined c (ControlCall.JoinBegin path) is = either_joined (control.may_join c) _ _ refl is
 call_joined c (ControlCall.JoinHeard path token) is =
     either_joined (token == token_of c.keys.own && c.fall.confirmed && (control.is_starting c.fall.mode || control.is_sure c.fall.mode)) _ _ refl is
-call_joined c (ControlCall.Live path backup) is = is
-call_joined c (ControlCall.Dead path) is = is
-call_joined c (ControlCall.Rate path window rtt) is = is
-call_joined c (ControlCall.Backup path on) is = is
-call_joined c (ControlCall.Announce id) is = is
 call_joined c (ControlCall.Withdraw id) is = either_joined _ _ _ is is
-call_joined c (ControlCall.Heard id address port hmac) is = is
 call_joined c (ControlCall.Echoed id) is = either_joined _ _ _ is is
 call_joined c (ControlCall.Removed id) is = either_joined _ _ _ is is
-call_joined c ControlCall.FastClose is = is
 call_joined c (ControlCall.FastHeard key) is = either_joined _ _ _ is is
+call_joined c _ is = is
 
 -- a book that has the peer's key keeps one
 either_keyed : (b : Bool) (c d : Control) → is_some c.keys.peer ≡ true → is_some d.keys.peer ≡ true → is_some (if b then c else d).keys.peer ≡ true
@@ -207,10 +190,7 @@ either_keyed false c d x y = y
 
 notice_keyed : (n : Notice) (path : ℕ) (c : Control) → is_some c.keys.peer ≡ true → is_some (controlling.after_notice n path c).keys.peer ≡ true
 notice_keyed (Notice.Withdraw id) path c is = is
-notice_keyed Notice.Nothing path c is = is
-notice_keyed (Notice.Announce id) path c is = is
-notice_keyed (Notice.Carrier key) path c is = is
-notice_keyed Notice.Reset path c is = is
+notice_keyed _ path c is = is
 
 pub call_keyed : (c : Control) (call : ControlCall) → is_some c.keys.peer ≡ true → is_some (controlling.after c call).keys.peer ≡ true
 call_keyed c (ControlCall.Look path) is = notice_keyed (control.notice_on c path) path c is
@@ -220,17 +200,11 @@ call_keyed c (ControlCall.Fell path event) is = is
 call_keyed c (ControlCall.JoinBegin path) is = either_keyed (control.may_join c) _ _ is is
 call_keyed c (ControlCall.JoinHeard path token) is =
     either_keyed (token == token_of c.keys.own && c.fall.confirmed && (control.is_starting c.fall.mode || control.is_sure c.fall.mode)) _ _ is is
-call_keyed c (ControlCall.Live path backup) is = is
-call_keyed c (ControlCall.Dead path) is = is
-call_keyed c (ControlCall.Rate path window rtt) is = is
-call_keyed c (ControlCall.Backup path on) is = is
-call_keyed c (ControlCall.Announce id) is = is
 call_keyed c (ControlCall.Withdraw id) is = either_keyed _ _ _ is is
-call_keyed c (ControlCall.Heard id address port hmac) is = is
 call_keyed c (ControlCall.Echoed id) is = either_keyed _ _ _ is is
 call_keyed c (ControlCall.Removed id) is = either_keyed _ _ _ is is
-call_keyed c ControlCall.FastClose is = is
 call_keyed c (ControlCall.FastHeard key) is = either_keyed _ _ _ is is
+call_keyed c _ is = is
 
 -- it has it once it noted both keys
 pub noted_keyed : (own other : ℕ) (c : Control) → is_noted (Reply.Control (control.keys_reply own c)) ≡ true → is_some (controlling.after_keys own other c).keys.peer ≡ true
@@ -374,7 +348,5 @@ module _ (k : Secrets) (right : Bool) (w : Side → Type 0) (did : Deed → Side
   address_right sure keyed (ControlCall.Withdraw id) is = refl
   address_right sure keyed (ControlCall.Heard id address port hmac) is =
       right_told id address (control.is_right id address port hmac c) (heard_right id address port hmac (peer_known c.keys.peer (keyed is.1) h.peer_is) (is.0 sure))
-  address_right sure keyed (ControlCall.Echoed id) is = refl
-  address_right sure keyed (ControlCall.Removed id) is = refl
-  address_right sure keyed ControlCall.FastClose is = refl
   address_right sure keyed (ControlCall.FastHeard key) is = fast_untold tells_bad_address refl (λ own. refl) key c
+  address_right sure keyed _ is = refl

@@ -120,10 +120,7 @@ call_carries P c (ControlCall.Look path) is was closes = by (controlling.notice_
   where
     by : (n : Notice) → is_some (control.after_notice n path c).notices.carrier ≡ true → P
     by (Notice.Withdraw id) is = was is
-    by Notice.Nothing is = was is
-    by (Notice.Announce id) is = was is
-    by (Notice.Carrier key) is = was is
-    by Notice.Reset is = was is
+    by _ is = was is
 call_carries P c (ControlCall.PeerKey key) is was closes = was is
 call_carries P c (ControlCall.Keys own other) is was closes = if_carries P (own == c.keys.own) c _ is refl was
 call_carries P c (ControlCall.Fell path event) is was closes = was is
@@ -313,10 +310,7 @@ module _ (start : Start) where
     tells (Ask.Control s (ControlCall.Fell path event)) same = fell_now s path event same
     tells (Ask.Control s (ControlCall.FastHeard key)) same = accepts_now s key same
     tells (Ask.Control s ControlCall.FastClose) same = tt
-    tells (Ask.Control s _) same = tt
-    tells (Ask.Send s call) same = tt
-    tells (Ask.Reassembly s call) same = tt
-    tells (Ask.Local step) same = tt
+    tells _ same = tt
 
     -- what the books are then
     carries_on : (y : Ask) → x ≡ y → (s : Side) → is_some (control_of s (after_ask y six)).notices.carrier ≡ true → Facts u Deed.Closed s

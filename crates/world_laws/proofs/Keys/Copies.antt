@@ -221,10 +221,8 @@ module _ (k : Secrets) (right : Bool) (w : Side → Type 0) (did : Deed → Side
   meant_calm joined s t count _ = (refl, refl)
 
   template_calm : (joined : Bool) (s t : Side) (count : ℕ) (v : Judged) → IsCalm t (template_judged joined s count v)
-  template_calm joined s t count Judged.Asks = (refl, refl)
-  template_calm joined s t count Judged.Lacks = (refl, refl)
-  template_calm joined s t count Judged.Forged = (refl, refl)
   template_calm joined s t count (Judged.As m) = meant_calm joined s t count m
+  template_calm joined s t count _ = (refl, refl)
 
   -- the end of either side is that of this one
   pub own_knows : (s t : Side) (e : PathEnd) (p : PathState Carried) → t ≡ s → Knows k right w did s e.modes → Knows k right w did t (end_at t (with_end s e p)).modes

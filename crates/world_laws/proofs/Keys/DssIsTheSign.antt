@@ -80,13 +80,7 @@ one_led seen later (Heard.DataAck next window) on h = on h
 one_led seen later (Heard.Mapping fin) on h = on h
 one_led seen later (Heard.DataFin place) on h = on h
 one_led seen later (Heard.InfiniteMapping place position) on h = on h
-one_led seen later Heard.Dss on h = tt
-one_led seen later (Heard.PeerKey key) on h = tt
-one_led seen later (Heard.Keys own peer) on h = tt
-one_led seen later (Heard.Join form) on h = tt
-one_led seen later (Heard.Notice notice) on h = tt
-one_led seen later Heard.Fail on h = tt
-one_led seen later (Heard.FastClose key) on h = tt
+one_led seen later _ on h = tt
 
 either_on : (seen later dss : Bool) → (seen ≡ true → later ≡ true) → (seen || dss) ≡ true → (later || dss) ≡ true
 either_on true later dss on is = or_left later dss (on refl)
@@ -106,13 +100,7 @@ one_seen (Heard.DataAck next window) = refl
 one_seen (Heard.Mapping fin) = refl
 one_seen (Heard.DataFin place) = refl
 one_seen (Heard.InfiniteMapping place position) = refl
-one_seen Heard.Dss = tt
-one_seen (Heard.PeerKey key) = tt
-one_seen (Heard.Keys own peer) = tt
-one_seen (Heard.Join form) = tt
-one_seen (Heard.Notice notice) = tt
-one_seen Heard.Fail = tt
-one_seen (Heard.FastClose key) = tt
+one_seen _ = tt
 
 -- behind a DSS all is led
 all_seen : (items : List Heard) → Led true items
@@ -125,10 +113,8 @@ joins_led (JoinForm.Syn backup id token nonce) = tt
 joins_led (JoinForm.Third hmac) = tt
 
 keys_led : (keys : CapableKeys) → Led false (key_items A keys)
-keys_led NoKey = tt
 keys_led (Sender sender) = (tt, tt)
-keys_led (Both sender receiver) = tt
-keys_led (WithData sender receiver len checksum) = tt
+keys_led _ = tt
 
 address_led : (echo : Bool) (id : ℕ) (address : Address) (port hmac : Option ℕ) → Led false (address_items echo id address port hmac)
 address_led true id address port hmac = (tt, tt)
@@ -150,10 +136,8 @@ module _ (joined : Bool) (window : ℕ) where
   option_led (Join form) = joins_led form
   option_led (AddAddr echo id address port hmac) = address_led echo id address port hmac
   option_led (Remove ids) = removed_led ids
-  option_led (Prio backup) = (tt, tt)
-  option_led (Fail place) = (tt, tt)
-  option_led (FastClose key) = (tt, tt)
   option_led (Reset transient reason) = tt
+  option_led _ = (tt, tt)
 
   options_led : (os : List HeardOption) → Led false (flat_map (items_in joined A window) os)
   options_led [] = tt
@@ -215,9 +199,7 @@ template_follows joined s count _ = tt
 
 judged_follows : (joined : Bool) (s : Side) (count : ℕ) (verdict : Judged) → Follows 0 (template_judged joined s count verdict)
 judged_follows joined s count (Judged.As meaning) = template_follows joined s count meaning
-judged_follows joined s count Judged.Asks = tt
-judged_follows joined s count Judged.Lacks = tt
-judged_follows joined s count Judged.Forged = tt
+judged_follows joined s count _ = tt
 
 died_follows : (dead_a dead_b : Bool) → Follows 0 ((if dead_a then [] else Duty.Ask (AskDuty.Leave A) ∷ []) ++ ((if dead_b then [] else Duty.Ask (AskDuty.Leave B) ∷ []) ++ rest_of_turn))
 died_follows true true = tt
@@ -268,13 +250,8 @@ same_items s (Some (Heard.DataFin place)) e = by (counts e)
     by : (b : Bool) → (if b then with_data_fin place e else e).treated.items ≡ e.treated.items
     by true = refl
     by false = refl
-same_items s (Some (Heard.InfiniteMapping place position)) e = refl
-same_items s (Some (Heard.PeerKey key)) e = refl
-same_items s (Some (Heard.Keys own peer)) e = refl
-same_items s (Some (Heard.Join form)) e = refl
-same_items s (Some (Heard.Notice notice)) e = refl
 same_items s (Some Heard.Fail) e = refl
-same_items s (Some (Heard.FastClose key)) e = refl
+same_items s _ e = refl
 
 checked_recalls : (checksums : Bool) (o : Option KeptMapping) (e : PathEnd) → Recalls e (forgotten_by checksums o e)
 checked_recalls checksums None e = recalls_all e e refl

@@ -620,39 +620,29 @@ module _ (k : Secrets) (right : Bool) (w u : Side → Type 0) (did does : Deed �
 
   more_heard : (s : Side) (notice : PeerNotice) → PeerNoteIs k right w did s notice → PeerNoteIs k right u does s notice
   more_heard s (PeerNotice.AddAddr id address port hmac) h = (h.0, further Deed.Keyed s h.1)
-  more_heard s (PeerNotice.AddEcho id) h = h
-  more_heard s (PeerNotice.Removed id) h = h
-  more_heard s (PeerNotice.Prio backup) h = h
+  more_heard s _ h = h
 
   more_note : (s : Side) (notice : OwnNotice) → NoteIs k right w did s notice → NoteIs k right u does s notice
   more_note s (OwnNotice.AddAddr id) h = (h.0, further Deed.Keyed (peer s) h.1)
-  more_note s (OwnNotice.AddEcho id address port) h = h
-  more_note s (OwnNotice.Removes id) h = h
-  more_note s (OwnNotice.Prio backup) h = h
+  more_note s _ h = h
 
   more_option : (joined : Bool) (s : Side) (o : PlainOption) → OptionIs k right w did joined s o → OptionIs k right u does joined s o
   more_option joined s (Capable flag_a flag_c keys) h = (h.0, λ first. more_shown s keys (h.1 first))
   more_option joined s (Join form) h = (h.0, (more s h.1.0, h.1.1))
   more_option joined s (Dss next mapping) h = λ joins. more_b s (h joins)
   more_option joined s (AddAddr echo id address port hmac) h = more_address s echo id address port hmac h
-  more_option joined s (Remove ids) h = h
-  more_option joined s (Prio backup) h = h
   more_option joined s (Fail place) h = λ joins. more_b s (h joins)
   more_option joined s (FastClose key) h = further Deed.Closed s h
-  more_option joined s (Reset transient reason) h = h
+  more_option joined s _ h = h
 
   more_item : (joined : Bool) (s : Side) (item : Heard) → ItemIs k right w did joined s item → ItemIs k right u does joined s item
   more_item joined s (Heard.Keys own other) h = (h.0, (h.1.0, h.1.1, more_for s h.1.2))
-  more_item joined s (Heard.PeerKey key) h = h
   more_item joined s (Heard.Join form) h = (h.0, (h.1.0, (more (peer s) h.1.1.0, h.1.1.1)))
   more_item joined s (Heard.Notice notice) h = more_heard s notice h
   more_item joined s Heard.Fail h = λ joins. more_b (peer s) (h joins)
   more_item joined s (Heard.FastClose key) h = further Deed.Closed (peer s) h
   more_item joined s Heard.Dss h = λ joins. more_b (peer s) (h joins)
-  more_item joined s (Heard.Mapping fin) h = h
-  more_item joined s (Heard.InfiniteMapping place position) h = h
-  more_item joined s (Heard.DataAck next window) h = h
-  more_item joined s (Heard.DataFin place) h = h
+  more_item joined s _ h = h
 
   more_knows : (s : Side) (m : Modes) → Knows k right w did s m → Knows k right u does s m
   more_knows s m h = (more s h.0, h.1)

@@ -98,25 +98,17 @@ module _ (T : Type 0) where
   pub look_mode : (r : Reply) (m : Modes) → ModeGains r → is_starting (modes_told r m).mode ≡ false → (is_starting m.mode ≡ false) ⊎ T
   look_mode (Reply.Control (ControlReply.Standing mode standby sole notice)) m gains is = inr (gains is)
   look_mode (Reply.Control ControlReply.Noted) m gains is = inl is
-  look_mode (Reply.Control _) m gains is = inl is
-  look_mode (Reply.Send reply) m gains is = inl is
-  look_mode (Reply.Reassembly reply) m gains is = inl is
-  look_mode Reply.Done m gains is = inl is
+  look_mode _ m gains is = inl is
 
   verdict_mode : (v : Verdict) (m : Modes) → ModeGains (Reply.Control (ControlReply.Verdict v)) → is_starting (mode_in (Reply.Control (ControlReply.Verdict v)) m).mode ≡ false
       → (is_starting m.mode ≡ false) ⊎ T
   verdict_mode (Verdict.Went mode) m gains is = inr (gains is)
-  verdict_mode Verdict.Stay m gains is = inl is
-  verdict_mode Verdict.SendFail m gains is = inl is
-  verdict_mode (Verdict.BreakPath reason) m gains is = inl is
+  verdict_mode _ m gains is = inl is
 
   told_mode : (r : Reply) (m : Modes) → ModeGains r → is_starting (mode_in r m).mode ≡ false → (is_starting m.mode ≡ false) ⊎ T
   told_mode (Reply.Control (ControlReply.Verdict v)) m gains is = verdict_mode v m gains is
   told_mode (Reply.Control ControlReply.Noted) m gains is = inl is
-  told_mode (Reply.Control _) m gains is = inl is
-  told_mode (Reply.Send reply) m gains is = inl is
-  told_mode (Reply.Reassembly reply) m gains is = inl is
-  told_mode Reply.Done m gains is = inl is
+  told_mode _ m gains is = inl is
 
   pub fell_mode : (event : FallEvent) (r : Reply) (m : Modes) → ModeGains r → is_starting (fell_in event r m).mode ≡ false → (is_starting m.mode ≡ false) ⊎ T
   fell_mode FallEvent.PlainData r m gains is = told_mode r m gains is
@@ -128,10 +120,7 @@ module _ (T : Type 0) where
   refused_mode (Reply.Control (ControlReply.Never told)) mode gains is = inr (gains is)
   refused_mode (Reply.Control (ControlReply.Fallen told)) mode gains is = inr (gains is)
   refused_mode (Reply.Control ControlReply.Noted) mode gains is = inl is
-  refused_mode (Reply.Control _) mode gains is = inl is
-  refused_mode (Reply.Send reply) mode gains is = inl is
-  refused_mode (Reply.Reassembly reply) mode gains is = inl is
-  refused_mode Reply.Done mode gains is = inl is
+  refused_mode _ mode gains is = inl is
 
   -- ---- a path
 
@@ -211,13 +200,8 @@ module _ (T : Type 0) where
       by : (b : Bool) → Goes s p (if b then with_data_fin place (end_at s p) else end_at s p)
       by true = same_goes s (with_data_fin place (end_at s p)) p refl refl
       by false = same_goes s (end_at s p) p refl refl
-  item_goes s (Some (Heard.InfiniteMapping place position)) p = same_goes s (end_at s p) p refl refl
-  item_goes s (Some (Heard.PeerKey key)) p = same_goes s (end_at s p) p refl refl
-  item_goes s (Some (Heard.Keys own other)) p = same_goes s (end_at s p) p refl refl
-  item_goes s (Some (Heard.Join form)) p = same_goes s (end_at s p) p refl refl
-  item_goes s (Some (Heard.Notice notice)) p = same_goes s (end_at s p) p refl refl
   item_goes s (Some Heard.Fail) p = same_goes s (end_at s p) p refl refl
-  item_goes s (Some (Heard.FastClose key)) p = same_goes s (end_at s p) p refl refl
+  item_goes s _ p = same_goes s (end_at s p) p refl refl
 
   edge_goes : (s : Side) (checksums : Bool) (o : Option KeptMapping) (p : PathState Carried) → Goes s p (forgotten_by checksums o (end_at s p))
   edge_goes s checksums None p = same_goes s (end_at s p) p refl refl
@@ -353,9 +337,7 @@ module _ (T : Type 0) where
 
       calm : (b : Bool) (s : Side) → Fewer p.agenda (template_fired b s)
       calm true A = new_duties p.agenda _ refl refl
-      calm true B = new_duties p.agenda _ refl refl
-      calm false A = new_duties p.agenda _ refl refl
-      calm false B = new_duties p.agenda _ refl refl
+      calm false _ = new_duties p.agenda _ refl refl
 
       by : (b : Bool) → CalmMet (goes_on s (record e { tcp = (if b then after_death true e.tcp else after_expiry p.clock e.tcp) }) (template_fired b s) p)
       by true =

@@ -135,10 +135,7 @@ module _ (T : Type 0) where
   keys_mode : (r : Reply) (o : Option KeyPair) (m : Modes) → (keys_in r o m).mode ≡ m.mode
   keys_mode (Reply.Control ControlReply.Noted) (Some keys) m = refl
   keys_mode (Reply.Control ControlReply.Noted) None m = refl
-  keys_mode (Reply.Control _) o m = refl
-  keys_mode (Reply.Send reply) o m = refl
-  keys_mode (Reply.Reassembly reply) o m = refl
-  keys_mode Reply.Done o m = refl
+  keys_mode _ o m = refl
 
   keys_met : (s : Side) (r : Reply) (o : Option KeyPair) (p : PathState Carried) → CalmMet T p → CalmMet T (goes_on s (after_keys r o (end_at s p)) (left p) p)
   keys_met s r o p h = same_met s (after_keys r o (end_at s p)) (left p) p refl (keys_mode r o (end_at s p).modes) (tail_fewer p.agenda) h

@@ -86,13 +86,7 @@ connected_past EndPhase.Listen is = absurd (false≢true is)
 connected_past EndPhase.SynSent is = absurd (false≢true is)
 connected_past EndPhase.SynReceived is = absurd (false≢true is)
 connected_past EndPhase.Dead is = absurd (false≢true is)
-connected_past EndPhase.Established is = refl
-connected_past EndPhase.FinWait1 is = refl
-connected_past EndPhase.FinWait2 is = refl
-connected_past EndPhase.CloseWait is = refl
-connected_past EndPhase.Closing is = refl
-connected_past EndPhase.LastAck is = refl
-connected_past EndPhase.TimeWait is = refl
+connected_past _ is = refl
 
 -- the key of the fast close that an end is to carry
 abbrev pub carrier_in : Notice → Option ℕ
@@ -173,13 +167,8 @@ module _ (k : Secrets) (right : Bool) (w : Side → Type 0) (did : Deed → Side
       by : (b : Bool) → EndIs k right w did joined s (if b then with_data_fin place e else e)
       by true = record { modes = h.modes; items = h.items; woken = h.woken; past = h.past; carries = h.carries; queued = h.queued; failing = h.failing }
       by false = h
-  passed_item joined s (Some (Heard.InfiniteMapping place position)) e said h = h
-  passed_item joined s (Some (Heard.PeerKey key)) e said h = h
-  passed_item joined s (Some (Heard.Keys own other)) e said h = h
-  passed_item joined s (Some (Heard.Join form)) e said h = h
-  passed_item joined s (Some (Heard.Notice notice)) e said h = h
   passed_item joined s (Some Heard.Fail) e said h = h
-  passed_item joined s (Some (Heard.FastClose key)) e said h = h
+  passed_item joined s _ e said h = h
 
   -- it knows what it knew
   passed_stays : (t s : Side) (o : Option Heard) (e : PathEnd) → Knows k right w did t e.modes → Knows k right w did t (item_passed s o e).modes
@@ -197,13 +186,8 @@ module _ (k : Secrets) (right : Bool) (w : Side → Type 0) (did : Deed → Side
       by : (b : Bool) → Knows k right w did t (if b then with_data_fin place e else e).modes
       by true = has
       by false = has
-  passed_stays t s (Some (Heard.InfiniteMapping place position)) e has = has
-  passed_stays t s (Some (Heard.PeerKey key)) e has = has
-  passed_stays t s (Some (Heard.Keys own other)) e has = has
-  passed_stays t s (Some (Heard.Join form)) e has = has
-  passed_stays t s (Some (Heard.Notice notice)) e has = has
   passed_stays t s (Some Heard.Fail) e has = has
-  passed_stays t s (Some (Heard.FastClose key)) e has = has
+  passed_stays t s _ e has = has
 
   item_waits : (s : Side) (o : Option Heard) (e : PathEnd) → is_waiting (item_passed s o e).tcp.state ≡ true → is_waiting e.tcp.state ≡ true
   item_waits s None e is = is
@@ -219,13 +203,8 @@ module _ (k : Secrets) (right : Bool) (w : Side → Type 0) (did : Deed → Side
       by : (b : Bool) → is_waiting (if b then with_data_fin place e else e).tcp.state ≡ true → is_waiting e.tcp.state ≡ true
       by true is = is
       by false is = is
-  item_waits s (Some (Heard.InfiniteMapping place position)) e is = is
-  item_waits s (Some (Heard.PeerKey key)) e is = is
-  item_waits s (Some (Heard.Keys own other)) e is = is
-  item_waits s (Some (Heard.Join form)) e is = is
-  item_waits s (Some (Heard.Notice notice)) e is = is
   item_waits s (Some Heard.Fail) e is = is
-  item_waits s (Some (Heard.FastClose key)) e is = is
+  item_waits s _ e is = is
 
   -- an edge that is checked leaves what the end knows, and its state
   checked : (checksums : Bool) (o : Option KeptMapping) (e : PathEnd) → (P : PathEnd → Type 0) → P e → ((recv : _) → P (record e { tcp = record e.tcp { recv = recv } }))
@@ -369,9 +348,7 @@ module _ (k : Secrets) (right : Bool) (w : Side → Type 0) (did : Deed → Side
 
   abbrev pub ReplyIs : Ask → Reply → Type 0
   ReplyIs (Ask.Control s call) r = CallReplyIs s call r
-  ReplyIs (Ask.Send s call) r = Unit {0}
-  ReplyIs (Ask.Reassembly s call) r = Unit {0}
-  ReplyIs (Ask.Local local) r = Unit {0}
+  ReplyIs _ r = Unit {0}
 
   -- ---- events
 
@@ -762,10 +739,7 @@ module _ (k : Secrets) (right : Bool) (w : Side → Type 0) (did : Deed → Side
       by false (Notice.Carrier key) closed = kept e.notices.fast_closed key closed
       by false Notice.Reset closed = was
   look_carries s (Reply.Control ControlReply.Noted) e closed was = was
-  look_carries s (Reply.Control _) e closed was = was
-  look_carries s (Reply.Send reply) e closed was = was
-  look_carries s (Reply.Reassembly reply) e closed was = was
-  look_carries s Reply.Done e closed was = was
+  look_carries s _ e closed was = was
 
   identity_knows : (s : Side) (e : PathEnd) → Knows k right w did s e.modes → Knows k right w did s (in_identity e).modes
   identity_knows A e has = has

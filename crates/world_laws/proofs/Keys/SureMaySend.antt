@@ -102,10 +102,7 @@ either_mode m false c d x y = y
 
 notice_mode : (n : Notice) (path : ℕ) (c : Control) → (controlling.after_notice n path c).fall.mode ≡ c.fall.mode
 notice_mode (Notice.Withdraw id) path c = refl
-notice_mode Notice.Nothing path c = refl
-notice_mode (Notice.Announce id) path c = refl
-notice_mode (Notice.Carrier key) path c = refl
-notice_mode Notice.Reset path c = refl
+notice_mode _ path c = refl
 
 -- keys that are heard confirm the side, and leave its mode
 keys_mode : (fall : Fall) → (fall_keys fall).0.mode ≡ fall.mode
@@ -125,21 +122,11 @@ row_sure false f x y p q = q
 
 receiving_unsure : (m : Mode) → is_sure (receiving m) ≡ true → ⊥
 receiving_unsure Mode.Starting is = false≢true is
-receiving_unsure Mode.Sure is = false≢true is
-receiving_unsure Mode.Identity is = false≢true is
-receiving_unsure Mode.InfiniteSend is = false≢true is
-receiving_unsure Mode.InfiniteReceive is = false≢true is
-receiving_unsure Mode.InfiniteBoth is = false≢true is
-receiving_unsure Mode.Aborted is = false≢true is
+receiving_unsure _ is = false≢true is
 
 sending_unsure : (m : Mode) → is_sure (sending m) ≡ true → ⊥
 sending_unsure Mode.Starting is = false≢true is
-sending_unsure Mode.Sure is = false≢true is
-sending_unsure Mode.Identity is = false≢true is
-sending_unsure Mode.InfiniteSend is = false≢true is
-sending_unsure Mode.InfiniteReceive is = false≢true is
-sending_unsure Mode.InfiniteBoth is = false≢true is
-sending_unsure Mode.Aborted is = false≢true is
+sending_unsure _ is = false≢true is
 
 plain_sure : (f : Fall) → WasSure f (fall_plain f).0
 plain_sure f = row_sure (is_starting f.mode && not f.joined) f (goes Mode.Identity f) (stays f) (λ is. absurd (false≢true is)) (λ is. is)
@@ -169,22 +156,16 @@ IsNoEvent _ = Unit {0}
 
 pub call_mode : (c : Control) (call : ControlCall) → IsNoEvent call → IsMildCall call A → (controlling.after c call).fall.mode ≡ c.fall.mode
 call_mode c (ControlCall.Look path) none mild = notice_mode (control.notice_on c path) path c
-call_mode c (ControlCall.PeerKey key) none mild = refl
 call_mode c (ControlCall.Keys own other) none mild = either_mode c.fall.mode (own == c.keys.own) _ _ (keys_mode c.fall) refl
 call_mode c (ControlCall.Fell path event) none mild = absurd none
 call_mode c (ControlCall.JoinBegin path) none mild = either_mode c.fall.mode _ _ _ refl refl
 call_mode c (ControlCall.JoinHeard path token) none mild = either_mode c.fall.mode _ _ _ refl refl
-call_mode c (ControlCall.Live path backup) none mild = refl
-call_mode c (ControlCall.Dead path) none mild = refl
-call_mode c (ControlCall.Backup path on) none mild = refl
-call_mode c (ControlCall.Rate path window rtt) none mild = refl
-call_mode c (ControlCall.Announce id) none mild = refl
 call_mode c (ControlCall.Withdraw id) none mild = either_mode c.fall.mode _ _ _ refl refl
-call_mode c (ControlCall.Heard id address port hmac) none mild = refl
 call_mode c (ControlCall.Echoed id) none mild = either_mode c.fall.mode _ _ _ refl refl
 call_mode c (ControlCall.Removed id) none mild = either_mode c.fall.mode _ _ _ refl refl
 call_mode c ControlCall.FastClose none mild = absurd none
 call_mode c (ControlCall.FastHeard key) none mild = absurd none
+call_mode c _ none mild = refl
 
 call_sure : (c : Control) (call : ControlCall) → IsMildCall call A → WasSure c.fall (controlling.after c call).fall
 call_sure c (ControlCall.Look path) mild = λ is. ap is_sure (sym (call_mode c (ControlCall.Look path) tt mild)) ∙ is
@@ -220,12 +201,7 @@ mild_sure six (Ask.Local step) mild = λ is. is
 
 app_mild : (d : AppDuty) (a : AppState) → IsMild (app_ask d a)
 app_mild AppDuty.FastClose a = tt
-app_mild AppDuty.AbortSend a = tt
-app_mild AppDuty.AbortReceive a = tt
-app_mild AppDuty.Write a = tt
-app_mild AppDuty.Close a = tt
-app_mild AppDuty.Read a = tt
-app_mild AppDuty.End a = tt
+app_mild _ a = tt
 
 -- ---- what a path asks while A's end isn't clear
 
@@ -237,9 +213,7 @@ module _ (p : PathState Carried) where
   step_mild : (o : Option Event) → IsMild (step_for (path_of p) o)
   step_mild None = tt
   step_mild (Some (Event.Joins tick)) = tt
-  step_mild (Some (Event.Takes line)) = tt
-  step_mild (Some (Event.Arrives due)) = tt
-  step_mild (Some (Event.Fires s tick)) = tt
+  step_mild _ = tt
 
   key_mild : (s : Side) (o : Option ℕ) → IsMild (peer_key_ask s o p)
   key_mild s None = tt
@@ -288,9 +262,7 @@ module _ (p : PathState Carried) where
 
   note_mild : (s : Side) (notice : PeerNotice) → IsMild (notice_ask s notice p)
   note_mild s (PeerNotice.AddAddr id address port hmac) = tt
-  note_mild s (PeerNotice.AddEcho id) = tt
-  note_mild s (PeerNotice.Removed id) = tt
-  note_mild s (PeerNotice.Prio backup) = tt
+  note_mild s _ = tt
 
   item_b : (o : Option Heard) → IsMild (item_ask values B o p)
   item_b (Some (Heard.Mapping fin)) = mapping_b

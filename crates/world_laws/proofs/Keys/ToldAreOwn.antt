@@ -90,11 +90,8 @@ module _ (k : Secrets) (right : Bool) (w : Side → Type 0) (did : Deed → Side
   data_is s (Some r) = tt
 
   step_is : (o : Option Event) → AskIs k right w did (step_for p.link.path o)
-  step_is None = tt
   step_is (Some (Event.Joins tick)) = refl
-  step_is (Some (Event.Takes line)) = tt
-  step_is (Some (Event.Arrives due)) = tt
-  step_is (Some (Event.Fires s tick)) = tt
+  step_is _ = tt
 
   key_is : (s : Side) (o : Option ℕ) → IfSome o (λ key. key ≡ drawn_key k right (peer s)) → AskIs k right w did (peer_key_ask s o p)
   key_is s None own = tt
@@ -120,9 +117,7 @@ module _ (k : Secrets) (right : Bool) (w : Side → Type 0) (did : Deed → Side
 
   note_is : (s : Side) (notice : PeerNotice) → PeerNoteIs k right w did s notice → AskIs k right w did (notice_ask s notice p)
   note_is s (PeerNotice.AddAddr id address port hmac) own = own
-  note_is s (PeerNotice.AddEcho id) own = tt
-  note_is s (PeerNotice.Removed id) own = tt
-  note_is s (PeerNotice.Prio backup) own = tt
+  note_is s _ own = tt
 
   item_is : (s : Side) (o : Option Heard) → IfSome o (ItemIs k right w did (is_joined p.profile) s) → AskIs k right w did (item_ask values s o p)
   item_is s (Some (Heard.Mapping fin)) own = mapping_is s
@@ -273,23 +268,17 @@ module _ (key_a key_b : ℕ) (right : Bool) where
   ask_untold : (six : SixBooks) (x : Ask) → BooksAre six → KeysAsk six x → tells_other_key (reply_of six x) ≡ false
   ask_untold six (Ask.Control A call) h is = key_untold (with_nonces 0 0) right (Joined six) (Past six NoMore) A six.control_a h.a call is
   ask_untold six (Ask.Control B call) h is = key_untold (with_nonces 0 0) right (Joined six) (Past six NoMore) B six.control_b h.b call is
-  ask_untold six (Ask.Send s call) h is = refl
-  ask_untold six (Ask.Reassembly s call) h is = refl
-  ask_untold six (Ask.Local step) h is = refl
+  ask_untold six _ h is = refl
 
   join_answers : right ≡ true → (six : SixBooks) (x : Ask) → BooksAre six → KeysAsk six x → tells_wrong_join (reply_of six x) ≡ false
   join_answers sure six (Ask.Control A call) h is = join_untold (with_nonces 0 0) right (Joined six) (Past six NoMore) A six.control_a h.a sure call is
   join_answers sure six (Ask.Control B call) h is = join_untold (with_nonces 0 0) right (Joined six) (Past six NoMore) B six.control_b h.b sure call is
-  join_answers sure six (Ask.Send s call) h is = refl
-  join_answers sure six (Ask.Reassembly s call) h is = refl
-  join_answers sure six (Ask.Local step) h is = refl
+  join_answers sure six _ h is = refl
 
   address_answers : right ≡ true → (six : SixBooks) (x : Ask) → BooksAre six → KeysAsk six x → tells_bad_address (reply_of six x) ≡ false
   address_answers sure six (Ask.Control A call) h is = address_right (with_nonces 0 0) right (Joined six) (Past six NoMore) A six.control_a h.a sure (λ has. has) call is
   address_answers sure six (Ask.Control B call) h is = address_right (with_nonces 0 0) right (Joined six) (Past six NoMore) B six.control_b h.b sure (λ has. has) call is
-  address_answers sure six (Ask.Send s call) h is = refl
-  address_answers sure six (Ask.Reassembly s call) h is = refl
-  address_answers sure six (Ask.Local step) h is = refl
+  address_answers sure six _ h is = refl
 
   -- where A is sure, it has the peer's key
   abbrev pub SureHasKey : SixBooks → Type 0
@@ -422,13 +411,8 @@ module _ (key_a key_b : ℕ) (right : Bool) where
   next_keys six (Path p) h = path_next NoMore six p h
 
   pub app_asks_are : (six : SixBooks) (d : AppDuty) (a : AppState) → KeysAsk six (app_ask d a)
-  app_asks_are six AppDuty.FastClose a = tt
-  app_asks_are six AppDuty.AbortSend a = tt
   app_asks_are six AppDuty.AbortReceive a = λ by_peer. absurd (false≢true by_peer)
-  app_asks_are six AppDuty.Write a = tt
-  app_asks_are six AppDuty.Close a = tt
-  app_asks_are six AppDuty.Read a = tt
-  app_asks_are six AppDuty.End a = tt
+  app_asks_are six _ a = tt
 
   app_asks : (six : SixBooks) (ds : List AppDuty) (a : AppState) (x : Ask) → app_asks_first ds a ≡ Some x → KeysAsk six x
   app_asks six [] a x is = cc
@@ -541,10 +525,7 @@ module _ (key_a key_b : ℕ) (right : Bool) where
   says_no_more six (Ask.Control s (ControlCall.Fell path event)) = λ is. tt
   says_no_more six (Ask.Control s (ControlCall.FastHeard key)) = λ is. tt
   says_no_more six (Ask.Control s ControlCall.FastClose) = tt
-  says_no_more six (Ask.Control s _) = tt
-  says_no_more six (Ask.Send s call) = tt
-  says_no_more six (Ask.Reassembly s call) = tt
-  says_no_more six (Ask.Local step) = tt
+  says_no_more six _ = tt
 
   takes_keys : (six : SixBooks) (x : Ask) (m : Actor Carried) → member_asks values m ≡ Some x → (right ≡ true → SureHasKey six) → BooksAre six → MemberIs six m
       → MemberIs (after_ask x six) (member_takes values (reply_of six x) m)

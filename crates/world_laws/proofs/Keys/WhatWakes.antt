@@ -268,17 +268,11 @@ accepted_waits acknowledged hint now c s is =
     absurd (false≢true (sym (ack_alike acknowledged now opened).waits ∙ is))
 
 arrival_up : (m : Meaning) (hint : Hint) (now : ℕ) (c : Copy) (s : EndState) → WakesNone m s → Sleeps s (after_arrival m hint now c s)
-arrival_up Meaning.Ignored hint now c s none = record { up = λ up. up; waits = λ is. is }
-arrival_up Meaning.Unwanted hint now c s none = record { up = λ up. up; waits = λ is. is }
 arrival_up Meaning.Opens hint now c s none = absurd (false≢true (sym none.no_syn))
 arrival_up (Meaning.Accepts acknowledged) hint now c s none = record { up = λ up. none.lively refl; waits = λ is. accepted_waits acknowledged hint now c s is }
-arrival_up Meaning.RepeatedSyn hint now c s none = record { up = λ up. up; waits = λ is. is }
-arrival_up Meaning.Outside hint now c s none = record { up = λ up. up; waits = λ is. is }
 arrival_up Meaning.Kills hint now c s none = record { up = λ up. absurd (false≢true up); waits = λ is. absurd (false≢true is) }
-arrival_up Meaning.Challenged hint now c s none = record { up = λ up. up; waits = λ is. is }
-arrival_up Meaning.Unacknowledging hint now c s none = record { up = λ up. up; waits = λ is. is }
-arrival_up Meaning.Ahead hint now c s none = record { up = λ up. up; waits = λ is. is }
 arrival_up (Meaning.Taken pos acknowledged) hint now c s none = alike_sleeps s (after_taken pos acknowledged hint now c s) (taken_alike pos acknowledged hint now c s)
+arrival_up _ hint now c s none = record { up = λ up. up; waits = λ is. is }
 
 -- so does the end that takes it, with its payload
 pub copy_up : (m : Meaning) (owes : Bool) (hint : Hint) (now : ℕ) (c : Copy) (octets : List ℕ) (s : EndState) → WakesNone m s
@@ -293,17 +287,11 @@ copy_up m owes hint now c octets s none =
 
 -- no copy lets an end wait that didn't
 arrival_waits : (m : Meaning) (hint : Hint) (now : ℕ) (c : Copy) (s : EndState) → is_waiting (after_arrival m hint now c s).state ≡ true → is_waiting s.state ≡ true
-arrival_waits Meaning.Ignored hint now c s is = is
-arrival_waits Meaning.Unwanted hint now c s is = is
 arrival_waits Meaning.Opens hint now c s is = absurd (false≢true is)
 arrival_waits (Meaning.Accepts acknowledged) hint now c s is = accepted_waits acknowledged hint now c s is
-arrival_waits Meaning.RepeatedSyn hint now c s is = is
-arrival_waits Meaning.Outside hint now c s is = is
 arrival_waits Meaning.Kills hint now c s is = absurd (false≢true is)
-arrival_waits Meaning.Challenged hint now c s is = is
-arrival_waits Meaning.Unacknowledging hint now c s is = is
-arrival_waits Meaning.Ahead hint now c s is = is
 arrival_waits (Meaning.Taken pos acknowledged) hint now c s is = sym (taken_alike pos acknowledged hint now c s).waits ∙ is
+arrival_waits _ hint now c s is = is
 
 pub arrived_waits : (m : Meaning) (owes : Bool) (hint : Hint) (now : ℕ) (c : Copy) (octets : List ℕ) (s : EndState)
     → is_waiting (owing_if owes (after_arrival m hint now c (with_payload m octets s))).state ≡ true → is_waiting s.state ≡ true

@@ -63,12 +63,7 @@ pub record Reads (told : Bool) (notes : List Note) (r : Reader) : Type 0 where
 
 same_stands : (d : AppDuty) (ds : List AppDuty) (a : AppState) → app_stands d a ≡ true → app_stands d (record a { agenda = d ∷ ds }) ≡ true
 same_stands AppDuty.FastClose ds a is = is
-same_stands AppDuty.AbortSend ds a is = is
-same_stands AppDuty.AbortReceive ds a is = is
-same_stands AppDuty.Write ds a is = is
-same_stands AppDuty.Close ds a is = is
-same_stands AppDuty.Read ds a is = is
-same_stands AppDuty.End ds a is = is
+same_stands _ ds a is = is
 
 -- settling changes the agenda alone, and what then stands first comes to something
 pub record Settles (a b : AppState) : Type 0 where

@@ -142,11 +142,7 @@ module _ (c : Profile) (s : Side) (k : Knowledge) (live : List KeptMapping) (out
   arrived_both sg Meaning.Kills hint now tcp keep fits said h = killed tcp h
   arrived_both sg Meaning.Ignored hint now tcp keep fits said h = h
   arrived_both sg Meaning.Unwanted hint now tcp keep fits said h = h
-  arrived_both sg Meaning.RepeatedSyn hint now tcp keep fits said h = record { sender = h.sender; receiver = h.receiver }
-  arrived_both sg Meaning.Outside hint now tcp keep fits said h = record { sender = h.sender; receiver = h.receiver }
-  arrived_both sg Meaning.Challenged hint now tcp keep fits said h = record { sender = h.sender; receiver = h.receiver }
-  arrived_both sg Meaning.Unacknowledging hint now tcp keep fits said h = record { sender = h.sender; receiver = h.receiver }
-  arrived_both sg Meaning.Ahead hint now tcp keep fits said h = record { sender = h.sender; receiver = h.receiver }
+  arrived_both sg _ hint now tcp keep fits said h = record { sender = h.sender; receiver = h.receiver }
 
   owing_both : (b : Bool) (tcp : EndState) → Both tcp → Both (owing_if b tcp)
   owing_both true tcp h = record { sender = h.sender; receiver = h.receiver }
@@ -178,9 +174,7 @@ payload_edge pos hint copy tcp keep = ap (λ (b : Bool). (if taking.is_kept b tc
 
 kind_edge : (kind : AckKind) (since : Option ℕ) (now : ℕ) (tcp : EndState) → (taking.after_ack_kind kind since now tcp).recv ≡ tcp.recv
 kind_edge (AckKind.New octets) since now tcp = refl
-kind_edge AckKind.Duplicate since now tcp = refl
-kind_edge AckKind.Old since now tcp = refl
-kind_edge AckKind.Future since now tcp = refl
+kind_edge _ since now tcp = refl
 
 ack_edge : (pos now : ℕ) (tcp : EndState) → (taking.after_acknowledgement pos now tcp).recv ≡ tcp.recv
 ack_edge pos now tcp = kind_edge (ack_kind pos tcp.send) (sample_of pos tcp.send) now (record tcp { send = after_acknowledge pos tcp.send })

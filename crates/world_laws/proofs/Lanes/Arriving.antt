@@ -127,11 +127,9 @@ module _ (c : Profile) (window : ℕ) (acks : List AckCopy) (p : Lane) where
       by false = Every-nil _
 
   map_holds : (s : Side) (o : Option (PathMapping ℕ)) → MappingShows c (peer s) o p → Held (map_held c s (option_map meant_mapping o))
-  map_holds s None h = Every-nil _
   map_holds s (Some (Bytes place position len true checksum)) h = absurd h
   map_holds s (Some (Bytes place position len false checksum)) h = if_held s place position len checksum h.0 h.1
-  map_holds s (Some (End place checksum)) h = Every-nil _
-  map_holds s (Some (Infinite place position)) h = Every-nil _
+  map_holds s _ h = Every-nil _
 
   keys_hold : (s : Side) (keys : CapableKeys) → KeysShow c (peer s) keys p → Held (key_held c s keys)
   keys_hold A NoKey h = Every-nil _
@@ -154,13 +152,7 @@ module _ (c : Profile) (window : ℕ) (acks : List AckCopy) (p : Lane) where
       by true = Every-nil _
       by false = keys_hold s keys h
   option_holds s (Dss next mapping) h = map_holds s mapping h.1
-  option_holds s (Join form) h = Every-nil _
-  option_holds s (AddAddr echo id address port hmac) h = Every-nil _
-  option_holds s (Remove ids) h = Every-nil _
-  option_holds s (Prio backup) h = Every-nil _
-  option_holds s (Fail place) h = Every-nil _
-  option_holds s (FastClose key) h = Every-nil _
-  option_holds s (Reset transient reason) h = Every-nil _
+  option_holds s _ h = Every-nil _
 
   pub options_hold : (s : Side) (os : List PlainOption) → Every (OptionShows c (peer s) window acks p) os → Held (flat_map (held_in c s) (map meant_option os))
   options_hold s [] h = Every-nil _

@@ -45,18 +45,13 @@ use Rattle.segment_wire.specs.Changes.{with_turned_bit}
 
 -- an end that may finish hasn't finished
 pub unfinished_if : (state : EndPhase) → states.may_finish state ≡ true → is_unfinished state ≡ true
-unfinished_if EndPhase.Established is = refl
-unfinished_if EndPhase.CloseWait is = refl
-unfinished_if EndPhase.Waiting is = refl
-unfinished_if EndPhase.Listen is = refl
-unfinished_if EndPhase.SynSent is = refl
-unfinished_if EndPhase.SynReceived is = refl
 unfinished_if EndPhase.FinWait1 is = absurd (false≢true is)
 unfinished_if EndPhase.FinWait2 is = absurd (false≢true is)
 unfinished_if EndPhase.Closing is = absurd (false≢true is)
 unfinished_if EndPhase.LastAck is = absurd (false≢true is)
 unfinished_if EndPhase.TimeWait is = absurd (false≢true is)
 unfinished_if EndPhase.Dead is = absurd (false≢true is)
+unfinished_if _ is = refl
 
 -- An end that did something: its lanes went on from where they were, after a call from these on by moves alone, and they show it.
 pub record Did (c : Profile) (s : Side) (e : PathEnd) (out out_called back back_called : Lane) : Type 0 where

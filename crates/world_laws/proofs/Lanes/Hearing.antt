@@ -123,46 +123,31 @@ module _ (c : Profile) (s : Side) (k : Knowledge) (p : Lane) where
   }
 
 pub handshake_back : (state : EndPhase) → is_unfinished (states.after_handshake state) ≡ true → is_unfinished state ≡ true
-handshake_back EndPhase.Waiting is = refl
-handshake_back EndPhase.Listen is = refl
-handshake_back EndPhase.SynSent is = refl
-handshake_back EndPhase.SynReceived is = refl
-handshake_back EndPhase.Established is = refl
-handshake_back EndPhase.CloseWait is = refl
 handshake_back EndPhase.FinWait1 is = is
 handshake_back EndPhase.FinWait2 is = is
 handshake_back EndPhase.Closing is = is
 handshake_back EndPhase.LastAck is = is
 handshake_back EndPhase.TimeWait is = is
 handshake_back EndPhase.Dead is = is
+handshake_back _ is = refl
 
 pub fin_acked_back : (state : EndPhase) → is_unfinished (states.after_fin_acked state) ≡ true → is_unfinished state ≡ true
-fin_acked_back EndPhase.Waiting is = refl
-fin_acked_back EndPhase.Listen is = refl
-fin_acked_back EndPhase.SynSent is = refl
-fin_acked_back EndPhase.SynReceived is = refl
-fin_acked_back EndPhase.Established is = refl
-fin_acked_back EndPhase.CloseWait is = refl
 fin_acked_back EndPhase.FinWait1 is = is
 fin_acked_back EndPhase.FinWait2 is = is
 fin_acked_back EndPhase.Closing is = is
 fin_acked_back EndPhase.LastAck is = is
 fin_acked_back EndPhase.TimeWait is = is
 fin_acked_back EndPhase.Dead is = is
+fin_acked_back _ is = refl
 
 pub fin_passed_back : (state : EndPhase) → is_unfinished (states.after_fin_passed state) ≡ true → is_unfinished state ≡ true
-fin_passed_back EndPhase.Waiting is = refl
-fin_passed_back EndPhase.Listen is = refl
-fin_passed_back EndPhase.SynSent is = refl
-fin_passed_back EndPhase.SynReceived is = refl
-fin_passed_back EndPhase.Established is = refl
-fin_passed_back EndPhase.CloseWait is = refl
 fin_passed_back EndPhase.FinWait1 is = is
 fin_passed_back EndPhase.FinWait2 is = is
 fin_passed_back EndPhase.Closing is = is
 fin_passed_back EndPhase.LastAck is = is
 fin_passed_back EndPhase.TimeWait is = is
 fin_passed_back EndPhase.Dead is = is
+fin_passed_back _ is = refl
 
 -- ---- what a copy means says something of it
 

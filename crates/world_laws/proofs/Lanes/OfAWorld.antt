@@ -198,13 +198,11 @@ ReassemblyCallIs (ReassemblyCall.Abort by_peer) d event = event ≡ AbortRead by
 
 -- what is asked is this event; a control book and a local step are none
 abbrev pub CallIs : Option Ask → Duo → Option Event → Type 0
-CallIs None d call = call ≡ None
 CallIs (Some (Ask.Send A c)) d call = (event : StreamEvent) × (call ≡ Some (ToB event)) × SendCallIs c d.ab event
 CallIs (Some (Ask.Send B c)) d call = (event : StreamEvent) × (call ≡ Some (ToA event)) × SendCallIs c d.ba event
 CallIs (Some (Ask.Reassembly A c)) d call = (event : StreamEvent) × (call ≡ Some (ToA event)) × ReassemblyCallIs c d.ba event
 CallIs (Some (Ask.Reassembly B c)) d call = (event : StreamEvent) × (call ≡ Some (ToB event)) × ReassemblyCallIs c d.ab event
-CallIs (Some (Ask.Control s c)) d call = call ≡ None
-CallIs (Some (Ask.Local step)) d call = call ≡ None
+CallIs _ d call = call ≡ None
 
 -- ---- moves
 
@@ -332,10 +330,8 @@ MemberIsFirm links six (Path p) = (d : Duty) (ds : List Duty) → p.agenda ≡ d
 
 -- nor by this turn
 abbrev pub TurnIsFirm : Links → Turn → WorldState Carried → Type 0
-TurnIsFirm links (Turn.Step zero) w = Unit {0}
-TurnIsFirm links (Turn.Step (suc zero)) w = Unit {0}
 TurnIsFirm links (Turn.Step (suc (suc number))) w = (c : ActorCrew Carried) → slice_get w.crew (suc (suc number)) ≡ Some c → MemberIsFirm links (books_in w.books) c.member
-TurnIsFirm links Turn.Round w = Unit {0}
+TurnIsFirm links _ w = Unit {0}
 
 -- nor by these
 abbrev pub RunIsFirm : Links → List Turn → WorldState Carried → Type 0
@@ -357,10 +353,8 @@ module _ (links : Links) (none : NoneIsFirm links) where
   free_member six (Path p) = λ d ds is. free_duty six p d
 
   pub free_turn : (turn : Turn) (w : WorldState Carried) → TurnIsFirm links turn w
-  free_turn (Turn.Step zero) w = tt
-  free_turn (Turn.Step (suc zero)) w = tt
   free_turn (Turn.Step (suc (suc number))) w = λ c there. free_member (books_in w.books) c.member
-  free_turn Turn.Round w = tt
+  free_turn _ w = tt
 
   pub free_run : (turns : List Turn) (w : WorldState Carried) → RunIsFirm links turns w
   free_run [] w = tt

@@ -295,9 +295,7 @@ module _ (six : SixBooks) (others : Others) (p : PathState Carried) (ab ba : Lan
       where
         quiet : (notice : PeerNotice) → IsQuiet six (notice_ask s notice p)
         quiet (PeerNotice.AddAddr id address port hmac) = tt
-        quiet (PeerNotice.AddEcho id) = tt
-        quiet (PeerNotice.Removed id) = tt
-        quiet (PeerNotice.Prio backup) = tt
+        quiet _ = tt
 
         noted : EndShows p.profile s (after_peer_notice notice (reply_of six (notice_ask s notice p)) e) out back
         noted = record { sender = shows.sender; receiver = shows.receiver; acks = shows.acks; told = shows.told; treated = shows.treated; held = shows.held; pairs = shows.pairs }

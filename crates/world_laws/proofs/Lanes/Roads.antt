@@ -106,11 +106,7 @@ module _ (lanes : List Lane) (number : ℕ) (send : Sending) (arrived : Arriving
 
   asks_there : (a : LaneAsk) (p : Lane) → asks number a p (with_lane p) ≡ with_asked a p
   asks_there Nothing p = refl
-  asks_there (AskGrant max standby) p = put_twice _ _ p _
-  asks_there (AskAckIn next window) p = put_twice _ _ p _
-  asks_there (AskPlace at bytes) p = put_twice _ _ p _
-  asks_there (AskFin at) p = put_twice _ _ p _
-  asks_there AskAckOut p = put_twice _ _ p _
+  asks_there _ p = put_twice _ _ p _
 
   module _ (f : Flags) (within : number < length lanes) where
     pub moved_there : (m : Move) (p : Lane) → is_calm m ≡ true → after f (Moves number m) (with_lane p) ≡ with_lane (move m p)

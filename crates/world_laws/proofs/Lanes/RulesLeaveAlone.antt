@@ -57,18 +57,13 @@ waiting_unfinished EndPhase.Waiting is = refl
 waiting_unfinished _ is = absurd (false≢true is)
 
 listening_unfinished : (state : EndPhase) → is_listening state ≡ true → is_unfinished state ≡ true
-listening_unfinished EndPhase.Listen is = refl
-listening_unfinished EndPhase.Waiting is = refl
-listening_unfinished EndPhase.SynSent is = refl
-listening_unfinished EndPhase.SynReceived is = refl
-listening_unfinished EndPhase.Established is = refl
-listening_unfinished EndPhase.CloseWait is = refl
 listening_unfinished EndPhase.FinWait1 is = absurd (false≢true is)
 listening_unfinished EndPhase.FinWait2 is = absurd (false≢true is)
 listening_unfinished EndPhase.Closing is = absurd (false≢true is)
 listening_unfinished EndPhase.LastAck is = absurd (false≢true is)
 listening_unfinished EndPhase.TimeWait is = absurd (false≢true is)
 listening_unfinished EndPhase.Dead is = absurd (false≢true is)
+listening_unfinished _ is = refl
 
 -- the modes that an end knows of, but for the fallback
 told_alike : (r : Reply) (m : Modes) → Alike (modes_told r m) m

@@ -231,9 +231,7 @@ module _ (c : Profile) (s : Side) (e : PathEnd) (acks : List AckCopy) (p : Lane)
       where
         shows : (window : ℕ) (notice : OwnNotice) → OptionShows c s window acks p (notice_option notice e.modes)
         shows window (OwnNotice.AddAddr id) = tt
-        shows window (OwnNotice.AddEcho id address port) = tt
-        shows window (OwnNotice.Removes id) = tt
-        shows window (OwnNotice.Prio backup) = tt
+        shows window _ = tt
 
     pub fin_says : TellsPlain e p (fin_position e.tcp.send) → HasFin p.fins (fin_position e.tcp.send) → SegmentShows c s acks p (fin_said c e)
     fin_says plain h = record {

@@ -104,12 +104,7 @@ module _ (six : SixBooks) (others : Others) (c : Profile) where
           by true = did_nothing c s out back (with_data_fin place e) (fin_shows c s place e out back has shows)
           by false = did_nothing c s out back e shows
       item_did (Heard.InfiniteMapping place position) has = did_nothing c s out back e shows
-      item_did (Heard.PeerKey key) has = did_nothing c s out back e shows
-      item_did (Heard.Keys own peer) has = did_nothing c s out back e shows
-      item_did (Heard.Join form) has = did_nothing c s out back e shows
-      item_did (Heard.Notice notice) has = did_nothing c s out back e shows
-      item_did Heard.Fail has = did_nothing c s out back e shows
-      item_did (Heard.FastClose key) has = did_nothing c s out back e shows
+      item_did _ has = did_nothing c s out back e shows
 
       maybe_did : (o : Option Heard) → IfSome o (ItemShows out.acks back) → Did c s (item_passed s o e) out out back back
       maybe_did None has = did_nothing c s out back e shows

@@ -167,9 +167,7 @@ module _ (c : Profile) (s : Side) where
     where
       by : (kind : AckKind) → Flows (taking.after_ack_kind kind (sample_of pos tcp.send) now (record tcp { send = after_acknowledge pos tcp.send }))
       by (AckKind.New octets) = record { sender = acknowledged_tells c s tcp.send h.sender pos; edge = h.edge }
-      by AckKind.Duplicate = record { sender = acknowledged_tells c s tcp.send h.sender pos; edge = h.edge }
-      by AckKind.Old = record { sender = acknowledged_tells c s tcp.send h.sender pos; edge = h.edge }
-      by AckKind.Future = record { sender = acknowledged_tells c s tcp.send h.sender pos; edge = h.edge }
+      by _ = record { sender = acknowledged_tells c s tcp.send h.sender pos; edge = h.edge }
 
   row_flows : (kind : AckKind) (told : Told) (copy : Copy) (tcp : EndState) → Flows tcp → Flows (taking.after_row kind told copy tcp)
   row_flows kind told copy tcp h = by (taking.is_duplicate kind told copy tcp)
@@ -193,11 +191,7 @@ module _ (c : Profile) (s : Side) where
   arrived_flows Meaning.Kills hint now copy tcp keep h = record { sender = acknowledged_tells c s tcp.send h.sender tcp.send.nxt; edge = h.edge }
   arrived_flows Meaning.Ignored hint now copy tcp keep h = h
   arrived_flows Meaning.Unwanted hint now copy tcp keep h = h
-  arrived_flows Meaning.RepeatedSyn hint now copy tcp keep h = record { sender = h.sender; edge = h.edge }
-  arrived_flows Meaning.Outside hint now copy tcp keep h = record { sender = h.sender; edge = h.edge }
-  arrived_flows Meaning.Challenged hint now copy tcp keep h = record { sender = h.sender; edge = h.edge }
-  arrived_flows Meaning.Unacknowledging hint now copy tcp keep h = record { sender = h.sender; edge = h.edge }
-  arrived_flows Meaning.Ahead hint now copy tcp keep h = record { sender = h.sender; edge = h.edge }
+  arrived_flows _ hint now copy tcp keep h = record { sender = h.sender; edge = h.edge }
 
   owing_flows : (b : Bool) (tcp : EndState) → Flows tcp → Flows (owing_if b tcp)
   owing_flows true tcp h = record { sender = h.sender; edge = h.edge }

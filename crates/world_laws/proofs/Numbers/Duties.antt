@@ -225,9 +225,6 @@ fail_low sole contiguous fall = by (not (writes_mappings fall.mode)) (sole && co
     by false false = omega arith
 
 step_low : (fall : Fall) (path : ℕ) (sole : Bool) (event : Event) → IsLow (fall_step fall path sole event).1
-step_low fall path sole Event.PlainHandshake = plain_low fall
-step_low fall path sole Event.PlainData = plain_low fall
-step_low fall path sole Event.PlainAck = plain_low fall
 step_low fall path sole Event.KeysHeard = keys_low fall
 step_low fall path sole Event.MappingHeard = sign_low fall
 step_low fall path sole Event.AckHeard = sign_low fall
@@ -235,6 +232,7 @@ step_low fall path sole Event.InfiniteHeard = infinite_low path sole fall
 step_low fall path sole Event.CheckFailed = check_low path sole fall
 step_low fall path sole (Event.FailHeard contiguous) = fail_low sole contiguous fall
 step_low fall path sole Event.Stop = tt
+step_low fall path sole _ = plain_low fall
 
 -- what is to be done by a verdict
 verdict_fair : (s : Side) (p : PathState Carried) (v : Verdict) → IsLow v → AreFair p.agenda → AreFair (fell_duties s (Reply.Control (ControlReply.Verdict v)) p)

@@ -183,10 +183,8 @@ heard_form step (item ∷ items) h =
     first_form (join_in step item) (join_heard step items) (form_of step item (every_first item items h)) (heard_form step items (every_rest item items h))
 
 asked_by_form : (o : Option JoinForm) → IfSome o FormFits → IfSome (syn_heard (join_value o)) (λ asked. IsNonce asked.nonce)
-asked_by_form None h = tt
 asked_by_form (Some (JoinForm.Syn backup id token nonce)) h = h.2
-asked_by_form (Some (JoinForm.Answer backup id hmac nonce)) h = tt
-asked_by_form (Some (JoinForm.Third hmac)) h = tt
+asked_by_form _ h = tt
 
 -- what A asks for
 pub asked_nonce : (items : List Heard) → Every ItemTells items → IfSome (join_asked items) (λ asked. IsNonce asked.nonce)
@@ -250,10 +248,7 @@ module _ (c : Profile) (s : Side) (e : PathEnd) (h : EndTells c s e) where
       by true = h.notices
       by false = notice_noted notice (may_note e) mode standby sole told
   notices_noted (Reply.Control ControlReply.Noted) told = h.notices
-  notices_noted (Reply.Control _) told = h.notices
-  notices_noted (Reply.Send reply) told = h.notices
-  notices_noted (Reply.Reassembly reply) told = h.notices
-  notices_noted Reply.Done told = h.notices
+  notices_noted _ told = h.notices
 
   with_notices : (n : Notices) → NoticesTell n → EndTells c s (record e { notices = n })
   with_notices n told = record { sender = h.sender; edge = h.edge; stream = h.stream; window = h.window; modes = h.modes; treated = h.treated; notices = told }
@@ -279,9 +274,7 @@ module _ (c : Profile) (s : Side) (e : PathEnd) (h : EndTells c s e) where
 
       by : (notice : PeerNotice) → PeerTells notice → Every NoteTells (with_echo notice r e.notices.queue)
       by (PeerNotice.AddAddr id address port hmac) said = kept (is_kept r) id address port said
-      by (PeerNotice.AddEcho id) said = h.notices.queue
-      by (PeerNotice.Removed id) said = h.notices.queue
-      by (PeerNotice.Prio backup) said = h.notices.queue
+      by _ said = h.notices.queue
 
   pub priority_tells : (backup : Bool) → EndTells c s (with_priority backup e)
   priority_tells backup = with_queue (with_priority backup e).notices.queue (by (states.is_dead e.tcp.state))
@@ -550,14 +543,11 @@ module _ (c : Profile) (s : Side) (e : PathEnd) (h : EndTells c s e) where
   }
 
   pub sent_end_tells : (occasion : Occasion) (now : ℕ) (sg : PlainSegment) → EndTells c s (having_sent occasion now sg e)
-  sent_end_tells Occasion.Reset now sg = with_sender _ refl h.sender sg
-  sent_end_tells Occasion.Answer now sg = with_sender _ refl h.sender sg
   sent_end_tells Occasion.SynAck now sg = with_sender _ refl (syn_resent_tells c s e.tcp.send h.sender now) sg
-  sent_end_tells Occasion.Ack now sg = with_sender _ refl h.sender sg
-  sent_end_tells Occasion.Probe now sg = with_sender _ refl h.sender sg
   sent_end_tells Occasion.First now sg = with_sender _ refl (resent_tells c s e.tcp.send h.sender now) sg
   sent_end_tells Occasion.Unsent now sg = with_sender _ refl (sent_tells c s e.tcp.send h.sender now) sg
   sent_end_tells Occasion.Fin now sg = with_sender _ refl (fin_sent_tells c s e.tcp.send h.sender now) sg
+  sent_end_tells _ now sg = with_sender _ refl h.sender sg
 
   pub told_end_tells : (sg : PlainSegment) → EndTells c s (with_told sg e)
   told_end_tells sg = with_sender e.tcp refl h.sender sg

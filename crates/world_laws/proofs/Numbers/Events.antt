@@ -54,9 +54,7 @@ template_fair joined s count _ = refl
 
 judged_fair : (joined : Bool) (s : Side) (count : ℕ) (verdict : Judged) → AreFair (template_judged joined s count verdict)
 judged_fair joined s count (Judged.As meaning) = template_fair joined s count meaning
-judged_fair joined s count Judged.Asks = refl
-judged_fair joined s count Judged.Lacks = refl
-judged_fair joined s count Judged.Forged = refl
+judged_fair joined s count _ = refl
 
 fired_fair : (sixth : Bool) (s : Side) → AreFair (template_fired sixth s)
 fired_fair true s = refl

@@ -205,12 +205,7 @@ from_cast start t tells rooms keys = record { members = each_actor (λ actor c. 
 -- an application tells no key
 app_tells : (d : AppDuty) (a : AppState) → AskTells (app_ask d a)
 app_tells AppDuty.FastClose a = tt
-app_tells AppDuty.AbortSend a = tt
-app_tells AppDuty.AbortReceive a = tt
-app_tells AppDuty.Write a = tt
-app_tells AppDuty.Close a = tt
-app_tells AppDuty.Read a = tt
-app_tells AppDuty.End a = tt
+app_tells _ a = tt
 
 module _ (start : Start) (plain : Carries start) (free : NoneIsFirm plain.links) (fit : NumbersFit start) where
   books_short : (t : Cast Carried) → Fare start t → RoomsAre start.buffer (books_in t.books) → BooksKeepShort (books_in t.books) → BooksAreShort (books_in t.books)

@@ -78,10 +78,7 @@ either false c d x y = y
 
 notice_fits : (n : Notice) (path : ℕ) (c : Control) → IdsFit c → IdsFit (after_notice n path c)
 notice_fits (Notice.Withdraw id) path c h = record { due = h.due; withdrawals = withdrawal_fits id false path c.notices.withdrawals h.withdrawals }
-notice_fits Notice.Nothing path c h = h
-notice_fits (Notice.Announce id) path c h = h
-notice_fits (Notice.Carrier key) path c h = h
-notice_fits Notice.Reset path c h = h
+notice_fits _ path c h = h
 
 -- what is kept is no matter of the sets
 heard_due : (right : Bool) (id : ℕ) (address : Address) (a : Addresses Address) → (addresses_heard id address right a).due ≡ a.due

@@ -104,11 +104,8 @@ module _ (six : SixBooks) (h : (s : Side) → ControlIsShort (control_of s six))
   look_key B p = notice_key six.control_b (h B) (path_of p)
 
   pub step_keys : (path : ℕ) (o : Option Event) → IfSome (keys_begun (reply_of six (step_for path o))) AreKeys
-  step_keys path None = tt
   step_keys path (Some (Event.Joins tick)) = begin_keys six.control_a (h A).keys
-  step_keys path (Some (Event.Takes line)) = tt
-  step_keys path (Some (Event.Arrives due)) = tt
-  step_keys path (Some (Event.Fires s tick)) = tt
+  step_keys path _ = tt
 
   pub again_keys : (p : PathState Carried) → IfSome (keys_begun (reply_of six (join_begin_ask (path_of p)))) AreKeys
   again_keys p = begin_keys six.control_a (h A).keys
@@ -135,10 +132,7 @@ either_short false c d x y = y
 
 notice_short : (n : Notice) (path : ℕ) (c : Control) → KeysAreShort c.keys → KeysAreShort (controlling.after_notice n path c).keys
 notice_short (Notice.Withdraw id) path c h = h
-notice_short Notice.Nothing path c h = h
-notice_short (Notice.Announce id) path c h = h
-notice_short (Notice.Carrier key) path c h = h
-notice_short Notice.Reset path c h = h
+notice_short _ path c h = h
 
 call_short : (c : Control) (call : ControlCall) → CallTells call → KeysAreShort c.keys → KeysAreShort (controlling.after c call).keys
 call_short c (ControlCall.Look path) told h = notice_short (control.notice_on c path) path c h

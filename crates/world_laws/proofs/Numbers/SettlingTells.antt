@@ -57,12 +57,7 @@ item_told c s e h (Heard.DataFin place) = by (counts e)
     by true = rules.fin_tells c s e h place
     by false = h
 item_told c s e h (Heard.PeerKey key) = h
-item_told c s e h (Heard.Keys own peer) = h
-item_told c s e h (Heard.Join form) = h
-item_told c s e h (Heard.Notice notice) = h
-item_told c s e h Heard.Fail = h
-item_told c s e h (Heard.FastClose key) = h
-item_told c s e h (Heard.InfiniteMapping place position) = h
+item_told c s e h _ = h
 
 maybe_told : (c : Profile) (s : Side) (e : PathEnd) → EndTells c s e → (o : Option Heard) → EndTells c s (item_passed s o e)
 maybe_told c s e h None = h

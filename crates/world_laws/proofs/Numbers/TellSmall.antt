@@ -248,18 +248,14 @@ NoteTells (OwnNotice.Removes id) = id < 256
 NoteTells (OwnNotice.Prio backup) = Unit {0}
 
 pub has_address : (notice : OwnNotice) → NoteTells notice → HasAddress notice
-has_address (OwnNotice.AddAddr id) is = tt
 has_address (OwnNotice.AddEcho id (V4 octets) port) is = let four = is.1.1 in omega (arith, four)
 has_address (OwnNotice.AddEcho id (V6 octets) port) is = let sixteen = is.1.1 in omega (arith, sixteen)
-has_address (OwnNotice.Removes id) is = tt
-has_address (OwnNotice.Prio backup) is = tt
+has_address _ is = tt
 
 -- what a copy noted
 abbrev pub PeerTells : PeerNotice → Type 0
 PeerTells (PeerNotice.AddAddr id address port hmac) = AddressTells id address port
-PeerTells (PeerNotice.AddEcho id) = Unit {0}
-PeerTells (PeerNotice.Removed id) = Unit {0}
-PeerTells (PeerNotice.Prio backup) = Unit {0}
+PeerTells _ = Unit {0}
 
 -- a thing that a copy said
 abbrev pub ItemTells : Heard → Type 0
@@ -360,11 +356,9 @@ told_below c n low = by c.spelling.checksums
 
 capable_length : (flag_a flag_c : Bool) (keys : CapableKeys) → length (option_text (wire.Capable flag_a flag_c keys)) ≤ 28
 unfolding option_text
-capable_length flag_a flag_c NoKey = omega arith
-capable_length flag_a flag_c (Sender sender) = omega arith
-capable_length flag_a flag_c (Both sender receiver) = omega arith
 capable_length flag_a flag_c (WithData sender receiver len None) = omega arith
 capable_length flag_a flag_c (WithData sender receiver len (Some checksum)) = omega arith
+capable_length flag_a flag_c _ = omega arith
 
 ack_length : (ack : DataNumber) (fin : Bool) → length (option_text (wire.Dss (Some ack) None fin)) ≤ 28
 unfolding option_text

@@ -38,10 +38,8 @@ call_bounded b (Grant path max standby) h = by (decision path max standby b)
     by (Ok span) = h
     by (Err why) = h
 call_bounded b (AckIn next window) h = either_way (is_future next b) b _ h h
-call_bounded b (Return path) h = h
-call_bounded b GoIdentity h = h
 call_bounded b (GoInfinite path) h = either_way (is_gathered path b) _ b h h
-call_bounded b Abort h = h
+call_bounded b _ h = h
 
 -- both books
 abbrev AreBounded : SixBooks → Type 0

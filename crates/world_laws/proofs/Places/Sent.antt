@@ -247,16 +247,12 @@ module _ (f : Flags) (number : ℕ) (p : Lane) (d : Direction) (h : Lasts number
       by_may false = h
 
   after_lasts : (event : StreamEvent) → Lasts number p (after f event d)
-  after_lasts (Write bytes) = stays _ refl
-  after_lasts Close = stays _ refl
-  after_lasts (Return path) = stays _ refl
   after_lasts GoIdentity = identity_lasts f.sender
   after_lasts (GoInfinite path pos) = infinite_lasts path pos (slice_get d.lanes path) refl
-  after_lasts AbortSend = stays _ refl
   after_lasts (Read max) = reads_on max (is_done d.reader)
-  after_lasts (AbortRead by_peer) = stays _ refl
   after_lasts (Moves path move) = moves_last path move (slice_get d.lanes path) refl
   after_lasts (Asks path) = asks_last path (slice_get d.lanes path) refl
+  after_lasts _ = stays _ refl
 
 -- ---- both directions
 
@@ -267,13 +263,7 @@ pub record BothLast (number : ℕ) (p q : Lane) (d : Duo) : Type 0 where
 duo_lasts : (event : Event) (number : ℕ) (p q : Lane) (d : Duo) → BothLast number p q d → BothLast number p q (after_event event d)
 duo_lasts (ToB event) number p q d h = record { ab = after_lasts (flags_ab d.modes) number p d.ab h.ab event; ba = h.ba }
 duo_lasts (ToA event) number p q d h = record { ab = h.ab; ba = after_lasts (flags_ba d.modes) number q d.ba h.ba event }
-duo_lasts FallA number p q d h = record { ab = h.ab; ba = h.ba }
-duo_lasts FallB number p q d h = record { ab = h.ab; ba = h.ba }
-duo_lasts LoosenA number p q d h = record { ab = h.ab; ba = h.ba }
-duo_lasts LoosenB number p q d h = record { ab = h.ab; ba = h.ba }
-duo_lasts BeginJoin number p q d h = record { ab = h.ab; ba = h.ba }
-duo_lasts SendJoin number p q d h = record { ab = h.ab; ba = h.ba }
-duo_lasts HearJoin number p q d h = record { ab = h.ab; ba = h.ba }
+duo_lasts _ number p q d h = record { ab = h.ab; ba = h.ba }
 
 pub all_last : (events : List Event) (number : ℕ) (p q : Lane) (d : Duo) → BothLast number p q d → BothLast number p q (after_events events d)
 all_last [] number p q d h = h

@@ -176,13 +176,8 @@ module _ (R : Side → ℕ → ℕ → Type 0) where
       by : (b : Bool) → EndKnows s (if b then with_data_fin place e else e)
       by true = h
       by false = h
-  item_knows s (Some (Heard.InfiniteMapping place position)) e h = h
-  item_knows s (Some (Heard.PeerKey key)) e h = h
-  item_knows s (Some (Heard.Keys own other)) e h = h
-  item_knows s (Some (Heard.Join form)) e h = h
-  item_knows s (Some (Heard.Notice notice)) e h = h
   item_knows s (Some Heard.Fail) e h = h
-  item_knows s (Some (Heard.FastClose key)) e h = h
+  item_knows s _ e h = h
 
   -- where the mappings may be written at neither end
   kept_by : (s : Side) (w : Writes) (p q : PathState Carried) → w.own.mappings ≡ false → w.other.mappings ≡ false → OnlyAt s w p q → PathKnows p → PathKnows q
@@ -280,12 +275,9 @@ module _ (R : Side → ℕ → ℕ → Type 0) where
   heard_knows s (Heard.InfiniteMapping place position) r p h =
       infinite_came_so (λ e. PathKnows (goes_on s e (fell_duties s r p) p)) place position r (end_at s p) (λ other. same_goes s _ _ p refl h)
   heard_knows s (Heard.Keys mine other) r p h = same_goes s _ _ p refl h
-  heard_knows s Heard.Dss r p h = agenda _ p h
-  heard_knows s (Heard.PeerKey key) r p h = agenda _ p h
-  heard_knows s (Heard.Join form) r p h = agenda _ p h
   heard_knows s (Heard.Notice notice) r p h = same_goes s _ _ p refl h
   heard_knows s Heard.Fail r p h = fail_answered_so PathKnows s r p (same_goes s _ _ p refl h) (same_goes s _ _ p refl h)
-  heard_knows s (Heard.FastClose key) r p h = agenda _ p h
+  heard_knows s _ r p h = agenda _ p h
 
   answered_item_knows : (s : Side) (o : Option Heard) (r : Reply) (p : PathState Carried) → PathKnows p → PathKnows (answered_item values s o r p)
   answered_item_knows s None r p h = agenda _ p h

@@ -97,28 +97,18 @@ module _ (v : View) (path : ℕ) (p : Lane) (holds : LaneHolds v path p) (c : Pr
           )
 
   mapping_summed : (o : Option (PathMapping ℕ)) → MappingShows c s o p → MappingIsSummed c.spelling s v.written o
-  mapping_summed None shows = tt
   mapping_summed (Some (Bytes place position len true checksum)) shows = absurd shows
   mapping_summed (Some (Bytes place position len false checksum)) shows = summed place position len checksum shows.0 shows.1
-  mapping_summed (Some (End place checksum)) shows = tt
-  mapping_summed (Some (Infinite place position)) shows = tt
+  mapping_summed _ shows = tt
 
   keys_summed : (keys : CapableKeys) → KeysShow c s keys p → KeysAreSummed c.spelling s v.written keys
-  keys_summed NoKey shows = tt
-  keys_summed (Sender key) shows = tt
-  keys_summed (Both sender receiver) shows = tt
   keys_summed (WithData sender receiver len checksum) shows = summed 0 1 len checksum shows.0 shows.1
+  keys_summed _ shows = tt
 
   option_summed : (window : ℕ) (acks : List AckCopy) (o : PlainOption) → OptionShows c s window acks p o → OptionIsSummed c.spelling s v.written o
   option_summed window acks (Dss next mapping) shows = mapping_summed mapping shows.1
   option_summed window acks (Capable flag_a flag_c keys) shows = keys_summed keys shows
-  option_summed window acks (Join form) shows = tt
-  option_summed window acks (AddAddr echo id address port hmac) shows = tt
-  option_summed window acks (Remove ids) shows = tt
-  option_summed window acks (Prio backup) shows = tt
-  option_summed window acks (Fail place) shows = tt
-  option_summed window acks (FastClose key) shows = tt
-  option_summed window acks (Reset transient reason) shows = tt
+  option_summed window acks _ shows = tt
 
   options_summed : (acks : List AckCopy) (sg : PlainSegment) → SegmentShows c s acks p sg → Every (OptionIsSummed c.spelling s v.written) sg.options
   options_summed acks sg shows = Every-map (λ o told. option_summed _ acks o told) shows.options

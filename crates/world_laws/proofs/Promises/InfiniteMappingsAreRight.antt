@@ -65,10 +65,8 @@ module _ (v : View) (path : ℕ) (p : Lane) (holds : LaneHolds v path p) where
 
   module _ (c : Profile) (s : Side) (e : PathEnd) (records : Every (RecordShows c s p.alters p.sent p.datas p.fins) e.tcp.send.records) where
     mapping_right : (o : Option (PathMapping ℕ)) → MappingShows c s o p → MappingIsRight c s e o
-    mapping_right None shows = tt
-    mapping_right (Some (Bytes place position len fin checksum)) shows = tt
-    mapping_right (Some (End place checksum)) shows = tt
     mapping_right (Some (Infinite place position)) shows = Every-map (λ r kind. record_under place position shows c s r.kind r kind) records
+    mapping_right _ shows = tt
 
     option_right : (window : ℕ) (acks : List AckCopy) (o : PlainOption) → OptionShows c s window acks p o → OptionIsRight c s e o
     option_right window acks (Dss next mapping) shows = mapping_right mapping shows.1

@@ -49,10 +49,8 @@ use Rattle.world_laws.proofs.Worlds.Finding.{find_every, one_side}
 
 module _ (c : Profile) (s : Side) (e : PathEnd) where
   mapping_meant : (o : Option (PathMapping ℕ)) → MappingIsRight c s e o → HeardMappingIsRight c s e (option_map meant_mapping o)
-  mapping_meant None right = tt
-  mapping_meant (Some (Bytes place position len fin checksum)) right = tt
-  mapping_meant (Some (End place checksum)) right = tt
   mapping_meant (Some (Infinite place position)) right = right
+  mapping_meant _ right = tt
 
   option_meant : (o : PlainOption) → OptionIsRight c s e o → HeardOptionIsRight c s e (meant_option o)
   option_meant (Dss next mapping) right = mapping_meant mapping right

@@ -310,10 +310,8 @@ send_untold (SendCall.Write bytes) d event none is = write_untold bytes d.send
 send_untold SendCall.Close d event none is = close_untold d.send
 send_untold (SendCall.Grant path max standby) d event none is = granted_untold (sending.decision path max standby d.send) d.send
 send_untold (SendCall.AckIn next window) d event none is = ack_untold (sending.reply_to d.send (SendCall.AckIn next window)) (lane_untold is.path (AskAckIn next window) d none is.asking)
-send_untold (SendCall.Return path) d event none is = refl
-send_untold SendCall.GoIdentity d event none is = refl
 send_untold (SendCall.GoInfinite path) d event none is = infinite_untold path d.send
-send_untold SendCall.Abort d event none is = refl
+send_untold _ d event none is = refl
 
 arrival_untold : (call : ReassemblyCall) (d : Direction) (event : StreamEvent) → NothingIsRefused d → ReassemblyCallIs call d event
     → tells_refusal (Reply.Reassembly (arriving.reply_to d.arrived call)) ≡ false

@@ -16,12 +16,7 @@ use Rattle.actor_desk.specs.declared.ask.Ask.{Ask}
 
 pub app_asks_some : (d : AppDuty) (a : AppState) → AsksSome (app_ask d a)
 app_asks_some AppDuty.FastClose a = tt
-app_asks_some AppDuty.AbortSend a = tt
-app_asks_some AppDuty.AbortReceive a = tt
-app_asks_some AppDuty.Write a = tt
-app_asks_some AppDuty.Close a = tt
-app_asks_some AppDuty.Read a = tt
-app_asks_some AppDuty.End a = tt
+app_asks_some _ a = tt
 
 module _ {C : Type 0} (k : Codec C) (p : PathState C) (some : 1 ≤ payload_size p.profile) where
   -- a path asks for a full segment's payload

@@ -205,13 +205,9 @@ data_fin_reached arrived a notes b h within told = by (h.told told)
         let l = filled-le b.places in inl (omega (arith, ends, l, within))
 
 passed_ahead : (done : Type 0) (d : AppDuty) (ds : List AppDuty) (a : AppState) → app_stands d a ≡ false → (a.told ≡ true → done) → Ahead done (d ∷ ds) → Ahead done ds
-passed_ahead done FastClose ds a none told h = subst (Ahead done) (sym h) refl
-passed_ahead done AbortSend ds a none told h = subst (Ahead done) (sym h) refl
-passed_ahead done AbortReceive ds a none told h = subst (Ahead done) (sym h) refl
-passed_ahead done Write ds a none told h = subst (Ahead done) (sym h) refl
-passed_ahead done Close ds a none told h = subst (Ahead done) (sym h) refl
 passed_ahead done Read ds a none told h = subst (Ahead done) (sym h) (refl, told (not-false a.told none))
 passed_ahead done End ds a none told h = cc
+passed_ahead done _ ds a none told h = subst (Ahead done) (sym h) refl
 
 settled_ahead : (done : Type 0) (ds : List AppDuty) (a : AppState) → (a.told ≡ true → done) → Ahead done ds → Ahead done (app_settled ds a).agenda
 settled_ahead done [] a told h = h

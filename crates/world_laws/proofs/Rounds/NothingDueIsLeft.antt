@@ -74,9 +74,7 @@ template_ahead joined s count _ = refl
 
 judged_ahead : (joined : Bool) (s : Side) (count : ℕ) (verdict : Judged) → Ahead (template_judged joined s count verdict)
 judged_ahead joined s count (Judged.As meaning) = template_ahead joined s count meaning
-judged_ahead joined s count Judged.Asks = refl
-judged_ahead joined s count Judged.Lacks = refl
-judged_ahead joined s count Judged.Forged = refl
+judged_ahead joined s count _ = refl
 
 died_ahead : (dead_a dead_b : Bool) → Ahead ((if dead_a then [] else Duty.Ask (AskDuty.Leave A) ∷ []) ++ ((if dead_b then [] else Duty.Ask (AskDuty.Leave B) ∷ []) ++ rest_of_turn))
 died_ahead true true = refl
@@ -156,9 +154,7 @@ module _ {C : Type 0} where
 
   line_ahead : (action : LineAction) (p : PathState C) → Ahead (after_line action p).agenda
   line_ahead LineAction.Die p = died_ahead (is_dead p.a.tcp.state) (is_dead p.b.tcp.state)
-  line_ahead (LineAction.Prio s backup) p = refl
-  line_ahead (LineAction.Announce s id) p = refl
-  line_ahead (LineAction.Withdraw s id) p = refl
+  line_ahead _ p = refl
 
   -- a join is begun or not, with these to be done
   begun_ahead : (r : Reply) (dead living : List Duty) (p : PathState C) → Ahead dead → Ahead living → Ahead (join_begun r dead living p).agenda
@@ -246,18 +242,14 @@ module _ {C : Type 0} where
       stopped_ahead false = left_ahead
 
       item_ahead : (o : Option Heard) → Ahead (answered_item k s o r p).agenda
-      item_ahead None = left_ahead
       item_ahead (Some (Heard.DataAck next window)) = told_ahead _
       item_ahead (Some (Heard.Mapping fin)) = mapping_ahead
       item_ahead (Some (Heard.DataFin place)) = fell_ahead s r p left_ahead told
       item_ahead (Some (Heard.InfiniteMapping place position)) = fell_ahead s r p left_ahead told
-      item_ahead (Some (Heard.Keys own peer)) = left_ahead
-      item_ahead (Some (Heard.PeerKey key)) = left_ahead
-      item_ahead (Some (Heard.Join form)) = left_ahead
-      item_ahead (Some (Heard.Notice notice)) = left_ahead
       item_ahead (Some Heard.Fail) = fail_answered_so (λ (x : PathState C). Ahead x.agenda) s r p failed_ahead (fell_ahead s r p left_ahead told)
       item_ahead (Some (Heard.FastClose key)) = stopped_ahead (is_stopped_by r)
       item_ahead (Some Heard.Dss) = left_ahead
+      item_ahead _ = left_ahead
 
   join_ahead : (s : Side) (keys : Option KeyPair) (asked : Option JoinSyn) (r : Reply) (ds : List Duty) (p : PathState C) → Ahead ds → Ahead (join_taken s keys asked r (with_agenda (Duty.Ask (AskDuty.JoinHeard s) ∷ ds) p)).agenda
   join_ahead s None (Some asked) r ds p a = a

@@ -110,45 +110,15 @@ EndFits limit e = TcpFits limit e.tcp
 
 finish_never : (state : EndPhase) → states.may_finish (states.after_finish state) ≡ false
 finish_never EndPhase.Waiting = refl
-finish_never EndPhase.Listen = refl
-finish_never EndPhase.SynSent = refl
-finish_never EndPhase.SynReceived = refl
-finish_never EndPhase.Established = refl
-finish_never EndPhase.FinWait1 = refl
-finish_never EndPhase.FinWait2 = refl
-finish_never EndPhase.CloseWait = refl
-finish_never EndPhase.Closing = refl
-finish_never EndPhase.LastAck = refl
-finish_never EndPhase.TimeWait = refl
-finish_never EndPhase.Dead = refl
+finish_never _ = refl
 
 passed_may : (state : EndPhase) → states.may_finish (states.after_fin_passed state) ≡ true → states.may_finish state ≡ true
-passed_may EndPhase.Waiting is = is
-passed_may EndPhase.Listen is = is
-passed_may EndPhase.SynSent is = is
-passed_may EndPhase.SynReceived is = is
 passed_may EndPhase.Established is = refl
-passed_may EndPhase.FinWait1 is = is
-passed_may EndPhase.FinWait2 is = is
-passed_may EndPhase.CloseWait is = is
-passed_may EndPhase.Closing is = is
-passed_may EndPhase.LastAck is = is
-passed_may EndPhase.TimeWait is = is
-passed_may EndPhase.Dead is = is
+passed_may _ is = is
 
 acked_may : (state : EndPhase) → states.may_finish (states.after_fin_acked state) ≡ true → states.may_finish state ≡ true
 acked_may EndPhase.Waiting is = is
-acked_may EndPhase.Listen is = is
-acked_may EndPhase.SynSent is = is
-acked_may EndPhase.SynReceived is = is
-acked_may EndPhase.Established is = is
-acked_may EndPhase.FinWait1 is = is
-acked_may EndPhase.FinWait2 is = is
-acked_may EndPhase.CloseWait is = is
-acked_may EndPhase.Closing is = is
-acked_may EndPhase.LastAck is = is
-acked_may EndPhase.TimeWait is = is
-acked_may EndPhase.Dead is = is
+acked_may _ is = is
 
 -- ---- acknowledgements
 
@@ -194,9 +164,7 @@ acknowledged_fits limit pos now s sizes begun = by (ack_kind pos s.send)
 
     by : (kind : AckKind) → TcpFits limit (after_ack_kind kind (sample_of pos s.send) now t)
     by (New octets) = record { sizes = fits_then.sizes; begun = λ is. begun (back (is_fin_acked t.send) is) }
-    by Duplicate = fits_then
-    by Old = fits_then
-    by Future = fits_then
+    by _ = fits_then
 
 row_fits : (limit : ℕ) (b : Bool) (s : EndState) → TcpFits limit s → TcpFits limit (if b then after_duplicate s else after_interruption s)
 row_fits limit true s h = h
@@ -272,14 +240,7 @@ module _ (c : Copy) (s : EndState) where
       by EndPhase.Waiting = tt
       by EndPhase.Listen = either_says (is_syn_alone c) Meaning.Opens Meaning.Ignored (λ is. tt) (λ is. tt)
       by EndPhase.SynSent = opening
-      by EndPhase.SynReceived = connected
-      by EndPhase.Established = connected
-      by EndPhase.FinWait1 = connected
-      by EndPhase.FinWait2 = connected
-      by EndPhase.CloseWait = connected
-      by EndPhase.Closing = connected
-      by EndPhase.LastAck = connected
-      by EndPhase.TimeWait = connected
+      by _ = connected
 
 -- ---- an end of a subflow
 
@@ -288,15 +249,7 @@ opens_acked : (state : EndPhase) (v : SendState) (acknowledged : ℕ) → (state
 opens_acked EndPhase.SynReceived v acknowledged half begun is = let sent = half refl in una_grows acknowledged v sent.0 sent.1
 opens_acked EndPhase.Established v acknowledged half begun is = una_stays acknowledged v (begun refl)
 opens_acked EndPhase.CloseWait v acknowledged half begun is = una_stays acknowledged v (begun refl)
-opens_acked EndPhase.Waiting v acknowledged half begun is = absurd (false≢true is)
-opens_acked EndPhase.Listen v acknowledged half begun is = absurd (false≢true is)
-opens_acked EndPhase.SynSent v acknowledged half begun is = absurd (false≢true is)
-opens_acked EndPhase.FinWait1 v acknowledged half begun is = absurd (false≢true is)
-opens_acked EndPhase.FinWait2 v acknowledged half begun is = absurd (false≢true is)
-opens_acked EndPhase.Closing v acknowledged half begun is = absurd (false≢true is)
-opens_acked EndPhase.LastAck v acknowledged half begun is = absurd (false≢true is)
-opens_acked EndPhase.TimeWait v acknowledged half begun is = absurd (false≢true is)
-opens_acked EndPhase.Dead v acknowledged half begun is = absurd (false≢true is)
+opens_acked _ v acknowledged half begun is = absurd (false≢true is)
 
 taken_fits : (limit pos acknowledged : ℕ) (hint : Hint) (now : ℕ) (c : Copy) (s : EndState) → (states.is_half_open s.state ≡ true → (1 ≤ acknowledged) × (acknowledged ≤ s.send.nxt)) → TcpFits limit s
     → TcpFits limit (after_taken pos acknowledged hint now c s)
@@ -318,17 +271,11 @@ syn_fits : (limit : ℕ) (hint : Hint) (c : Copy) (s : EndState) → TcpFits lim
 syn_fits limit hint c s h = record { sizes = h.sizes; begun = λ is. absurd (false≢true is) }
 
 arrived_fits : (limit : ℕ) (m : Meaning) (hint : Hint) (now : ℕ) (c : Copy) (s : EndState) → MeansSo s.state s.send.nxt m → TcpFits limit s → TcpFits limit (after_arrival m hint now c s)
-arrived_fits limit Meaning.Ignored hint now c s so h = h
-arrived_fits limit Meaning.Unwanted hint now c s so h = h
 arrived_fits limit Meaning.Opens hint now c s so h = syn_fits limit hint c s h
 arrived_fits limit (Meaning.Accepts acknowledged) hint now c s so h = syn_ack_fits limit acknowledged hint now c s so h
-arrived_fits limit Meaning.RepeatedSyn hint now c s so h = h
-arrived_fits limit Meaning.Outside hint now c s so h = h
 arrived_fits limit Meaning.Kills hint now c s so h = dead_fits limit false s h
-arrived_fits limit Meaning.Challenged hint now c s so h = h
-arrived_fits limit Meaning.Unacknowledging hint now c s so h = h
-arrived_fits limit Meaning.Ahead hint now c s so h = h
 arrived_fits limit (Meaning.Taken pos acknowledged) hint now c s so h = taken_fits limit pos acknowledged hint now c s so h
+arrived_fits limit _ hint now c s so h = h
 
 sent_fits : (limit : ℕ) (o : Occasion) (now : ℕ) (s : EndState) → TcpFits limit s → TcpFits limit (after_sending o now s)
 sent_fits limit Occasion.Reset now s h = h

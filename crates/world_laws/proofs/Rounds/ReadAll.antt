@@ -101,22 +101,14 @@ module _ (arrived read : ℕ) (six : SixBooks) (notes : List Note) (n : Note) wh
 
 -- the other application leaves the book
 other_a : (d : AppDuty) (a : AppState) (six : SixBooks) → a.side ≡ B → (after_ask (app_ask d a) six).reassembly_a ≡ six.reassembly_a
-other_a FastClose a six is = refl
-other_a AbortSend a six is = refl
 other_a AbortReceive a six is = ap (λ s. (after_reassembly_call s (ReassemblyCall.Abort false) six).reassembly_a) is
-other_a Write a six is = refl
-other_a Close a six is = refl
-other_a End a six is = refl
 other_a Read a six is = ap (λ s. (after_reassembly_call s (ReassemblyCall.Read 65536) six).reassembly_a) is
+other_a _ a six is = refl
 
 other_b : (d : AppDuty) (a : AppState) (six : SixBooks) → a.side ≡ A → (after_ask (app_ask d a) six).reassembly_b ≡ six.reassembly_b
-other_b FastClose a six is = refl
-other_b AbortSend a six is = refl
 other_b AbortReceive a six is = ap (λ s. (after_reassembly_call s (ReassemblyCall.Abort false) six).reassembly_b) is
-other_b Write a six is = refl
-other_b Close a six is = refl
-other_b End a six is = refl
 other_b Read a six is = ap (λ s. (after_reassembly_call s (ReassemblyCall.Read 65536) six).reassembly_b) is
+other_b _ a six is = refl
 
 -- a path lets it grow
 module _ (arrived read : ℕ) (a : AppState) (notes : List Note) (six : SixBooks) where
@@ -124,17 +116,13 @@ module _ (arrived read : ℕ) (a : AppState) (notes : List Note) (six : SixBooks
   grown_a (Ask.Reassembly A call) is h =
       grown_caught arrived read a notes six.reassembly_a (after_call six.reassembly_a call) (sound-after_call call six.reassembly_a h.reading.sound) (arrives six.reassembly_a call is) h
   grown_a (Ask.Reassembly B call) is h = h
-  grown_a (Ask.Send s call) is h = h
-  grown_a (Ask.Control s call) is h = h
-  grown_a (Ask.Local step) is h = h
+  grown_a _ is h = h
 
   grown_b : (ask : Ask) → IsPathAsk ask → Caught arrived read a notes six.reassembly_b → Caught arrived read a notes (after_ask ask six).reassembly_b
   grown_b (Ask.Reassembly B call) is h =
       grown_caught arrived read a notes six.reassembly_b (after_call six.reassembly_b call) (sound-after_call call six.reassembly_b h.reading.sound) (arrives six.reassembly_b call is) h
   grown_b (Ask.Reassembly A call) is h = h
-  grown_b (Ask.Send s call) is h = h
-  grown_b (Ask.Control s call) is h = h
-  grown_b (Ask.Local step) is h = h
+  grown_b _ is h = h
 
 -- ---- the world
 

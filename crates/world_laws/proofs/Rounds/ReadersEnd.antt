@@ -67,24 +67,15 @@ same_done ds a notes (IsReaderDone.Enough most) = IsReaderDone.Enough most
 same_done ds a notes (IsReaderDone.Nothing last) = IsReaderDone.Nothing last
 
 same_ready : (d : AppDuty) (ds es : List AppDuty) (a : AppState) (notes : List Note) → Ready (d ∷ ds) a notes → Ready (d ∷ ds) (record a { agenda = es }) notes
-same_ready FastClose ds es a notes h = h
-same_ready AbortSend ds es a notes h = h
-same_ready AbortReceive ds es a notes h = h
-same_ready Write ds es a notes h = h
-same_ready Close ds es a notes h = h
-same_ready Read ds es a notes h = h
 same_ready End ds es a notes h = (h.0, same_read es a notes h.1)
+same_ready _ ds es a notes h = h
 
 -- ---- settling
 
 passed_ready : (d : AppDuty) (ds : List AppDuty) (a : AppState) (notes : List Note) → app_stands d a ≡ false → Ready (d ∷ ds) a notes → Ready ds a notes
-passed_ready FastClose ds a notes none h = subst (λ xs. Ready xs a notes) (sym h) refl
-passed_ready AbortSend ds a notes none h = subst (λ xs. Ready xs a notes) (sym h) refl
-passed_ready AbortReceive ds a notes none h = subst (λ xs. Ready xs a notes) (sym h) refl
-passed_ready Write ds a notes none h = subst (λ xs. Ready xs a notes) (sym h) refl
-passed_ready Close ds a notes none h = subst (λ xs. Ready xs a notes) (sym h) refl
 passed_ready Read ds a notes none h = subst (λ xs. Ready xs a notes) (sym h) (refl, HasRead.Told (not-false a.told none))
 passed_ready End ds a notes none h = cc
+passed_ready _ ds a notes none h = subst (λ xs. Ready xs a notes) (sym h) refl
 
 settled_ready : (ds : List AppDuty) (a : AppState) (notes : List Note) → Ready ds a notes → Ready (app_settled ds a).agenda (app_settled ds a) notes
 settled_ready [] a notes h = same_done [] a notes h
@@ -116,12 +107,7 @@ read_ends a ds notes n max (ReassemblyReply.Bytes bytes) is kind stops = HasRead
 read_ends a ds notes n max ReassemblyReply.End is kind stops = HasRead.Told (or_true a.told)
 read_ends a ds notes n max (ReassemblyReply.Aborted by_peer) is kind stops = HasRead.Told (or_true a.told)
 read_ends a ds notes n max ReassemblyReply.NoneYet is kind stops = HasRead.Nothing (record { earlier = notes; read = n; parts = refl; none = is })
-read_ends a ds notes n max (ReassemblyReply.Placed count) is kind stops = absurd kind
-read_ends a ds notes n max (ReassemblyReply.Beyond edge) is kind stops = absurd kind
-read_ends a ds notes n max ReassemblyReply.FinSet is kind stops = absurd kind
-read_ends a ds notes n max (ReassemblyReply.FinClash fin at) is kind stops = absurd kind
-read_ends a ds notes n max (ReassemblyReply.Ack next window) is kind stops = absurd kind
-read_ends a ds notes n max ReassemblyReply.Noted is kind stops = absurd kind
+read_ends a ds notes n max _ is kind stops = absurd kind
 
 -- the turn's end is one step more
 ended : (a : AppState) (ds : List AppDuty) (notes : List Note) (n : Note) → HasRead a notes → IsReaderDone (record a { agenda = ds }) (notes ++ n ∷ [])
@@ -178,13 +164,8 @@ read_answered books A = (_, refl, reassembly_kind (books_in books).reassembly_a 
 read_answered books B = (_, refl, reassembly_kind (books_in books).reassembly_b (ReassemblyCall.Read 65536))
 
 duty_answered : (books : StampedBooks) (a : AppState) (d : AppDuty) → IsAnswered d (answer_to books (app_ask d a))
-duty_answered books a FastClose = tt
-duty_answered books a AbortSend = tt
-duty_answered books a AbortReceive = tt
-duty_answered books a Write = tt
-duty_answered books a Close = tt
 duty_answered books a Read = read_answered books a.side
-duty_answered books a End = tt
+duty_answered books a _ = tt
 
 first_ready : (s : Side) (buffer : ℕ) (file : List ℕ) (tick : Option ℕ) → Ready (first_app_turn s buffer file tick).agenda (first_app_turn s buffer file tick) []
 first_ready s buffer file tick =

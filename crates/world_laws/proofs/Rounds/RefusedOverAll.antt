@@ -104,22 +104,16 @@ module _ (path written : ℕ) (steps : List Note) (refused freed : Bool) (a : Ap
   own_b AppDuty.End is h = h
 
   pub other_a : (d : AppDuty) → a.side ≡ B → SideAsks path written A steps refused freed six.send_a → SideAsks path written A steps refused freed (after_ask (app_ask d a) six).send_a
-  other_a AppDuty.FastClose is h = h
   other_a AppDuty.AbortSend is h = subst (λ s. SideAsks path written A steps refused freed (after_send_call s SendCall.Abort six).send_a) (sym is) h
-  other_a AppDuty.AbortReceive is h = h
   other_a AppDuty.Write is h = subst (λ s. SideAsks path written A steps refused freed (after_send_call s (SendCall.Write (offered a)) six).send_a) (sym is) h
   other_a AppDuty.Close is h = subst (λ s. SideAsks path written A steps refused freed (after_send_call s SendCall.Close six).send_a) (sym is) h
-  other_a AppDuty.Read is h = h
-  other_a AppDuty.End is h = h
+  other_a _ is h = h
 
   pub other_b : (d : AppDuty) → a.side ≡ A → SideAsks path written B steps refused freed six.send_b → SideAsks path written B steps refused freed (after_ask (app_ask d a) six).send_b
-  other_b AppDuty.FastClose is h = h
   other_b AppDuty.AbortSend is h = subst (λ s. SideAsks path written B steps refused freed (after_send_call s SendCall.Abort six).send_b) (sym is) h
-  other_b AppDuty.AbortReceive is h = h
   other_b AppDuty.Write is h = subst (λ s. SideAsks path written B steps refused freed (after_send_call s (SendCall.Write (offered a)) six).send_b) (sym is) h
   other_b AppDuty.Close is h = subst (λ s. SideAsks path written B steps refused freed (after_send_call s SendCall.Close six).send_b) (sym is) h
-  other_b AppDuty.Read is h = h
-  other_b AppDuty.End is h = h
+  other_b _ is h = h
 
 -- ---- both sides' books, and what is ahead on the path
 
@@ -156,24 +150,12 @@ module _ (path written_a written_b : ℕ) (steps : List Note) (n : Note) (refuse
     -- an ask that is neither grant nor acknowledgement
     -- it is no fallback
     quiet_is : (s : Side) (call : SendCall) → IsQuietAsk path (Ask.Send s call) → IsQuiet path call
-    quiet_is s (SendCall.Write bytes) is = is
-    quiet_is s SendCall.Close is = is
-    quiet_is s (SendCall.Grant asker max standby) is = is
-    quiet_is s (SendCall.AckIn next window) is = is
-    quiet_is s (SendCall.Return asker) is = is
     quiet_is s SendCall.GoIdentity is = absurd is
-    quiet_is s (SendCall.GoInfinite asker) is = is
-    quiet_is s SendCall.Abort is = is
+    quiet_is s _ is = is
 
     quiet_falls : (s : Side) (b : Sending) (call : SendCall) → IsQuietAsk path (Ask.Send s call) → FallsSo b call
-    quiet_falls s b (SendCall.Write bytes) is = tt
-    quiet_falls s b SendCall.Close is = tt
-    quiet_falls s b (SendCall.Grant asker max standby) is = tt
-    quiet_falls s b (SendCall.AckIn next window) is = tt
-    quiet_falls s b (SendCall.Return asker) is = tt
     quiet_falls s b SendCall.GoIdentity is = absurd is
-    quiet_falls s b (SendCall.GoInfinite asker) is = tt
-    quiet_falls s b SendCall.Abort is = tt
+    quiet_falls s b _ is = tt
 
     quiet_both : (ask : Ask) → IsQuietAsk path ask → Asks refused freed (after_ask ask six)
     quiet_both (Ask.Send A call) is = record {
@@ -229,24 +211,14 @@ module _ (path written_a written_b : ℕ) (steps : List Note) (n : Note) (refuse
       where
         other_side : (call : SendCall) → IsHeardAsk path A (Ask.Send B call) → Asks (with_flag A false refused) freed (after_send_call B call six)
         other_side (SendCall.AckIn next window) is = (let never : B ≡ A = is in cc)
-        other_side (SendCall.Write bytes) is = absurd is
-        other_side SendCall.Close is = absurd is
-        other_side (SendCall.Grant asker max standby) is = absurd is
-        other_side (SendCall.Return asker) is = absurd is
-        other_side SendCall.GoIdentity is = absurd is
         other_side (SendCall.GoInfinite asker) is = (let never : B ≡ A = is.0 in cc)
-        other_side SendCall.Abort is = absurd is
+        other_side _ is = absurd is
     heard_both B (Ask.Send A call) is = other_side call is
       where
         other_side : (call : SendCall) → IsHeardAsk path B (Ask.Send A call) → Asks (with_flag B false refused) freed (after_send_call A call six)
         other_side (SendCall.AckIn next window) is = (let never : A ≡ B = is in cc)
-        other_side (SendCall.Write bytes) is = absurd is
-        other_side SendCall.Close is = absurd is
-        other_side (SendCall.Grant asker max standby) is = absurd is
-        other_side (SendCall.Return asker) is = absurd is
-        other_side SendCall.GoIdentity is = absurd is
         other_side (SendCall.GoInfinite asker) is = (let never : A ≡ B = is.0 in cc)
-        other_side SendCall.Abort is = absurd is
+        other_side _ is = absurd is
     heard_both s (Ask.Reassembly t call) is = lowered_with s
       where
         lowered_with : (s : Side) → Asks (with_flag s false refused) freed (after_ask (Ask.Reassembly t call) six)

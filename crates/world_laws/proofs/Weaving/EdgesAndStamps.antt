@@ -36,10 +36,8 @@ call_edge b (Grant path most standby) = by (decision path most standby b)
     by (Ok span) = omega arith
     by (Err why) = omega arith
 call_edge b (AckIn next window) = either_edge (is_future next b) b.edge b _ (omega arith) (omega arith)
-call_edge b (Return path) = omega arith
-call_edge b GoIdentity = omega arith
 call_edge b (GoInfinite path) = either_edge (is_gathered path b) b.edge _ b (omega arith) (omega arith)
-call_edge b Abort = omega arith
+call_edge b _ = omega arith
 
 -- the edge of a side's window is never taken back
 pub edge_grows : (s : Side) (x : Ask) (six : SixBooks) → (send_of s six).edge ≤ (send_of s (after_ask x six)).edge

@@ -47,10 +47,8 @@ grown_journals pass (Ask.Control B call) books at =
 grown_journals pass (Ask.Local step) books at = cc
 
 same_journals : (pass : Pass) (ask : Ask) (books : StampedBooks) → is_local ask ≡ true → after_entry ask pass books ≡ books
-same_journals pass (Ask.Send s call) books at = cc
-same_journals pass (Ask.Reassembly s call) books at = cc
-same_journals pass (Ask.Control s call) books at = cc
 same_journals pass (Ask.Local step) books at = refl
+same_journals pass _ books at = cc
 
 -- each entry has a stamp above 0
 journals_above : (books : StampedBooks) → BooksAreStamped books → (n : Note) → Occurs n (journals_of books) → 0 < n.stamp

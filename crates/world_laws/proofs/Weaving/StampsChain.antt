@@ -18,15 +18,11 @@ use Rattle.world_laws.proofs.Weaving.Occurring.{In}
 
 pub stamp_rises : (books : StampedBooks) (pass : Pass) (ask : Ask) → pass.stamp < stamp_of ask books pass
 stamp_rises books pass (Ask.Send s call) = omega arith
-stamp_rises books pass (Ask.Reassembly s call) = omega arith
-stamp_rises books pass (Ask.Control s call) = omega arith
-stamp_rises books pass (Ask.Local step) = omega arith
+stamp_rises books pass _ = omega arith
 
 pub local_stamp : (books : StampedBooks) (pass : Pass) (ask : Ask) → is_local ask ≡ true → stamp_of ask books pass ≡ pass.stamp + 1
-local_stamp books pass (Ask.Send s call) is = cc
-local_stamp books pass (Ask.Reassembly s call) is = cc
-local_stamp books pass (Ask.Control s call) is = cc
 local_stamp books pass (Ask.Local step) is = refl
+local_stamp books pass _ is = cc
 
 -- ---- lists
 

@@ -128,10 +128,8 @@ books_more top old new pass (Ask.Control B call) known h = record {
 books_more top old new pass (Ask.Local step) known h = h
 
 no_answer : (books : StampedBooks) (ask : Ask) → is_local ask ≡ true → answer_to books ask ≡ Reply.Done
-no_answer books (Ask.Send s call) is = cc
-no_answer books (Ask.Reassembly s call) is = cc
-no_answer books (Ask.Control s call) is = cc
 no_answer books (Ask.Local step) is = refl
+no_answer books _ is = cc
 
 module _ {C : Type 0} where
   -- ---- an actor

@@ -137,9 +137,7 @@ module _ (d : Duty) (ds : List Duty) (p : PathState Carried) (h : PathIs (d ∷ 
   keys_step s keys (Reply.Control ControlReply.Noted) =
       small_step s (d ∷ ds) (with_agenda (d ∷ ds) p) _ refl refl refl refl refl refl (λ is. refl) (inl refl) (end_is s (d ∷ ds) (with_agenda (d ∷ ds) p) h).base.treated h
   keys_step s keys (Reply.Control _) = same s _ refl
-  keys_step s keys (Reply.Send reply) = same s _ refl
-  keys_step s keys (Reply.Reassembly reply) = same s _ refl
-  keys_step s keys Reply.Done = same s _ refl
+  keys_step s keys _ = same s _ refl
 
   opened_is : (s : Side) (o : Option KeyPair) (r : Reply) → PathIs (answered_opened s o r (with_agenda (d ∷ ds) p)).agenda (answered_opened s o r (with_agenda (d ∷ ds) p))
   opened_is s None r = fell_is s FallEvent.PlainHandshake r
@@ -442,23 +440,18 @@ answered_holds d ds r p plain stood leads h = spared_is (side_of d) (writes d).o
 other_calm : (m : May) (x : Ask) → m.fell ≡ false → may m x ≡ true → IsCalm x
 other_calm m (Ask.Control s (ControlCall.Fell path event)) none is = absurd (both_ways m.fell none is)
 other_calm m (Ask.Control s (ControlCall.Look path)) none is = tt
-other_calm m (Ask.Control s _) none is = tt
-other_calm m (Ask.Send s call) none is = tt
-other_calm m (Ask.Reassembly s call) none is = tt
-other_calm m (Ask.Local step) none is = tt
+other_calm m _ none is = tt
 
 module _ (d : Duty) (ds : List Duty) (p : PathState Carried) (h : PathIs (d ∷ ds) (with_agenda (d ∷ ds) p)) where
   break_calm : (s : Side) (reason : ℕ) → IsCalm (break_ask values s reason (with_agenda (d ∷ ds) p))
   break_calm s reason = if_so IsCalm (end_at s p).treated.asked (ack_out_ask s) _ tt tt
 
   thing_calm : (s : Side) (index : ℕ) (o : Option Heard) → item_of index (end_at s p) ≡ o → IsCalm (item_ask values s o (with_agenda (d ∷ ds) p))
-  thing_calm s index None is = tt
   thing_calm s index (Some (Heard.Mapping fin)) is = if_so IsCalm (is_clash (end_at s p)) _ _ (break_calm s 1) tt
   thing_calm s index (Some (Heard.InfiniteMapping place position)) is = absurd (never_infinite d ds p h s index place position is)
   thing_calm s index (Some (Heard.Notice (PeerNotice.Prio backup))) is = tt
-  thing_calm s index (Some (Heard.Notice _)) is = tt
   thing_calm s index (Some Heard.Fail) is = fail_asks_so IsCalm s (with_agenda (d ∷ ds) p) tt tt
-  thing_calm s index (Some _) is = tt
+  thing_calm s index _ is = tt
 
   -- a copy that opens an end has an option
   opened_calm : (s : Side) → is_opened_by_keys (end_at s p) || is_opened_plainly (end_at s p) ≡ true → (o : Option KeyPair) → keys_heard (end_at s p).treated.items ≡ o → IsCalm (opened_ask s o (with_agenda (d ∷ ds) p))

@@ -285,14 +285,7 @@ module _ (c : Copy) (s : EndState) where
       by EndPhase.Waiting is = tt
       by EndPhase.Listen is = either (is_syn_alone c) Meaning.Opens Meaning.Ignored (alone is) (λ no. tt)
       by EndPhase.SynSent is = either (is_at_limit s) Meaning.Ignored (meaning_answering c.acknowledged c s) (λ limit. tt) (λ limit. answering is c.acknowledged)
-      by EndPhase.SynReceived is = connected (ap is_past is)
-      by EndPhase.Established is = connected (ap is_past is)
-      by EndPhase.FinWait1 is = connected (ap is_past is)
-      by EndPhase.FinWait2 is = connected (ap is_past is)
-      by EndPhase.CloseWait is = connected (ap is_past is)
-      by EndPhase.Closing is = connected (ap is_past is)
-      by EndPhase.LastAck is = connected (ap is_past is)
-      by EndPhase.TimeWait is = connected (ap is_past is)
+      by _ is = connected (ap is_past is)
 
 -- ---- an end of which little changes
 
@@ -415,18 +408,14 @@ module _ (s : Side) (vs : SendState) (h : HeardSegment) (e : PathEnd) (told : Li
     where
       by : (kind : AckKind) → Remains x.send (after_ack_kind kind (sample_of n x.send) now (record x { send = after_acknowledge n x.send })).send
       by (AckKind.New octets) = acknowledged_remains x.send n
-      by AckKind.Duplicate = acknowledged_remains x.send n
-      by AckKind.Old = acknowledged_remains x.send n
-      by AckKind.Future = acknowledged_remains x.send n
+      by _ = acknowledged_remains x.send n
 
   acked_recv : (n : ℕ) (x : EndState) → ((after_acknowledgement n now x).recv ≡ x.recv) × ((after_acknowledgement n now x).fin_at ≡ x.fin_at)
   acked_recv n x = by (ack_kind n x.send)
     where
       by : (kind : AckKind) → let y = after_ack_kind kind (sample_of n x.send) now (record x { send = after_acknowledge n x.send }) in (y.recv ≡ x.recv) × (y.fin_at ≡ x.fin_at)
       by (AckKind.New octets) = (refl, refl)
-      by AckKind.Duplicate = (refl, refl)
-      by AckKind.Old = (refl, refl)
-      by AckKind.Future = (refl, refl)
+      by _ = (refl, refl)
 
   not_apart : (x y : EndPhase) → (is_apart s y ≡ true → is_apart s x ≡ true) → is_apart s x ≡ false → is_apart s y ≡ false
   not_apart x y back none = by (is_apart s y) refl
@@ -504,13 +493,9 @@ module _ (s : Side) (vs : SendState) (h : HeardSegment) (e : PathEnd) (told : Li
         fin = subst (λ (o : Option ℕ). IfSome o (λ k. NoneAt k vs)) (sym same.1) (first_fin_at e.tcp.fin_at h.fin (1 + length h.payload) was.fin_at (no_fin fits.1.1 fits.1.0));
         apart = ack_apart s n now opened;
       }
-  arrival_moves Meaning.RepeatedSyn fits = record { sends = remains_self e.tcp.send; edge = refl; fin = was.fin_at; apart = was.apart }
-  arrival_moves Meaning.Outside fits = record { sends = remains_self e.tcp.send; edge = refl; fin = was.fin_at; apart = was.apart }
   arrival_moves Meaning.Kills fits = record { sends = acknowledged_remains e.tcp.send e.tcp.send.nxt; edge = refl; fin = was.fin_at; apart = refl }
-  arrival_moves Meaning.Challenged fits = record { sends = remains_self e.tcp.send; edge = refl; fin = was.fin_at; apart = was.apart }
-  arrival_moves Meaning.Unacknowledging fits = record { sends = remains_self e.tcp.send; edge = refl; fin = was.fin_at; apart = was.apart }
-  arrival_moves Meaning.Ahead fits = record { sends = remains_self e.tcp.send; edge = refl; fin = was.fin_at; apart = was.apart }
   arrival_moves (Meaning.Taken pos n) fits = taken_held pos n (is_nil h.payload) fits
+  arrival_moves _ fits = record { sends = remains_self e.tcp.send; edge = refl; fin = was.fin_at; apart = was.apart }
 
   -- ---- what is still to be treated of it
 

@@ -103,12 +103,7 @@ answered_fares file six a AppDuty.End stands h = h
 
 answered_side : (d : AppDuty) (r : Reply) (a : AppState) → (app_answered d r a).side ≡ a.side
 answered_side AppDuty.FastClose r a = refl
-answered_side AppDuty.AbortSend r a = refl
-answered_side AppDuty.AbortReceive r a = refl
-answered_side AppDuty.Write r a = refl
-answered_side AppDuty.Close r a = refl
-answered_side AppDuty.Read r a = refl
-answered_side AppDuty.End r a = refl
+answered_side _ r a = refl
 
 -- a step of an application
 app_fares : (s : Side) (file : List ℕ) (six : SixBooks) (a : AppState) (d : AppDuty) (ds : List AppDuty) → a.agenda ≡ d ∷ ds → Fares s file a (send_of s six)
@@ -129,36 +124,26 @@ next_fares s file a send h =
 
 -- what an ask of the other side's application, or of a path, leaves
 app_leaves_b : (d : AppDuty) (a : AppState) (six : SixBooks) → a.side ≡ A → (after_ask (app_ask d a) six).send_b ≡ six.send_b
-app_leaves_b AppDuty.FastClose a six is = refl
 app_leaves_b AppDuty.AbortSend a six is = other_after_a a.side SendCall.Abort six is
-app_leaves_b AppDuty.AbortReceive a six is = refl
 app_leaves_b AppDuty.Write a six is = other_after_a a.side (SendCall.Write (take a.buffer a.rest)) six is
 app_leaves_b AppDuty.Close a six is = other_after_a a.side SendCall.Close six is
-app_leaves_b AppDuty.Read a six is = refl
-app_leaves_b AppDuty.End a six is = refl
+app_leaves_b _ a six is = refl
 
 app_leaves_a : (d : AppDuty) (a : AppState) (six : SixBooks) → a.side ≡ B → (after_ask (app_ask d a) six).send_a ≡ six.send_a
-app_leaves_a AppDuty.FastClose a six is = refl
 app_leaves_a AppDuty.AbortSend a six is = other_after_b a.side SendCall.Abort six is
-app_leaves_a AppDuty.AbortReceive a six is = refl
 app_leaves_a AppDuty.Write a six is = other_after_b a.side (SendCall.Write (take a.buffer a.rest)) six is
 app_leaves_a AppDuty.Close a six is = other_after_b a.side SendCall.Close six is
-app_leaves_a AppDuty.Read a six is = refl
-app_leaves_a AppDuty.End a six is = refl
+app_leaves_a _ a six is = refl
 
 path_leaves_a : (file rest : List ℕ) (ask : Ask) (six : SixBooks) → AskLeavesFile ask → Writes file rest six.send_a → Writes file rest (after_ask ask six).send_a
 path_leaves_a file rest (Ask.Send A call) six leaves h = call_keeps file rest six.send_a h call leaves
 path_leaves_a file rest (Ask.Send B call) six leaves h = h
-path_leaves_a file rest (Ask.Reassembly s call) six leaves h = h
-path_leaves_a file rest (Ask.Control s call) six leaves h = h
-path_leaves_a file rest (Ask.Local step) six leaves h = h
+path_leaves_a file rest _ six leaves h = h
 
 path_leaves_b : (file rest : List ℕ) (ask : Ask) (six : SixBooks) → AskLeavesFile ask → Writes file rest six.send_b → Writes file rest (after_ask ask six).send_b
 path_leaves_b file rest (Ask.Send B call) six leaves h = call_keeps file rest six.send_b h call leaves
 path_leaves_b file rest (Ask.Send A call) six leaves h = h
-path_leaves_b file rest (Ask.Reassembly s call) six leaves h = h
-path_leaves_b file rest (Ask.Control s call) six leaves h = h
-path_leaves_b file rest (Ask.Local step) six leaves h = h
+path_leaves_b file rest _ six leaves h = h
 
 -- ---- lists
 

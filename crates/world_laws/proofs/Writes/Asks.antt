@@ -43,11 +43,8 @@ module _ {C : Type 0} (k : Codec C) (p : PathState C) where
       if_so (IsAsked p s m) (end_at s p).treated.asked _ _ (record { kind = out; side = refl; own = tt }) (record { kind = sent; side = tt; own = tt })
 
   happens_asked : (o : Option Event) → IsAsked p (side_of (Duty.Step StepDuty.Events)) (asks_of_steps StepDuty.Events) (step_for (path_of p) o)
-  happens_asked None = record { kind = refl; side = tt; own = tt }
   happens_asked (Some (Event.Joins tick)) = record { kind = refl; side = refl; own = refl }
-  happens_asked (Some (Event.Takes line)) = record { kind = refl; side = tt; own = tt }
-  happens_asked (Some (Event.Arrives due)) = record { kind = refl; side = tt; own = tt }
-  happens_asked (Some (Event.Fires s tick)) = record { kind = refl; side = tt; own = tt }
+  happens_asked _ = record { kind = refl; side = tt; own = tt }
 
   key_asked : (s : Side) (o : Option ℕ) → IsAsked p s (asks_of_books (AskDuty.PeerKey s)) (peer_key_ask s o p)
   key_asked s None = record { kind = refl; side = refl; own = refl }
