@@ -94,10 +94,6 @@ module _ (start : Start) (plan : PathPlan) (k j : Setting) (s v : Lane) (t0 u0 :
           abbrev pub moved : Facing A keys k j p.profile s v (half A a books q) (half B b books q) tick p.until ((Duty.Step StepDuty.Events) ∷ Duty.End ∷ [])
           moved = moves_on ((Duty.Step StepDuty.Events) ∷ Duty.End ∷ []) h.faces tick (inl refl) (up p.clock f.tick) before there.0 here.1 here.0 there.1
 
-          -- as A sees it
-          abbrev pub faced : Facing A keys k j p.profile s v (half A a books q) (half B b books q) tick p.until ((Duty.Step StepDuty.Events) ∷ Duty.End ∷ [])
-          faced = moved
-
           pub link : LinkIs tick (record p.link { under_way = others })
           link = link_arrived p.clock f.tick (record p.link { under_way = copy ∷ others }) copy others refl h.link
 

@@ -108,9 +108,6 @@ module _ (k : Setting) (out later : Sender) (same_granted : later.granted ≡ ou
       news_is = ap (λ (kind : AckKind). after_row kind told c (after_acknowledgement x.edge now s)) (kind_new x.edge s.send less high)
           ∙ ap (λ (y : EndState). after_row (New (newly_acknowledged x.edge s.send)) told c y) (new_ack x.edge now s less high)
 
-      zero_low : {y : ℕ} (z : ℕ) → y ≡ 0 → y ≤ z
-      zero_low z is = omega (arith, is)
-
       not_same : {y z : ℕ} → y < z → z ≡ y → ⊥
       not_same a b = absurd (omega (arith, a, b))
 

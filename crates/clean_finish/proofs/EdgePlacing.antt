@@ -31,7 +31,7 @@ use Rattle.world_laws.specs.Openings.{PathPlan, Start}
 use Rattle.pace.specs.Lane.{Setting, Lane, all_left}
 use Rattle.pace.specs.Going.{Going}
 use Rattle.clean_finish.specs.Segments.{Sent, Keys, Brings, is_news, is_opening, is_owed, is_subflow_end, data_fin_of, octets_of, CountsAs}
-use Rattle.clean_finish.specs.Segments.Brings.{OpensSubflow, ShowsKeys, FirstPiece, Piece as Bytes, Acknowledges, EndsStream, EndsSubflow}
+use Rattle.clean_finish.specs.Segments.Brings.{FirstPiece, Piece as Bytes}
 use Rattle.clean_finish.specs.Running.{TreatsCopy, fin_in, kept_in, kept_piece, end_duties, place_duties, own_bench, other_bench, IsSetting, Runs, keys_in}
 use Rattle.clean_finish.specs.Running.Treatment.{AfterKeeping}
 use Rattle.clean_finish.specs.Shows.{IsMapping}

@@ -19,7 +19,7 @@ use Rattle.world_laws.specs.Openings.{PathPlan, Start}
 use Rattle.pace.specs.Lane.{Setting, Lane, all_left}
 use Rattle.pace.specs.Going.{Going}
 use Rattle.clean_finish.specs.Segments.{Sent, Keys, Brings, is_opening}
-use Rattle.clean_finish.specs.Segments.Brings.{OpensSubflow, ShowsKeys, FirstPiece, Piece, Acknowledges, EndsStream, EndsSubflow}
+use Rattle.clean_finish.specs.Segments.Brings.{OpensSubflow}
 use Rattle.clean_finish.specs.Running.{IsSetting, Runs, keys_in}
 use Rattle.clean_finish.proofs.AnswerComes.{answer_comes}
 use Rattle.clean_finish.proofs.ArrivesAtA.{first as first_a}

@@ -326,10 +326,6 @@ there_6 =
     then h _ _ (waits_no_more (le refl) (le refl))
 
 -- the lane from A to B
-there : Here first all_left first
-there = then_all (then_all (then_all (then_all (then_all there_1 there_2) there_3) there_4) there_5) there_6
-
--- the lane from A to B
 there_round : Round k first (still 1 0)
 there_round =
     let all = then_all (then_all (then_all (then_all (then_all there_1 there_2) there_3) there_4) there_5) there_6 in record { count = all.count; moves = all.made; writer = refl; reader = refl }
@@ -446,10 +442,6 @@ back_6 =
     let h = then h _ _ (has_finished (λ e. le refl)) in
     let h = then h _ _ (keeps_quiet (λ e. lt refl)) in
     then h _ _ (waits_no_more (le refl) (le refl))
-
--- the lane from B to A
-back : Here first all_left first
-back = then_all (then_all (then_all (then_all (then_all back_1 back_2) back_3) back_4) back_5) back_6
 
 -- the lane from B to A
 back_round : Round k first (still 0 0)

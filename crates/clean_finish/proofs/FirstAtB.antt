@@ -16,7 +16,7 @@ use Rattle.world_laws.specs.Openings.{PathPlan, Start}
 use Rattle.pace.specs.Lane.{Setting, Lane, all_left}
 use Rattle.pace.specs.Going.{Going}
 use Rattle.clean_finish.specs.Segments.{Keys, Brings, is_third, shows_keys}
-use Rattle.clean_finish.specs.Segments.Brings.{OpensSubflow, ShowsKeys, FirstPiece, Piece, Acknowledges, EndsStream, EndsSubflow}
+use Rattle.clean_finish.specs.Segments.Brings.{ShowsKeys, FirstPiece}
 use Rattle.clean_finish.specs.Running.{Beside, TreatsCopy, count_in, heard_by, own_bench, other_bench, IsSetting, Runs, keys_in}
 use Rattle.clean_finish.specs.Running.Treatment.{AtFirst}
 use Rattle.clean_finish.proofs.HeardFirst.{passes_first_dss_b}

@@ -77,40 +77,6 @@ module _ (c : Profile) (keys : Keys) (j k : Setting) (from : Side) (out : Sender
     passed = w.passed;
   }
 
-  -- the other lane takes what it acknowledges
-  abbrev pub way_told : (flying : List (Flight Carried)) (x : Sent)
-      (w : WayIs c keys j k from out other datas acks (in_hand x false true) una edge flying)
-      → WayIs c keys j k from out other datas (map copy_in w.sent) (in_hand x false false) una edge flying
-  way_told flying x w = record {
-    sent = w.sent;
-    flights = w.flights;
-    datas_are = w.datas_are;
-    acks_are = refl;
-    follow = w.follow;
-    low = w.low;
-    control = w.control;
-    keys_shown = w.keys_shown;
-    rise = w.rise;
-    passed = w.passed;
-  }
-
-  -- while it still brings something
-  abbrev pub way_told_first : (flying : List (Flight Carried)) (x : Sent)
-      (w : WayIs c keys j k from out other datas acks (in_hand x true true) una edge flying)
-      → WayIs c keys j k from out other datas (map copy_in w.sent) (in_hand x true false) una edge flying
-  way_told_first flying x w = record {
-    sent = w.sent;
-    flights = w.flights;
-    datas_are = w.datas_are;
-    acks_are = refl;
-    follow = w.follow;
-    low = w.low;
-    control = w.control;
-    keys_shown = w.keys_shown;
-    rise = w.rise;
-    passed = w.passed;
-  }
-
   -- it is done with
   abbrev pub way_done : (flying : List (Flight Carried)) (x : Sent)
       → WayIs c keys j k from out other datas acks (in_hand x false false) una edge flying

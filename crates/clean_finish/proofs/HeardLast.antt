@@ -18,7 +18,7 @@ use Rattle.world_laws.specs.Openings.{PathPlan, Start}
 use Rattle.pace.specs.Lane.{Setting, Lane, all_left}
 use Rattle.pace.specs.Going.{Going}
 use Rattle.clean_finish.specs.Segments.{Keys, Brings, octets_of, shows_keys}
-use Rattle.clean_finish.specs.Segments.Brings.{OpensSubflow, ShowsKeys, FirstPiece, Piece, Acknowledges, EndsStream, EndsSubflow}
+use Rattle.clean_finish.specs.Segments.Brings.{OpensSubflow, Piece, EndsStream}
 use Rattle.clean_finish.specs.Running.{Beside, MapsAs, Treats, TreatsCopy, count_in, heard_by, kept_in, own_bench, other_bench, FacesOfB, IsSetting, Runs, keys_in}
 use Rattle.clean_finish.specs.Running.Treatment.{AfterTwo}
 use Rattle.clean_finish.proofs.EndPassing.{sent_some}

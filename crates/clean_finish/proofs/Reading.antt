@@ -26,8 +26,6 @@ filled_left (suc n) (None ∷ places) within = absurd (omega (arith, within))
 filled_left (suc n) (Some byte ∷ places) within = omega (arith, filled_left n places (omega (arith, within)))
 
 module _ (k : Setting) (s : Lane) (t : ℕ) (p : Stage) (w : Lane) where
-  abbrev with_reader : ℕ → Lane
-  with_reader n = has_read n w
 
   -- the turn isn't over
   reads_on : (n : ℕ) (a : AppState) (b : Arriving)

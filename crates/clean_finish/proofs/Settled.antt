@@ -3,7 +3,7 @@ use Rattle.std.proofs.Common.{◌≡◌, refl, sym, subst, ap, ◌∙◌, ℕ, �
 use Rattle.std.proofs.lemmas.Bool.{both_ways, cases_lt, and_parts, ltb-false}
 use Rattle.std.proofs.lemmas.List.Elements.{All-head, All-weaker}
 use Rattle.sides.specs.declared.side.Side.{Side}
-use Rattle.sides.specs.declared.side.Side.TheVariants.{A, B}
+use Rattle.sides.specs.declared.side.Side.TheVariants.{A}
 use Rattle.sides.specs.Side.{peer}
 use Rattle.link_script.specs.Places.{same_side}
 use Rattle.subflow_send.specs.Records.{Record, Tile, Follow, span_of}
@@ -53,10 +53,6 @@ some_span out waiting [] some all = absurd (both_ways _ refl some)
 some_span out waiting (span ∷ spans) some all =
     let is = All-head (IsGranted out waiting) span spans all in omega (arith, is)
 
-one_of : (a b : Bool) → (a || b) ≡ true → (a ≡ true) ⊎ (b ≡ true)
-one_of true b e = inl refl
-one_of false b e = inr e
-
 not_true : (b : Bool) → not b ≡ true → b ≡ false
 not_true false e = refl
 not_true true e = absurd (both_ways _ refl e)
@@ -67,10 +63,6 @@ side_of _ = A
 
 pub same_timer : {p q : Side} → Duty.Silent (SilentDuty.Timer p) ≡ Duty.Silent (SilentDuty.Timer q) → p ≡ q
 same_timer e = ap side_of e
-
-same_self : (q : Side) → same_side q q ≡ true
-same_self A = refl
-same_self B = refl
 
 -- bytes that aren't acknowledged
 bytes_reason : (k : Setting) (w : Lane) → w.acked < k.total → 1 ≤ w.ready → Reason k w

@@ -49,11 +49,6 @@ not_acked Acked free = absurd (both_ways _ refl free)
 not_acked (Held path tried) free = refl
 not_acked (Free tried) free = refl
 
-pub taken_within : (taken : ℕ) (marks : List ByteMark) → AreTaken taken marks → taken ≤ length marks
-taken_within zero marks h = omega arith
-taken_within (suc taken) [] h = absurd h
-taken_within (suc taken) (m ∷ marks) h = let less = taken_within taken marks h.1 in omega (arith, less)
-
 one_plus : (n : ℕ) → 1 + n ≡ suc n
 one_plus n = omega arith
 

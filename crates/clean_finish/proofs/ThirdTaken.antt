@@ -36,9 +36,6 @@ use Rattle.clean_finish.proofs.Turned.{from_a, from_b}
 
 -- ---- numbers
 
-one_of : {x : ℕ} → x ≡ 1 → 1 ≤ x
-one_of is = omega (arith, is)
-
 at_most_one : {x : ℕ} → x ≡ 1 → x ≤ 1
 at_most_one is = omega (arith, is)
 
@@ -74,9 +71,6 @@ same_max is = omega (arith, is)
 
 same_count : {x y : ℕ} → x ≡ 1 → y ≡ 1 → y ≡ x
 same_count p q = omega (arith, p, q)
-
-up_to : {x y : ℕ} (z : ℕ) → 1 ≤ x → min 1 x ≤ y → min 1 (max x z) ≤ y
-up_to z p q = omega (arith, p, q)
 
 none_received : {l n r : ℕ} → l ≡ r → n ≡ 0 → l + n ≡ r
 none_received p q = omega (arith, p, q)

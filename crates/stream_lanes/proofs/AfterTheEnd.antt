@@ -9,12 +9,12 @@ use Rattle.send_book.specs.declared.call.SendCall.TheVariants.{Write as WriteByt
 use Rattle.send_book.specs.State.{Sending, acked_len}
 use Rattle.send_book.specs.Steps.{after_call, decision, given_by, is_future, is_gathered}
 use Rattle.stream_lanes.specs.Lane.{Ask, Lane}
-use Rattle.stream_lanes.specs.Lane.Ask.{Nothing, AskGrant, AskAckIn, AskPlace, AskFin, AskAckOut}
+use Rattle.stream_lanes.specs.Lane.Ask.{Nothing, AskGrant, AskAckIn}
 use Rattle.stream_lanes.specs.Moves.{Flags, Move}
 use Rattle.stream_lanes.specs.Streams.{Direction, StreamEvent, after, asks, asks_at, moves, reads, is_done, with_send, goes_infinite, may_go}
 use Rattle.stream_lanes.specs.Streams.StreamEvent.{Write, Close, Return, GoIdentity, GoInfinite, AbortSend, Read, AbortRead, Moves, Asks}
 use Rattle.stream_lanes.specs.Duo.{Duo, Event, flags_ab, flags_ba, after_event, after_events}
-use Rattle.stream_lanes.specs.Duo.Event.{ToB, ToA, FallA, FallB, LoosenA, LoosenB, BeginJoin, SendJoin, HearJoin}
+use Rattle.stream_lanes.specs.Duo.Event.{ToB, ToA}
 
 -- what a closed book keeps
 record IsShut (s t : Sending) : Type 0 where

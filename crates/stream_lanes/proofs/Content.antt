@@ -15,12 +15,12 @@ use Rattle.reassembly_book.specs.declared.call.ReassemblyReply.TheVariants.{End,
 use Rattle.reassembly_book.specs.State.{Arriving, filled}
 use Rattle.reassembly_book.specs.Steps.{by_place, merged, is_taken, places_after, fin_clash, is_end, bytes_reply, reading, after_reading}
 use Rattle.stream_lanes.specs.Lane.{Ask, Lane}
-use Rattle.stream_lanes.specs.Lane.Ask.{Nothing, AskGrant, AskAckIn, AskPlace, AskFin, AskAckOut}
+use Rattle.stream_lanes.specs.Lane.Ask.{AskGrant, AskAckIn, AskPlace, AskFin}
 use Rattle.stream_lanes.specs.Moves.{Flags, Move}
 use Rattle.stream_lanes.specs.Streams.{Reader, Direction, StreamEvent, after, asks, asks_at, moves, reads, is_done, takes_read, with_send, goes_infinite, may_go}
 use Rattle.stream_lanes.specs.Streams.StreamEvent.{Write, Close, Return, GoIdentity, GoInfinite, AbortSend, Read, AbortRead, Moves, Asks}
 use Rattle.stream_lanes.specs.Duo.{Duo, Event, flags_ab, flags_ba, after_event, after_events}
-use Rattle.stream_lanes.specs.Duo.Event.{ToB, ToA, FallA, FallB, LoosenA, LoosenB, BeginJoin, SendJoin, HearJoin}
+use Rattle.stream_lanes.specs.Duo.Event.{ToB, ToA}
 use Rattle.stream_lanes.specs.View.{is_exact}
 use Rattle.stream_lanes.specs.Holding.{DirectionHolds, Holds}
 use Rattle.stream_lanes.specs.Laws.{flattened, content, PlacedIsRight}

@@ -5,7 +5,7 @@ use Rattle.std.specs.List.{slice_get}
 use Rattle.reassembly_book.specs.State.{Arriving}
 use Rattle.stream_lanes.specs.Marks.{spent, spent_count, AreNew, tried}
 use Rattle.stream_lanes.specs.Lane.{Cell, Pair, AckCopy, Told, Ask, Lane}
-use Rattle.stream_lanes.specs.Lane.Ask.{Nothing, AskGrant, AskAckIn, AskPlace, AskFin, AskAckOut}
+use Rattle.stream_lanes.specs.Lane.Ask.{AskAckIn, AskPlace, AskFin}
 use Rattle.stream_lanes.specs.View.{View, IsEnd, IsIn}
 use Rattle.stream_lanes.specs.Holding.{IsAll, IsSent, ArrivedHolds, RecordHolds, AloneHolds, ModeHolds, EndsHold, IsFin, HeardHolds, IsAck, ReceiverHolds, PlaceHolds, AskHolds, LinkHolds, LaneHolds, CellFits, AllGranted, IsPassed, PassedHolds, IsAlone, IsEndless, PairsHold}
 use Rattle.stream_lanes.specs.Holding.IsAlone.{given, fell}

@@ -95,10 +95,6 @@ module _ {X : Type 0} where
   pub From-map : {P Q : ℕ → X → Type 0} {first : ℕ} {xs : List X} → ((n : ℕ) (x : X) → P n x → Q n x) → From P first xs → From Q first xs
   From-map f h = record { each = λ i n x n_is e. f n x (h.each i n x n_is e) }
 
-  pub From-both : {P Q R : ℕ → X → Type 0} {first : ℕ} {xs : List X} → ((n : ℕ) (x : X) → P n x → Q n x → R n x)
-      → From P first xs → From Q first xs → From R first xs
-  From-both f h k = record { each = λ i n x n_is e. f n x (h.each i n x n_is e) (k.each i n x n_is e) }
-
   pub From-append : {P : ℕ → X → Type 0} {first : ℕ} {xs ys : List X} → From P first xs → From P (first + length xs) ys → From P first (xs ++ ys)
   From-append {P} {first} {xs} {ys} h k = record {
     each = λ i n x n_is e. ⊎_elim (λ left. h.each i n x n_is left)

@@ -6,7 +6,7 @@ use Rattle.std.specs.List.{slice_get}
 use Rattle.stream_lanes.specs.Words.{Every}
 use Rattle.stream_lanes.specs.Marks.{AreAcked}
 use Rattle.stream_lanes.specs.Lane.{Mapping, DataCopy, AckCopy, Ask, Lane}
-use Rattle.stream_lanes.specs.Lane.Ask.{Nothing, AskGrant, AskAckIn, AskPlace, AskFin, AskAckOut}
+use Rattle.stream_lanes.specs.Lane.Ask.{AskGrant, AskAckIn, AskFin}
 use Rattle.stream_lanes.specs.Moves.{Flags, known, part_of, piece_of, altered_piece_of, clashes, hears, sends_piece, sends_altered, keeps, learns_mapping, learns, hears_data_fin, hears_fin}
 use Rattle.stream_lanes.specs.View.{View, IsEnd, IsIn}
 use Rattle.stream_lanes.specs.Holding.{IsAll, IsAck, IsAckCopy, AskHolds, LaneHolds, IsRight, IsPiece}

@@ -70,9 +70,6 @@ module _ (f : Flags) (d : Direction) (h : DirectionHolds f d) where
   within : received d.arrived ≤ length d.send.written
   within = received_written (view_of f d.send d.arrived) d.arrived h.arrived
 
-  counted : (marks : List ByteMark) (n : ℕ) → n ≡ acked_len d.send.marks → (are : acked_len marks ≡ n) → acked_len marks ≡ acked_len d.send.marks
-  counted marks n n_is are = are ∙ n_is
-
   write_moves : (bytes : List ℕ) (shut : Bool) → (d.send.closed || d.send.aborted) ≡ shut
       → IsOneStepOrNone d (record d {
         send = if shut then d.send else record d.send {

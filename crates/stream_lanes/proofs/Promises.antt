@@ -14,7 +14,7 @@ use Rattle.stream_lanes.specs.Lane.{Cell, Mapping, Pair, Lane}
 use Rattle.stream_lanes.specs.Moves.{Flags, in_order, part_of, bytes_of}
 use Rattle.stream_lanes.specs.Streams.{Reader, Direction}
 use Rattle.stream_lanes.specs.Duo.{Duo, flags_ab, flags_ba, after_events, opening, opening_over}
-use Rattle.stream_lanes.specs.Duo.Event.{ToB, ToA, FallA, FallB, LoosenA, LoosenB, BeginJoin, SendJoin, HearJoin}
+use Rattle.stream_lanes.specs.Duo.Event.{ToB, ToA}
 use Rattle.stream_lanes.specs.View.{view_of, is_exact}
 use Rattle.stream_lanes.specs.Holding.{CellFits, Came, IsRight, IsEndless, LaneHolds, DirectionHolds, Holds}
 use Rattle.stream_lanes.specs.Laws.{Always, AlwaysChecked, AlwaysAny, BothWays, ReadsAPrefix, AcknowledgesReceivedBytes, EndsAtTheWhole, NothingFollowsTheEnd, AbortedIsNoEnd, EachEventIsOneStep, NothingIsRefused, MappingIsShort, LaneIsShort, PathsAreShort, IsNear, TellsNear, ShortStreamsAreNear, IsPlain, FallsAreRight, RecordsAgree, EndsAtAllBytes, PrefixBeforeTheFall, PlacedBeforeTheFallIsRight, ChecksumsShow, NothingDisagrees, InfiniteMappingsAreRight}
@@ -203,9 +203,6 @@ any_event_is_one_step alters checked paths buffer capacity events event =
     at w h (ToB event) = (event_moves (flags_ab w.modes) w.ab h.ab event, stays refl)
     at w h (ToA event) = (stays refl, event_moves (flags_ba w.modes) w.ba h.ba event)
     at w h _ = (stays refl, stays refl)
-
-pub each_event_is_one_step : Always EachEventIsOneStep
-each_event_is_one_step paths buffer capacity events event = any_event_is_one_step false false paths buffer capacity events event
 
 pub nothing_is_refused : Always (BothWays NothingIsRefused)
 nothing_is_refused paths buffer capacity events =

@@ -4,11 +4,11 @@ use Rattle.std.specs.List.{slice_get}
 use Rattle.std.proofs.lemmas.Option.{same_Some}
 use Rattle.sides.specs.declared.side.Side.{Side}
 use Rattle.sides.specs.declared.side.Side.TheVariants.{A, B}
-use Rattle.stream_lanes.specs.Words.{Every, Has}
+use Rattle.stream_lanes.specs.Words.{Every}
 use Rattle.actor_desk.specs.Words.{pick}
 use Rattle.link_trace.specs.declared.sent.Sent.{Sent}
 use Rattle.link_trace.specs.declared.carried.Carried.{Carried}
-use Rattle.link_trace.specs.Carrying.{all_carried, carried_behind, carried_of, shifts_after}
+use Rattle.link_trace.specs.Carrying.{all_carried, carried_behind, carried_of}
 use Rattle.link_trace.specs.FirstOctets.{EachEndsBy, EndsBy, OneHasOctet}
 use Rattle.link_trace.specs.Rows.{capped, first_octets_from, rows_of}
 use Rattle.link_trace.proofs.FirstOctets.{first_octets}
@@ -16,7 +16,7 @@ use Rattle.run_trace.specs.Initials.{initials_of}
 use Rattle.run_trace.specs.Trace.{trace_of}
 use Rattle.world_laws.specs.Openings.{Start, opened_world}
 use Rattle.world_laws.specs.Promises.{NumbersFit}
-use Rattle.trace_laws.specs.Counting.{DeliveredFilesWereCounted, base_from, carried_by}
+use Rattle.trace_laws.specs.Counting.{DeliveredFilesWereCounted, base_from}
 use Rattle.trace_laws.specs.Sending.{ended}
 use Rattle.trace_laws.proofs.Going.{CarriesTold, delivered_were_told}
 use Rattle.trace_laws.proofs.MomentFacts.{GoodSent, carried_from, moment_facts, trace_good}

@@ -112,9 +112,6 @@ module _ (id : ℕ) (c : Profile) (s : Side) (e : PathEnd) where
   either_says true x y g h = g
   either_says false x y g h = h
 
-  ack_says : (position : ℕ) (fin : Option ℕ) → SaysNone (ack_said c s position fin e)
-  ack_says position fin = ack_none fin
-
   record_says : (o : Option Record) → SaysNone (record_or_ack c s o e)
   record_says None = ack_none None
   record_says (Some r) = kind_none r.kind r

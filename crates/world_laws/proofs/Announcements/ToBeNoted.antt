@@ -31,16 +31,15 @@ use Rattle.path_core.specs.OptionsIn.{options_heard}
 use Rattle.path_core.specs.Breaking.{answered_break}
 use Rattle.path_core.specs.Codec.{Codec}
 use Rattle.path_core.specs.declared.events.Event.{Event}
-use Rattle.path_core.specs.Duties.{stands, passed, answered}
+use Rattle.path_core.specs.Duties.{passed, answered}
 use Rattle.path_core.specs.DataFin.{having_sent_fin}
 use Rattle.path_core.specs.Emission.{Grant, grant_in, answered_grant, answered_data, first_unsent}
 use Rattle.path_core.specs.End.{PathEnd, died}
 use Rattle.path_core.specs.Events.{next_event, after_line, happens_if}
-use Rattle.path_core.specs.State.{at_tick, PathState, end_at, goes_on, left, with_agenda}
+use Rattle.path_core.specs.State.{at_tick, PathState, end_at, goes_on, left}
 use Rattle.path_core.specs.MpJoin.{join_begun, never_joined, keys_begun, is_never, opened_by, is_joined}
 use Rattle.path_store.specs.declared.lines.LineAction.{LineAction}
 use Rattle.path_core.specs.Deliver.{is_wrong, forgotten_by, mapping_here}
-use Rattle.path_core.specs.Steps.{settled}
 use Rattle.path_core.specs.DssIn.{counts, is_clash}
 use Rattle.path_core.specs.Treating.{heard_passed, item_passed, answered_heard, answered_item, item_of}
 use Rattle.path_core.specs.Fallback.{breaks_by_ack}
@@ -187,12 +186,6 @@ module _ {C : Type 0} where
   passed_sheds (Duty.Step (StepDuty.Unmapped s)) p = side_sheds s _ p _ refl refl (λ id h. h)
   passed_sheds (Duty.Silent (SilentDuty.PassFin s)) p = side_sheds s _ p _ refl refl (λ id h. h)
   passed_sheds _ p = stays_sheds p
-
-  settled_sheds : (ds : List Duty) (p : PathState C) → Sheds p (settled ds p)
-  settled_sheds [] p = record { a = λ id h. h; b = λ id h. h }
-  settled_sheds (d ∷ ds) p =
-      either_sheds (stands d p) (with_agenda (d ∷ ds) p) (settled ds (passed d p)) p (record { a = λ id h. h; b = λ id h. h })
-      (then_sheds p (passed d p) (settled ds (passed d p)) (passed_sheds d p) (settled_sheds ds (passed d p)))
 
   -- ---- what happens by itself
 

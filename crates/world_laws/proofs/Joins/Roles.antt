@@ -64,7 +64,7 @@ use Rattle.path_core.specs.OptionsOut.{ack_said, carried_said, reset_options, re
 use Rattle.path_core.specs.Handover.{having_sent, sent_on}
 use Rattle.path_core.specs.Standing.{after_ack_out, answered_ack_out}
 use Rattle.path_core.specs.Profile.{Profile}
-use Rattle.path_core.specs.Steps.{answers, takes, begins_turn}
+use Rattle.path_core.specs.Steps.{takes, begins_turn}
 use Rattle.path_core.specs.Treating.{answered_heard, answered_item, item_of, item_passed}
 use Rattle.path_core.specs.Values.{Carried, as_arrived, carried_by, stripped, altered, values}
 use Rattle.path_agenda.specs.declared.notice.OwnNotice.{OwnNotice}

@@ -7,7 +7,7 @@ use Rattle.sides.specs.declared.side.Side.{Side}
 use Rattle.sides.specs.declared.side.Side.TheVariants.{A, B}
 use Rattle.link_model.specs.Steps.{arriving, after_delivery}
 use Rattle.mptcp_options.specs.declared.capable.CapableKeys.{CapableKeys}
-use Rattle.mptcp_options.specs.declared.capable.CapableKeys.TheVariants.{NoKey, Sender, Both, WithData}
+use Rattle.mptcp_options.specs.declared.capable.CapableKeys.TheVariants.{Sender}
 use Rattle.mptcp_options.specs.declared.join.JoinForm.{JoinForm}
 use Rattle.fallback_state.specs.declared.fall.Event.{Event as FallEvent}
 use Rattle.join_handshake.specs.declared.hearing.JoinSyn.{JoinSyn}

@@ -8,7 +8,6 @@ use Rattle.sides.specs.declared.side.Side.{Side}
 use Rattle.sides.specs.declared.side.Side.TheVariants.{A, B}
 use Rattle.sides.specs.Side.{peer}
 use Rattle.fallback_state.specs.declared.fall.Verdict.{Verdict}
-use Rattle.link_script.specs.Places.{same_side}
 use Rattle.link_model.specs.declared.flight.Flight.{Flight}
 use Rattle.link_model.specs.Fate.{is_stripped, is_altered, fate_of}
 use Rattle.link_model.specs.Steps.{arrivals, changed, next_number}
@@ -22,7 +21,7 @@ use Rattle.mptcp_options.specs.declared.join.JoinForm.TheVariants.{Syn as JoinSy
 use Rattle.join_handshake.specs.declared.hearing.JoinAnswer.{JoinAnswer}
 use Rattle.join_handshake.specs.declared.hearing.JoinSyn.{JoinSyn as Asked}
 use Rattle.join_handshake.specs.declared.fault.JoinFault.TheVariants.{BadHmac}
-use Rattle.path_segments.specs.declared.segment.PathOption.TheVariants.{Capable, Join, Dss, AddAddr, Remove, Prio, Fail, FastClose, Reset}
+use Rattle.path_segments.specs.declared.segment.PathOption.TheVariants.{Capable, Join, Dss, AddAddr, Fail, FastClose}
 use Rattle.path_segments.specs.Options.{PlainOption}
 use Rattle.path_segments.specs.Spelled.{PlainSegment}
 use Rattle.subflow_tcp.specs.declared.handshake.State.{State as EndPhase}
@@ -54,7 +53,7 @@ use Rattle.path_core.specs.Profile.{Profile}
 use Rattle.path_core.specs.Fallback.{mode_in, fell_in, after_fell}
 use Rattle.path_core.specs.Values.{Carried, as_arrived, carried_by, stripped, altered, values}
 use Rattle.join_handshake.specs.Heard.{answer_heard, answer_taken, syn_heard}
-use Rattle.world_laws.proofs.Keys.AreDrawn.{Deed, Secrets, KeysFor, AddressIs, NoteIs, PeerNoteIs, ShownBy, twice, of_b, told_in, is_past, known_in, OfB, IsFor, sure_if, drawn_key, drawn_nonce, JoinIs, OptionIs, SegmentIs, ItemIs, ModesAre, EndIs, HasMet, Knows, met_needs, same_knows, same_end}
+use Rattle.world_laws.proofs.Keys.AreDrawn.{Deed, Secrets, KeysFor, AddressIs, NoteIs, PeerNoteIs, ShownBy, twice, of_b, told_in, is_past, known_in, OfB, IsFor, drawn_key, drawn_nonce, JoinIs, OptionIs, SegmentIs, ItemIs, ModesAre, EndIs, HasMet, Knows, met_needs, same_knows, same_end}
 use Rattle.world_laws.proofs.Keys.WhatWakes.{NoWaking, Voice, is_said_by, speaks, tail_speaks}
 use Rattle.world_laws.proofs.Lanes.Saying.{flights_kept}
 
@@ -518,10 +517,6 @@ module _ (k : Secrets) (right : Bool) (w : Side → Type 0) (did : Deed → Side
   abbrev pub BeginIs : Side → KeyPair → Type 0
   BeginIs s keys = (keys.own ≡ drawn_key k right s) × (w s × (right ≡ true → keys.peer ≡ drawn_key k right (peer s)))
 
-  pub sure_right : (joined : Bool) → joined ≡ true → sure_if k right joined ≡ true → right ≡ true
-  sure_right true is sure = sure
-  sure_right false is sure = absurd (false≢true is)
-
   pub opened_end : (s : Side) (o : Option KeyPair) (e : PathEnd) → IfSome o (BeginIs s) → EndIs k right w did true s e → (s ≡ A) → EndIs k right w did true s (opened_by o e)
   opened_end s None e is h a = h
   opened_end A (Some keys) e is h a = record {
@@ -588,13 +583,6 @@ module _ (k : Secrets) (right : Bool) (w : Side → Type 0) (did : Deed → Side
       by : (b : Bool) → is_waiting (if b then after_syn (unkept None) (syn_alone e.treated.window) e.tcp else e.tcp).state ≡ true → is_waiting e.tcp.state ≡ true
       by true waiting = absurd (false≢true waiting)
       by false waiting = waiting
-
-  -- this side knows, and the other one does where it knew
-  pub to_both : (s t : Side) (e : PathEnd) (p : PathState Carried) → Knows k right w did s e.modes → (same_side t s ≡ false → Knows k right w did t (end_at t p).modes) → Knows k right w did t (end_at t (with_end s e p)).modes
-  to_both A A e p own other = own
-  to_both B B e p own other = own
-  to_both A B e p own other = other refl
-  to_both B A e p own other = other refl
 
 -- ---- the more sides joined
 

@@ -8,8 +8,6 @@ use Rattle.sides.specs.declared.side.Side.{Side}
 use Rattle.send_book.specs.declared.call.Span.{Span}
 use Rattle.send_book.specs.declared.call.Why.{Why}
 use Rattle.reassembly_book.specs.declared.call.ReassemblyReply.{ReassemblyReply}
-use Rattle.loss_recovery.specs.declared.windows.Congestion.{Congestion}
-use Rattle.loss_recovery.specs.declared.windows.Pending.{Pending}
 use Rattle.loss_recovery.specs.Windows as windows
 use Rattle.subflow_recv.specs.Receiving.{Receiving}
 use Rattle.subflow_send.specs.Records.{Record, SendState}
@@ -488,8 +486,3 @@ module _ (c : Profile) (s : Side) (out back : Lane) where
       finished_if _ is = absurd (false≢true is)
 
 -- ---- what leaves the lanes alone
-
--- the window that was told last stays
-grown_told : (growth : ℕ) (o : Option Pending) (c : Congestion) → (windows.grown_by growth o c).told ≡ c.told
-grown_told growth None c = refl
-grown_told growth (Some p) c = refl

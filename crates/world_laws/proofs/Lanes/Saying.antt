@@ -26,7 +26,7 @@ use Rattle.stream_lanes.proofs.Lists.{Every-nil, Every-push, Every-append}
 use Rattle.path_core.specs.End.{PathEnd}
 use Rattle.path_core.specs.MpJoin.{is_joined, join_options, third_options}
 use Rattle.path_core.specs.DssOut.{place_numbered, owes_mapping, plain_options, fin_options, data_fin_mapping, is_first_piece, first_piece_options, piece_options, piece_mapping, checksum_told, infinite_options, infinite_or, fail_options, fail_beside}
-use Rattle.path_core.specs.OptionsOut.{capable_options, syn_options, key_options, opening_options, ack_options, record_options, reset_options, segment_of, ack_said, carried_said, record_said, syn_ack_said, fin_said, reset_said, record_or_ack, broken_options, noted_said, notice_option}
+use Rattle.path_core.specs.OptionsOut.{capable_options, syn_options, key_options, opening_options, ack_options, record_options, reset_options, segment_of, ack_said, carried_said, record_said, syn_ack_said, fin_said, reset_said, broken_options, noted_said, notice_option}
 use Rattle.path_core.specs.Modes.{receives_infinite}
 use Rattle.path_store.specs.declared.infinite_mapping.InfiniteMapping.{InfiniteMapping}
 use Rattle.path_core.specs.Profile.{Profile}
@@ -328,10 +328,6 @@ module _ (c : Profile) (s : Side) (e : PathEnd) (acks : List AckCopy) (p : Lane)
 
       pub record_says : (r : Record) → RecordTold e p r → RecordShows c s p.alters p.sent p.datas p.fins r → SegmentShows c s acks p (record_said c s r e)
       record_says r plain h = kind_says r.kind r plain h
-
-      pub record_or_ack_says : (o : Option Record) → IfSome o (RecordTold e p) → IfSome o (RecordShows c s p.alters p.sent p.datas p.fins) → SegmentShows c s acks p (record_or_ack c s o e)
-      record_or_ack_says None plain h = ack_says e.tcp.send.nxt None tt
-      record_or_ack_says (Some r) plain h = record_says r plain h
 
 -- ---- copies
 

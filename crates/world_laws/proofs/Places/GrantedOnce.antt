@@ -113,10 +113,6 @@ module _ (path place : ℕ) where
         let journal = entered s c.pass x w.books in
         record { same = lists ∙ ap (λ m. m + bit (grants_byte s path place n)) h.same ∙ sym journal }
 
-    same_lists : (stamp : ℕ) (crew : List (ActorCrew C)) → map in_list (map (begins stamp) crew) ≡ map in_list crew
-    same_lists stamp [] = refl
-    same_lists stamp (c ∷ crew) = ap (λ ns. in_list c ∷ ns) (same_lists stamp crew)
-
     same_sum : (stamp : ℕ) (crew : List (ActorCrew C)) → times_granted s path place (map (begins stamp) crew) ≡ times_granted s path place crew
     same_sum stamp crew = same_from 0 crew
       where

@@ -26,9 +26,9 @@ use Rattle.stream_lanes.specs.Lane.Ask.{Nothing, AskGrant, AskAckIn, AskPlace, A
 use Rattle.stream_lanes.specs.Moves.{Flags, Move, moved, place_by, shifted, is_whole, hears_sub, sends_pair, sends_fin_pair, takes_pair, places_pair, ends_pair, hears, sends_piece, sends_altered, altered_piece_of, keeps, clashes, learns, learns_mapping, hears_data_fin, hears_fin, places, passes, lies_in, in_order, may_finish, ack_copy, places_of, takes_grant, takes_ack, takes_placed, takes_fin, takes_ack_out}
 use Rattle.stream_lanes.specs.Moves.Move.{Open, LookAtSender, LookAtReceiver, WantGrant, HearAck, HearSubAck, SendPiece, SendAltered, SendDataFin, SendFin, SendPair, SendPlainPair, SendFinPair, Hear, Learn, HearDataFin, HearFin, Forget, WantPlace, WantPlacePlain, WantFin, TakePair, WantPlacePair, WantFinPair, WantAckOut, SendAck}
 use Rattle.stream_lanes.specs.Streams.{Direction, StreamEvent, moves, reads, asks, asks_at, after, is_done, with_send, goes_infinite, may_go}
-use Rattle.stream_lanes.specs.Streams.StreamEvent.{Write, Close, Return, GoIdentity, GoInfinite, AbortSend, Read, AbortRead, Moves, Asks}
+use Rattle.stream_lanes.specs.Streams.StreamEvent.{GoIdentity, GoInfinite, Read, Moves, Asks}
 use Rattle.stream_lanes.specs.Duo.{Duo, Event, flags_ab, flags_ba, after_event, after_events}
-use Rattle.stream_lanes.specs.Duo.Event.{ToB, ToA, FallA, FallB, LoosenA, LoosenB, BeginJoin, SendJoin, HearJoin}
+use Rattle.stream_lanes.specs.Duo.Event.{ToB, ToA}
 use Rattle.stream_lanes.specs.View.{View}
 use Rattle.stream_lanes.proofs.Directions.{moved_sent, acked_sent, placed_sent, fin_sent}
 use Rattle.stream_lanes.proofs.Lists.{in_more, set_same, set_other}

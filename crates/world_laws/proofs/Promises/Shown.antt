@@ -247,10 +247,6 @@ module _ (ask : Option Ask) (d e : Duo) (t : TurnShows ask d e) where
 
 -- ---- nothing is refused
 
-either_untold : (c : Bool) (x y : Reply) → tells_refusal x ≡ false → tells_refusal y ≡ false → tells_refusal (if c then x else y) ≡ false
-either_untold true x y p q = p
-either_untold false x y p q = q
-
 granted_untold : (o : Result Span Why) (b : Sending) → tells_refusal (Reply.Send (sending.reply_by o b)) ≡ false
 granted_untold (Ok span) b = refl
 granted_untold (Err why) b = refl

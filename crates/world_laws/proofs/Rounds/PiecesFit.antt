@@ -19,7 +19,7 @@ use Rattle.path_segments.specs.Heard.{HeardSegment}
 use Rattle.subflow_send.specs.Records.{Record, SendState}
 use Rattle.subflow_send.specs.Rules.{is_unsent, uncovered, after_acknowledge, ack_kind, sample_of, after_resent}
 use Rattle.subflow_send.specs.declared.record.AckKind.{AckKind}
-use Rattle.subflow_send.specs.declared.record.AckKind.TheVariants.{New, Duplicate, Old, Future}
+use Rattle.subflow_send.specs.declared.record.AckKind.TheVariants.{New}
 use Rattle.subflow_tcp.specs.declared.handshake.State.{State as EndPhase}
 use Rattle.subflow_tcp.specs.declared.segments.Occasion.{Occasion}
 use Rattle.subflow_tcp.specs.declared.segments.Hint.{Hint}

@@ -8,7 +8,7 @@ use Rattle.stamped_book.specs.Entering.{entry_of, after_entering, next_stamp}
 use Rattle.stamped_book.specs.Journal.{last_stamp}
 use Rattle.stamped_book.proofs.Journals.{last_stamp-append}
 use Rattle.send_book.specs.declared.call.SendCall.{SendCall}
-use Rattle.send_book.specs.declared.call.SendCall.TheVariants.{Write, Close, Grant, AckIn, Return, GoIdentity, GoInfinite, Abort}
+use Rattle.send_book.specs.declared.call.SendCall.TheVariants.{Write, Close, Grant, AckIn, GoInfinite}
 use Rattle.send_book.specs.declared.call.Span.{Span}
 use Rattle.send_book.specs.declared.call.Why.{Why}
 use Rattle.send_book.specs.State.{Sending}

@@ -179,9 +179,6 @@ module _ (s : Side) (ds : List Duty) (p : PathState Carried) (h : PathIs ds p) w
 
     -- ---- what each duty sends
 
-    speaks_past : is_past e.tcp.state ≡ true → Speaks s (end_at s p)
-    speaks_past past = ⊎_elim (λ knows. knows) (λ (unmet : Unmet (parts_of (end_at s p))). absurd (both_ways (is_past e.tcp.state) unmet.past past)) (end_is s ds p h).says
-
     pub opens_a : (t : Side) → s ≡ t → is_opening e.tcp.state ≡ true → s ≡ A
     opens_a A same opens = same
     opens_a B same opens = absurd (by e.tcp.state opens (subst (λ u. is_apart u e.tcp.state ≡ false) same was.apart))

@@ -31,7 +31,7 @@ use Rattle.path_core.specs.DssIn.{is_clash}
 use Rattle.path_core.specs.Treating.{item_ask, item_of}
 use Rattle.path_core.specs.Fallback.{breaks_by_ack}
 use Rattle.path_core.specs.declared.events.Event.{Event}
-use Rattle.world_laws.specs.Asking.{May, IsAsked, asking, asks_of_books, asks_of_steps, may}
+use Rattle.world_laws.specs.Asking.{May, IsAsked, asking, asks_of_books, asks_of_steps}
 use Rattle.world_laws.specs.Writes.{side_of}
 use Rattle.world_laws.proofs.Falls.FailedChecks.{fail_asks_so, subflow_acks_so}
 use Rattle.world_laws.proofs.Writes.Ends.{if_so}

@@ -51,7 +51,7 @@ use Rattle.path_core.specs.Standing.{after_ack_out}
 use Rattle.path_core.specs.Treating.{answered_heard, answered_item, item_of}
 use Rattle.path_core.specs.declared.events.Event.{Event}
 use Rattle.path_core.specs.declared.modes.Modes.{Modes}
-use Rattle.world_laws.specs.Writes.{EndWrites, Only, Writes, OnlyAt, EndView, PathView, end_view, path_view, hide, writes, side_of, ask_writes, step_writes, silent_writes, on_link, verdict, acking, sending, acknowledged, happening, heard_writes}
+use Rattle.world_laws.specs.Writes.{EndWrites, Only, Writes, OnlyAt, EndView, PathView, end_view, path_view, hide, writes, side_of, ask_writes, step_writes, silent_writes, on_link, acking, sending, acknowledged, happening, heard_writes}
 use Rattle.world_laws.proofs.Falls.FailedChecks.{check_failed_so, fail_heard_so, infinite_came_so, fail_answered_so, forgets_so}
 use Rattle.world_laws.proofs.Writes.Ends.{if_so, mode_so, fell_so, keyed_so, window_so, acked_so, refused_so, sent_so, looked, copy_so, died_at, opened_at, item_at}
 
@@ -167,8 +167,6 @@ one_more_path A link = refl
 one_more_path B link = refl
 
 module _ {C : Type 0} where
-  stays : (s : Side) (w : Writes) (p : PathState C) → OnlyAt s w p p
-  stays s w p = record { same = refl }
 
   pub then_only : (s : Side) (w : Writes) (p q r : PathState C) → OnlyAt s w p q → OnlyAt s w q r → OnlyAt s w p r
   then_only s w p q r x y = record { same = y.same ∙ x.same }
