@@ -1,25 +1,8 @@
 -- An end acknowledges a copy that it took, with the DSS.
-use Rattle.std.proofs.Common.{◌≡◌, refl, sym, subst, ap, ℕ, ◌+◌, ◌-◌, ◌≤◌, min, max, Bool, true, false, inl, inr, ⊎_elim, Option, None, List, [], ◌∷◌, ◌++◌, le_refl, arith}
-use Rattle.std.proofs.lemmas.Bool.{both_ways}
-use Rattle.sides.specs.declared.side.Side.{Side}
-use Rattle.sides.specs.declared.side.Side.TheVariants.{A}
-use Rattle.sides.specs.Side.{peer}
-use Rattle.link_model.specs.declared.flight.Flight.{Flight}
-use Rattle.path_agenda.specs.declared.duty.Duty.{Duty}
-use Rattle.path_agenda.specs.declared.duty.SendDuty.{SendDuty}
-use Rattle.path_agenda.specs.declared.duty.StepDuty.{StepDuty}
-use Rattle.path_core.specs.Profile.{Profile}
-use Rattle.path_core.specs.Values.{Carried}
-use Rattle.actor_desk.specs.Words.{pick}
-use Rattle.pace.specs.Lane.{Setting, Lane, Stage, all_left}
-use Rattle.pace.specs.Going.{Going}
-use Rattle.pace.specs.Moves.{MaySay, MaySend}
-use Rattle.pace.specs.Moves.Move.{sends_none}
-use Rattle.clean_finish.specs.Segments.{Sent, Keys, copy_in, FliesAs}
-use Rattle.clean_finish.specs.Segments.Brings.{Acknowledges}
-use Rattle.clean_finish.specs.Shows.{Hand, brings_still, HeardIs, WayIs, last_told, row_seen}
-use Rattle.clean_finish.specs.Shows.IsToldEdge.{Same}
-use Rattle.clean_finish.specs.Running.{Has, Half, Facing, IsSetting, StageIs}
+use Rattle.clean_finish.proofs.Words.{◌≡◌, refl, sym, subst, ap, ℕ, ◌+◌, ◌-◌, ◌≤◌, min, max, Bool, true, false, inl, inr, ⊎_elim, Option, None, List, [], ◌∷◌}
+use Rattle.clean_finish.proofs.Words.{◌++◌, arith, le_refl, both_ways, Side, A, peer, Flight, Duty, SendDuty, StepDuty, pick, Profile, Carried, Setting, Lane}
+use Rattle.clean_finish.proofs.Words.{Stage, all_left, Going, MaySay, MaySend, sends_none, Hand, HeardIs, WayIs, last_told, row_seen, brings_still, Sent, Keys}
+use Rattle.clean_finish.proofs.Words.{copy_in, FliesAs, Acknowledges, Same, IsSetting, Facing, Half, Has, StageIs}
 use Rattle.clean_finish.proofs.Dropping.{differ, behind, behind_or, IsApart, stage_drops, settles_drop, begun_drops}
 use Rattle.clean_finish.proofs.Hands.{in_hand, way_done}
 use Rattle.clean_finish.proofs.Opened.{waiting_on}

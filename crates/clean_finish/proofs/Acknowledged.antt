@@ -1,25 +1,11 @@
 -- What a segment in hand acknowledges is told to the send book, and heard by the lane.
-use Rattle.std.proofs.Common.{◌≡◌, refl, sym, subst, ap, ◌∙◌, ℕ, ◌+◌, ◌<◌, ◌≤◌, min, max, nat_lt, ◌||◌, Bool, true, false, if◌then◌else◌, ◌⊎◌, inl, inr, ⊎_elim, Option, None, List, ◌∷◌, ◌++◌, length, map, drop, replicate, arith}
-use Rattle.std.proofs.lemmas.Bool.{both_ways, cases_lt, le-ltb, ltb-false}
-use Rattle.sides.specs.declared.side.Side.{Side}
-use Rattle.sides.specs.Side.{peer}
-use Rattle.send_book.specs.State.{Sending as SendBook}
-use Rattle.send_book.specs.declared.mark.ByteMark.TheVariants.{Acked}
-use Rattle.send_book.specs.Steps.{is_future, fin_after, after_ack}
-use Rattle.path_agenda.specs.declared.duty.Duty.{Duty}
-use Rattle.path_core.specs.declared.modes.Modes.{Modes}
+use Rattle.clean_finish.proofs.Words.{◌≡◌, refl, sym, subst, ap, ◌∙◌, ℕ, ◌+◌, ◌<◌, ◌≤◌, min, max, nat_lt, Bool, true, false, ◌||◌, if◌then◌else◌, ◌⊎◌, inl, inr}
+use Rattle.clean_finish.proofs.Words.{⊎_elim, Option, None, List, ◌∷◌, ◌++◌, length, map, arith, drop, replicate, both_ways, cases_lt, le-ltb, ltb-false, Side}
+use Rattle.clean_finish.proofs.Words.{peer, fin_after, after_ack, is_future, SendBook, Acked, Duty, Profile, PathEnd, Modes, Treated, Setting, Copy, Lane}
+use Rattle.clean_finish.proofs.Words.{Sender, MayHearAck, is_acknowledged, goes_back, hears_ack, AreTaken, Hand, EndIs, WayIs, brings_still, brings_in}
+use Rattle.clean_finish.proofs.Words.{tells_in, BookIs, Sent, Keys, copy_in, Follow, low_after, control_after, keys_after, Facing, Half, StageIs, HasNotBegun}
+use Rattle.clean_finish.proofs.Words.{WriterIs}
 use Rattle.path_core.specs.Sending.{Sending}
-use Rattle.path_core.specs.Treated.{Treated}
-use Rattle.path_core.specs.End.{PathEnd}
-use Rattle.path_core.specs.Profile.{Profile}
-use Rattle.pace.specs.Lane.{Setting, Copy, Lane, Sender}
-use Rattle.pace.specs.Rules.{hears_ack}
-use Rattle.pace.specs.Moves.{MayHearAck}
-use Rattle.pace.specs.Moves.Move.{goes_back, is_acknowledged}
-use Rattle.clean_finish.specs.Segments.{Sent, Keys, copy_in, Follow, low_after, control_after, keys_after}
-use Rattle.clean_finish.specs.Shows.{AreTaken, Hand, brings_still, brings_in, tells_in, EndIs, BookIs, WayIs}
-use Rattle.clean_finish.specs.Writing.{WriterIs}
-use Rattle.clean_finish.specs.Running.{StageIs, HasNotBegun, Half, Facing}
 use Rattle.clean_finish.proofs.Books.{hears_as_lanes}
 use Rattle.clean_finish.proofs.Dropping.{is_waited, apart, behind, is_apart, stage_drops, settles_drop}
 use Rattle.clean_finish.proofs.Hands.{in_hand}

@@ -1,22 +1,11 @@
 -- A step of an application in both of its lanes: the one that it writes to, and the one that it reads from.
-use Rattle.std.proofs.Common.{◌≡◌, refl, sym, subst, ap, ◌∙◌, ℕ, ◌≤◌, Bool, true, false, not, ◌&&◌, if◌then◌else◌, List, [], ◌∷◌, length, arith}
-use Rattle.std.proofs.lemmas.Bool.{both_ways}
-use Rattle.reassembly_book.specs.State.{Arriving, received}
-use Rattle.reassembly_book.specs.Steps.{read_reply, after_read}
+use Rattle.clean_finish.proofs.Words.{◌≡◌, refl, sym, subst, ap, ◌∙◌, ℕ, ◌≤◌, Bool, true, false, not, ◌&&◌, if◌then◌else◌, List, [], ◌∷◌, length, arith}
+use Rattle.clean_finish.proofs.Words.{both_ways, Arriving, received, after_read, read_reply, after_write, after_close, write_reply, close_reply, is_nil, Reply}
+use Rattle.clean_finish.proofs.Words.{AppDuty, Write, Close, Read, End, AppState, app_takes, offered, app_settled, app_wrote, app_done, app_read, app_reads_on}
+use Rattle.clean_finish.proofs.Words.{bytes_in, Setting, Lane, Stage, Going, IsAppTurn, is_writing, WriterShows, WriterGoes, is_reading, ReaderIs, ReaderShows}
+use Rattle.clean_finish.proofs.Words.{ReaderGoes, Written, Closed, ReadAll}
 use Rattle.send_book.specs.State.{Sending}
-use Rattle.send_book.specs.Steps.{write_reply, after_write, close_reply, after_close}
-use Rattle.actor_desk.specs.declared.ask.Reply.{Reply}
-use Rattle.actor_desk.specs.Words.{is_nil}
-use Rattle.stream_apps.specs.declared.duty.AppDuty.{AppDuty}
-use Rattle.stream_apps.specs.declared.duty.AppDuty.TheVariants.{Write, Close, Read, End}
-use Rattle.stream_apps.specs.Apps.{AppState}
-use Rattle.stream_apps.specs.AppSteps.{offered, app_takes, app_wrote, app_done, app_read, app_reads_on, bytes_in, app_settled}
-use Rattle.pace.specs.Lane.{Setting, Lane, Stage}
-use Rattle.pace.specs.Going.{Going}
-use Rattle.clean_finish.specs.Reading.{is_reading, ReaderIs, ReaderShows, ReaderGoes}
-use Rattle.clean_finish.specs.Writing.{is_writing, WriterShows, WriterGoes}
-use Rattle.clean_finish.specs.Running.{IsAppTurn}
-use Rattle.clean_finish.specs.Running.IsAppTurn.{Written, Closed, ReadAll, Ended}
+use Rattle.clean_finish.specs.Running.IsAppTurn.{Ended}
 use Rattle.clean_finish.proofs.Reading.{read_step, follows}
 use Rattle.clean_finish.proofs.Writing.{write_step, close_step}
 

@@ -1,26 +1,8 @@
 -- The SYN/ACK arrives at A: the world from A's side, from the arrival to the first duty of its treatment.
-use Rattle.std.proofs.Common.{◌≡◌, refl, sym, subst, ap, ◌∙◌, ℕ, ◌+◌, ◌<◌, ◌≤◌, max, true, false, ◌⊎◌, inl, inr, ⊎_elim, Option, None, List, [], ◌∷◌, map, le_refl, arith}
-use Rattle.std.proofs.lemmas.Bool.{both_ways}
-use Rattle.sides.specs.declared.side.Side.TheVariants.{A, B}
-use Rattle.dss_mapping.specs.declared.kept.KeptMapping.{KeptMapping}
-use Rattle.link_model.specs.declared.flight.Flight.{Flight}
-use Rattle.subflow_tcp.specs.declared.segments.Outgoing.{Outgoing}
-use Rattle.path_agenda.specs.declared.duty.Duty.{Duty}
-use Rattle.path_agenda.specs.declared.duty.AskDuty.{AskDuty}
-use Rattle.path_agenda.specs.declared.duty.SendDuty.{SendDuty}
-use Rattle.path_agenda.specs.declared.duty.StepDuty.{StepDuty}
-use Rattle.path_agenda.specs.Agenda.{syn_ack_came}
-use Rattle.path_core.specs.End.{PathEnd}
-use Rattle.path_core.specs.Profile.{Profile}
-use Rattle.path_core.specs.Values.{Carried}
-use Rattle.pace.specs.Lane.{Setting, Copy, Lane}
-use Rattle.pace.specs.Rules.{hears_data, rested}
-use Rattle.pace.specs.Moves.{MayHearData, IsBefore}
-use Rattle.pace.specs.Moves.Move.{goes_back, rests, hears}
-use Rattle.clean_finish.specs.Reading.{ReaderIs, end_known}
-use Rattle.clean_finish.specs.Segments.{Sent, Keys, copy_in}
-use Rattle.clean_finish.specs.Shows.{AreTaken, Hand, WayIs}
-use Rattle.clean_finish.specs.Running.{Has, StageIs, HasNotBegun, Half, Facing}
+use Rattle.clean_finish.proofs.Words.{◌≡◌, refl, sym, subst, ap, ◌∙◌, ℕ, ◌+◌, ◌<◌, ◌≤◌, max, true, false, ◌⊎◌, inl, inr, ⊎_elim, Option, None, List, [], ◌∷◌}
+use Rattle.clean_finish.proofs.Words.{map, arith, le_refl, both_ways, A, B, KeptMapping, Outgoing, Flight, Duty, SendDuty, StepDuty, AskDuty, syn_ack_came}
+use Rattle.clean_finish.proofs.Words.{Profile, Carried, PathEnd, Setting, Copy, Lane, IsBefore, MayHearData, hears, goes_back, rests, hears_data, rested}
+use Rattle.clean_finish.proofs.Words.{AreTaken, Hand, WayIs, Sent, Keys, copy_in, Facing, Half, Has, StageIs, HasNotBegun, end_known, ReaderIs}
 use Rattle.clean_finish.proofs.AnswerHeard.{answer_at, heard_own, end_after as heard_end}
 use Rattle.clean_finish.proofs.Hands.{in_hand, way_arrives, way_brought}
 use Rattle.clean_finish.proofs.Passing.{stands_then}

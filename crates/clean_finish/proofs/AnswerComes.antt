@@ -1,38 +1,10 @@
 -- The step in which the SYN/ACK arrives at A.
-use Rattle.std.proofs.Common.{◌≡◌, refl, sym, subst, ap, ◌∙◌, ℕ, ◌+◌, ◌-◌, ◌^◌, ◌<◌, ◌≤◌, max, nat_lt, nat_le, Bool, true, false, inl, ⊎_elim, Option, Some, None, List, [], ◌∷◌, ◌++◌, map, arith}
-use Rattle.std.proofs.lemmas.Bool.{cases_lt, lt-ltb, le-leb}
-use Rattle.sides.specs.declared.side.Side.TheVariants.{A, B}
-use Rattle.link_model.specs.declared.flight.Flight.{Flight}
-use Rattle.link_model.specs.Laws.{going_to}
-use Rattle.link_model.specs.Steps.{due_of}
-use Rattle.path_segments.specs.Laws.{meant}
-use Rattle.path_segments.specs.Heard.{HeardSegment}
-use Rattle.subflow_tcp.specs.declared.handshake.State.{State}
-use Rattle.subflow_tcp.specs.declared.handshake.State.TheVariants.{SynSent}
-use Rattle.subflow_tcp.specs.declared.verdicts.Meaning.{Meaning}
-use Rattle.subflow_tcp.specs.Judging.{meaning_of}
-use Rattle.subflow_tcp.specs.Segments.{Copy as SubflowCopy}
-use Rattle.subflow_tcp.specs.State.{EndState}
-use Rattle.actor_desk.specs.Desk.{SixBooks}
-use Rattle.stream_apps.specs.Apps.{AppState}
-use Rattle.path_agenda.specs.declared.duty.Duty.{Duty}
-use Rattle.path_agenda.specs.declared.duty.StepDuty.{StepDuty}
-use Rattle.path_agenda.specs.Agenda.{syn_ack_came}
-use Rattle.path_core.specs.Arrival.{copy_of, reset_for, copy_taken}
-use Rattle.path_core.specs.DssIn.{held_of}
-use Rattle.path_core.specs.End.{PathEnd}
-use Rattle.path_core.specs.Standing.{is_connected}
-use Rattle.path_core.specs.State.{PathState, goes_on}
-use Rattle.path_core.specs.Values.{Carried, values}
-use Rattle.world_laws.specs.Openings.{PathPlan, Start}
-use Rattle.pace.specs.Lane.{Setting, Copy, Lane, all_left}
-use Rattle.pace.specs.Lists.{In}
-use Rattle.pace.specs.Going.{Going}
-use Rattle.clean_finish.specs.Segments.{Sent, Keys, Brings, copy_in, said, CountsAs, TellsAs, Rise, edge_after}
-use Rattle.clean_finish.specs.Segments.Brings.{OpensSubflow}
-use Rattle.clean_finish.specs.Shows.{Hand, IsPhase, WayIs, tells_in}
-use Rattle.clean_finish.specs.Shows.IsPhase.{Opening, Listening, HalfOpen, Open}
-use Rattle.clean_finish.specs.Running.{Facing, half, IsSetting, Runs, keys_in}
+use Rattle.clean_finish.proofs.Words.{◌≡◌, refl, sym, subst, ap, ◌∙◌, ℕ, ◌+◌, ◌-◌, ◌<◌, ◌≤◌, max, nat_lt, Bool, true, false, inl, ⊎_elim, Option, None, List}
+use Rattle.clean_finish.proofs.Words.{[], ◌∷◌, ◌++◌, map, arith, Some, nat_le, ◌^◌, cases_lt, lt-ltb, le-leb, A, B, State, EndState, SynSent, Meaning}
+use Rattle.clean_finish.proofs.Words.{meaning_of, SubflowCopy, Flight, going_to, due_of, meant, HeardSegment, Duty, StepDuty, syn_ack_came, SixBooks, AppState}
+use Rattle.clean_finish.proofs.Words.{Carried, values, PathEnd, held_of, copy_of, reset_for, copy_taken, is_connected, PathState, goes_on, Setting, Copy, Lane}
+use Rattle.clean_finish.proofs.Words.{all_left, Going, In, PathPlan, Start, Hand, WayIs, IsPhase, tells_in, Sent, Keys, Brings, copy_in, CountsAs, TellsAs}
+use Rattle.clean_finish.proofs.Words.{Rise, edge_after, said, OpensSubflow, IsSetting, Runs, keys_in, Facing, half, Opening, Listening, HalfOpen, Open}
 use Rattle.clean_finish.proofs.AnswerArrived.{answer_arrived}
 use Rattle.clean_finish.proofs.AnswerHeard.{answer_at, acked, end_by, acked_is}
 use Rattle.clean_finish.proofs.ArrivesAtA.{copy, q, tick, moment, first, moved, link, Follows, follows, comes_as}

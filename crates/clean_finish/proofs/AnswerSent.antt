@@ -1,31 +1,11 @@
 -- B sends the SYN/ACK.
-use Rattle.std.proofs.Common.{◌≡◌, refl, sym, subst, ap, ◌∙◌, ℕ, ◌+◌, ◌-◌, ◌==◌, ◌<◌, ◌≤◌, min, max, nat_lt, Bool, true, false, if◌then◌else◌, inl, inr, ⊎_elim, Option, None, List, [], ◌∷◌, ◌++◌, map, le_refl, arith}
-use Rattle.std.proofs.lemmas.Bool.{both_ways}
-use Rattle.std.proofs.lemmas.List.Elements.{All-weaker}
-use Rattle.sides.specs.declared.side.Side.TheVariants.{A, B}
-use Rattle.link_model.specs.declared.flight.Flight.{Flight}
-use Rattle.subflow_send.specs.Records.{Record, Tile, Follow, span_of}
-use Rattle.subflow_send.specs.Rules.{syn_record, after_resent}
-use Rattle.subflow_send.specs.Sendings.{never_sent}
-use Rattle.subflow_tcp.specs.declared.dues.Due.{Due}
-use Rattle.path_agenda.specs.declared.duty.Duty.{Duty}
-use Rattle.path_agenda.specs.declared.duty.SendDuty.{SendDuty}
-use Rattle.path_agenda.specs.declared.duty.StepDuty.{StepDuty}
-use Rattle.path_core.specs.End.{PathEnd}
-use Rattle.path_core.specs.OptionsOut.{syn_ack_said}
-use Rattle.path_core.specs.Handover.{with_told}
-use Rattle.path_core.specs.Profile.{Profile}
-use Rattle.path_core.specs.Values.{Carried}
-use Rattle.pace.specs.Lane.{Setting, Lane, Stage, is_whole, all_left}
-use Rattle.pace.specs.Rules.{sent_by, said_by}
-use Rattle.pace.specs.Going.{Going, pending}
-use Rattle.pace.specs.Moves.{MaySay, MaySend}
-use Rattle.pace.specs.Moves.Move.{goes_back, sends_none, says}
-use Rattle.clean_finish.specs.Segments.{Sent, Keys, copy_in, said, FliesAs}
-use Rattle.clean_finish.specs.Segments.Brings.{OpensSubflow}
-use Rattle.clean_finish.specs.Shows.{AreTaken, Hand, EndIs, HeardIs, IsGranted, RecordsAre, WayIs, last_told, row_seen, brings_still}
-use Rattle.clean_finish.specs.Shows.IsToldEdge.{Same}
-use Rattle.clean_finish.specs.Running.{Has, Half, Facing, IsSetting, HasNotBegun, StageIs}
+use Rattle.clean_finish.proofs.Words.{◌≡◌, refl, sym, subst, ap, ◌∙◌, ℕ, ◌+◌, ◌-◌, ◌<◌, ◌≤◌, min, max, nat_lt, Bool, true, false, if◌then◌else◌, inl, inr}
+use Rattle.clean_finish.proofs.Words.{⊎_elim, Option, None, List, [], ◌∷◌, ◌++◌, map, arith, le_refl, ◌==◌, both_ways, All-weaker, A, B, Record, Tile, span_of}
+use Rattle.clean_finish.proofs.Words.{syn_record, after_resent, never_sent, Due, Flight, Duty, SendDuty, StepDuty, Profile, Carried, PathEnd, syn_ack_said}
+use Rattle.clean_finish.proofs.Words.{with_told, Setting, Lane, Stage, is_whole, all_left, Going, pending, MaySay, MaySend, says, sends_none, goes_back}
+use Rattle.clean_finish.proofs.Words.{said_by, sent_by, AreTaken, Hand, EndIs, HeardIs, IsGranted, RecordsAre, WayIs, last_told, row_seen, brings_still, Sent}
+use Rattle.clean_finish.proofs.Words.{Keys, copy_in, said, FliesAs, OpensSubflow, Same, IsSetting, Facing, Half, Has, StageIs, HasNotBegun}
+use Rattle.subflow_send.specs.Records.{Follow}
 use Rattle.clean_finish.proofs.Dropping.{differ, behind, behind_or, IsApart, stage_drops, settles_drop, begun_drops}
 use Rattle.clean_finish.proofs.Hands.{in_hand, way_done}
 use Rattle.clean_finish.proofs.Opened.{no_repeat, waiting_on, before_waiting, stage_waits}

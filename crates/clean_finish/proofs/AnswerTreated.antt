@@ -1,27 +1,9 @@
 -- The steps in which A treats the SYN/ACK, but for its answer: B's window is told, its key is kept, and the path lives.
-use Rattle.std.proofs.Common.{◌≡◌, refl, sym, subst, ap, ◌∙◌, ℕ, ◌+◌, ◌≤◌, min, max, nat_lt, Bool, true, false, ◌||◌, inl, inr, Option, Some, List, ◌∷◌, arith}
-use Rattle.std.proofs.lemmas.Bool.{both_ways, le-ltb}
-use Rattle.sides.specs.declared.side.Side.TheVariants.{A, B}
-use Rattle.subflow_tcp.specs.declared.handshake.State.{State}
-use Rattle.actor_desk.specs.Desk.{SixBooks, reply_of, after_ask}
-use Rattle.stream_apps.specs.Apps.{AppState}
-use Rattle.path_agenda.specs.declared.duty.Duty.{Duty}
-use Rattle.path_agenda.specs.declared.duty.AskDuty.{AskDuty}
-use Rattle.path_agenda.specs.declared.duty.SendDuty.{SendDuty}
-use Rattle.path_agenda.specs.Agenda.{emission}
-use Rattle.path_agenda.specs.Items.{key_heard}
-use Rattle.path_core.specs.MpCapable.{syn_window_ask, peer_key_ask, answered_peer_key, live_ask}
-use Rattle.path_core.specs.Standing.{is_connected}
-use Rattle.path_core.specs.State.{PathState, with_agenda}
-use Rattle.path_core.specs.Values.{Carried}
-use Rattle.world_laws.specs.Openings.{PathPlan, Start}
-use Rattle.pace.specs.Lane.{Setting, Telling, Lane, all_left}
-use Rattle.pace.specs.Going.{Going}
-use Rattle.clean_finish.specs.Machine.{seen_timer}
-use Rattle.clean_finish.specs.Segments.{Keys}
-use Rattle.clean_finish.specs.Shows.{IsPhase}
-use Rattle.clean_finish.specs.Shows.IsPhase.{Opening, Listening, HalfOpen, Open}
-use Rattle.clean_finish.specs.Running.{TreatsAnswered, other_bench, own_bench, IsSetting, Runs, keys_in}
+use Rattle.clean_finish.proofs.Words.{◌≡◌, refl, sym, subst, ap, ◌∙◌, ℕ, ◌+◌, ◌≤◌, min, max, nat_lt, Bool, true, false, ◌||◌, inl, inr, Option, List, ◌∷◌}
+use Rattle.clean_finish.proofs.Words.{arith, Some, both_ways, le-ltb, A, B, State, Duty, SendDuty, AskDuty, emission, key_heard, SixBooks, reply_of, after_ask}
+use Rattle.clean_finish.proofs.Words.{AppState, Carried, is_connected, PathState, with_agenda, syn_window_ask, peer_key_ask, answered_peer_key, live_ask}
+use Rattle.clean_finish.proofs.Words.{Setting, Telling, Lane, all_left, Going, PathPlan, Start, seen_timer, IsPhase, Keys, own_bench, other_bench, IsSetting}
+use Rattle.clean_finish.proofs.Words.{Runs, keys_in, TreatsAnswered, Opening, Listening, HalfOpen, Open}
 use Rattle.clean_finish.proofs.Acknowledged.{hears_on}
 use Rattle.clean_finish.proofs.Enlivened.{enlivened}
 use Rattle.clean_finish.proofs.Keyed.{keyed}

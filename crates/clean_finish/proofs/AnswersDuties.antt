@@ -1,44 +1,15 @@
 -- Each duty that comes to something is answered, or never comes to it.
-use Rattle.std.proofs.Common.{◌≡◌, refl, sym, ap, ◌∙◌, ℕ, zero, suc, Bool, true, false, not, ◌&&◌, ◌||◌, ◌-◌, nat_lt, if◌then◌else◌, is_some, is_none, Option, Some, None, List, ◌∷◌, find}
-use Rattle.std.proofs.lemmas.Bool.{both_ways}
-use Rattle.sides.specs.declared.side.Side.{Side}
-use Rattle.sides.specs.declared.side.Side.TheVariants.{A, B}
-use Rattle.subflow_send.specs.Rules.{is_unsent}
-use Rattle.subflow_tcp.specs.declared.dues.Due.{Due}
-use Rattle.subflow_tcp.specs.declared.handshake.State.{State}
-use Rattle.subflow_tcp.specs.Dues.{nothing_due}
-use Rattle.subflow_tcp.specs.State.{has_records}
-use Rattle.subflow_tcp.specs.States.{is_closed_to_segments, is_opening, is_waiting}
-use Rattle.actor_desk.specs.Desk.{SixBooks, reply_of, after_ask}
-use Rattle.actor_desk.specs.Words.{is_nil}
-use Rattle.stream_apps.specs.Apps.{AppState}
-use Rattle.path_agenda.specs.declared.duty.Duty.{Duty}
-use Rattle.path_agenda.specs.declared.duty.AskDuty.{AskDuty}
-use Rattle.path_agenda.specs.declared.duty.SendDuty.{SendDuty}
-use Rattle.path_agenda.specs.declared.duty.StepDuty.{StepDuty}
-use Rattle.path_agenda.specs.declared.heard.Heard.{Heard}
+use Rattle.clean_finish.proofs.Words.{◌≡◌, refl, sym, ap, ◌∙◌, ℕ, ◌-◌, nat_lt, Bool, true, false, not, ◌&&◌, ◌||◌, if◌then◌else◌, Option, None, List, ◌∷◌, Some}
+use Rattle.clean_finish.proofs.Words.{suc, zero, is_some, find, is_none, both_ways, Side, A, B, is_unsent, State, has_records, is_closed_to_segments, Due}
+use Rattle.clean_finish.proofs.Words.{nothing_due, window_told, InfiniteMapping, fin_under, Duty, SendDuty, StepDuty, AskDuty, Heard, is_nil, SixBooks}
+use Rattle.clean_finish.proofs.Words.{reply_of, after_ask, AppState, Carried, values, PathEnd, place_passed, plain_fin, is_connected, may_note, PathState}
+use Rattle.clean_finish.proofs.Words.{with_agenda, stands, ask_for, answered, is_syn_due, fin_place, item_of, item_stands, Setting, Lane, all_left, Going}
+use Rattle.clean_finish.proofs.Words.{PathPlan, Start, IsPhase, IsMapping, NoticesAre, Keys, heard_by, IsSetting, Runs, keys_in, Opening, Listening, HalfOpen}
+use Rattle.clean_finish.proofs.Words.{Open}
+use Rattle.subflow_tcp.specs.States.{is_opening, is_waiting}
 use Rattle.path_agenda.specs.declared.notice.OwnNotice.{OwnNotice}
-use Rattle.path_segments.specs.Laws.{window_told}
 use Rattle.path_core.specs.Addresses.{is_note_due}
-use Rattle.path_core.specs.Duties.{stands, ask_for, answered}
-use Rattle.path_core.specs.Emission.{is_syn_due}
-use Rattle.path_store.specs.declared.infinite_mapping.InfiniteMapping.{InfiniteMapping}
-use Rattle.path_core.specs.End.{PathEnd}
-use Rattle.path_core.specs.Modes.{fin_place}
-use Rattle.path_store.specs.InfiniteMappings.{fin_under}
 use Rattle.path_core.specs.FastClose.{is_fast_close_due, is_silent, leaves_silently, resets_noted}
-use Rattle.path_core.specs.DataFin.{place_passed, plain_fin}
-use Rattle.path_core.specs.Standing.{is_connected, may_note}
-use Rattle.path_core.specs.State.{PathState, with_agenda}
-use Rattle.path_core.specs.Treating.{item_of, item_stands}
-use Rattle.path_core.specs.Values.{Carried, values}
-use Rattle.world_laws.specs.Openings.{PathPlan, Start}
-use Rattle.pace.specs.Lane.{Setting, Lane, all_left}
-use Rattle.pace.specs.Going.{Going}
-use Rattle.clean_finish.specs.Segments.{Keys}
-use Rattle.clean_finish.specs.Shows.{IsMapping, IsPhase, NoticesAre}
-use Rattle.clean_finish.specs.Shows.IsPhase.{Opening, Listening, HalfOpen, Open}
-use Rattle.clean_finish.specs.Running.{heard_by, IsSetting, Runs, keys_in}
 use Rattle.clean_finish.proofs.AnswerTreated.{answers_peer_key, answers_syn_answered}
 use Rattle.clean_finish.proofs.CopyKinds.{third_shows}
 use Rattle.clean_finish.proofs.DataAnswered.{data_a, data_b}

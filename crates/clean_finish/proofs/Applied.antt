@@ -1,37 +1,17 @@
 -- The relation goes on with each step of an application.
-use Rattle.std.proofs.Common.{◌+◌, ◌≡◌, refl, sym, subst, ap, ◌∙◌, ℕ, ◌≤◌, Bool, true, false, not, ◌||◌, if◌then◌else◌, is_some, List, [], ◌∷◌, ◌++◌, length, take, replicate, le_refl, length-append, length-take, arith, map, Some}
-use Rattle.std.proofs.lemmas.Bool.{and_parts, not-true, both_ways}
-use Rattle.std.proofs.lemmas.List.{length-replicate}
-use Rattle.sides.specs.declared.side.Side.{Side}
-use Rattle.sides.specs.declared.side.Side.TheVariants.{A, B}
-use Rattle.send_book.specs.declared.call.SendCall.{SendCall}
-use Rattle.send_book.specs.declared.mark.ByteMark.TheVariants.{Free}
-use Rattle.send_book.specs.Tried.{no_paths}
+use Rattle.clean_finish.proofs.Words.{◌≡◌, refl, sym, subst, ap, ◌∙◌, ℕ, ◌+◌, ◌≤◌, Bool, true, false, not, ◌||◌, if◌then◌else◌, List, [], ◌∷◌, ◌++◌, length}
+use Rattle.clean_finish.proofs.Words.{map, arith, Some, le_refl, is_some, replicate, take, length-take, both_ways, and_parts, not-true, length-replicate, Side}
+use Rattle.clean_finish.proofs.Words.{A, B, Arriving, filled, after_read, after_reading, ReassemblyCall, after_write, after_close, bytes_taken, Free, SendCall}
+use Rattle.clean_finish.proofs.Words.{no_paths, is_nil, SixBooks, Ask, books_in, after_entry, AppDuty, Write, Close, Read, End, FastClose, AbortSend}
+use Rattle.clean_finish.proofs.Words.{AbortReceive, app_ask, app_takes, offered, app_stands, Carried, Setting, Lane, all_left, Sender, Going, all_moves_going}
+use Rattle.clean_finish.proofs.Words.{PathPlan, Start, answer_to, Cast, Fare, after_a, after_b, BookIs, keys_in, Running, IsAppTurn, Begun, Written, Closed}
+use Rattle.clean_finish.proofs.Words.{ReadAll}
+use Rattle.std.proofs.Common.{length-append}
 use Rattle.send_book.specs.State.{Sending}
-use Rattle.send_book.specs.Steps.{bytes_taken, after_write, after_close}
-use Rattle.reassembly_book.specs.declared.call.ReassemblyCall.{ReassemblyCall}
-use Rattle.reassembly_book.specs.State.{Arriving, filled}
-use Rattle.reassembly_book.specs.Steps.{after_read, after_reading}
-use Rattle.actor_desk.specs.declared.ask.Ask.{Ask}
 use Rattle.actor_desk.specs.declared.ask.LocalStep.{LocalStep}
-use Rattle.actor_desk.specs.Words.{is_nil}
-use Rattle.actor_desk.specs.Books.{books_in, after_entry}
-use Rattle.actor_desk.specs.Desk.{SixBooks}
-use Rattle.stream_apps.specs.declared.duty.AppDuty.{AppDuty}
-use Rattle.stream_apps.specs.declared.duty.AppDuty.TheVariants.{Write, Close, Read, End, FastClose, AbortSend, AbortReceive}
-use Rattle.stream_apps.specs.AppSteps.{offered, app_stands, app_ask, app_takes}
 use Rattle.stream_apps.specs.Turns.{FirstAppStands}
-use Rattle.path_core.specs.Values.{Carried}
-use Rattle.world_laws.specs.Openings.{PathPlan, Start}
-use Rattle.world_laws.specs.StampedBooks.{answer_to}
-use Rattle.world_laws.proofs.Worlds.Casts.{Cast, Fare, after_a, after_b}
 use Rattle.world_laws.proofs.Weaving.Journals.{books_after}
-use Rattle.pace.specs.Lane.{Setting, Lane, Sender, all_left}
-use Rattle.pace.specs.Going.{Going}
-use Rattle.pace.proofs.Moving.{all_moves_going}
-use Rattle.clean_finish.specs.Shows.{BookIs}
-use Rattle.clean_finish.specs.Running.{Running, IsAppTurn, keys_in}
-use Rattle.clean_finish.specs.Running.IsAppTurn.{Begun, Written, Closed, ReadAll, Ended}
+use Rattle.clean_finish.specs.Running.IsAppTurn.{Ended}
 use Rattle.clean_finish.proofs.TakenMarks.{taken_written}
 use Rattle.clean_finish.proofs.Acting.{Acts, acts_by_write, acts_by_close, acts_by_read, acts_by_end}
 use Rattle.clean_finish.proofs.Moving.{more_than, moves_then}

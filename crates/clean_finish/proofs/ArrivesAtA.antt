@@ -1,27 +1,9 @@
 -- A copy arrives at A: both lanes at its tick, as A sees them, and the segment that it carries.
-use Rattle.std.proofs.Common.{◌≡◌, refl, sym, subst, ap, ◌∙◌, ℕ, ◌+◌, ◌<◌, ◌≤◌, max, false, inl, Option, List, [], ◌∷◌, ◌++◌, map, arith}
-use Rattle.sides.specs.declared.side.Side.TheVariants.{A, B}
-use Rattle.link_model.specs.declared.flight.Flight.{Flight}
-use Rattle.link_model.specs.Laws.{going_to}
-use Rattle.link_model.specs.Steps.{due_of}
-use Rattle.path_segments.specs.Laws.{meant}
-use Rattle.subflow_tcp.specs.declared.verdicts.Meaning.{Meaning}
-use Rattle.subflow_tcp.specs.Judging.{meaning_of}
-use Rattle.actor_desk.specs.Desk.{SixBooks}
-use Rattle.stream_apps.specs.Apps.{AppState}
-use Rattle.path_agenda.specs.declared.duty.Duty.{Duty}
-use Rattle.path_agenda.specs.declared.duty.StepDuty.{StepDuty}
-use Rattle.path_core.specs.Arrival.{copy_of, copy_taken}
-use Rattle.path_core.specs.MpJoin.{is_joined}
-use Rattle.path_core.specs.State.{PathState}
-use Rattle.path_core.specs.Values.{Carried, values}
-use Rattle.world_laws.specs.Openings.{PathPlan, Start}
-use Rattle.pace.specs.Lane.{Setting, Copy, Lane, all_left}
-use Rattle.pace.specs.Going.{Going}
-use Rattle.pace.specs.Lists.{first_at}
-use Rattle.clean_finish.specs.Segments.{Sent, Keys, copy_in, said, CountsAs, TellsAs, AcknowledgesAs, ShowsFirst, BringsAs, Follow}
-use Rattle.clean_finish.specs.Shows.{Hand, brings_in}
-use Rattle.clean_finish.specs.Running.{Facing, half, IsSetting, Runs, keys_in, LinkIs}
+use Rattle.clean_finish.proofs.Words.{◌≡◌, refl, sym, subst, ap, ◌∙◌, ℕ, ◌+◌, ◌<◌, ◌≤◌, max, false, inl, Option, List, [], ◌∷◌, ◌++◌, map, arith, A, B, Meaning}
+use Rattle.clean_finish.proofs.Words.{meaning_of, Flight, going_to, due_of, meant, Duty, StepDuty, SixBooks, AppState, Carried, values, copy_of, copy_taken}
+use Rattle.clean_finish.proofs.Words.{PathState, is_joined, Setting, Copy, Lane, all_left, Going, first_at, PathPlan, Start, Hand, brings_in, Sent, Keys}
+use Rattle.clean_finish.proofs.Words.{BringsAs, copy_in, CountsAs, TellsAs, AcknowledgesAs, ShowsFirst, said, Follow, IsSetting, Runs, keys_in, Facing, half}
+use Rattle.clean_finish.proofs.Words.{LinkIs}
 use Rattle.clean_finish.proofs.Arriving.{AreFrom, way_from, FirstSent, first_sent, first_later, from_first, going_from, link_arrived}
 use Rattle.clean_finish.proofs.CopyTaken.{arrived, heard_as, taken_is, told_is}
 use Rattle.clean_finish.proofs.Moved.{moves_on}

@@ -1,27 +1,8 @@
 -- The book is asked what is acknowledged, after what a copy brought.
-use Rattle.std.proofs.Common.{◌≡◌, refl, ap, ℕ, ◌+◌, ◌≤◌, Bool, false, inl, inr, ⊎_elim, List, ◌∷◌}
-use Rattle.std.proofs.lemmas.Bool.{both_ways}
-use Rattle.sides.specs.declared.side.Side.{Side}
-use Rattle.sides.specs.declared.side.Side.TheVariants.{A}
-use Rattle.sides.specs.Side.{peer}
-use Rattle.path_segments.specs.Laws.{window_told}
+use Rattle.clean_finish.proofs.Words.{◌≡◌, refl, ap, ℕ, ◌+◌, ◌≤◌, Bool, false, inl, inr, ⊎_elim, List, ◌∷◌, both_ways, Side, A, peer, next_wanted, window}
+use Rattle.clean_finish.proofs.Words.{window_told, Duty, AskDuty, Reply, Profile, PathEnd, after_ack_out, Setting, Lane, Stage, all_left, Going, lane_asks}
+use Rattle.clean_finish.proofs.Words.{asked_out, EndIs, IsToldEdge, Keys, Same, Before, IsSetting, Facing, Half, StageIs, AsksAsALane}
 use Rattle.reassembly_book.specs.declared.call.ReassemblyReply.{ReassemblyReply}
-use Rattle.reassembly_book.specs.Steps.{next_wanted, window}
-use Rattle.actor_desk.specs.declared.ask.Reply.{Reply}
-use Rattle.path_agenda.specs.declared.duty.Duty.{Duty}
-use Rattle.path_agenda.specs.declared.duty.AskDuty.{AskDuty}
-use Rattle.path_core.specs.End.{PathEnd}
-use Rattle.path_core.specs.Standing.{after_ack_out}
-use Rattle.path_core.specs.Profile.{Profile}
-use Rattle.pace.specs.Lane.{Setting, Lane, Stage, all_left}
-use Rattle.pace.specs.Rules.{asked_out}
-use Rattle.pace.specs.Going.{Going}
-use Rattle.pace.specs.Moves.Move.{asks as lane_asks}
-use Rattle.clean_finish.specs.Books.{AsksAsALane}
-use Rattle.clean_finish.specs.Segments.{Keys}
-use Rattle.clean_finish.specs.Shows.{EndIs, IsToldEdge}
-use Rattle.clean_finish.specs.Shows.IsToldEdge.{Same, Before}
-use Rattle.clean_finish.specs.Running.{Half, Facing, IsSetting, StageIs}
 use Rattle.clean_finish.proofs.Books.{asks_as_lanes}
 use Rattle.clean_finish.proofs.Dropping.{differ, behind, behind_or, IsApart, stage_drops, settles_drop, begun_drops}
 use Rattle.clean_finish.proofs.Passing.{stands_then, peer_is_other}

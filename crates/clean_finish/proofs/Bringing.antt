@@ -1,21 +1,8 @@
 -- The end that sends the bytes of a grant.
-use Rattle.std.proofs.Common.{◌≡◌, refl, sym, subst, ap, ◌∙◌, ℕ, ◌+◌, ◌-◌, ◌≤◌, min, max, nat_lt, Bool, true, false, None, List, [], ◌∷◌, length, arith}
-use Rattle.std.proofs.lemmas.List.Elements.{All-weaker}
-use Rattle.sides.specs.declared.side.Side.{Side}
-use Rattle.sides.specs.declared.side.Side.TheVariants.{A}
-use Rattle.subflow_tcp.specs.Dues.{nothing_due}
-use Rattle.subflow_send.specs.Records.{Record}
-use Rattle.subflow_send.specs.Rules.{is_unsent}
-use Rattle.subflow_tcp.specs.declared.segments.Occasion.{Occasion}
-use Rattle.path_agenda.specs.declared.duty.Duty.{Duty}
-use Rattle.path_core.specs.End.{PathEnd}
-use Rattle.path_core.specs.Handover.{having_sent}
-use Rattle.path_core.specs.Profile.{Profile}
-use Rattle.actor_desk.specs.Words.{pick}
-use Rattle.pace.specs.Lane.{Setting, Lane}
-use Rattle.clean_finish.specs.Segments.{Sent, Keys, said, data_fin_of, octets_of}
-use Rattle.clean_finish.specs.Shows.{EndIs, HeardIs, IsGranted, IsToldEdge, last_told, row_seen, brings_still}
-use Rattle.clean_finish.specs.Running.{Half, Facing}
+use Rattle.clean_finish.proofs.Words.{◌≡◌, refl, sym, subst, ap, ◌∙◌, ℕ, ◌+◌, ◌-◌, ◌≤◌, min, max, nat_lt, Bool, true, false, None, List, [], ◌∷◌, length, arith}
+use Rattle.clean_finish.proofs.Words.{All-weaker, Side, A, Record, is_unsent, nothing_due, Occasion, Duty, pick, Profile, PathEnd, having_sent, Setting, Lane}
+use Rattle.clean_finish.proofs.Words.{EndIs, HeardIs, IsGranted, last_told, row_seen, brings_still, IsToldEdge, Sent, Keys, octets_of, said, data_fin_of}
+use Rattle.clean_finish.proofs.Words.{Facing, Half}
 use Rattle.clean_finish.proofs.Sendings.{out_after as sent_after, back_after as said_after}
 use Rattle.clean_finish.proofs.Sent.{sent_all}
 use Rattle.clean_finish.proofs.Spans.{spans_moved}

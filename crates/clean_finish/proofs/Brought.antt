@@ -1,30 +1,11 @@
 -- What a segment in hand brings is taken by its lane: keys, bytes, a DATA_FIN or a FIN.
-use Rattle.std.proofs.Common.{◌≡◌, refl, sym, subst, ap, ◌∙◌, ℕ, ◌+◌, ◌<◌, ◌≤◌, Bool, true, false, ◌||◌, ◌⊎◌, inl, inr, Option, Some, List, ◌∷◌, ◌++◌, length, map, arith}
-use Rattle.sides.specs.declared.side.Side.{Side}
-use Rattle.sides.specs.Side.{peer}
-use Rattle.reassembly_book.specs.State.{Arriving, filled}
-use Rattle.subflow_recv.specs.Receiving.{Receiving as SubflowReceiving}
-use Rattle.subflow_tcp.specs.declared.handshake.State.{State}
-use Rattle.path_agenda.specs.declared.duty.Duty.{Duty}
-use Rattle.path_agenda.specs.declared.duty.AskDuty.{AskDuty}
-use Rattle.path_agenda.specs.declared.duty.SendDuty.{SendDuty}
-use Rattle.path_agenda.specs.declared.duty.SilentDuty.{SilentDuty}
-use Rattle.path_agenda.specs.declared.duty.StepDuty.{StepDuty}
-use Rattle.path_core.specs.declared.modes.Modes.{Modes}
-use Rattle.path_core.specs.End.{PathEnd}
+use Rattle.clean_finish.proofs.Words.{◌≡◌, refl, sym, subst, ap, ◌∙◌, ℕ, ◌+◌, ◌<◌, ◌≤◌, Bool, true, false, ◌||◌, ◌⊎◌, inl, inr, Option, List, ◌∷◌, ◌++◌, length}
+use Rattle.clean_finish.proofs.Words.{map, arith, Some, Side, peer, Arriving, filled, SubflowReceiving, State, Duty, SendDuty, StepDuty, AskDuty, SilentDuty}
+use Rattle.clean_finish.proofs.Words.{Profile, PathEnd, Modes, Treated, Setting, Copy, Lane, Stage, MayHearData, hears, goes_back, hears_data, Hand, EndIs}
+use Rattle.clean_finish.proofs.Words.{brings_in, tells_in, Sent, Keys, copy_in, octets_of, Follow, data_fin_of, low_after, control_after, keys_after, Facing}
+use Rattle.clean_finish.proofs.Words.{Half, Has, StageIs, ReaderShows, ReceiverIs}
 use Rattle.path_core.specs.Sending.{Sending}
-use Rattle.path_core.specs.Treated.{Treated}
 use Rattle.path_store.specs.Receiving.{Receiving}
-use Rattle.path_core.specs.Profile.{Profile}
-use Rattle.pace.specs.Lane.{Setting, Copy, Lane, Stage}
-use Rattle.pace.specs.Rules.{hears_data}
-use Rattle.pace.specs.Moves.{MayHearData}
-use Rattle.pace.specs.Moves.Move.{goes_back, hears}
-use Rattle.clean_finish.specs.Books.{ReceiverIs}
-use Rattle.clean_finish.specs.Reading.{ReaderShows}
-use Rattle.clean_finish.specs.Segments.{Sent, Keys, copy_in, octets_of, data_fin_of, Follow, low_after, control_after, keys_after}
-use Rattle.clean_finish.specs.Shows.{Hand, brings_in, tells_in, EndIs}
-use Rattle.clean_finish.specs.Running.{Has, StageIs, Half, Facing}
 use Rattle.clean_finish.proofs.Dropping.{is_waited, apart, is_apart, stage_drops, settles_drop, begun_drops}
 use Rattle.clean_finish.proofs.Hands.{in_hand}
 use Rattle.clean_finish.proofs.Opened.{waiting_on, before_waiting}

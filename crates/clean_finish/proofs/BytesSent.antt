@@ -1,37 +1,14 @@
 -- An end sends the bytes of a grant, with the DSS.
-use Rattle.std.proofs.Common.{◌≡◌, refl, sym, subst, ap, ◌∙◌, ℕ, ◌+◌, ◌<◌, ◌≤◌, ◌^◌, min, max, Bool, true, false, not, cond, inr, Option, Some, None, List, [], ◌∷◌, ◌++◌, length, le_refl, arith}
-use Rattle.std.proofs.lemmas.Bool.{both_ways}
-use Rattle.sides.specs.declared.side.Side.{Side}
-use Rattle.sides.specs.declared.side.Side.TheVariants.{A}
-use Rattle.sides.specs.Side.{peer}
-use Rattle.link_model.specs.declared.flight.Flight.{Flight}
+use Rattle.clean_finish.proofs.Words.{◌≡◌, refl, sym, subst, ap, ◌∙◌, ℕ, ◌+◌, ◌<◌, ◌≤◌, min, max, Bool, true, false, cond, not, inr, Option, None, List, []}
+use Rattle.clean_finish.proofs.Words.{◌∷◌, ◌++◌, length, arith, Some, le_refl, ◌^◌, both_ways, Side, A, peer, Record, is_unsent, Data, Flight, window_told, Dss}
+use Rattle.clean_finish.proofs.Words.{Duty, StepDuty, pick, is_nil, Profile, Carried, PathEnd, record_said, mapping_of, place_numbered, checksum_told}
+use Rattle.clean_finish.proofs.Words.{is_first_piece, Setting, Telling, Lane, all_left, Going, pending, MaySay, MaySend, sends_bytes, is_same, Hand, HeardIs}
+use Rattle.clean_finish.proofs.Words.{last_told, row_seen, brings_still, IsMapping, Sent, Keys, copy_in, said, FliesAs, Piece, Same, IsSetting, Facing, Half}
+use Rattle.clean_finish.proofs.Words.{Has}
 use Rattle.path_segments.specs.declared.segment.PathMapping.{PathMapping}
 use Rattle.path_segments.specs.declared.segment.PathMapping.TheVariants.{Bytes}
-use Rattle.path_segments.specs.declared.segment.PathOption.TheVariants.{Dss}
-use Rattle.path_segments.specs.Laws.{window_told}
-use Rattle.subflow_send.specs.declared.record.RecordKind.TheVariants.{Data}
-use Rattle.subflow_send.specs.Records.{Record}
-use Rattle.subflow_send.specs.Rules.{is_unsent}
 use Rattle.subflow_tcp.specs.States.{is_opening}
-use Rattle.path_agenda.specs.declared.duty.Duty.{Duty}
-use Rattle.path_agenda.specs.declared.duty.StepDuty.{StepDuty}
-use Rattle.path_core.specs.End.{PathEnd}
-use Rattle.path_core.specs.DssOut.{mapping_of, place_numbered, checksum_told, is_first_piece}
-use Rattle.path_core.specs.OptionsOut.{record_said}
-use Rattle.path_core.specs.Profile.{Profile}
-use Rattle.path_core.specs.Values.{Carried}
-use Rattle.actor_desk.specs.Words.{pick, is_nil}
 use Rattle.world_laws.proofs.Lanes.Doing.{place_is}
-use Rattle.pace.specs.Lane.{Setting, Telling, Lane, all_left}
-use Rattle.pace.specs.Rules.{is_same}
-use Rattle.pace.specs.Going.{Going, pending}
-use Rattle.pace.specs.Moves.{MaySay, MaySend}
-use Rattle.pace.specs.Moves.Move.{sends_bytes}
-use Rattle.clean_finish.specs.Segments.{Sent, Keys, copy_in, said, FliesAs}
-use Rattle.clean_finish.specs.Segments.Brings.{Piece}
-use Rattle.clean_finish.specs.Shows.{Hand, brings_still, HeardIs, IsMapping, last_told, row_seen}
-use Rattle.clean_finish.specs.Shows.IsToldEdge.{Same}
-use Rattle.clean_finish.specs.Running.{Has, Half, Facing, IsSetting}
 use Rattle.clean_finish.proofs.Bringing.{end_after, own_brought}
 use Rattle.clean_finish.proofs.EndSent.{ended_stays}
 use Rattle.clean_finish.proofs.Hands.{way_none}

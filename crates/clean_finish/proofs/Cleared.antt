@@ -1,21 +1,7 @@
 -- A hears its first DSS: from then on it may use it.
-use Rattle.std.proofs.Common.{◌≡◌, refl, sym, ap, ◌∙◌, ℕ, ◌≤◌, min, Bool, true, false, ◌||◌, inl, inr, Option, Some, None, List, ◌∷◌, arith}
-use Rattle.std.proofs.lemmas.List.Elements.{All-weaker}
-use Rattle.sides.specs.declared.side.Side.TheVariants.{A, B}
-use Rattle.subflow_send.specs.Records.{Record}
-use Rattle.path_agenda.specs.declared.duty.Duty.{Duty}
-use Rattle.path_core.specs.End.{PathEnd}
-use Rattle.path_core.specs.Profile.{Profile}
-use Rattle.path_core.specs.DssIn.{after_dss}
-use Rattle.pace.specs.Lane.{Setting, Lane, all_left}
-use Rattle.pace.specs.Rules.{flagged}
-use Rattle.pace.specs.Going.{Going}
-use Rattle.pace.specs.Moves.{MayFlag}
-use Rattle.pace.specs.Moves.Move.{goes_back, flags}
-use Rattle.clean_finish.specs.Segments.{Keys}
-use Rattle.clean_finish.specs.Shows.{Hand, EndIs, HeardIs, IsGranted, Waits, last_told, row_seen}
-use Rattle.clean_finish.specs.Shows.Waits.{WaitsSyn, WaitsNone, WaitsBytes}
-use Rattle.clean_finish.specs.Running.{Half, Facing, IsSetting}
+use Rattle.clean_finish.proofs.Words.{◌≡◌, refl, sym, ap, ◌∙◌, ℕ, ◌≤◌, min, Bool, true, false, ◌||◌, inl, inr, Option, None, List, ◌∷◌, arith, Some, All-weaker}
+use Rattle.clean_finish.proofs.Words.{A, B, Record, Duty, Profile, PathEnd, after_dss, Setting, Lane, all_left, Going, MayFlag, flags, goes_back, flagged, Hand}
+use Rattle.clean_finish.proofs.Words.{EndIs, HeardIs, IsGranted, last_told, row_seen, Waits, WaitsSyn, WaitsNone, WaitsBytes, Keys, IsSetting, Facing, Half}
 use Rattle.clean_finish.proofs.Dropping.{is_waited, apart, is_apart, stage_drops, settles_drop, begun_drops}
 use Rattle.clean_finish.proofs.Passing.{stands_then}
 use Rattle.clean_finish.proofs.Quiet.{now_out}

@@ -1,27 +1,9 @@
 -- B hears both keys: from then on it may send bytes, and use the DSS.
-use Rattle.std.proofs.Common.{◌≡◌, refl, subst, ℕ, ◌+◌, ◌==◌, ◌<◌, ◌≤◌, min, Bool, true, false, if◌then◌else◌, inl, inr, Option, Some, None, List, ◌∷◌, arith}
-use Rattle.std.proofs.lemmas.Bool.{both_ways}
-use Rattle.std.proofs.lemmas.List.Elements.{All-weaker}
-use Rattle.sides.specs.declared.side.Side.{Side}
-use Rattle.sides.specs.declared.side.Side.TheVariants.{A, B}
-use Rattle.control_book.specs.Control.{Control}
-use Rattle.control_book.specs.Steps.{after_keys}
-use Rattle.fallback_state.specs.Modes.{is_identity}
-use Rattle.fallback_state.specs.Table.{stays}
+use Rattle.clean_finish.proofs.Words.{◌≡◌, refl, subst, ℕ, ◌+◌, ◌<◌, ◌≤◌, min, Bool, true, false, if◌then◌else◌, inl, inr, Option, None, List, ◌∷◌, arith, Some}
+use Rattle.clean_finish.proofs.Words.{◌==◌, both_ways, All-weaker, is_identity, stays, Side, A, B, Control, after_keys, Duty, AskDuty, Profile, PathEnd}
+use Rattle.clean_finish.proofs.Words.{is_connected, Setting, Lane, all_left, Going, MayFlag, flags, goes_back, flagged, AreTaken, Hand, EndIs, HeardIs}
+use Rattle.clean_finish.proofs.Words.{IsGranted, last_told, row_seen, ControlIs, Keys, IsSetting, Facing, Half}
 use Rattle.fallback_state.specs.declared.fall.Verdict.TheVariants.{Stay}
-use Rattle.path_agenda.specs.declared.duty.Duty.{Duty}
-use Rattle.path_agenda.specs.declared.duty.AskDuty.{AskDuty}
-use Rattle.path_core.specs.End.{PathEnd}
-use Rattle.path_core.specs.Standing.{is_connected}
-use Rattle.path_core.specs.Profile.{Profile}
-use Rattle.pace.specs.Lane.{Setting, Lane, all_left}
-use Rattle.pace.specs.Rules.{flagged}
-use Rattle.pace.specs.Going.{Going}
-use Rattle.pace.specs.Moves.{MayFlag}
-use Rattle.pace.specs.Moves.Move.{goes_back, flags}
-use Rattle.clean_finish.specs.Segments.{Keys}
-use Rattle.clean_finish.specs.Shows.{AreTaken, ControlIs, Hand, EndIs, HeardIs, IsGranted, last_told, row_seen}
-use Rattle.clean_finish.specs.Running.{Half, Facing, IsSetting}
 use Rattle.clean_finish.proofs.AckNew.{records_same}
 use Rattle.clean_finish.proofs.Dropping.{apart, is_apart, stage_drops, settles_drop, begun_drops}
 use Rattle.clean_finish.proofs.Passing.{stands_then}

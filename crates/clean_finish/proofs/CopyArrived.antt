@@ -1,26 +1,8 @@
 -- A copy that is taken arrives: the world from the side of the end that takes it, to the first duty of its treatment.
-use Rattle.std.proofs.Common.{◌≡◌, refl, sym, subst, ap, ◌∙◌, ℕ, zero, suc, ◌+◌, ◌≤◌, Bool, true, false, ◌⊎◌, inl, inr, ⊎_elim, None, List, [], ◌∷◌, arith}
-use Rattle.std.proofs.lemmas.Bool.{both_ways}
-use Rattle.sides.specs.declared.side.Side.{Side}
-use Rattle.sides.specs.Side.{peer}
-use Rattle.dss_mapping.specs.declared.kept.KeptMapping.{KeptMapping}
-use Rattle.link_model.specs.declared.flight.Flight.{Flight}
-use Rattle.subflow_recv.specs.Receiving.{Receiving}
-use Rattle.subflow_tcp.specs.declared.segments.Outgoing.{Outgoing}
-use Rattle.subflow_tcp.specs.State.{EndState}
-use Rattle.path_agenda.specs.declared.duty.Duty.{Duty}
-use Rattle.path_agenda.specs.declared.duty.AskDuty.{AskDuty}
-use Rattle.path_agenda.specs.declared.duty.SendDuty.{SendDuty}
-use Rattle.path_agenda.specs.declared.duty.SilentDuty.{SilentDuty}
-use Rattle.path_agenda.specs.declared.duty.StepDuty.{StepDuty}
-use Rattle.path_agenda.specs.Agenda.{heard_and, payload_came, copy_came}
-use Rattle.path_core.specs.Profile.{Profile}
-use Rattle.path_core.specs.Values.{Carried}
-use Rattle.pace.specs.Lane.{Setting, Lane, Stage}
-use Rattle.pace.specs.Moves.Move.{goes_back, rests}
-use Rattle.clean_finish.specs.Segments.{Sent, Keys}
-use Rattle.clean_finish.specs.Shows.{AreTaken, EndIs, WayIs}
-use Rattle.clean_finish.specs.Running.{Has, LaneStands, StageIs, Half, Facing}
+use Rattle.clean_finish.proofs.Words.{◌≡◌, refl, sym, subst, ap, ◌∙◌, ℕ, ◌+◌, ◌≤◌, Bool, true, false, ◌⊎◌, inl, inr, ⊎_elim, None, List, [], ◌∷◌, arith, suc}
+use Rattle.clean_finish.proofs.Words.{zero, both_ways, Side, peer, KeptMapping, Receiving, EndState, Outgoing, Flight, Duty, SendDuty, StepDuty, AskDuty}
+use Rattle.clean_finish.proofs.Words.{heard_and, payload_came, copy_came, SilentDuty, Profile, Carried, Setting, Lane, Stage, goes_back, rests, AreTaken, EndIs}
+use Rattle.clean_finish.proofs.Words.{WayIs, Sent, Keys, Facing, Half, Has, StageIs, LaneStands}
 use Rattle.clean_finish.proofs.CopyHeeded.{Heeds}
 use Rattle.clean_finish.proofs.Hands.{in_hand, way_arrives}
 use Rattle.clean_finish.proofs.Passing.{stands_then}

@@ -1,51 +1,20 @@
 -- A copy that is no SYN arrives: what its end knows of it, and the world from its side.
-use Rattle.std.proofs.Common.{◌≡◌, refl, sym, subst, ap, ◌∙◌, ℕ, ◌+◌, ◌-◌, ◌^◌, ◌<◌, ◌≤◌, min, nat_lt, nat_le, Bool, true, false, not, ◌&&◌, ◌||◌, if◌then◌else◌, ◌⊎◌, inl, inr, Option, Some, None, List, [], ◌∷◌, length, map, arith}
-use Rattle.std.specs.List.{list_any}
-use Rattle.std.proofs.lemmas.Bool.{both_ways, cases_lt, and_parts, lt-ltb, le-ltb, lt-leb}
-use Rattle.sides.specs.declared.side.Side.{Side}
-use Rattle.sides.specs.declared.side.Side.TheVariants.{A, B}
-use Rattle.sides.specs.Side.{peer}
-use Rattle.link_model.specs.declared.flight.Flight.{Flight}
-use Rattle.dss_mapping.specs.declared.kept.KeptMapping.{KeptMapping}
-use Rattle.dss_mapping.specs.Learning.{after_hold as after_hold_mappings}
-use Rattle.path_segments.specs.Laws.{window_told}
-use Rattle.subflow_tcp.specs.declared.handshake.State.{State}
-use Rattle.subflow_tcp.specs.declared.segments.Outgoing.{Outgoing}
-use Rattle.subflow_tcp.specs.declared.verdicts.Meaning.{Meaning}
-use Rattle.subflow_send.specs.declared.record.AckKind.{AckKind}
-use Rattle.subflow_send.specs.declared.record.AckKind.TheVariants.{Duplicate}
-use Rattle.subflow_send.specs.Rules.{ack_kind}
-use Rattle.subflow_recv.specs.Receiving.{Receiving, after_hold}
+use Rattle.clean_finish.proofs.Words.{◌≡◌, refl, sym, subst, ap, ◌∙◌, ℕ, ◌+◌, ◌-◌, ◌<◌, ◌≤◌, min, nat_lt, Bool, true, false, not, ◌&&◌, ◌||◌, if◌then◌else◌}
+use Rattle.clean_finish.proofs.Words.{◌⊎◌, inl, inr, Option, None, List, [], ◌∷◌, length, map, arith, Some, nat_le, ◌^◌, both_ways, cases_lt, and_parts, lt-ltb}
+use Rattle.clean_finish.proofs.Words.{le-ltb, lt-leb, list_any, Side, A, B, peer, KeptMapping, after_hold_mappings, Receiving, after_hold, AckKind, Duplicate}
+use Rattle.clean_finish.proofs.Words.{ack_kind, State, EndState, is_half_open, after_telling, after_occupying, is_duplicate, is_empty, arrival_of}
+use Rattle.clean_finish.proofs.Words.{after_holding, Outgoing, Meaning, meaning_of, occupied, owing_ack, Flight, window_told, Duty, StepDuty, copy_came}
+use Rattle.clean_finish.proofs.Words.{place_in_first, wants_ack, Heard, pick, is_nil, Profile, Carried, held_of, copy_judged, after_copy, owing_if}
+use Rattle.clean_finish.proofs.Words.{is_connected, edge_held, has_data_ack, hint_of, is_plain_ack, octets_acked, is_joined, Setting, Telling, Copy, Lane}
+use Rattle.clean_finish.proofs.Words.{all_left, Going, Covers, may_tell, pending, is_same, Chain, In, repeated, Hand, EndIs, HeardIs, RecordsAre, WayIs}
+use Rattle.clean_finish.proofs.Words.{last_told, row_seen, brings_still, Sent, Keys, Brings, BringsAs, shows_keys, is_third, is_subflow_end, copy_in, octets_of}
+use Rattle.clean_finish.proofs.Words.{position_by, position_of, CountsAs, TellsAs, AcknowledgesAs, ShowsFirst, Rise, edge_after, OpensSubflow, ShowsKeys}
+use Rattle.clean_finish.proofs.Words.{FirstPiece, Piece, Acknowledges, EndsStream, EndsSubflow, TreatsCopy, count_in, heard_by, IsSetting, Facing, Half}
+use Rattle.clean_finish.proofs.Words.{IsBetween, AtFirst}
 use Rattle.subflow_tcp.specs.declared.verdicts.Arrival.TheVariants.{Took, Opened}
-use Rattle.subflow_tcp.specs.States.{is_half_open}
-use Rattle.subflow_tcp.specs.Segments.{occupied}
-use Rattle.subflow_tcp.specs.Dues.{owing_ack}
-use Rattle.subflow_tcp.specs.Judging.{meaning_of}
-use Rattle.subflow_tcp.specs.State.{EndState}
-use Rattle.subflow_tcp.specs.Taking.{arrival_of, is_empty, told_by, is_duplicate, after_holding, after_occupying, after_telling}
-use Rattle.actor_desk.specs.Words.{pick, is_nil}
-use Rattle.path_agenda.specs.declared.duty.Duty.{Duty}
-use Rattle.path_agenda.specs.declared.duty.StepDuty.{StepDuty}
-use Rattle.path_agenda.specs.Agenda.{copy_came}
-use Rattle.path_agenda.specs.Items.{place_in_first, wants_ack}
-use Rattle.path_agenda.specs.declared.heard.Heard.{Heard}
-use Rattle.path_core.specs.Arrival.{after_copy, copy_judged, owing_if}
-use Rattle.path_core.specs.OptionsIn.{edge_held, has_data_ack, hint_of, is_plain_ack, octets_acked}
-use Rattle.path_core.specs.DssIn.{held_of}
-use Rattle.path_core.specs.MpJoin.{is_joined}
-use Rattle.path_core.specs.Standing.{is_connected}
-use Rattle.path_core.specs.Profile.{Profile}
-use Rattle.path_core.specs.Values.{Carried}
-use Rattle.pace.specs.Lane.{Setting, Telling, Copy, Lane, all_left}
-use Rattle.pace.specs.Lists.{Chain, In, repeated}
+use Rattle.subflow_tcp.specs.Taking.{told_by}
 use Rattle.pace.proofs.Lists.{chain_le}
-use Rattle.pace.specs.Rules.{is_same}
-use Rattle.pace.specs.Going.{Going, Covers, may_tell, pending}
-use Rattle.clean_finish.specs.Segments.{Sent, Keys, Brings, BringsAs, shows_keys, is_third, is_opening, is_subflow_end, copy_in, octets_of, position_by, position_of, CountsAs, TellsAs, AcknowledgesAs, ShowsFirst, Rise, edge_after}
-use Rattle.clean_finish.specs.Segments.Brings.{OpensSubflow, ShowsKeys, FirstPiece, Piece, Acknowledges, EndsStream, EndsSubflow}
-use Rattle.clean_finish.specs.Shows.{Hand, EndIs, RecordsAre, brings_still, last_told, row_seen, HeardIs, WayIs}
-use Rattle.clean_finish.specs.Running.{Half, Facing, IsBetween, IsSetting, TreatsCopy, count_in, heard_by}
-use Rattle.clean_finish.specs.Running.Treatment.{AtFirst}
+use Rattle.clean_finish.specs.Segments.{is_opening}
 use Rattle.clean_finish.proofs.AckNew.{kind_same}
 use Rattle.clean_finish.proofs.AnswerComes.{edge_first}
 use Rattle.clean_finish.proofs.CopyArrived.{copy_arrived}

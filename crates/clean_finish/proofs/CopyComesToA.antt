@@ -1,31 +1,9 @@
 -- The step in which a copy that is no SYN arrives at A.
-use Rattle.std.proofs.Common.{◌≡◌, refl, sym, subst, ap, ℕ, ◌<◌, ◌≤◌, min, false, None, List, [], ◌∷◌, length}
-use Rattle.sides.specs.declared.side.Side.TheVariants.{A, B}
-use Rattle.dss_mapping.specs.declared.kept.KeptMapping.{KeptMapping}
-use Rattle.link_model.specs.declared.flight.Flight.{Flight}
-use Rattle.link_model.specs.Laws.{going_to}
-use Rattle.link_model.specs.Steps.{due_of}
-use Rattle.path_segments.specs.Laws.{meant}
-use Rattle.subflow_tcp.specs.declared.segments.Outgoing.{Outgoing}
-use Rattle.subflow_tcp.specs.declared.verdicts.Meaning.{Meaning}
-use Rattle.actor_desk.specs.Desk.{SixBooks}
-use Rattle.stream_apps.specs.Apps.{AppState}
-use Rattle.path_agenda.specs.declared.duty.Duty.{Duty}
-use Rattle.path_agenda.specs.declared.duty.StepDuty.{StepDuty}
-use Rattle.path_agenda.specs.declared.duty.AskDuty.{AskDuty}
-use Rattle.path_agenda.specs.Agenda.{copy_came, heard_and, payload_came}
-use Rattle.path_core.specs.DssIn.{held_of}
-use Rattle.path_core.specs.Arrival.{reset_for, copy_taken}
-use Rattle.path_core.specs.End.{PathEnd}
-use Rattle.path_core.specs.MpJoin.{is_joined}
-use Rattle.path_core.specs.State.{PathState, goes_on}
-use Rattle.path_core.specs.Values.{Carried, values}
-use Rattle.world_laws.specs.Openings.{PathPlan, Start}
-use Rattle.pace.specs.Lane.{Setting, Lane, all_left}
-use Rattle.pace.specs.Going.{Going}
-use Rattle.clean_finish.specs.Segments.{Sent, Keys, is_opening, position_of, said}
-use Rattle.clean_finish.specs.Shows.{WayIs}
-use Rattle.clean_finish.specs.Running.{Facing, half, IsSetting, Runs, keys_in}
+use Rattle.clean_finish.proofs.Words.{◌≡◌, refl, sym, subst, ap, ℕ, ◌<◌, ◌≤◌, min, false, None, List, [], ◌∷◌, length, A, B, KeptMapping, Outgoing, Meaning}
+use Rattle.clean_finish.proofs.Words.{Flight, going_to, due_of, meant, Duty, StepDuty, AskDuty, heard_and, payload_came, copy_came, SixBooks, AppState, Carried}
+use Rattle.clean_finish.proofs.Words.{values, PathEnd, held_of, reset_for, copy_taken, PathState, goes_on, is_joined, Setting, Lane, all_left, Going, PathPlan}
+use Rattle.clean_finish.proofs.Words.{Start, WayIs, Sent, Keys, position_of, said, IsSetting, Runs, keys_in, Facing, half}
+use Rattle.clean_finish.specs.Segments.{is_opening}
 use Rattle.clean_finish.proofs.ArrivesAtA.{copy, q, tick, moment, first, moved, link, Follows, follows, comes_as}
 use Rattle.clean_finish.proofs.CopyComes.{comes, count_is, judged_is, meaning, taken, treats}
 use Rattle.clean_finish.proofs.Hands.{way_none}

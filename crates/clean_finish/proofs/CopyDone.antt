@@ -1,15 +1,7 @@
 -- A copy that needs no acknowledgement is done with.
-use Rattle.std.proofs.Common.{◌≡◌, refl, subst, ap, ℕ, ◌≤◌, Bool, false, inl, inr, ⊎_elim, Option, None, List, ◌∷◌}
-use Rattle.std.proofs.lemmas.Bool.{both_ways}
-use Rattle.sides.specs.declared.side.Side.{Side}
-use Rattle.sides.specs.Side.{peer}
-use Rattle.path_agenda.specs.declared.duty.Duty.{Duty}
-use Rattle.path_agenda.specs.declared.duty.SendDuty.{SendDuty}
-use Rattle.path_core.specs.Profile.{Profile}
-use Rattle.pace.specs.Lane.{Setting, Lane, Stage}
-use Rattle.clean_finish.specs.Segments.{Sent, Keys}
-use Rattle.clean_finish.specs.Shows.{Hand, brings_still, EndIs, HeardIs, WayIs, last_told, row_seen}
-use Rattle.clean_finish.specs.Running.{Half, Facing, StageIs}
+use Rattle.clean_finish.proofs.Words.{◌≡◌, refl, subst, ap, ℕ, ◌≤◌, Bool, false, inl, inr, ⊎_elim, Option, None, List, ◌∷◌, both_ways, Side, peer, Duty}
+use Rattle.clean_finish.proofs.Words.{SendDuty, Profile, Setting, Lane, Stage, Hand, EndIs, HeardIs, WayIs, last_told, row_seen, brings_still, Sent, Keys}
+use Rattle.clean_finish.proofs.Words.{Facing, Half, StageIs}
 use Rattle.clean_finish.proofs.AckSent.{same_acknowledge}
 use Rattle.clean_finish.proofs.Dropping.{differ, behind, behind_or, stage_drops, settles_drop, begun_drops}
 use Rattle.clean_finish.proofs.Hands.{in_hand, way_done}

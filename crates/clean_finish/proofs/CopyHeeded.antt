@@ -1,26 +1,11 @@
 -- A copy that is taken, as the subflow of an end hears it: what it acknowledges, and how that goes with its lane.
-use Rattle.std.proofs.Common.{◌≡◌, refl, sym, subst, ap, ◌∙◌, ℕ, ◌+◌, ◌<◌, ◌≤◌, Bool, true, false, not, ◌&&◌, if◌then◌else◌, ⊎_elim, arith}
-use Rattle.std.proofs.lemmas.Bool.{both_ways, cases_lt, lt-ltb, and_parts}
-use Rattle.sides.specs.declared.side.Side.{Side}
-use Rattle.loss_recovery.specs.declared.windows.Congestion.{Congestion}
-use Rattle.loss_recovery.specs.declared.windows.Told.{Told}
-use Rattle.loss_recovery.specs.Timers.{measured, rtt_told}
-use Rattle.loss_recovery.specs.Windows.{duplicated, is_third}
-use Rattle.subflow_send.specs.declared.record.AckKind.{AckKind}
-use Rattle.subflow_send.specs.declared.record.AckKind.TheVariants.{New, Duplicate}
-use Rattle.subflow_send.specs.Rules.{newly_acknowledged, sample_of, ack_kind}
-use Rattle.subflow_tcp.specs.declared.handshake.State.{State}
-use Rattle.subflow_tcp.specs.Segments.{Copy as SubflowCopy}
-use Rattle.subflow_tcp.specs.State.{EndState}
-use Rattle.subflow_tcp.specs.States.{after_handshake}
-use Rattle.subflow_tcp.specs.Taking.{after_new_ack, after_acknowledgement, after_row, after_duplicate, after_interruption, is_duplicate, is_fin_acked}
-use Rattle.subflow_tcp.proofs.WindowGrowth.{acknowledged_grows}
-use Rattle.pace.specs.Lane.{Setting, Sender}
-use Rattle.pace.specs.Rules.{is_same, repeats, next_row}
-use Rattle.clean_finish.specs.Machine.{IsLong}
-use Rattle.clean_finish.specs.Segments.{Sent, copy_in}
-use Rattle.clean_finish.specs.Shows.{IsOpen, IsPhase, RecordsAre}
-use Rattle.clean_finish.specs.Shows.IsPhase.{Opening, Listening, HalfOpen, Open}
+use Rattle.clean_finish.proofs.Words.{◌≡◌, refl, sym, subst, ap, ◌∙◌, ℕ, ◌+◌, ◌<◌, ◌≤◌, Bool, true, false, not, ◌&&◌, if◌then◌else◌, ⊎_elim, arith, both_ways}
+use Rattle.clean_finish.proofs.Words.{cases_lt, and_parts, lt-ltb, Side, AckKind, Duplicate, newly_acknowledged, ack_kind, sample_of, Congestion, duplicated}
+use Rattle.clean_finish.proofs.Words.{measured, rtt_told, Told, State, EndState, after_handshake, after_new_ack, after_acknowledgement, is_fin_acked}
+use Rattle.clean_finish.proofs.Words.{is_duplicate, after_row, after_duplicate, after_interruption, acknowledged_grows, SubflowCopy, Setting, Sender, repeats}
+use Rattle.clean_finish.proofs.Words.{is_same, next_row, IsLong, RecordsAre, IsPhase, IsOpen, Sent, copy_in, Opening, Listening, HalfOpen, Open}
+use Rattle.loss_recovery.specs.Windows.{is_third}
+use Rattle.subflow_send.specs.declared.record.AckKind.TheVariants.{New}
 use Rattle.clean_finish.proofs.AckNew.{acked_to, new_ack, same_ack, kind_new, kind_same, records_acked, records_same, window_on, open_acked}
 use Rattle.clean_finish.proofs.Machine.{stays_long}
 

@@ -1,24 +1,12 @@
 -- What holds of each kind of copy as it arrives in order.
-use Rattle.std.proofs.Common.{◌≡◌, refl, sym, subst, ap, ◌∙◌, ℕ, zero, suc, ◌+◌, ◌-◌, ◌<◌, ◌≤◌, nat_lt, nat_le, Bool, true, false, not, ◌&&◌, if◌then◌else◌, Option, Some, None, List, [], ◌∷◌, length, take, drop, map, arith}
-use Rattle.std.specs.List.{list_any}
-use Rattle.std.proofs.lemmas.Bool.{both_ways, lt-ltb, le-ltb, le-leb}
-use Rattle.sides.specs.declared.side.Side.{Side}
-use Rattle.sides.specs.declared.side.Side.TheVariants.{B}
-use Rattle.path_segments.specs.Laws.{meant}
-use Rattle.subflow_recv.specs.Receiving.{Receiving, after_hold, by_place, merged}
-use Rattle.subflow_tcp.specs.declared.handshake.State.{State}
-use Rattle.subflow_tcp.specs.declared.verdicts.Meaning.{Meaning}
-use Rattle.subflow_tcp.specs.States.{is_half_open}
-use Rattle.subflow_tcp.specs.Taking.{first_fin}
-use Rattle.actor_desk.specs.Words.{is_nil}
-use Rattle.path_core.specs.OptionsIn.{edge_held, has_data_ack}
-use Rattle.path_core.specs.Standing.{is_connected}
-use Rattle.path_core.specs.Profile.{Profile}
-use Rattle.clean_finish.specs.Segments.{Sent, Keys, Brings, is_opening, is_subflow_end, shows_keys, is_third, is_piece, octets_of, said, CountsAs}
-use Rattle.clean_finish.specs.Segments.Brings.{OpensSubflow, ShowsKeys, FirstPiece, Piece, Acknowledges, EndsStream, EndsSubflow}
-use Rattle.clean_finish.specs.Shows.{IsPhase}
-use Rattle.clean_finish.specs.Shows.IsPhase.{Opening, Listening, HalfOpen, Open}
-use Rattle.clean_finish.specs.Running.{heard_by, count_in}
+use Rattle.clean_finish.proofs.Words.{◌≡◌, refl, sym, subst, ap, ◌∙◌, ℕ, ◌+◌, ◌-◌, ◌<◌, ◌≤◌, nat_lt, Bool, true, false, not, ◌&&◌, if◌then◌else◌, Option, None}
+use Rattle.clean_finish.proofs.Words.{List, [], ◌∷◌, length, map, arith, Some, suc, zero, nat_le, drop, take, both_ways, lt-ltb, le-ltb, le-leb, list_any, Side}
+use Rattle.clean_finish.proofs.Words.{B, Receiving, after_hold, State, is_half_open, first_fin, Meaning, meant, is_nil, Profile, is_connected, edge_held}
+use Rattle.clean_finish.proofs.Words.{has_data_ack, IsPhase, Sent, Keys, Brings, shows_keys, is_third, is_subflow_end, octets_of, CountsAs, said, is_piece}
+use Rattle.clean_finish.proofs.Words.{OpensSubflow, ShowsKeys, FirstPiece, Piece, Acknowledges, EndsStream, EndsSubflow, count_in, heard_by, Opening, Listening}
+use Rattle.clean_finish.proofs.Words.{HalfOpen, Open}
+use Rattle.subflow_recv.specs.Receiving.{by_place, merged}
+use Rattle.clean_finish.specs.Segments.{is_opening}
 use Rattle.clean_finish.proofs.CopySays.{drop_place}
 
 -- ---- keys

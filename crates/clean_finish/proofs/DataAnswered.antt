@@ -1,45 +1,16 @@
 -- The steps in which an end asks for bytes and sends them.
-use Rattle.std.proofs.Common.{◌≡◌, refl, sym, subst, ap, ◌∙◌, ℕ, ◌+◌, ◌<◌, ◌≤◌, ◌^◌, ◌==◌, max, nat_le, nat_lt, if◌then◌else◌, Bool, true, false, not, ◌&&◌, ◌⊎◌, inl, inr, Option, Some, None, Result, Ok, Err, List, [], ◌∷◌, length, find, arith}
-use Rattle.std.proofs.lemmas.Bool.{both_ways, leb-true, lt-ltb, eqb-true}
-use Rattle.sides.specs.declared.side.Side.{Side}
-use Rattle.sides.specs.declared.side.Side.TheVariants.{A, B}
-use Rattle.link_model.specs.Laws.{plain_flight, going_to}
-use Rattle.link_model.specs.Steps.{after_send}
-use Rattle.path_segments.specs.Spelled.{PlainSegment}
+use Rattle.clean_finish.proofs.Words.{◌≡◌, refl, sym, subst, ap, ◌∙◌, ℕ, ◌+◌, ◌<◌, ◌≤◌, max, nat_lt, Bool, true, false, not, ◌&&◌, if◌then◌else◌, ◌⊎◌, inl, inr}
+use Rattle.clean_finish.proofs.Words.{Option, None, List, [], ◌∷◌, length, arith, Some, nat_le, ◌==◌, ◌^◌, find, Ok, Err, Result, both_ways, lt-ltb, leb-true}
+use Rattle.clean_finish.proofs.Words.{eqb-true, Side, A, B, decision, reply_by, given_by, SendCall, Why, Record, is_unsent, syn_record, never_sent, Data, State}
+use Rattle.clean_finish.proofs.Words.{is_closed_to_segments, one_if, Occasion, going_to, plain_flight, after_send, PlainSegment, Duty, StepDuty, Reply}
+use Rattle.clean_finish.proofs.Words.{SixBooks, reply_of, after_ask, Ask, AppState, Carried, carried_by, stripped, altered, values, is_shut, PathState}
+use Rattle.clean_finish.proofs.Words.{with_agenda, record_or_ack, having_sent, sent_on, first_unsent, fits, payload_size, data_stands, data_ask, grant_in}
+use Rattle.clean_finish.proofs.Words.{answered_grant, answered_data, mapping_of, is_first_piece, Setting, Lane, all_left, Sender, Going, PathPlan, Start}
+use Rattle.clean_finish.proofs.Words.{brings_still, IsPhase, Waits, WaitsSyn, WaitsNone, WaitsBytes, Keys, said, FliesAs, own_bench, other_bench, FacesOfB}
+use Rattle.clean_finish.proofs.Words.{IsSetting, Runs, keys_in, FacesOfA, Opening, Listening, HalfOpen, Open}
 use Rattle.send_book.specs.declared.call.Span.{Span}
-use Rattle.send_book.specs.declared.call.Why.{Why}
 use Rattle.send_book.specs.declared.call.Why.TheVariants.{Ended, NothingFree, WindowShut}
-use Rattle.send_book.specs.declared.call.SendCall.{SendCall}
-use Rattle.send_book.specs.Steps.{decision, reply_by, given_by}
-use Rattle.subflow_send.specs.declared.record.RecordKind.TheVariants.{Data}
-use Rattle.subflow_send.specs.Records.{Record}
-use Rattle.subflow_send.specs.Rules.{is_unsent, syn_record}
-use Rattle.subflow_send.specs.Sendings.{never_sent}
-use Rattle.subflow_tcp.specs.declared.handshake.State.{State}
-use Rattle.subflow_tcp.specs.declared.segments.Occasion.{Occasion}
-use Rattle.subflow_tcp.specs.States.{is_opening, is_closed_to_segments}
-use Rattle.subflow_tcp.specs.Segments.{one_if}
-use Rattle.actor_desk.specs.declared.ask.Ask.{Ask}
-use Rattle.actor_desk.specs.declared.ask.Reply.{Reply}
-use Rattle.actor_desk.specs.Desk.{SixBooks, reply_of, after_ask}
-use Rattle.stream_apps.specs.Apps.{AppState}
-use Rattle.path_agenda.specs.declared.duty.Duty.{Duty}
-use Rattle.path_agenda.specs.declared.duty.StepDuty.{StepDuty}
-use Rattle.path_core.specs.Emission.{first_unsent, fits, payload_size, data_stands, data_ask, grant_in, answered_grant, answered_data}
-use Rattle.path_core.specs.Handover.{having_sent, sent_on}
-use Rattle.path_core.specs.DssOut.{mapping_of, is_first_piece}
-use Rattle.path_core.specs.OptionsOut.{record_or_ack}
-use Rattle.path_core.specs.State.{PathState, with_agenda}
-use Rattle.path_core.specs.DataFin.{is_shut}
-use Rattle.path_core.specs.Values.{Carried, carried_by, stripped, altered, values}
-use Rattle.world_laws.specs.Openings.{PathPlan, Start}
-use Rattle.pace.specs.Lane.{Setting, Lane, Sender, all_left}
-use Rattle.pace.specs.Going.{Going}
-use Rattle.clean_finish.specs.Segments.{Keys, said, FliesAs}
-use Rattle.clean_finish.specs.Shows.{brings_still, IsPhase, Waits}
-use Rattle.clean_finish.specs.Shows.IsPhase.{Opening, Listening, HalfOpen, Open}
-use Rattle.clean_finish.specs.Shows.Waits.{WaitsSyn, WaitsNone, WaitsBytes}
-use Rattle.clean_finish.specs.Running.{FacesOfA, FacesOfB, own_bench, other_bench, IsSetting, Runs, keys_in}
+use Rattle.subflow_tcp.specs.States.{is_opening}
 use Rattle.clean_finish.proofs.BytesSent.{piece_is, piece, piece_goes}
 use Rattle.clean_finish.proofs.Dropping.{differ}
 use Rattle.clean_finish.proofs.Emitted.{first_waits}

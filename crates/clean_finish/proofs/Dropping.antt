@@ -1,16 +1,8 @@
 -- A duty that nothing waits for is left behind: all stays as it is.
-use Rattle.std.proofs.Common.{◌≡◌, refl, sym, ◌∙◌, ap, ℕ, ◌≤◌, ◌==◌, eq-eqb, Bool, true, false, ◌⊎◌, inl, inr, ⊎_elim, List, ◌∷◌}
-use Rattle.std.proofs.lemmas.Bool.{both_ways}
-use Rattle.sides.specs.declared.side.Side.{Side}
-use Rattle.sides.specs.declared.side.Side.TheVariants.{A}
-use Rattle.path_agenda.specs.declared.duty.Duty.{Duty}
-use Rattle.path_agenda.specs.declared.duty.AskDuty.{AskDuty}
-use Rattle.path_agenda.specs.declared.duty.SendDuty.{SendDuty}
-use Rattle.path_agenda.specs.declared.duty.SilentDuty.{SilentDuty}
-use Rattle.path_agenda.specs.declared.duty.StepDuty.{StepDuty}
-use Rattle.path_core.specs.End.{PathEnd}
-use Rattle.pace.specs.Lane.{Setting, Sender, Receiver, Stage}
-use Rattle.clean_finish.specs.Running.{Has, StageIs, IsSettledSoon, HasNotBegun}
+use Rattle.clean_finish.proofs.Words.{◌≡◌, refl, sym, ap, ◌∙◌, ℕ, ◌≤◌, Bool, true, false, ◌⊎◌, inl, inr, ⊎_elim, List, ◌∷◌, ◌==◌, both_ways, Side, A, Duty}
+use Rattle.clean_finish.proofs.Words.{SendDuty, StepDuty, AskDuty, SilentDuty, PathEnd, Setting, Stage, Sender, Receiver, Has, StageIs, HasNotBegun}
+use Rattle.clean_finish.proofs.Words.{IsSettledSoon}
+use Rattle.std.proofs.Common.{eq-eqb}
 
 -- something waits for these
 abbrev pub is_waited : Duty → Bool

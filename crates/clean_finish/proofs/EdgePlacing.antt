@@ -1,40 +1,17 @@
 -- The steps in which the bytes of a copy are placed, or none is left to be placed.
-use Rattle.std.proofs.Common.{◌≡◌, refl, sym, subst, ap, ◌∙◌, ℕ, ◌+◌, ◌-◌, ◌≤◌, min, max, nat_lt, Bool, true, false, ◌&&◌, if◌then◌else◌, is_some, inl, inr, ⊎_elim, Option, Some, None, List, [], ◌∷◌, length, drop, map, arith}
-use Rattle.std.proofs.lemmas.Bool.{both_ways, le-ltb, ne_eqb}
-use Rattle.sides.specs.declared.side.Side.TheVariants.{A, B}
-use Rattle.dss_mapping.specs.declared.kept.KeptMapping.{KeptMapping}
-use Rattle.dss_mapping.specs.Mappings.{mapping_at}
-use Rattle.reassembly_book.specs.declared.call.ReassemblyCall.{ReassemblyCall}
-use Rattle.reassembly_book.specs.declared.call.ReassemblyReply.TheVariants.{Beyond}
-use Rattle.reassembly_book.specs.State.{Arriving}
-use Rattle.reassembly_book.specs.Steps.{clash, edge, place_reply, placed_reply, reaches_past}
-use Rattle.subflow_tcp.specs.Judging.{is_at}
-use Rattle.actor_desk.specs.declared.ask.Ask.{Ask}
-use Rattle.actor_desk.specs.declared.ask.Reply.{Reply}
-use Rattle.actor_desk.specs.Desk.{SixBooks, reply_of, after_ask}
-use Rattle.actor_desk.specs.Words.{is_nil}
-use Rattle.stream_apps.specs.Apps.{AppState}
-use Rattle.path_agenda.specs.declared.duty.Duty.{Duty}
-use Rattle.path_agenda.specs.declared.duty.AskDuty.{AskDuty}
-use Rattle.path_agenda.specs.declared.duty.StepDuty.{StepDuty}
-use Rattle.fallback_state.specs.Modes.{reads_mappings}
-use Rattle.path_store.specs.declared.infinite_mapping.InfiniteMapping.{InfiniteMapping}
-use Rattle.path_store.specs.Passing.{Piece, some_piece}
-use Rattle.path_core.specs.Deliver.{after_check, failing_by, forgotten_by, infinite_piece, mapped_piece, mapping_here, next_piece, piece_by, plain_piece, answered_piece, is_placed, piece_ask}
-use Rattle.path_core.specs.End.{PathEnd}
-use Rattle.path_core.specs.Fallback.{check_failed_stands}
+use Rattle.clean_finish.proofs.Words.{◌≡◌, refl, sym, subst, ap, ◌∙◌, ℕ, ◌+◌, ◌-◌, ◌≤◌, min, max, nat_lt, Bool, true, false, ◌&&◌, if◌then◌else◌, inl, inr}
+use Rattle.clean_finish.proofs.Words.{⊎_elim, Option, None, List, [], ◌∷◌, length, map, arith, Some, is_some, drop, both_ways, le-ltb, ne_eqb, reads_mappings}
+use Rattle.clean_finish.proofs.Words.{A, B, Arriving, clash, reaches_past, edge, place_reply, placed_reply, ReassemblyCall, Beyond, KeptMapping, mapping_at}
+use Rattle.clean_finish.proofs.Words.{is_at, InfiniteMapping, some_piece, Duty, StepDuty, AskDuty, is_nil, Reply, SixBooks, reply_of, after_ask, Ask, AppState}
+use Rattle.clean_finish.proofs.Words.{Profile, Carried, PathEnd, PathState, with_agenda, with_end, after_check, failing_by, forgotten_by, infinite_piece}
+use Rattle.clean_finish.proofs.Words.{mapped_piece, mapping_here, next_piece, piece_by, plain_piece, answered_piece, is_placed, piece_ask, check_failed_stands}
+use Rattle.clean_finish.proofs.Words.{Setting, Lane, all_left, Going, PathPlan, Start, IsMapping, Sent, Keys, Brings, is_subflow_end, octets_of, CountsAs}
+use Rattle.clean_finish.proofs.Words.{data_fin_of, is_news, is_owed, FirstPiece, TreatsCopy, kept_in, own_bench, other_bench, IsSetting, Runs, keys_in}
+use Rattle.clean_finish.proofs.Words.{kept_piece, end_duties, place_duties, fin_in, AfterKeeping}
+use Rattle.path_store.specs.Passing.{Piece}
 use Rattle.path_store.specs.InfiniteMappings.{covers}
-use Rattle.path_core.specs.State.{PathState, with_agenda, with_end}
-use Rattle.path_core.specs.Profile.{Profile}
-use Rattle.path_core.specs.Values.{Carried}
-use Rattle.world_laws.specs.Openings.{PathPlan, Start}
-use Rattle.pace.specs.Lane.{Setting, Lane, all_left}
-use Rattle.pace.specs.Going.{Going}
-use Rattle.clean_finish.specs.Segments.{Sent, Keys, Brings, is_news, is_opening, is_owed, is_subflow_end, data_fin_of, octets_of, CountsAs}
-use Rattle.clean_finish.specs.Segments.Brings.{FirstPiece, Piece as Bytes}
-use Rattle.clean_finish.specs.Running.{TreatsCopy, fin_in, kept_in, kept_piece, end_duties, place_duties, own_bench, other_bench, IsSetting, Runs, keys_in}
-use Rattle.clean_finish.specs.Running.Treatment.{AfterKeeping}
-use Rattle.clean_finish.specs.Shows.{IsMapping}
+use Rattle.clean_finish.specs.Segments.{is_opening}
+use Rattle.clean_finish.specs.Segments.Brings.{Piece as Bytes}
 use Rattle.clean_finish.proofs.BytesPlaced.{none_clashes, none_past}
 use Rattle.clean_finish.proofs.EndPassing.{end_mapped, sent_some, some_of}
 use Rattle.clean_finish.proofs.Hands.{in_hand}

@@ -1,34 +1,12 @@
 -- The steps in which the peer's DATA_FIN is told, and those of a copy that come to nothing before it.
-use Rattle.std.proofs.Common.{◌≡◌, refl, sym, subst, ap, ◌∙◌, ℕ, suc, ◌+◌, ◌≤◌, min, max, nat_le, nat_lt, Bool, true, false, not, ◌&&◌, if◌then◌else◌, is_some, is_none, inl, inr, ⊎_elim, Option, Some, None, List, ◌∷◌, arith}
-use Rattle.std.proofs.lemmas.Bool.{both_ways}
-use Rattle.control_book.specs.Replies.{is_sure}
-use Rattle.sides.specs.declared.side.Side.{Side}
-use Rattle.sides.specs.declared.side.Side.TheVariants.{A, B}
-use Rattle.reassembly_book.specs.declared.call.ReassemblyCall.{ReassemblyCall}
-use Rattle.reassembly_book.specs.Steps.{fin_reply_by}
-use Rattle.subflow_tcp.specs.Judging.{is_at}
-use Rattle.actor_desk.specs.declared.ask.Ask.{Ask}
-use Rattle.actor_desk.specs.declared.ask.Reply.{Reply}
-use Rattle.actor_desk.specs.Desk.{SixBooks, reply_of, after_ask}
-use Rattle.stream_apps.specs.Apps.{AppState}
-use Rattle.path_agenda.specs.declared.duty.Duty.{Duty}
-use Rattle.path_agenda.specs.declared.duty.AskDuty.{AskDuty}
-use Rattle.path_agenda.specs.declared.duty.StepDuty.{StepDuty}
-use Rattle.path_store.specs.declared.mapped_data_fin.MappedDataFin.{MappedDataFin}
-use Rattle.path_core.specs.Deliver.{after_pieces, breaks_by_unmapped, fins_and, mapping_here, times_unmapped, with_data_fin_reached}
-use Rattle.path_store.specs.Receiving.{data_fin_reached}
-use Rattle.path_core.specs.End.{PathEnd}
-use Rattle.path_core.specs.Modes.{receives_plainly}
-use Rattle.path_core.specs.DataFin.{answered_fin_heard, data_fin_of, fin_ask, is_fin_set}
-use Rattle.path_core.specs.State.{PathState, with_agenda, with_end}
-use Rattle.path_core.specs.Values.{Carried}
-use Rattle.path_core.specs.Choices.{item_at}
-use Rattle.world_laws.specs.Openings.{PathPlan, Start}
-use Rattle.pace.specs.Lane.{Setting, Lane, all_left}
-use Rattle.pace.specs.Going.{Going}
-use Rattle.clean_finish.specs.Segments.{Keys}
-use Rattle.clean_finish.specs.Shows.{NoneMapped}
-use Rattle.clean_finish.specs.Running.{Bench, TreatsDataFin, TreatsEnd, fin_duties, end_duties, own_bench, other_bench, IsSetting, Runs, keys_in}
+use Rattle.clean_finish.proofs.Words.{◌≡◌, refl, sym, subst, ap, ◌∙◌, ℕ, ◌+◌, ◌≤◌, min, max, nat_lt, Bool, true, false, not, ◌&&◌, if◌then◌else◌, inl, inr}
+use Rattle.clean_finish.proofs.Words.{⊎_elim, Option, None, List, ◌∷◌, arith, Some, suc, is_some, nat_le, is_none, both_ways, Side, A, B, is_sure, fin_reply_by}
+use Rattle.clean_finish.proofs.Words.{ReassemblyCall, is_at, data_fin_reached, MappedDataFin, Duty, StepDuty, AskDuty, Reply, SixBooks, reply_of, after_ask}
+use Rattle.clean_finish.proofs.Words.{Ask, AppState, Carried, PathEnd, answered_fin_heard, fin_ask, is_fin_set, PathState, with_agenda, with_end}
+use Rattle.clean_finish.proofs.Words.{receives_plainly, mapping_here, fins_and, after_pieces, breaks_by_unmapped, times_unmapped, with_data_fin_reached}
+use Rattle.clean_finish.proofs.Words.{item_at, Setting, Lane, all_left, Going, PathPlan, Start, NoneMapped, Keys, own_bench, other_bench, IsSetting, Runs}
+use Rattle.clean_finish.proofs.Words.{keys_in, Bench, end_duties, TreatsEnd, fin_duties, TreatsDataFin}
+use Rattle.path_core.specs.DataFin.{data_fin_of}
 use Rattle.clean_finish.proofs.FinTold.{counts, fin_told, no_clash, received}
 use Rattle.clean_finish.proofs.Passing.{free_drops}
 use Rattle.clean_finish.proofs.Quiet.{open_when_ready}

@@ -1,36 +1,11 @@
 -- An end sends its DATA_FIN, on an acknowledgement.
-use Rattle.std.proofs.Common.{◌≡◌, refl, sym, subst, ap, ◌∙◌, ℕ, zero, suc, ◌+◌, ◌-◌, ◌<◌, ◌≤◌, min, max, Bool, true, false, not, is_some, cond, ◌&&◌, inl, inr, ⊎_elim, Option, Some, None, List, [], ◌∷◌, ◌++◌, le_refl, arith}
-use Rattle.std.proofs.lemmas.Bool.{both_ways}
-use Rattle.sides.specs.declared.side.Side.{Side}
-use Rattle.sides.specs.declared.side.Side.TheVariants.{A, B}
-use Rattle.sides.specs.Side.{peer}
-use Rattle.link_model.specs.declared.flight.Flight.{Flight}
-use Rattle.path_segments.specs.Laws.{window_told}
-use Rattle.subflow_tcp.specs.declared.handshake.State.{State}
-use Rattle.subflow_tcp.specs.States.{may_finish}
-use Rattle.subflow_tcp.specs.Segments.{one_if}
-use Rattle.path_agenda.specs.declared.duty.Duty.{Duty}
-use Rattle.path_agenda.specs.declared.duty.SendDuty.{SendDuty}
-use Rattle.path_agenda.specs.declared.duty.StepDuty.{StepDuty}
-use Rattle.path_core.specs.End.{PathEnd}
-use Rattle.path_core.specs.Modes.{sends_plainly}
-use Rattle.path_core.specs.OptionsOut.{ack_said}
-use Rattle.path_core.specs.DataFin.{is_data_fin_due}
-use Rattle.path_core.specs.Standing.{is_connected}
-use Rattle.path_core.specs.Profile.{Profile}
-use Rattle.path_core.specs.Values.{Carried}
-use Rattle.actor_desk.specs.Words.{pick}
-use Rattle.pace.specs.Lane.{Setting, Telling, Copy, Lane, Stage, is_whole, all_left}
-use Rattle.pace.specs.Rules.{is_same, repeats}
-use Rattle.pace.specs.Going.{Going, pending}
-use Rattle.pace.specs.Moves.{MaySay, MaySend}
-use Rattle.pace.specs.Moves.Move.{sends_none}
-use Rattle.clean_finish.specs.Segments.{Sent, Keys, copy_in, dss_from, said, FliesAs, AcknowledgesAs}
-use Rattle.clean_finish.specs.Segments.Brings.{EndsStream}
-use Rattle.clean_finish.specs.Shows.{Hand, brings_still, HeardIs, IsPhase, last_told, row_seen}
-use Rattle.clean_finish.specs.Shows.IsPhase.{Opening, Listening, HalfOpen, Open}
-use Rattle.clean_finish.specs.Shows.IsToldEdge.{Same}
-use Rattle.clean_finish.specs.Running.{Has, Half, Facing, IsSetting, StageIs}
+use Rattle.clean_finish.proofs.Words.{◌≡◌, refl, sym, subst, ap, ◌∙◌, ℕ, ◌+◌, ◌-◌, ◌<◌, ◌≤◌, min, max, Bool, true, false, cond, not, ◌&&◌, inl, inr, ⊎_elim}
+use Rattle.clean_finish.proofs.Words.{Option, None, List, [], ◌∷◌, ◌++◌, arith, Some, suc, le_refl, zero, is_some, both_ways, Side, A, B, peer, State}
+use Rattle.clean_finish.proofs.Words.{may_finish, one_if, Flight, window_told, Duty, SendDuty, StepDuty, pick, Profile, Carried, PathEnd, is_data_fin_due}
+use Rattle.clean_finish.proofs.Words.{is_connected, ack_said, sends_plainly, Setting, Telling, Copy, Lane, Stage, is_whole, all_left, Going, pending, MaySay}
+use Rattle.clean_finish.proofs.Words.{MaySend, sends_none, repeats, is_same, Hand, HeardIs, last_told, row_seen, brings_still, IsPhase, Sent, Keys, copy_in}
+use Rattle.clean_finish.proofs.Words.{AcknowledgesAs, said, FliesAs, dss_from, EndsStream, Same, IsSetting, Facing, Half, Has, StageIs, end_known, Opening}
+use Rattle.clean_finish.proofs.Words.{Listening, HalfOpen, Open}
 use Rattle.clean_finish.proofs.Hands.{way_none}
 use Rattle.clean_finish.proofs.Opened.{waiting_on}
 use Rattle.clean_finish.proofs.Passing.{end_passes}
@@ -38,7 +13,6 @@ use Rattle.clean_finish.proofs.Quiet.{now_out, now_back, phase_is}
 use Rattle.clean_finish.proofs.Ending.{end_after, own_ended}
 use Rattle.clean_finish.proofs.Sendings.{same_bytes, sent_off}
 use Rattle.clean_finish.proofs.TakenMeant.{acknowledges_some}
-use Rattle.clean_finish.specs.Reading.{end_known}
 
 -- an acknowledgement with the DATA_FIN
 pub end_is : (c : Profile) (keys : Keys) (s : Side) (place : ℕ) (x : Sent) (e : PathEnd) → x.brings ≡ EndsStream place → e.modes.identity ≡ false

@@ -1,20 +1,7 @@
 -- The end that sends an acknowledgement with its DATA_FIN.
-use Rattle.std.proofs.Common.{◌≡◌, refl, sym, subst, ap, ◌∙◌, ℕ, ◌+◌, ◌≤◌, min, max, Bool, false, Option, List, length, arith}
-use Rattle.std.proofs.lemmas.List.Elements.{All-weaker}
-use Rattle.sides.specs.declared.side.Side.{Side}
-use Rattle.sides.specs.declared.side.Side.TheVariants.{A}
-use Rattle.subflow_tcp.specs.declared.dues.Due.{Due}
-use Rattle.subflow_tcp.specs.declared.segments.Occasion.{Occasion}
-use Rattle.path_agenda.specs.declared.duty.Duty.{Duty}
-use Rattle.path_core.specs.DataFin.{with_data_fin_sent}
-use Rattle.path_core.specs.End.{PathEnd}
-use Rattle.path_core.specs.Handover.{having_sent}
-use Rattle.path_core.specs.Profile.{Profile}
-use Rattle.actor_desk.specs.Words.{pick}
-use Rattle.pace.specs.Lane.{Setting, Lane}
-use Rattle.clean_finish.specs.Segments.{Sent, Keys, said, data_fin_of, octets_of}
-use Rattle.clean_finish.specs.Shows.{Hand, EndIs, HeardIs, IsGranted, IsToldEdge, last_told, row_seen, brings_still}
-use Rattle.clean_finish.specs.Running.{Half, Facing}
+use Rattle.clean_finish.proofs.Words.{◌≡◌, refl, sym, subst, ap, ◌∙◌, ℕ, ◌+◌, ◌≤◌, min, max, Bool, false, Option, List, length, arith, All-weaker, Side, A, Due}
+use Rattle.clean_finish.proofs.Words.{Occasion, Duty, pick, Profile, PathEnd, with_data_fin_sent, having_sent, Setting, Lane, Hand, EndIs, HeardIs, IsGranted}
+use Rattle.clean_finish.proofs.Words.{last_told, row_seen, brings_still, IsToldEdge, Sent, Keys, octets_of, said, data_fin_of, Facing, Half}
 use Rattle.clean_finish.proofs.AckNew.{records_same}
 use Rattle.clean_finish.proofs.Sendings.{out_after as sent_after, back_after as said_after}
 use Rattle.clean_finish.proofs.Spans.{spans_for}

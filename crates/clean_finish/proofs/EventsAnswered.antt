@@ -1,26 +1,10 @@
 -- The next event of a turn is answered: the copy that is first on its way arrives.
-use Rattle.std.proofs.Common.{◌≡◌, refl, sym, subst, ap, ◌∙◌, ℕ, ◌<◌, Bool, true, false, is_some, Option, Some, None, List, [], ◌∷◌}
-use Rattle.std.proofs.lemmas.Bool.{both_ways}
-use Rattle.sides.specs.declared.side.Side.{Side}
-use Rattle.sides.specs.declared.side.Side.TheVariants.{A, B}
-use Rattle.link_model.specs.declared.flight.Flight.{Flight}
-use Rattle.link_model.specs.Steps.{due_of}
-use Rattle.actor_desk.specs.Desk.{SixBooks, reply_of, after_ask}
-use Rattle.stream_apps.specs.Apps.{AppState}
-use Rattle.path_agenda.specs.declared.duty.Duty.{Duty}
-use Rattle.path_agenda.specs.declared.duty.StepDuty.{StepDuty}
-use Rattle.path_agenda.specs.Agenda.{rest_of_turn}
+use Rattle.clean_finish.proofs.Words.{◌≡◌, refl, sym, subst, ap, ◌∙◌, ℕ, ◌<◌, Bool, true, false, Option, None, List, [], ◌∷◌, Some, is_some, both_ways, Side, A}
+use Rattle.clean_finish.proofs.Words.{B, Flight, due_of, Duty, StepDuty, rest_of_turn, SixBooks, reply_of, after_ask, AppState, Carried, values, copy_taken}
+use Rattle.clean_finish.proofs.Words.{PathState, with_agenda, path_of, next_event, step_for, happens_if, Setting, Lane, all_left, Going, PathPlan, Start, Sent}
+use Rattle.clean_finish.proofs.Words.{Keys, Brings, OpensSubflow, IsSetting, Runs, keys_in}
 use Rattle.path_core.specs.declared.events.Event.{Event}
-use Rattle.path_core.specs.Events.{next_event, step_for, happens_if}
-use Rattle.path_core.specs.Arrival.{copy_taken}
-use Rattle.path_core.specs.State.{PathState, path_of, with_agenda}
-use Rattle.path_core.specs.Values.{Carried, values}
-use Rattle.world_laws.specs.Openings.{PathPlan, Start}
-use Rattle.pace.specs.Lane.{Setting, Lane, all_left}
-use Rattle.pace.specs.Going.{Going}
-use Rattle.clean_finish.specs.Segments.{Sent, Keys, Brings, is_opening}
-use Rattle.clean_finish.specs.Segments.Brings.{OpensSubflow}
-use Rattle.clean_finish.specs.Running.{IsSetting, Runs, keys_in}
+use Rattle.clean_finish.specs.Segments.{is_opening}
 use Rattle.clean_finish.proofs.AnswerComes.{answer_comes}
 use Rattle.clean_finish.proofs.ArrivesAtA.{first as first_a}
 use Rattle.clean_finish.proofs.ArrivesAtB.{first as first_b}

@@ -1,15 +1,11 @@
 -- A connection of empty files goes on as lanes: all that happens comes in the first round, and the others bring
 -- nothing.
-use Rattle.std.proofs.Common.{◌≡◌, refl, ℕ, zero, suc, ◌+◌, ◌-◌, ◌<◌, min, ◌≤◌, nat_lt, nat_le, le_refl, true, false, inl, inr, None, List, [], ◌∷◌, arith}
-use Rattle.std.proofs.lemmas.Bool.{both_ways, leb-true, ltb-true}
-use Rattle.pace.specs.Lane.{Setting, Copy, Lane, Stage, data_ack, window_edge, all_left}
-use Rattle.pace.specs.Rules.{opens_round, first_lane, said_by, repeats}
-use Rattle.pace.specs.Lists.{first_at}
-use Rattle.pace.specs.Going.{pending}
-use Rattle.pace.specs.Moves.{Move, MaySay, MaySend, MayMove, MayHearAck, MayRefuse, MaySkip, HasEmitted, IsBefore}
-use Rattle.pace.specs.Moves.Move.{closes, ends_writing, ends_reading, asks, says, keeps_quiet, sends_none, is_refused, has_emitted, has_finished, waits_no_more, flags, moves, hears, skips, is_acknowledged, goes_back}
-use Rattle.pace.specs.Rounds.{Moves, Round, Linked, Course}
-use Rattle.clean_finish.specs.Laws.{setting_of, a_path}
+use Rattle.clean_finish.proofs.Words.{◌≡◌, refl, ℕ, ◌+◌, ◌-◌, ◌<◌, ◌≤◌, min, nat_lt, true, false, inl, inr, None, List, [], ◌∷◌, arith, suc, le_refl, zero}
+use Rattle.clean_finish.proofs.Words.{nat_le, both_ways, ltb-true, leb-true, Setting, Copy, Lane, Stage, all_left, data_ack, window_edge, pending, Move, MaySay}
+use Rattle.clean_finish.proofs.Words.{MaySend, MayMove, MayHearAck, MayRefuse, MaySkip, HasEmitted, IsBefore, closes, ends_writing, ends_reading, asks, says}
+use Rattle.clean_finish.proofs.Words.{keeps_quiet, sends_none, is_refused, has_emitted, has_finished, waits_no_more, flags, hears, skips, is_acknowledged}
+use Rattle.clean_finish.proofs.Words.{goes_back, opens_round, first_lane, said_by, repeats, first_at, Moves, Round, Linked, Course, setting_of, a_path}
+use Rattle.pace.specs.Moves.Move.{moves}
 use Rattle.clean_finish.proofs.Moving.{more_than, moves_then}
 
 abbrev k : Setting

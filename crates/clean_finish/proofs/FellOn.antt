@@ -1,22 +1,10 @@
 -- A mapping or a Data ACK is told to the control book, which may be sure of Multipath TCP from then on.
-use Rattle.std.proofs.Common.{◌≡◌, refl, Bool, true, false, if◌then◌else◌}
-use Rattle.sides.specs.declared.side.Side.{Side}
-use Rattle.control_book.specs.declared.call.ControlReply.{ControlReply}
-use Rattle.control_book.specs.Control.{Control}
+use Rattle.clean_finish.proofs.Words.{◌≡◌, refl, Bool, true, false, if◌then◌else◌, is_starting, after_sure_sign, stays, Side, Control, ControlReply, Reply}
+use Rattle.clean_finish.proofs.Words.{Carried, Modes, PathState, left, mode_in, fell_duties, Sender, Receiver, ControlIs, ModesAre, Keys, IsSure}
 use Rattle.fallback_state.specs.declared.fall.Fall.{Fall}
 use Rattle.fallback_state.specs.declared.fall.Mode.TheVariants.{Sure}
 use Rattle.fallback_state.specs.declared.fall.Verdict.{Verdict}
-use Rattle.fallback_state.specs.Modes.{is_starting}
-use Rattle.fallback_state.specs.Table.{after_sure_sign, goes, stays}
-use Rattle.actor_desk.specs.declared.ask.Reply.{Reply}
-use Rattle.path_core.specs.declared.modes.Modes.{Modes}
-use Rattle.path_core.specs.Fallback.{fell_duties, mode_in}
-use Rattle.path_core.specs.State.{PathState, left}
-use Rattle.path_core.specs.Values.{Carried}
-use Rattle.pace.specs.Lane.{Sender, Receiver}
-use Rattle.clean_finish.specs.Segments.{Keys}
-use Rattle.clean_finish.specs.Shows.{ControlIs, ModesAre}
-use Rattle.clean_finish.specs.Shows.IsPlainMode.{IsSure}
+use Rattle.fallback_state.specs.Table.{goes}
 
 abbrev by_sign : Bool → Fall → Fall × Verdict
 by_sign b fall = if b then goes Sure fall else stays fall

@@ -1,28 +1,10 @@
 -- The receive edge moves over the FIN of the peer.
-use Rattle.std.proofs.Common.{◌≡◌, refl, sym, subst, ap, ◌∙◌, ℕ, ◌+◌, ◌-◌, ◌<◌, ◌≤◌, min, max, Bool, true, false, ◌⊎◌, inl, inr, Option, List, ◌∷◌, ◌++◌, length, arith}
-use Rattle.std.proofs.lemmas.Bool.{both_ways}
-use Rattle.sides.specs.declared.side.Side.{Side}
-use Rattle.sides.specs.declared.side.Side.TheVariants.{B}
-use Rattle.sides.specs.Side.{peer}
-use Rattle.subflow_recv.specs.Receiving.{after_pass}
-use Rattle.subflow_tcp.specs.declared.handshake.State.{State}
-use Rattle.subflow_tcp.specs.States.{after_fin_passed}
-use Rattle.path_agenda.specs.declared.duty.Duty.{Duty}
-use Rattle.path_agenda.specs.declared.duty.AskDuty.{AskDuty}
-use Rattle.path_agenda.specs.declared.duty.SendDuty.{SendDuty}
-use Rattle.path_agenda.specs.declared.duty.SilentDuty.{SilentDuty}
-use Rattle.path_agenda.specs.declared.duty.StepDuty.{StepDuty}
-use Rattle.path_core.specs.End.{PathEnd}
-use Rattle.path_core.specs.Profile.{Profile}
-use Rattle.pace.specs.Lane.{Setting, Lane}
-use Rattle.clean_finish.specs.Books.{ReceiverIs}
-use Rattle.clean_finish.specs.Reading.{ReaderShows, ReaderIs, end_known}
-use Rattle.clean_finish.specs.Segments.{Sent, Keys, Brings, CountsAs, Follow, is_opening, octets_of, data_fin_of}
-use Rattle.clean_finish.specs.Segments.Brings.{EndsSubflow}
-use Rattle.clean_finish.specs.Shows.{Hand, brings_in, EndIs, HeardIs, IsOpen, IsToldEdge, last_told, row_seen}
-use Rattle.clean_finish.specs.Shows.IsPhase.{Open}
-use Rattle.clean_finish.specs.Shows.IsToldEdge.{Same, Before}
-use Rattle.clean_finish.specs.Running.{Has, Half, Facing}
+use Rattle.clean_finish.proofs.Words.{◌≡◌, refl, sym, subst, ap, ◌∙◌, ℕ, ◌+◌, ◌-◌, ◌<◌, ◌≤◌, min, max, Bool, true, false, ◌⊎◌, inl, inr, Option, List, ◌∷◌}
+use Rattle.clean_finish.proofs.Words.{◌++◌, length, arith, both_ways, Side, B, peer, after_pass, State, after_fin_passed, Duty, SendDuty, StepDuty, AskDuty}
+use Rattle.clean_finish.proofs.Words.{SilentDuty, Profile, PathEnd, Setting, Lane, Hand, EndIs, HeardIs, last_told, row_seen, brings_in, IsOpen, IsToldEdge}
+use Rattle.clean_finish.proofs.Words.{Sent, Keys, Brings, octets_of, CountsAs, Follow, data_fin_of, EndsSubflow, Same, Before, Facing, Half, Has, end_known}
+use Rattle.clean_finish.proofs.Words.{ReaderIs, ReaderShows, Open, ReceiverIs}
+use Rattle.clean_finish.specs.Segments.{is_opening}
 use Rattle.clean_finish.proofs.Brought.{back_after, brought, end_after}
 use Rattle.clean_finish.proofs.Hands.{in_hand}
 

@@ -1,24 +1,9 @@
 -- The steps in which the receive edge moves over the peer's FIN, or stays.
-use Rattle.std.proofs.Common.{◌≡◌, refl, sym, subst, ap, ◌∙◌, ℕ, ◌+◌, ◌-◌, ◌^◌, ◌<◌, ◌≤◌, min, max, nat_lt, Bool, true, false, if◌then◌else◌, ◌&&◌, ◌⊎◌, inl, inr, ⊎_elim, Option, Some, None, List, ◌∷◌, arith}
-use Rattle.std.proofs.lemmas.Bool.{cases_lt, le-ltb, lt-ltb, eq-eqb, ne_eqb}
-use Rattle.sides.specs.declared.side.Side.TheVariants.{A, B}
-use Rattle.subflow_tcp.specs.Closing.{is_fin_next, after_passing_fin}
-use Rattle.subflow_tcp.specs.Judging.{is_at}
-use Rattle.subflow_tcp.specs.State.{EndState}
-use Rattle.actor_desk.specs.Desk.{SixBooks}
-use Rattle.stream_apps.specs.Apps.{AppState}
-use Rattle.path_agenda.specs.declared.duty.Duty.{Duty}
-use Rattle.path_agenda.specs.declared.duty.AskDuty.{AskDuty}
-use Rattle.path_agenda.specs.declared.duty.SilentDuty.{SilentDuty}
-use Rattle.path_core.specs.DataFin.{after_pass_fin}
-use Rattle.path_core.specs.State.{PathState, with_agenda, with_end}
-use Rattle.path_core.specs.Values.{Carried}
-use Rattle.world_laws.specs.Openings.{PathPlan, Start}
-use Rattle.pace.specs.Lane.{Setting, Lane, Receiver, all_left}
-use Rattle.pace.specs.Going.{Going}
-use Rattle.clean_finish.specs.Segments.{Keys}
-use Rattle.clean_finish.specs.Shows.{IsIdle, HasCome}
-use Rattle.clean_finish.specs.Running.{TreatsLast, TreatsFin, last_duties, own_bench, other_bench, IsSetting, Runs, keys_in}
+use Rattle.clean_finish.proofs.Words.{◌≡◌, refl, sym, subst, ap, ◌∙◌, ℕ, ◌+◌, ◌-◌, ◌<◌, ◌≤◌, min, max, nat_lt, Bool, true, false, ◌&&◌, if◌then◌else◌, ◌⊎◌, inl}
+use Rattle.clean_finish.proofs.Words.{inr, ⊎_elim, Option, None, List, ◌∷◌, arith, Some, ◌^◌, cases_lt, lt-ltb, le-ltb, eq-eqb, ne_eqb, A, B, EndState, is_at}
+use Rattle.clean_finish.proofs.Words.{is_fin_next, after_passing_fin, Duty, AskDuty, SilentDuty, SixBooks, AppState, Carried, after_pass_fin, PathState}
+use Rattle.clean_finish.proofs.Words.{with_agenda, with_end, Setting, Lane, all_left, Receiver, Going, PathPlan, Start, IsIdle, HasCome, Keys, own_bench}
+use Rattle.clean_finish.proofs.Words.{other_bench, IsSetting, Runs, keys_in, TreatsLast, TreatsFin, last_duties}
 use Rattle.clean_finish.proofs.Dropping.{apart, behind}
 use Rattle.clean_finish.proofs.FinPassed.{counts, fin_passed, received}
 use Rattle.clean_finish.proofs.Passing.{free_drops}

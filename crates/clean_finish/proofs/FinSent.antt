@@ -1,30 +1,9 @@
 -- An end sends its FIN, once its DATA_FIN is acknowledged and the peer's came.
-use Rattle.std.proofs.Common.{◌≡◌, refl, sym, subst, ap, ◌∙◌, ℕ, ◌+◌, ◌-◌, ◌<◌, ◌≤◌, min, max, Bool, true, false, not, if◌then◌else◌, ◌&&◌, ⊎_elim, Option, None, List, [], ◌∷◌, ◌++◌, le_refl, arith}
-use Rattle.std.proofs.lemmas.Bool.{both_ways, and_parts, ltb-true, ltb-false}
-use Rattle.sides.specs.declared.side.Side.{Side}
-use Rattle.sides.specs.declared.side.Side.TheVariants.{A}
-use Rattle.sides.specs.Side.{peer}
-use Rattle.link_model.specs.declared.flight.Flight.{Flight}
-use Rattle.subflow_tcp.specs.States.{may_finish}
-use Rattle.path_agenda.specs.declared.duty.Duty.{Duty}
-use Rattle.path_agenda.specs.declared.duty.SendDuty.{SendDuty}
-use Rattle.path_agenda.specs.declared.duty.StepDuty.{StepDuty}
-use Rattle.path_core.specs.End.{PathEnd}
-use Rattle.path_core.specs.Modes.{sends_plainly}
-use Rattle.path_core.specs.OptionsOut.{fin_said}
-use Rattle.path_core.specs.DataFin.{is_all_granted, is_fin_due}
-use Rattle.path_core.specs.Profile.{Profile}
-use Rattle.path_core.specs.Values.{Carried}
-use Rattle.actor_desk.specs.Words.{pick}
-use Rattle.pace.specs.Lane.{Setting, Lane, all_left}
-use Rattle.pace.specs.Going.{Going, pending}
-use Rattle.pace.specs.Moves.{MaySay, MaySend}
-use Rattle.pace.specs.Moves.Move.{sends_none}
-use Rattle.clean_finish.specs.Segments.{Sent, Keys, copy_in, said, FliesAs}
-use Rattle.clean_finish.specs.Segments.Brings.{EndsSubflow}
-use Rattle.clean_finish.specs.Shows.{Hand, brings_still, HeardIs, IsMapping, IsOpen, last_told, row_seen}
-use Rattle.clean_finish.specs.Shows.IsToldEdge.{Same}
-use Rattle.clean_finish.specs.Running.{Has, Half, Facing, IsSetting}
+use Rattle.clean_finish.proofs.Words.{◌≡◌, refl, sym, subst, ap, ◌∙◌, ℕ, ◌+◌, ◌-◌, ◌<◌, ◌≤◌, min, max, Bool, true, false, not, ◌&&◌, if◌then◌else◌, ⊎_elim}
+use Rattle.clean_finish.proofs.Words.{Option, None, List, [], ◌∷◌, ◌++◌, arith, le_refl, both_ways, and_parts, ltb-false, ltb-true, Side, A, peer, may_finish}
+use Rattle.clean_finish.proofs.Words.{Flight, Duty, SendDuty, StepDuty, pick, Profile, Carried, PathEnd, is_fin_due, is_all_granted, fin_said, sends_plainly}
+use Rattle.clean_finish.proofs.Words.{Setting, Lane, all_left, Going, pending, MaySay, MaySend, sends_none, Hand, HeardIs, last_told, row_seen, brings_still}
+use Rattle.clean_finish.proofs.Words.{IsOpen, IsMapping, Sent, Keys, copy_in, said, FliesAs, EndsSubflow, Same, IsSetting, Facing, Half, Has}
 use Rattle.clean_finish.proofs.Dropping.{is_apart, stage_drops, settles_drop, begun_drops, apart}
 use Rattle.clean_finish.proofs.EndSent.{finishes_open, ended_stays}
 use Rattle.clean_finish.proofs.FinPushed.{open_finished}

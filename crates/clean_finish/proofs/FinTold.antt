@@ -1,27 +1,10 @@
 -- The peer's DATA_FIN is told to the reassembly book.
-use Rattle.std.proofs.Common.{◌≡◌, refl, sym, subst, ap, ◌∙◌, ℕ, suc, ◌+◌, ◌<◌, ◌≤◌, max, Bool, true, false, if◌then◌else◌, is_some, inl, inr, Option, Some, None, List, [], ◌∷◌, ◌++◌, length, map, arith}
-use Rattle.std.proofs.lemmas.Bool.{both_ways, le-ltb}
-use Rattle.sides.specs.declared.side.Side.{Side}
-use Rattle.sides.specs.declared.side.Side.TheVariants.{B}
-use Rattle.reassembly_book.specs.State.{Arriving, filled, top}
-use Rattle.reassembly_book.specs.Steps.{fin_clash, after_fin}
-use Rattle.path_agenda.specs.declared.duty.Duty.{Duty}
-use Rattle.path_agenda.specs.declared.duty.AskDuty.{AskDuty}
-use Rattle.path_agenda.specs.declared.duty.SendDuty.{SendDuty}
-use Rattle.path_agenda.specs.declared.duty.StepDuty.{StepDuty}
-use Rattle.path_core.specs.End.{PathEnd}
-use Rattle.path_core.specs.Deliver.{having_asked}
-use Rattle.path_core.specs.DataFin.{with_peer_data_fin}
-use Rattle.path_core.specs.Profile.{Profile}
-use Rattle.pace.specs.Lane.{Setting, Copy, Lane, all_left}
-use Rattle.pace.specs.Lists.{data_fins}
-use Rattle.pace.specs.Going.{Going}
-use Rattle.clean_finish.specs.Books.{ReceiverIs}
-use Rattle.clean_finish.specs.Reading.{ReaderShows, end_known}
-use Rattle.clean_finish.specs.Segments.{Sent, Keys, Brings, copy_in, is_opening, octets_of, data_fin_of, BringsAs, CountsAs}
-use Rattle.clean_finish.specs.Segments.Brings.{EndsStream}
-use Rattle.clean_finish.specs.Shows.{Hand, brings_in, IsOpen}
-use Rattle.clean_finish.specs.Running.{Has, Half, Facing, IsSetting}
+use Rattle.clean_finish.proofs.Words.{◌≡◌, refl, sym, subst, ap, ◌∙◌, ℕ, ◌+◌, ◌<◌, ◌≤◌, max, Bool, true, false, if◌then◌else◌, inl, inr, Option, None, List, []}
+use Rattle.clean_finish.proofs.Words.{◌∷◌, ◌++◌, length, map, arith, Some, suc, is_some, both_ways, le-ltb, Side, B, Arriving, filled, top, fin_clash}
+use Rattle.clean_finish.proofs.Words.{after_fin, Duty, SendDuty, StepDuty, AskDuty, Profile, PathEnd, with_peer_data_fin, having_asked, Setting, Copy, Lane}
+use Rattle.clean_finish.proofs.Words.{all_left, Going, data_fins, Hand, brings_in, IsOpen, Sent, Keys, Brings, BringsAs, copy_in, octets_of, CountsAs}
+use Rattle.clean_finish.proofs.Words.{data_fin_of, EndsStream, IsSetting, Facing, Half, Has, end_known, ReaderShows, ReceiverIs}
+use Rattle.clean_finish.specs.Segments.{is_opening}
 use Rattle.clean_finish.proofs.Brought.{brought}
 use Rattle.clean_finish.proofs.Hands.{in_hand}
 use Rattle.clean_finish.proofs.Quiet.{now_back}

@@ -1,24 +1,9 @@
 -- B treats the first thing that a copy says: a DSS, or A's keys.
-use Rattle.std.proofs.Common.{◌≡◌, refl, sym, subst, ap, ◌∙◌, ℕ, ◌-◌, not, Bool, true, false, ◌⊎◌, inl, inr, ⊎_elim, Option, Some, List, ◌∷◌}
-use Rattle.std.proofs.lemmas.Bool.{both_ways}
-use Rattle.sides.specs.declared.side.Side.TheVariants.{B}
-use Rattle.path_segments.specs.Laws.{window_told}
-use Rattle.actor_desk.specs.Desk.{SixBooks, reply_of, after_ask}
-use Rattle.stream_apps.specs.Apps.{AppState}
-use Rattle.path_agenda.specs.Agenda.{heard_and, payload_came}
-use Rattle.path_agenda.specs.declared.duty.Duty.{Duty}
-use Rattle.path_agenda.specs.declared.duty.StepDuty.{StepDuty}
-use Rattle.path_agenda.specs.declared.heard.Heard.{Heard}
-use Rattle.path_core.specs.State.{PathState, with_agenda, with_end}
-use Rattle.path_core.specs.Treating.{answered_item, item_ask, item_of, item_passed, item_stands}
-use Rattle.path_core.specs.Values.{Carried, values}
-use Rattle.world_laws.specs.Openings.{PathPlan, Start}
-use Rattle.pace.specs.Lane.{Setting, Lane, all_left}
-use Rattle.pace.specs.Going.{Going}
-use Rattle.clean_finish.specs.Segments.{Keys, Brings, is_third, shows_keys}
-use Rattle.clean_finish.specs.Segments.Brings.{ShowsKeys, FirstPiece}
-use Rattle.clean_finish.specs.Running.{Beside, TreatsCopy, count_in, heard_by, own_bench, other_bench, IsSetting, Runs, keys_in}
-use Rattle.clean_finish.specs.Running.Treatment.{AtFirst}
+use Rattle.clean_finish.proofs.Words.{◌≡◌, refl, sym, subst, ap, ◌∙◌, ℕ, ◌-◌, Bool, true, false, not, ◌⊎◌, inl, inr, ⊎_elim, Option, List, ◌∷◌, Some, both_ways}
+use Rattle.clean_finish.proofs.Words.{B, window_told, Duty, StepDuty, heard_and, payload_came, Heard, SixBooks, reply_of, after_ask, AppState, Carried, values}
+use Rattle.clean_finish.proofs.Words.{PathState, with_agenda, with_end, answered_item, item_ask, item_of, item_passed, item_stands, Setting, Lane, all_left}
+use Rattle.clean_finish.proofs.Words.{Going, PathPlan, Start, Keys, Brings, shows_keys, is_third, ShowsKeys, FirstPiece, Beside, TreatsCopy, count_in, heard_by}
+use Rattle.clean_finish.proofs.Words.{own_bench, other_bench, IsSetting, Runs, keys_in, AtFirst}
 use Rattle.clean_finish.proofs.HeardFirst.{passes_first_dss_b}
 use Rattle.clean_finish.proofs.HeardNext.{dss_first, item_is}
 use Rattle.clean_finish.proofs.KeysTold.{first_keys_told}

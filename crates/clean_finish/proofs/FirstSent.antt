@@ -1,32 +1,11 @@
 -- A sends its first bytes before it heard a DSS: they show both keys again (RFC 8684, section 3.1).
-use Rattle.std.proofs.Common.{◌≡◌, refl, sym, subst, ap, ℕ, ◌+◌, ◌-◌, ◌<◌, ◌≤◌, min, max, true, false, inl, inr, Option, Some, None, List, [], ◌∷◌, ◌++◌, length, le_refl, arith}
-use Rattle.std.proofs.lemmas.Bool.{both_ways}
-use Rattle.sides.specs.declared.side.Side.TheVariants.{A, B}
-use Rattle.link_model.specs.declared.flight.Flight.{Flight}
-use Rattle.path_segments.specs.Laws.{window_told}
-use Rattle.subflow_send.specs.declared.record.RecordKind.TheVariants.{Data}
-use Rattle.subflow_send.specs.Records.{Record}
-use Rattle.subflow_send.specs.Rules.{is_unsent}
+use Rattle.clean_finish.proofs.Words.{◌≡◌, refl, sym, subst, ap, ℕ, ◌+◌, ◌-◌, ◌<◌, ◌≤◌, min, max, true, false, inl, inr, Option, None, List, [], ◌∷◌, ◌++◌}
+use Rattle.clean_finish.proofs.Words.{length, arith, Some, le_refl, both_ways, A, B, Record, is_unsent, Data, Flight, window_told, Capable, Duty, StepDuty}
+use Rattle.clean_finish.proofs.Words.{Profile, Carried, PathEnd, record_said, mapping_of, checksum_told, is_first_piece, Setting, Lane, is_whole, all_left}
+use Rattle.clean_finish.proofs.Words.{Going, pending, MaySay, MaySend, sends_bytes, is_same, Hand, HeardIs, last_told, row_seen, brings_still, IsMapping, Sent}
+use Rattle.clean_finish.proofs.Words.{Keys, copy_in, said, FliesAs, FirstPiece, Before, IsSetting, Facing, Half, Has}
 use Rattle.subflow_tcp.specs.States.{is_opening}
-use Rattle.path_agenda.specs.declared.duty.Duty.{Duty}
-use Rattle.path_agenda.specs.declared.duty.StepDuty.{StepDuty}
 use Rattle.mptcp_options.specs.declared.capable.CapableKeys.TheVariants.{WithData}
-use Rattle.path_segments.specs.declared.segment.PathOption.TheVariants.{Capable}
-use Rattle.path_core.specs.End.{PathEnd}
-use Rattle.path_core.specs.DssOut.{mapping_of, checksum_told, is_first_piece}
-use Rattle.path_core.specs.OptionsOut.{record_said}
-use Rattle.path_core.specs.Profile.{Profile}
-use Rattle.path_core.specs.Values.{Carried}
-use Rattle.pace.specs.Lane.{Setting, Lane, is_whole, all_left}
-use Rattle.pace.specs.Rules.{is_same}
-use Rattle.pace.specs.Going.{Going, pending}
-use Rattle.pace.specs.Moves.{MaySay, MaySend}
-use Rattle.pace.specs.Moves.Move.{sends_bytes}
-use Rattle.clean_finish.specs.Segments.{Sent, Keys, copy_in, said, FliesAs}
-use Rattle.clean_finish.specs.Segments.Brings.{FirstPiece}
-use Rattle.clean_finish.specs.Shows.{Hand, brings_still, HeardIs, IsMapping, last_told, row_seen}
-use Rattle.clean_finish.specs.Shows.IsToldEdge.{Before}
-use Rattle.clean_finish.specs.Running.{Has, Half, Facing, IsSetting}
 use Rattle.clean_finish.proofs.Bringing.{end_after, own_brought}
 use Rattle.clean_finish.proofs.BytesSent.{no_duplicate}
 use Rattle.clean_finish.proofs.EndSent.{ended_stays}

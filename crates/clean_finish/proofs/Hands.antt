@@ -1,13 +1,8 @@
 -- A segment from its arrival on: it comes into the hand of an end, is taken by the lane of what it brings and by that of what
 -- it acknowledges, and is done with.
-use Rattle.std.proofs.Common.{◌≡◌, refl, sym, subst, ap, ◌∙◌, ℕ, ◌+◌, ◌≤◌, Bool, true, false, Option, Some, None, List, [], ◌∷◌, ◌++◌, length, map, arith}
-use Rattle.sides.specs.declared.side.Side.{Side}
-use Rattle.link_model.specs.declared.flight.Flight.{Flight}
-use Rattle.path_core.specs.Profile.{Profile}
-use Rattle.path_core.specs.Values.{Carried}
-use Rattle.pace.specs.Lane.{Setting, Copy, Sender, Receiver}
-use Rattle.clean_finish.specs.Segments.{Sent, Keys, copy_in, octets_of, FlyAs, Follow, Rise, edge_after, low_after, control_after, keys_after}
-use Rattle.clean_finish.specs.Shows.{Hand, brings_in, tells_in, WayIs}
+use Rattle.clean_finish.proofs.Words.{◌≡◌, refl, sym, subst, ap, ◌∙◌, ℕ, ◌+◌, ◌≤◌, Bool, true, false, Option, None, List, [], ◌∷◌, ◌++◌, length, map, arith}
+use Rattle.clean_finish.proofs.Words.{Some, Side, Flight, Profile, Carried, Setting, Copy, Sender, Receiver, Hand, WayIs, brings_in, tells_in, Sent, Keys}
+use Rattle.clean_finish.proofs.Words.{copy_in, octets_of, Rise, edge_after, Follow, low_after, control_after, keys_after, FlyAs}
 
 pub up : {x y z : ℕ} → x ≤ y → y ≤ z → x ≤ z
 up a b = omega (arith, a, b)

@@ -1,31 +1,10 @@
 -- The step in which a copy's Data ACK is told to the send book.
-use Rattle.std.proofs.Common.{◌≡◌, refl, sym, subst, ◌∙◌, ℕ, ◌-◌, min, nat_lt, Bool, true, false, if◌then◌else◌, Option, Some, List, ◌∷◌, length}
-use Rattle.sides.specs.declared.side.Side.TheVariants.{A, B}
-use Rattle.path_segments.specs.Laws.{window_told}
-use Rattle.send_book.specs.declared.call.SendCall.{SendCall}
+use Rattle.clean_finish.proofs.Words.{◌≡◌, refl, sym, subst, ◌∙◌, ℕ, ◌-◌, min, nat_lt, Bool, true, false, if◌then◌else◌, Option, List, ◌∷◌, length, Some, A, B}
+use Rattle.clean_finish.proofs.Words.{fin_after, acked_len, SendCall, window_told, Duty, StepDuty, AskDuty, heard_and, payload_came, Heard, Reply, SixBooks}
+use Rattle.clean_finish.proofs.Words.{reply_of, after_ask, Ask, AppState, Carried, values, PathEnd, answered_ack, PathState, goes_on, with_agenda}
+use Rattle.clean_finish.proofs.Words.{answered_item, item_ask, item_of, Setting, Lane, all_left, Going, PathPlan, Start, Keys, Brings, shows_keys, Beside}
+use Rattle.clean_finish.proofs.Words.{Treats, TreatsCopy, count_in, heard_by, own_bench, other_bench, IsSetting, Runs, keys_in, AfterOne}
 use Rattle.send_book.specs.declared.call.SendReply.TheVariants.{Acked, AckFuture}
-use Rattle.send_book.specs.State.{acked_len}
-use Rattle.send_book.specs.Steps.{fin_after}
-use Rattle.actor_desk.specs.declared.ask.Ask.{Ask}
-use Rattle.actor_desk.specs.declared.ask.Reply.{Reply}
-use Rattle.actor_desk.specs.Desk.{SixBooks, after_ask, reply_of}
-use Rattle.stream_apps.specs.Apps.{AppState}
-use Rattle.path_agenda.specs.Agenda.{heard_and, payload_came}
-use Rattle.path_agenda.specs.declared.duty.Duty.{Duty}
-use Rattle.path_agenda.specs.declared.duty.AskDuty.{AskDuty}
-use Rattle.path_agenda.specs.declared.duty.StepDuty.{StepDuty}
-use Rattle.path_agenda.specs.declared.heard.Heard.{Heard}
-use Rattle.path_core.specs.End.{PathEnd}
-use Rattle.path_core.specs.State.{PathState, goes_on, with_agenda}
-use Rattle.path_core.specs.DssIn.{answered_ack}
-use Rattle.path_core.specs.Treating.{answered_item, item_ask, item_of}
-use Rattle.path_core.specs.Values.{Carried, values}
-use Rattle.world_laws.specs.Openings.{PathPlan, Start}
-use Rattle.pace.specs.Lane.{Setting, Lane, all_left}
-use Rattle.pace.specs.Going.{Going}
-use Rattle.clean_finish.specs.Segments.{Keys, Brings, shows_keys}
-use Rattle.clean_finish.specs.Running.{Beside, Treats, TreatsCopy, count_in, heard_by, own_bench, other_bench, IsSetting, Runs, keys_in}
-use Rattle.clean_finish.specs.Running.Treatment.{AfterOne}
 use Rattle.clean_finish.proofs.AckTold.{ack_told, end_heard, not_ahead}
 use Rattle.clean_finish.proofs.DutyMore.{duty_more}
 use Rattle.clean_finish.proofs.HeardFirst.{no_third}

@@ -1,29 +1,10 @@
 -- The steps in which what a copy says is heard, up to its first thing.
-use Rattle.std.proofs.Common.{◌≡◌, refl, sym, subst, ap, ◌∙◌, ℕ, ◌-◌, ◌≤◌, min, Bool, true, false, not, ◌&&◌, ◌||◌, is_some, inr, ⊎_elim, Option, List, ◌∷◌, arith}
-use Rattle.std.proofs.lemmas.Bool.{both_ways}
-use Rattle.sides.specs.declared.side.Side.{Side}
-use Rattle.sides.specs.declared.side.Side.TheVariants.{A, B}
-use Rattle.fallback_state.specs.Modes.{is_starting}
-use Rattle.actor_desk.specs.Desk.{SixBooks, after_ask}
-use Rattle.stream_apps.specs.Apps.{AppState}
-use Rattle.path_agenda.specs.declared.duty.Duty.{Duty}
-use Rattle.path_agenda.specs.declared.duty.AskDuty.{AskDuty}
-use Rattle.path_agenda.specs.declared.duty.StepDuty.{StepDuty}
-use Rattle.path_agenda.specs.declared.heard.Heard.{Heard}
-use Rattle.path_agenda.specs.Items.{keys_heard}
-use Rattle.path_core.specs.End.{PathEnd}
-use Rattle.path_core.specs.MpCapable.{is_opened_by_keys, is_opened_plainly, live_ask}
-use Rattle.path_core.specs.State.{PathState, with_agenda, with_end}
-use Rattle.path_core.specs.Treating.{item_of, item_passed}
-use Rattle.path_core.specs.Values.{Carried}
-use Rattle.world_laws.specs.Openings.{PathPlan, Start}
-use Rattle.pace.specs.Lane.{Setting, Lane, all_left}
-use Rattle.pace.specs.Going.{Going}
-use Rattle.clean_finish.specs.Segments.{Keys, Brings, is_third, shows_keys}
-use Rattle.clean_finish.specs.Segments.Brings.{OpensSubflow, ShowsKeys, FirstPiece, Piece, Acknowledges, EndsStream, EndsSubflow}
-use Rattle.path_segments.specs.Laws.{window_told}
-use Rattle.clean_finish.specs.Running.{Bench, Treats, TreatsCopy, TreatsKeyed, count_in, heard_by, own_bench, other_bench, IsSetting, Runs, keys_in}
-use Rattle.clean_finish.specs.Running.Treatment.{AtFirst, AfterOne}
+use Rattle.clean_finish.proofs.Words.{◌≡◌, refl, sym, subst, ap, ◌∙◌, ℕ, ◌-◌, ◌≤◌, min, Bool, true, false, not, ◌&&◌, ◌||◌, inr, ⊎_elim, Option, List, ◌∷◌}
+use Rattle.clean_finish.proofs.Words.{arith, is_some, both_ways, is_starting, Side, A, B, window_told, Duty, StepDuty, AskDuty, keys_heard, Heard, SixBooks}
+use Rattle.clean_finish.proofs.Words.{after_ask, AppState, Carried, PathEnd, PathState, with_agenda, with_end, live_ask, is_opened_by_keys, is_opened_plainly}
+use Rattle.clean_finish.proofs.Words.{item_of, item_passed, Setting, Lane, all_left, Going, PathPlan, Start, Keys, Brings, shows_keys, is_third, OpensSubflow}
+use Rattle.clean_finish.proofs.Words.{ShowsKeys, FirstPiece, Piece, Acknowledges, EndsStream, EndsSubflow, Treats, TreatsCopy, count_in, heard_by, own_bench}
+use Rattle.clean_finish.proofs.Words.{other_bench, IsSetting, Runs, keys_in, Bench, TreatsKeyed, AtFirst, AfterOne}
 use Rattle.clean_finish.proofs.AnswerTreated.{lives_on}
 use Rattle.clean_finish.proofs.Cleared.{cleared, dss_at_a, dss_at_b}
 use Rattle.clean_finish.proofs.CopyKinds.{not_true, third_shows}

@@ -1,26 +1,9 @@
 -- The steps in which the third thing of a copy is heard: the mapping of its bytes, or its DATA_FIN.
-use Rattle.std.proofs.Common.{◌≡◌, refl, sym, subst, ℕ, ◌≤◌, true, false, Option, Some, List, ◌∷◌, length, arith}
-use Rattle.std.proofs.lemmas.Bool.{both_ways}
-use Rattle.sides.specs.declared.side.Side.TheVariants.{A, B}
-use Rattle.dss_mapping.specs.Mappings.{Mappings}
-use Rattle.path_segments.specs.Laws.{window_told}
-use Rattle.actor_desk.specs.Desk.{SixBooks, after_ask, reply_of}
-use Rattle.stream_apps.specs.Apps.{AppState}
-use Rattle.path_agenda.specs.Agenda.{payload_came}
-use Rattle.path_agenda.specs.declared.duty.Duty.{Duty}
-use Rattle.path_agenda.specs.declared.duty.StepDuty.{StepDuty}
-use Rattle.path_agenda.specs.declared.heard.Heard.{Heard}
-use Rattle.path_core.specs.declared.modes.Modes.{Modes}
-use Rattle.path_core.specs.State.{PathState, with_agenda, with_end}
-use Rattle.path_core.specs.Treating.{answered_item, item_ask, item_of, item_passed, item_stands}
-use Rattle.path_core.specs.Values.{Carried, values}
-use Rattle.world_laws.specs.Openings.{PathPlan, Start}
-use Rattle.pace.specs.Lane.{Setting, Lane, all_left}
-use Rattle.pace.specs.Going.{Going}
-use Rattle.clean_finish.specs.Segments.{Keys, Brings, octets_of, shows_keys}
-use Rattle.clean_finish.specs.Segments.Brings.{OpensSubflow, Piece, EndsStream}
-use Rattle.clean_finish.specs.Running.{Beside, MapsAs, Treats, TreatsCopy, count_in, heard_by, kept_in, own_bench, other_bench, FacesOfB, IsSetting, Runs, keys_in}
-use Rattle.clean_finish.specs.Running.Treatment.{AfterTwo}
+use Rattle.clean_finish.proofs.Words.{◌≡◌, refl, sym, subst, ℕ, ◌≤◌, true, false, Option, List, ◌∷◌, length, arith, Some, both_ways, A, B, Mappings}
+use Rattle.clean_finish.proofs.Words.{window_told, Duty, StepDuty, payload_came, Heard, SixBooks, reply_of, after_ask, AppState, Carried, values, Modes}
+use Rattle.clean_finish.proofs.Words.{PathState, with_agenda, with_end, answered_item, item_ask, item_of, item_passed, item_stands, Setting, Lane, all_left}
+use Rattle.clean_finish.proofs.Words.{Going, PathPlan, Start, Keys, Brings, shows_keys, octets_of, OpensSubflow, Piece, EndsStream, Beside, MapsAs, Treats}
+use Rattle.clean_finish.proofs.Words.{TreatsCopy, count_in, heard_by, kept_in, own_bench, other_bench, FacesOfB, IsSetting, Runs, keys_in, AfterTwo}
 use Rattle.clean_finish.proofs.EndPassing.{sent_some}
 use Rattle.clean_finish.proofs.HeardMapping.{end_passed_a, end_passed_b, end_told_a, end_told_b, mapping_passed_a, mapping_passed_b, mapping_told_a, mapping_told_b}
 use Rattle.clean_finish.proofs.HeardNext.{item_is}

@@ -1,27 +1,10 @@
 -- The steps in which a copy's mapping or its DATA_FIN is told to the control book, or passed.
-use Rattle.std.proofs.Common.{◌≡◌, refl, sym, subst, ℕ, ◌≤◌, true, false, List, [], ◌∷◌, length}
-use Rattle.sides.specs.declared.side.Side.TheVariants.{A, B}
-use Rattle.dss_mapping.specs.Mappings.{Mappings}
+use Rattle.clean_finish.proofs.Words.{◌≡◌, refl, sym, subst, ℕ, ◌≤◌, true, false, List, [], ◌∷◌, length, after_sure_sign, A, B, Mappings, Duty, StepDuty, Heard}
+use Rattle.clean_finish.proofs.Words.{SixBooks, reply_of, after_ask, Ask, AppState, Carried, values, PathEnd, answered_mapping, mapping_ask, Modes, PathState}
+use Rattle.clean_finish.proofs.Words.{goes_on, with_agenda, with_end, answered_heard, heard_passed, mode_in, fell_ask, Setting, Lane, all_left, Going, PathPlan}
+use Rattle.clean_finish.proofs.Words.{Start, Sent, Keys, octets_of, MapsAs, Treats, kept_in, own_bench, other_bench, FacesOfB, IsSetting, Runs, keys_in}
+use Rattle.clean_finish.proofs.Words.{FacesOfA}
 use Rattle.fallback_state.specs.declared.fall.Event.{Event}
-use Rattle.fallback_state.specs.Table.{after_sure_sign}
-use Rattle.actor_desk.specs.declared.ask.Ask.{Ask}
-use Rattle.actor_desk.specs.Desk.{SixBooks, after_ask, reply_of}
-use Rattle.stream_apps.specs.Apps.{AppState}
-use Rattle.path_agenda.specs.declared.duty.Duty.{Duty}
-use Rattle.path_agenda.specs.declared.duty.StepDuty.{StepDuty}
-use Rattle.path_agenda.specs.declared.heard.Heard.{Heard}
-use Rattle.path_core.specs.declared.modes.Modes.{Modes}
-use Rattle.path_core.specs.End.{PathEnd}
-use Rattle.path_core.specs.Fallback.{fell_ask, mode_in}
-use Rattle.path_core.specs.State.{PathState, goes_on, with_agenda, with_end}
-use Rattle.path_core.specs.Treating.{answered_heard, heard_passed}
-use Rattle.path_core.specs.DssIn.{answered_mapping, mapping_ask}
-use Rattle.path_core.specs.Values.{Carried, values}
-use Rattle.world_laws.specs.Openings.{PathPlan, Start}
-use Rattle.pace.specs.Lane.{Setting, Lane, all_left}
-use Rattle.pace.specs.Going.{Going}
-use Rattle.clean_finish.specs.Segments.{Sent, Keys, octets_of}
-use Rattle.clean_finish.specs.Running.{MapsAs, Treats, kept_in, own_bench, other_bench, FacesOfA, FacesOfB, IsSetting, Runs, keys_in}
 use Rattle.clean_finish.proofs.FellOn.{fell_control, fell_modes, sign_reply}
 use Rattle.clean_finish.proofs.Hands.{in_hand}
 use Rattle.clean_finish.proofs.MappingTold.{agrees_is, end_on, ended_end, fin_now, fin_passed, has_key, held, kept, learned, learned_end, learned_now, mapping_on, passed_now, told_ask, told_now}

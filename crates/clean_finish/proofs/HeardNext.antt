@@ -1,21 +1,10 @@
 -- What is treated next of a copy, once so much of it was heard.
-use Rattle.std.proofs.Common.{◌≡◌, refl, ap, ◌∙◌, ℕ, zero, suc, ◌+◌, ◌-◌, ◌≤◌, if◌then◌else◌, Bool, true, false, inr, Option, Some, None, List, [], arith}
-use Rattle.std.proofs.lemmas.Bool.{both_ways}
-use Rattle.sides.specs.declared.side.Side.{Side}
-use Rattle.sides.specs.Side.{peer}
-use Rattle.dss_mapping.specs.Mappings.{Mappings}
-use Rattle.actor_desk.specs.Words.{pick}
-use Rattle.path_agenda.specs.Agenda.{emission, heard_and, payload_came}
-use Rattle.path_agenda.specs.declared.duty.Duty.{Duty}
-use Rattle.path_agenda.specs.declared.heard.Heard.{Heard}
-use Rattle.path_store.specs.declared.mapped_data_fin.MappedDataFin.{MappedDataFin}
-use Rattle.path_core.specs.End.{PathEnd}
-use Rattle.path_core.specs.Treating.{item_of}
-use Rattle.path_core.specs.Choices.{item_at}
-use Rattle.clean_finish.specs.Segments.{Keys, Brings, is_opening, is_third, shows_keys}
-use Rattle.clean_finish.specs.Segments.Brings.{OpensSubflow, ShowsKeys, FirstPiece, Piece, Acknowledges, EndsStream, EndsSubflow}
-use Rattle.clean_finish.specs.Running.{Has, Bench, IsBetween, MapsAs, Treats, TreatsCopy, count_in, heard_by}
-use Rattle.clean_finish.specs.Running.Treatment.{AtFirst, AfterOne, AfterTwo, AfterAll}
+use Rattle.clean_finish.proofs.Words.{◌≡◌, refl, ap, ◌∙◌, ℕ, ◌+◌, ◌-◌, ◌≤◌, Bool, true, false, if◌then◌else◌, inr, Option, None, List, [], arith, Some, suc}
+use Rattle.clean_finish.proofs.Words.{zero, both_ways, Side, peer, Mappings, MappedDataFin, Duty, heard_and, payload_came, emission, Heard, pick, PathEnd}
+use Rattle.clean_finish.proofs.Words.{item_of, item_at, Keys, Brings, shows_keys, is_third, OpensSubflow, ShowsKeys, FirstPiece, Piece, Acknowledges}
+use Rattle.clean_finish.proofs.Words.{EndsStream, EndsSubflow, MapsAs, Treats, TreatsCopy, count_in, heard_by, Has, Bench, IsBetween, AtFirst, AfterOne}
+use Rattle.clean_finish.proofs.Words.{AfterTwo, AfterAll}
+use Rattle.clean_finish.specs.Segments.{is_opening}
 use Rattle.clean_finish.proofs.Raised.{Emits}
 use Rattle.clean_finish.proofs.Templates.{emission_emits}
 

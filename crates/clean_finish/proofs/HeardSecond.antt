@@ -1,27 +1,10 @@
 -- The steps in which the second thing of a copy is heard: its Data ACK, or the mapping of the first bytes.
-use Rattle.std.proofs.Common.{◌≡◌, refl, sym, subst, ap, ◌∙◌, is_none, ℕ, ◌-◌, ◌≤◌, true, false, Option, Some, List, ◌∷◌, length, arith}
-use Rattle.std.proofs.lemmas.Bool.{both_ways}
-use Rattle.sides.specs.declared.side.Side.TheVariants.{A, B}
-use Rattle.dss_mapping.specs.Mappings.{Mappings}
-use Rattle.path_segments.specs.Laws.{window_told}
-use Rattle.actor_desk.specs.Desk.{SixBooks, after_ask, reply_of}
-use Rattle.stream_apps.specs.Apps.{AppState}
-use Rattle.path_agenda.specs.Agenda.{heard_and, payload_came}
-use Rattle.path_agenda.specs.declared.duty.Duty.{Duty}
-use Rattle.path_agenda.specs.declared.duty.StepDuty.{StepDuty}
-use Rattle.path_agenda.specs.declared.heard.Heard.{Heard}
-use Rattle.path_store.specs.declared.infinite_mapping.InfiniteMapping.{InfiniteMapping}
-use Rattle.path_core.specs.declared.modes.Modes.{Modes}
-use Rattle.path_core.specs.State.{PathState, with_agenda, with_end}
-use Rattle.path_core.specs.Treating.{answered_item, item_ask, item_of, item_passed, item_stands}
-use Rattle.path_core.specs.Values.{Carried, values}
-use Rattle.world_laws.specs.Openings.{PathPlan, Start}
-use Rattle.pace.specs.Lane.{Setting, Lane, all_left}
-use Rattle.pace.specs.Going.{Going}
-use Rattle.clean_finish.specs.Segments.{Keys, Brings, octets_of, shows_keys}
-use Rattle.clean_finish.specs.Segments.Brings.{OpensSubflow, ShowsKeys, FirstPiece, Piece, Acknowledges, EndsStream, EndsSubflow}
-use Rattle.clean_finish.specs.Running.{Beside, MapsAs, Treats, TreatsCopy, count_in, heard_by, kept_in, own_bench, other_bench, FacesOfB, IsSetting, Runs, keys_in}
-use Rattle.clean_finish.specs.Running.Treatment.{AfterOne}
+use Rattle.clean_finish.proofs.Words.{◌≡◌, refl, sym, subst, ap, ◌∙◌, ℕ, ◌-◌, ◌≤◌, true, false, Option, List, ◌∷◌, length, arith, Some, is_none, both_ways, A}
+use Rattle.clean_finish.proofs.Words.{B, Mappings, window_told, InfiniteMapping, Duty, StepDuty, heard_and, payload_came, Heard, SixBooks, reply_of, after_ask}
+use Rattle.clean_finish.proofs.Words.{AppState, Carried, values, Modes, PathState, with_agenda, with_end, answered_item, item_ask, item_of, item_passed}
+use Rattle.clean_finish.proofs.Words.{item_stands, Setting, Lane, all_left, Going, PathPlan, Start, Keys, Brings, shows_keys, octets_of, OpensSubflow}
+use Rattle.clean_finish.proofs.Words.{ShowsKeys, FirstPiece, Piece, Acknowledges, EndsStream, EndsSubflow, Beside, MapsAs, Treats, TreatsCopy, count_in}
+use Rattle.clean_finish.proofs.Words.{heard_by, kept_in, own_bench, other_bench, FacesOfB, IsSetting, Runs, keys_in, AfterOne}
 use Rattle.clean_finish.proofs.EndPassing.{sent_some}
 use Rattle.clean_finish.proofs.HeardAck.{answers_ack_a, answers_ack_b, second_a, second_b}
 use Rattle.clean_finish.proofs.HeardFirst.{no_keys}

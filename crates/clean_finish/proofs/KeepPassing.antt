@@ -1,41 +1,14 @@
 -- What is passed of a copy behind all that it says: it has a Data ACK or none is new, and its payload is kept.
-use Rattle.std.proofs.Common.{◌≡◌, refl, sym, subst, ap, ◌∙◌, ℕ, ◌+◌, ◌-◌, ◌≤◌, nat_lt, nat_le, unwrap_or, Bool, true, false, not, ◌&&◌, ◌||◌, if◌then◌else◌, is_some, ◌⊎◌, inl, inr, Option, Some, None, List, [], ◌∷◌, length, map, arith}
-use Rattle.std.proofs.lemmas.Bool.{both_ways, le-ltb}
-use Rattle.sides.specs.declared.side.Side.{Side}
-use Rattle.sides.specs.declared.side.Side.TheVariants.{A, B}
-use Rattle.control_book.specs.Replies.{is_sure}
-use Rattle.fallback_state.specs.Modes.{is_starting}
-use Rattle.subflow_recv.specs.Receiving.{Receiving, after_keep_held, without_held}
-use Rattle.subflow_tcp.specs.Judging.{is_at}
-use Rattle.subflow_tcp.specs.State.{is_behind, is_fin_passed}
-use Rattle.subflow_tcp.specs.Taking.{after_dropping_held, after_keeping_held}
-use Rattle.subflow_tcp.specs.Segments.{one_if}
-use Rattle.actor_desk.specs.Desk.{SixBooks}
-use Rattle.actor_desk.specs.Words.{is_nil}
-use Rattle.stream_apps.specs.Apps.{AppState}
-use Rattle.path_agenda.specs.declared.duty.Duty.{Duty}
-use Rattle.path_agenda.specs.declared.duty.AskDuty.{AskDuty}
-use Rattle.path_agenda.specs.declared.duty.SilentDuty.{SilentDuty}
-use Rattle.path_agenda.specs.declared.duty.StepDuty.{StepDuty}
-use Rattle.path_store.specs.declared.infinite_mapping.InfiniteMapping.{InfiniteMapping}
-use Rattle.path_core.specs.End.{PathEnd}
-use Rattle.path_core.specs.Modes.{acknowledged_under, sends_plainly}
-use Rattle.path_core.specs.MpJoin.{is_joined}
-use Rattle.path_core.specs.State.{PathState, with_agenda, with_end}
-use Rattle.path_core.specs.Profile.{Profile}
-use Rattle.path_core.specs.Deliver.{after_keep, is_dropped}
-use Rattle.path_core.specs.Fallback.{plain_ack_stands, plain_data_stands, subflow_ack_stands, with_plain_ack}
-use Rattle.path_core.specs.Values.{Carried}
-use Rattle.path_core.specs.Choices.{is_side_a}
+use Rattle.clean_finish.proofs.Words.{◌≡◌, refl, sym, subst, ap, ◌∙◌, ℕ, ◌+◌, ◌-◌, ◌≤◌, nat_lt, Bool, true, false, not, ◌&&◌, ◌||◌, if◌then◌else◌, ◌⊎◌, inl}
+use Rattle.clean_finish.proofs.Words.{inr, Option, None, List, [], ◌∷◌, length, map, arith, Some, is_some, nat_le, unwrap_or, both_ways, le-ltb, is_starting}
+use Rattle.clean_finish.proofs.Words.{Side, A, B, is_sure, Receiving, after_keep_held, without_held, is_behind, is_fin_passed, after_dropping_held}
+use Rattle.clean_finish.proofs.Words.{after_keeping_held, is_at, one_if, InfiniteMapping, Duty, StepDuty, AskDuty, SilentDuty, is_nil, SixBooks, AppState}
+use Rattle.clean_finish.proofs.Words.{Profile, Carried, PathEnd, PathState, with_agenda, with_end, sends_plainly, acknowledged_under, is_joined, after_keep}
+use Rattle.clean_finish.proofs.Words.{is_dropped, plain_ack_stands, plain_data_stands, subflow_ack_stands, with_plain_ack, is_side_a, Setting, Lane, all_left}
+use Rattle.clean_finish.proofs.Words.{Going, PathPlan, Start, IsMapping, NoneMapped, Keys, Brings, shows_keys, is_subflow_end, octets_of, is_news, OpensSubflow}
+use Rattle.clean_finish.proofs.Words.{ShowsKeys, FirstPiece, Piece, Acknowledges, EndsStream, EndsSubflow, TreatsCopy, kept_in, own_bench, other_bench}
+use Rattle.clean_finish.proofs.Words.{IsSetting, Runs, keys_in, Bench, place_duties, TreatsEnd, TreatsLast, TreatsBytes, IsLanded, AfterAll, AfterKeeping}
 use Rattle.path_store.specs.Counts.{one_more}
-use Rattle.world_laws.specs.Openings.{PathPlan, Start}
-use Rattle.pace.specs.Lane.{Setting, Lane, all_left}
-use Rattle.pace.specs.Going.{Going}
-use Rattle.clean_finish.specs.Segments.{Keys, Brings, is_news, is_subflow_end, octets_of, shows_keys}
-use Rattle.clean_finish.specs.Segments.Brings.{OpensSubflow, ShowsKeys, FirstPiece, Piece, Acknowledges, EndsStream, EndsSubflow}
-use Rattle.clean_finish.specs.Shows.{IsMapping, NoneMapped}
-use Rattle.clean_finish.specs.Running.{Bench, TreatsCopy, TreatsBytes, TreatsLast, TreatsEnd, IsLanded, place_duties, kept_in, own_bench, other_bench, IsSetting, Runs, keys_in}
-use Rattle.clean_finish.specs.Running.Treatment.{AfterAll, AfterKeeping}
 use Rattle.clean_finish.proofs.EndPassing.{sent_some}
 use Rattle.clean_finish.proofs.Hands.{in_hand}
 use Rattle.clean_finish.proofs.NoneBehind.{one_came}

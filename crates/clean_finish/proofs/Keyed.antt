@@ -1,23 +1,7 @@
 -- A keeps B's key: from then on it may send bytes.
-use Rattle.std.proofs.Common.{◌≡◌, refl, subst, ℕ, ◌+◌, ◌<◌, ◌≤◌, min, true, inl, inr, Option, Some, None, List, ◌∷◌, arith}
-use Rattle.std.proofs.lemmas.Bool.{both_ways}
-use Rattle.std.proofs.lemmas.List.Elements.{All-weaker}
-use Rattle.sides.specs.declared.side.Side.TheVariants.{A, B}
-use Rattle.control_book.specs.Steps.{after_peer_key}
-use Rattle.path_agenda.specs.declared.duty.Duty.{Duty}
-use Rattle.path_agenda.specs.declared.duty.AskDuty.{AskDuty}
-use Rattle.path_core.specs.End.{PathEnd}
-use Rattle.path_core.specs.MpCapable.{with_peer_key}
-use Rattle.path_core.specs.Standing.{is_connected}
-use Rattle.path_core.specs.Profile.{Profile}
-use Rattle.pace.specs.Lane.{Setting, Lane, all_left}
-use Rattle.pace.specs.Rules.{flagged}
-use Rattle.pace.specs.Going.{Going}
-use Rattle.pace.specs.Moves.{MayFlag}
-use Rattle.pace.specs.Moves.Move.{goes_back, flags}
-use Rattle.clean_finish.specs.Segments.{Keys}
-use Rattle.clean_finish.specs.Shows.{AreTaken, Hand, EndIs, HeardIs, IsGranted, last_told, row_seen}
-use Rattle.clean_finish.specs.Running.{Half, Facing, IsSetting}
+use Rattle.clean_finish.proofs.Words.{◌≡◌, refl, subst, ℕ, ◌+◌, ◌<◌, ◌≤◌, min, true, inl, inr, Option, None, List, ◌∷◌, arith, Some, both_ways, All-weaker, A}
+use Rattle.clean_finish.proofs.Words.{B, after_peer_key, Duty, AskDuty, Profile, PathEnd, is_connected, with_peer_key, Setting, Lane, all_left, Going, MayFlag}
+use Rattle.clean_finish.proofs.Words.{flags, goes_back, flagged, AreTaken, Hand, EndIs, HeardIs, IsGranted, last_told, row_seen, Keys, IsSetting, Facing, Half}
 use Rattle.clean_finish.proofs.AckNew.{records_same}
 use Rattle.clean_finish.proofs.Dropping.{apart, is_apart, stage_drops, settles_drop, begun_drops}
 use Rattle.clean_finish.proofs.Passing.{stands_then}

@@ -1,36 +1,13 @@
 -- B hears the first bytes, which show A's keys: they are told to the control book, and what the copy acknowledges is heard.
-use Rattle.std.proofs.Common.{◌≡◌, refl, sym, subst, ap, ℕ, ◌+◌, ◌==◌, ◌<◌, ◌≤◌, min, max, nat_lt, eq-eqb, Bool, true, false, if◌then◌else◌, Option, Some, None, List, ◌∷◌, ◌++◌, le_refl, arith}
-use Rattle.std.proofs.lemmas.Bool.{both_ways, le-ltb, lt-ltb}
-use Rattle.subflow_tcp.specs.Segments.{one_if}
-use Rattle.sides.specs.declared.side.Side.TheVariants.{A, B}
-use Rattle.control_book.specs.Steps.{after_keys as keys_in_book}
-use Rattle.control_book.specs.declared.call.ControlCall.{ControlCall}
-use Rattle.control_book.specs.declared.call.ControlReply.{ControlReply}
-use Rattle.send_book.specs.declared.call.SendCall.{SendCall}
-use Rattle.send_book.specs.State.{Sending as SendBook}
-use Rattle.actor_desk.specs.declared.ask.Ask.{Ask}
-use Rattle.actor_desk.specs.declared.ask.Reply.{Reply}
-use Rattle.actor_desk.specs.Desk.{SixBooks, reply_of, after_ask}
-use Rattle.stream_apps.specs.Apps.{AppState}
-use Rattle.path_agenda.specs.Agenda.{heard_and, payload_came}
-use Rattle.path_agenda.specs.declared.duty.Duty.{Duty}
-use Rattle.path_agenda.specs.declared.duty.StepDuty.{StepDuty}
-use Rattle.path_agenda.specs.declared.heard.Heard.{Heard}
+use Rattle.clean_finish.proofs.Words.{◌≡◌, refl, sym, subst, ap, ℕ, ◌+◌, ◌<◌, ◌≤◌, min, max, nat_lt, Bool, true, false, if◌then◌else◌, Option, None, List, ◌∷◌}
+use Rattle.clean_finish.proofs.Words.{◌++◌, arith, Some, le_refl, ◌==◌, both_ways, lt-ltb, le-ltb, A, B, keys_in_book, ControlReply, ControlCall, SendBook}
+use Rattle.clean_finish.proofs.Words.{SendCall, one_if, Duty, StepDuty, heard_and, payload_came, Heard, Reply, SixBooks, reply_of, after_ask, Ask, AppState}
+use Rattle.clean_finish.proofs.Words.{Carried, values, PathEnd, Modes, PathState, with_agenda, with_end, keys_ask, answered_item, Setting, Lane, all_left}
+use Rattle.clean_finish.proofs.Words.{Sender, Receiver, Going, PathPlan, Start, Hand, brings_in, ModesAre, Sent, Keys, Brings, TellsAs, Follow, FirstPiece}
+use Rattle.clean_finish.proofs.Words.{Beside, Treats, TreatsCopy, own_bench, other_bench, FacesOfB, IsSetting, Runs, keys_in, Bench, FacesOfA, AtFirst}
+use Rattle.clean_finish.proofs.Words.{AfterOne}
+use Rattle.std.proofs.Common.{eq-eqb}
 use Rattle.path_agenda.specs.declared.keys.KeyPair.{KeyPair}
-use Rattle.path_core.specs.declared.modes.Modes.{Modes}
-use Rattle.path_core.specs.End.{PathEnd}
-use Rattle.path_core.specs.MpCapable.{keys_ask}
-use Rattle.path_core.specs.State.{PathState, with_agenda, with_end}
-use Rattle.path_core.specs.Treating.{answered_item}
-use Rattle.path_core.specs.Values.{Carried, values}
-use Rattle.world_laws.specs.Openings.{PathPlan, Start}
-use Rattle.pace.specs.Lane.{Setting, Lane, Sender, Receiver, all_left}
-use Rattle.pace.specs.Going.{Going}
-use Rattle.clean_finish.specs.Segments.{Sent, Keys, Brings, Follow, TellsAs}
-use Rattle.clean_finish.specs.Segments.Brings.{FirstPiece}
-use Rattle.clean_finish.specs.Shows.{Hand, ModesAre, brings_in}
-use Rattle.clean_finish.specs.Running.{Bench, Beside, FacesOfA, FacesOfB, Treats, TreatsCopy, own_bench, other_bench, IsSetting, Runs, keys_in}
-use Rattle.clean_finish.specs.Running.Treatment.{AtFirst, AfterOne}
 use Rattle.clean_finish.proofs.Acknowledged.{hears_on}
 use Rattle.clean_finish.proofs.BookStays.{ack_of_nothing}
 use Rattle.clean_finish.proofs.Confirmed.{keys_noted}

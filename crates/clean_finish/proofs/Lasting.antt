@@ -1,31 +1,12 @@
 -- The last steps in which a copy is treated: what is acknowledged is asked, the congestion window grows, and an acknowledgement goes.
-use Rattle.std.proofs.Common.{◌≡◌, refl, sym, subst, ap, ◌∙◌, ℕ, ◌+◌, ◌≤◌, max, Bool, true, false, is_some, ◌⊎◌, inl, inr, ⊎_elim, Option, Some, None, List, [], ◌∷◌, arith}
-use Rattle.std.proofs.lemmas.Bool.{both_ways}
-use Rattle.sides.specs.declared.side.Side.{Side}
-use Rattle.sides.specs.declared.side.Side.TheVariants.{A, B}
-use Rattle.link_model.specs.Laws.{plain_flight, going_to}
-use Rattle.link_model.specs.Steps.{after_send}
+use Rattle.clean_finish.proofs.Words.{◌≡◌, refl, sym, subst, ap, ◌∙◌, ℕ, ◌+◌, ◌≤◌, max, Bool, true, false, ◌⊎◌, inl, inr, ⊎_elim, Option, None, List, [], ◌∷◌}
+use Rattle.clean_finish.proofs.Words.{arith, Some, is_some, both_ways, Side, A, B, Due, Occasion, going_to, plain_flight, after_send, PlainSegment, Duty}
+use Rattle.clean_finish.proofs.Words.{SendDuty, AskDuty, emission, SixBooks, reply_of, after_ask, AppState, Carried, carried_by, stripped, altered, values}
+use Rattle.clean_finish.proofs.Words.{ack_out_ask, answered_ack_out, acknowledges, PathState, with_agenda, having_sent, sent_on, Setting, Lane, all_left, Going}
+use Rattle.clean_finish.proofs.Words.{PathPlan, Start, brings_still, Keys, said, FliesAs, own_bench, other_bench, FacesOfB, IsSetting, Runs, keys_in, Has}
+use Rattle.clean_finish.proofs.Words.{FacesOfA, TreatsTaken}
 use Rattle.loss_recovery.specs.declared.windows.Pending.{Pending}
-use Rattle.path_segments.specs.Spelled.{PlainSegment}
-use Rattle.subflow_tcp.specs.declared.segments.Occasion.{Occasion}
-use Rattle.subflow_tcp.specs.declared.dues.Due.{Due}
-use Rattle.actor_desk.specs.Desk.{SixBooks, reply_of, after_ask}
-use Rattle.stream_apps.specs.Apps.{AppState}
-use Rattle.path_agenda.specs.declared.duty.Duty.{Duty}
-use Rattle.path_agenda.specs.declared.duty.AskDuty.{AskDuty}
-use Rattle.path_agenda.specs.declared.duty.SendDuty.{SendDuty}
-use Rattle.path_agenda.specs.Agenda.{emission}
-use Rattle.path_core.specs.Handover.{having_sent, sent_on}
 use Rattle.path_core.specs.Rate.{rate_ask, answered_rate}
-use Rattle.path_core.specs.Standing.{ack_out_ask, answered_ack_out, acknowledges}
-use Rattle.path_core.specs.State.{PathState, with_agenda}
-use Rattle.path_core.specs.Values.{Carried, carried_by, stripped, altered, values}
-use Rattle.world_laws.specs.Openings.{PathPlan, Start}
-use Rattle.pace.specs.Lane.{Setting, Lane, all_left}
-use Rattle.pace.specs.Going.{Going}
-use Rattle.clean_finish.specs.Segments.{Keys, said, FliesAs}
-use Rattle.clean_finish.specs.Shows.{brings_still}
-use Rattle.clean_finish.specs.Running.{Has, FacesOfA, FacesOfB, TreatsTaken, own_bench, other_bench, IsSetting, Runs, keys_in}
 use Rattle.clean_finish.proofs.AckSent.{ack, ack_sent, next_is}
 use Rattle.clean_finish.proofs.AskedAfter.{asked_after, out_passes}
 use Rattle.clean_finish.proofs.CopyDone.{copy_done}

@@ -1,31 +1,14 @@
 -- The control book tells how the side stands: with Multipath TCP, and no path beside this one.
-use Rattle.std.proofs.Common.{◌≡◌, refl, sym, subst, ap, ◌∙◌, ℕ, ◌≤◌, Bool, true, false, not, if◌then◌else◌, ◌&&◌, ◌||◌, ◌⊎◌, inl, inr, Option, None, List, ◌∷◌}
-use Rattle.std.specs.List.{list_any}
-use Rattle.sides.specs.declared.side.Side.{Side}
-use Rattle.sides.specs.Side.{peer}
+use Rattle.clean_finish.proofs.Words.{◌≡◌, refl, sym, subst, ap, ◌∙◌, ℕ, ◌≤◌, Bool, true, false, not, ◌&&◌, ◌||◌, if◌then◌else◌, ◌⊎◌, inl, inr, Option, None}
+use Rattle.clean_finish.proofs.Words.{List, ◌∷◌, list_any, Side, peer, Control, peer_or_zero, is_path, withdrawals_on, after_notice, book_looked}
+use Rattle.clean_finish.proofs.Words.{address_notice, announcement, carries, is_aborted, notice_on, look_reply, resets, RegistryPath, every_path, lowest_living}
+use Rattle.clean_finish.proofs.Words.{opening_paths, serves_beside, standby, state_of, is_dead, Duty, StepDuty, AskDuty, tail_of, Reply, Profile, PathEnd}
+use Rattle.clean_finish.proofs.Words.{may_note, after_look, Setting, Lane, EndIs, ControlIs, NoticesAre, IsPlainMode, Keys, Facing, Half, Has, HasNotBegun}
+use Rattle.clean_finish.proofs.Words.{Starts, IsSure}
 use Rattle.address_manager.specs.IdSet.{is_member, lowest}
 use Rattle.control_book.specs.declared.call.Notice.{Notice}
-use Rattle.control_book.specs.declared.registry.PathState.{PathState as RegistryPath}
-use Rattle.control_book.specs.Control.{Control, peer_or_zero, is_path, withdrawals_on}
-use Rattle.control_book.specs.Registry.{every_path, lowest_living, opening_paths, serves_beside, standby, state_of}
-use Rattle.control_book.specs.Replies.{address_notice, announcement, carries, is_aborted, notice_on, look_reply, resets}
-use Rattle.control_book.specs.Steps.{after_notice, after_look as book_looked}
-use Rattle.actor_desk.specs.declared.ask.Reply.{Reply}
-use Rattle.actor_desk.specs.Words.{tail_of}
-use Rattle.path_agenda.specs.declared.duty.Duty.{Duty}
-use Rattle.path_agenda.specs.declared.duty.AskDuty.{AskDuty}
-use Rattle.path_agenda.specs.declared.duty.StepDuty.{StepDuty}
 use Rattle.fallback_state.specs.declared.fall.Mode.{Mode}
-use Rattle.subflow_tcp.specs.States.{is_dead}
-use Rattle.path_core.specs.End.{PathEnd}
 use Rattle.path_core.specs.Notices.{after_notice as after_noted}
-use Rattle.path_core.specs.Standing.{after_look, may_note}
-use Rattle.path_core.specs.Profile.{Profile}
-use Rattle.pace.specs.Lane.{Setting, Lane}
-use Rattle.clean_finish.specs.Segments.{Keys}
-use Rattle.clean_finish.specs.Shows.{IsPlainMode, NoticesAre, EndIs, ControlIs}
-use Rattle.clean_finish.specs.Shows.IsPlainMode.{Starts, IsSure}
-use Rattle.clean_finish.specs.Running.{Has, Half, Facing, HasNotBegun}
 use Rattle.clean_finish.proofs.Dropping.{differ, behind, is_apart, stage_drops, settles_drop, begun_drops}
 
 and_false : (a b : Bool) → b ≡ false → a && b ≡ false

@@ -1,35 +1,15 @@
 -- The mapping of a copy is learned, and the place of its DATA_FIN is noted, whether the control book is told of it or not.
-use Rattle.std.proofs.Common.{◌≡◌, refl, sym, subst, ap, ◌∙◌, ℕ, ◌+◌, ◌-◌, ◌^◌, ◌<◌, ◌≤◌, min, Bool, true, false, if◌then◌else◌, is_some, Option, Some, None, List, [], ◌∷◌, ◌++◌, length, arith}
-use Rattle.std.proofs.lemmas.Bool.{lt-ltb}
-use Rattle.sides.specs.declared.side.Side.{Side}
-use Rattle.sides.specs.Side.{peer}
-use Rattle.control_book.specs.Control.{Control}
-use Rattle.dss_mapping.specs.declared.kept.KeptMapping.{KeptMapping}
-use Rattle.dss_mapping.specs.Learning.{after_learn_held, held_clashes}
-use Rattle.dss_mapping.specs.Mappings.{Mappings, run_of}
+use Rattle.clean_finish.proofs.Words.{◌≡◌, refl, sym, subst, ap, ◌∙◌, ℕ, ◌+◌, ◌-◌, ◌<◌, ◌≤◌, min, Bool, true, false, if◌then◌else◌, Option, None, List, [], ◌∷◌}
+use Rattle.clean_finish.proofs.Words.{◌++◌, length, arith, Some, is_some, ◌^◌, lt-ltb, Side, peer, Control, KeptMapping, after_learn_held, held_clashes}
+use Rattle.clean_finish.proofs.Words.{Mappings, run_of, Duty, Heard, pick, Profile, Carried, values, PathEnd, answered_mapping, mapping_ask, with_learned}
+use Rattle.clean_finish.proofs.Words.{with_skipped, with_data_fin, Modes, PathState, end_at, goes_on, left, answered_heard, heard_passed, fins_and, mode_in}
+use Rattle.clean_finish.proofs.Words.{fell_ask, fell_duties, after_fell, Setting, Lane, all_left, Going, Hand, brings_in, ControlIs, ModesAre, Sent, Keys}
+use Rattle.clean_finish.proofs.Words.{octets_of, Follow, FirstPiece, Piece, EndsStream, MapsAs, TreatsCopy, kept_in, IsSetting, Facing, Half, Bench, kept_piece}
+use Rattle.clean_finish.proofs.Words.{AfterOne, AfterTwo, AfterAll}
 use Rattle.dss_mapping.specs.Places.{with_run}
 use Rattle.fallback_state.specs.declared.fall.Event.{Event}
 use Rattle.fallback_state.specs.declared.fall.Fall.{Fall}
-use Rattle.actor_desk.specs.Words.{pick}
-use Rattle.path_agenda.specs.declared.duty.Duty.{Duty}
-use Rattle.path_agenda.specs.declared.heard.Heard.{Heard}
 use Rattle.path_core.specs.Breaking.{answered_break, break_ask}
-use Rattle.path_core.specs.declared.modes.Modes.{Modes}
-use Rattle.path_core.specs.Deliver.{fins_and}
-use Rattle.path_core.specs.DssIn.{with_learned, with_skipped, answered_mapping, mapping_ask, with_data_fin}
-use Rattle.path_core.specs.End.{PathEnd}
-use Rattle.path_core.specs.Fallback.{after_fell, fell_ask, fell_duties, mode_in}
-use Rattle.path_core.specs.State.{PathState, end_at, goes_on, left}
-use Rattle.path_core.specs.Profile.{Profile}
-use Rattle.path_core.specs.Treating.{answered_heard, heard_passed}
-use Rattle.path_core.specs.Values.{Carried, values}
-use Rattle.pace.specs.Lane.{Setting, Lane, all_left}
-use Rattle.pace.specs.Going.{Going}
-use Rattle.clean_finish.specs.Segments.{Sent, Keys, Follow, octets_of}
-use Rattle.clean_finish.specs.Segments.Brings.{FirstPiece, Piece, EndsStream}
-use Rattle.clean_finish.specs.Shows.{ControlIs, Hand, ModesAre, brings_in}
-use Rattle.clean_finish.specs.Running.{Bench, Half, Facing, IsSetting, MapsAs, TreatsCopy, kept_in, kept_piece}
-use Rattle.clean_finish.specs.Running.Treatment.{AfterOne, AfterTwo, AfterAll}
 use Rattle.clean_finish.proofs.Dropping.{is_waited}
 use Rattle.clean_finish.proofs.EdgePlacing.{all_few, at_position, kept_some, near_position, same_counts}
 use Rattle.clean_finish.proofs.FellOn.{fell_done, sign_reply}

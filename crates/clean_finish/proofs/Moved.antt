@@ -1,17 +1,6 @@
 -- The clock goes on to the tick of the next arrival, in both lanes.
-use Rattle.std.proofs.Common.{◌≡◌, refl, sym, subst, ℕ, ◌<◌, ◌≤◌, List}
-use Rattle.sides.specs.declared.side.Side.{Side}
-use Rattle.sides.specs.Side.{peer}
-use Rattle.path_agenda.specs.declared.duty.Duty.{Duty}
-use Rattle.path_agenda.specs.declared.duty.StepDuty.{StepDuty}
-use Rattle.path_core.specs.Profile.{Profile}
-use Rattle.pace.specs.Lane.{Setting, Lane, Stage}
-use Rattle.pace.specs.Lists.{first_at}
-use Rattle.pace.specs.Rules.{moved_to}
-use Rattle.pace.specs.Moves.{MayMove}
-use Rattle.pace.specs.Moves.Move.{goes_back, moves as lane_moves}
-use Rattle.clean_finish.specs.Segments.{Keys}
-use Rattle.clean_finish.specs.Running.{Has, Half, Facing}
+use Rattle.clean_finish.proofs.Words.{◌≡◌, refl, sym, subst, ℕ, ◌<◌, ◌≤◌, List, Side, peer, Duty, StepDuty, Profile, Setting, Lane, Stage, MayMove, goes_back}
+use Rattle.clean_finish.proofs.Words.{lane_moves, moved_to, first_at, Keys, Facing, Half, Has}
 use Rattle.clean_finish.proofs.Opened.{waiting_on, before_waiting, stage_waits}
 use Rattle.clean_finish.proofs.Passing.{stands_then}
 

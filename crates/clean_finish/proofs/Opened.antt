@@ -1,33 +1,10 @@
 -- A sends its SYN.
-use Rattle.std.proofs.Common.{◌≡◌, refl, sym, subst, ◌∙◌, ℕ, ◌+◌, ◌-◌, ◌==◌, ◌≤◌, min, max, nat_lt, Bool, true, false, cond, ◌&&◌, inl, inr, Some, List, [], ◌∷◌, ◌++◌, arith}
-use Rattle.std.proofs.lemmas.Bool.{both_ways, ne_eqb}
-use Rattle.std.proofs.lemmas.List.Elements.{All-weaker}
-use Rattle.sides.specs.declared.side.Side.{Side}
-use Rattle.sides.specs.declared.side.Side.TheVariants.{A, B}
-use Rattle.link_model.specs.declared.flight.Flight.{Flight}
-use Rattle.subflow_tcp.specs.declared.handshake.State.TheVariants.{SynSent}
-use Rattle.subflow_send.specs.Rules.{syn_record}
-use Rattle.subflow_send.specs.Sendings.{never_sent}
-use Rattle.path_agenda.specs.declared.duty.Duty.{Duty}
-use Rattle.path_agenda.specs.declared.duty.SendDuty.{SendDuty}
-use Rattle.path_agenda.specs.declared.duty.StepDuty.{StepDuty}
-use Rattle.subflow_tcp.specs.declared.segments.Occasion.{Occasion}
-use Rattle.path_core.specs.Emission.{first_unsent}
-use Rattle.path_core.specs.Handover.{having_sent}
-use Rattle.path_core.specs.End.{PathEnd}
-use Rattle.path_core.specs.OptionsOut.{record_or_ack}
-use Rattle.path_core.specs.Profile.{Profile}
-use Rattle.path_core.specs.Values.{Carried}
-use Rattle.pace.specs.Lane.{Setting, Telling, Copy, Lane, Stage, is_whole, all_left}
-use Rattle.pace.specs.Rules.{sent_by, said_by, repeats}
-use Rattle.pace.specs.Going.{Going, pending}
-use Rattle.pace.specs.Moves.{MaySay, MaySend, IsBefore}
-use Rattle.pace.specs.Moves.Move.{goes_back, sends_none, says}
-use Rattle.clean_finish.specs.Segments.{Sent, Keys, copy_in, said, FliesAs}
-use Rattle.clean_finish.specs.Segments.Brings.{OpensSubflow}
-use Rattle.clean_finish.specs.Shows.{AreTaken, EndIs, IsGranted, WayIs}
-use Rattle.clean_finish.specs.Shows.IsToldEdge.{Same}
-use Rattle.clean_finish.specs.Running.{Has, Half, Facing, IsSetting, HasNotBegun, StageIs}
+use Rattle.clean_finish.proofs.Words.{◌≡◌, refl, sym, subst, ◌∙◌, ℕ, ◌+◌, ◌-◌, ◌≤◌, min, max, nat_lt, Bool, true, false, cond, ◌&&◌, inl, inr, List, [], ◌∷◌}
+use Rattle.clean_finish.proofs.Words.{◌++◌, arith, Some, ◌==◌, both_ways, ne_eqb, All-weaker, Side, A, B, syn_record, never_sent, SynSent, Occasion, Flight}
+use Rattle.clean_finish.proofs.Words.{Duty, SendDuty, StepDuty, Profile, Carried, PathEnd, record_or_ack, having_sent, first_unsent, Setting, Telling, Copy}
+use Rattle.clean_finish.proofs.Words.{Lane, Stage, is_whole, all_left, Going, pending, MaySay, MaySend, IsBefore, says, sends_none, goes_back, said_by, repeats}
+use Rattle.clean_finish.proofs.Words.{sent_by, AreTaken, EndIs, IsGranted, WayIs, Sent, Keys, copy_in, said, FliesAs, OpensSubflow, Same, IsSetting, Facing}
+use Rattle.clean_finish.proofs.Words.{Half, Has, StageIs, HasNotBegun}
 use Rattle.clean_finish.proofs.Dropping.{differ, IsApart, stage_drops, settles_drop, begun_drops}
 use Rattle.clean_finish.proofs.Passing.{stands_then}
 use Rattle.clean_finish.proofs.Quiet.{now_out, now_back}

@@ -1,35 +1,13 @@
 -- B's SYN is acknowledged by the third segment, whose keys are told to the control book.
-use Rattle.std.proofs.Common.{◌≡◌, refl, sym, subst, ap, ◌∙◌, ℕ, ◌==◌, ◌<◌, ◌≤◌, min, eq-eqb, Bool, true, false, not, ◌&&◌, ◌||◌, if◌then◌else◌, is_some, inr, Option, Some, List, ◌∷◌, ◌++◌, le_refl, arith}
-use Rattle.std.proofs.lemmas.Bool.{both_ways}
-use Rattle.sides.specs.declared.side.Side.{Side}
-use Rattle.sides.specs.declared.side.Side.TheVariants.{A, B}
-use Rattle.control_book.specs.declared.call.ControlCall.{ControlCall}
-use Rattle.control_book.specs.declared.call.ControlReply.{ControlReply}
-use Rattle.fallback_state.specs.Modes.{is_starting}
-use Rattle.subflow_tcp.specs.declared.handshake.State.{State}
-use Rattle.actor_desk.specs.declared.ask.Ask.{Ask}
-use Rattle.actor_desk.specs.declared.ask.Reply.{Reply}
-use Rattle.actor_desk.specs.Desk.{SixBooks, reply_of, after_ask}
-use Rattle.stream_apps.specs.Apps.{AppState}
-use Rattle.path_agenda.specs.Agenda.{heard_and, payload_came}
-use Rattle.path_agenda.specs.declared.duty.Duty.{Duty}
-use Rattle.path_agenda.specs.declared.duty.AskDuty.{AskDuty}
-use Rattle.path_agenda.specs.declared.heard.Heard.{Heard}
+use Rattle.clean_finish.proofs.Words.{◌≡◌, refl, sym, subst, ap, ◌∙◌, ℕ, ◌<◌, ◌≤◌, min, Bool, true, false, not, ◌&&◌, ◌||◌, if◌then◌else◌, inr, Option, List}
+use Rattle.clean_finish.proofs.Words.{◌∷◌, ◌++◌, arith, Some, le_refl, is_some, ◌==◌, both_ways, is_starting, Side, A, B, ControlReply, ControlCall, State}
+use Rattle.clean_finish.proofs.Words.{Duty, AskDuty, heard_and, payload_came, keys_heard, Heard, Reply, SixBooks, reply_of, after_ask, Ask, AppState, Carried}
+use Rattle.clean_finish.proofs.Words.{PathEnd, PathState, with_agenda, with_end, is_opened_by_keys, is_opened_plainly, answered_opened, opened_ask, Setting}
+use Rattle.clean_finish.proofs.Words.{Lane, all_left, Sender, Going, PathPlan, Start, Hand, brings_in, IsPhase, IsOpen, Sent, Keys, Brings, Follow, ShowsKeys}
+use Rattle.clean_finish.proofs.Words.{Beside, Treats, TreatsCopy, count_in, own_bench, other_bench, FacesOfB, IsSetting, Runs, keys_in, Bench, FacesOfA}
+use Rattle.clean_finish.proofs.Words.{AtFirst, Opening, Listening, HalfOpen, Open}
+use Rattle.std.proofs.Common.{eq-eqb}
 use Rattle.path_agenda.specs.declared.keys.KeyPair.{KeyPair}
-use Rattle.path_agenda.specs.Items.{keys_heard}
-use Rattle.path_core.specs.End.{PathEnd}
-use Rattle.path_core.specs.MpCapable.{answered_opened, is_opened_by_keys, is_opened_plainly, opened_ask}
-use Rattle.path_core.specs.State.{PathState, with_agenda, with_end}
-use Rattle.path_core.specs.Values.{Carried}
-use Rattle.world_laws.specs.Openings.{PathPlan, Start}
-use Rattle.pace.specs.Lane.{Setting, Lane, Sender, all_left}
-use Rattle.pace.specs.Going.{Going}
-use Rattle.clean_finish.specs.Segments.{Sent, Keys, Brings, Follow}
-use Rattle.clean_finish.specs.Segments.Brings.{ShowsKeys}
-use Rattle.clean_finish.specs.Shows.{Hand, IsOpen, IsPhase, brings_in}
-use Rattle.clean_finish.specs.Shows.IsPhase.{Opening, Listening, HalfOpen, Open}
-use Rattle.clean_finish.specs.Running.{Bench, Beside, FacesOfA, FacesOfB, Treats, TreatsCopy, count_in, own_bench, other_bench, IsSetting, Runs, keys_in}
-use Rattle.clean_finish.specs.Running.Treatment.{AtFirst}
 use Rattle.clean_finish.proofs.Confirmed.{confirmed}
 use Rattle.clean_finish.proofs.EndPassing.{sent_some}
 use Rattle.clean_finish.proofs.Hands.{in_hand}

@@ -1,23 +1,7 @@
 -- Each duty that comes to nothing is passed.
-use Rattle.std.proofs.Common.{◌≡◌, refl, sym, subst, ap, ℕ, zero, suc, true, false, ◌||◌, is_some, Option, List, ◌∷◌}
-use Rattle.std.proofs.lemmas.Bool.{both_ways}
-use Rattle.sides.specs.declared.side.Side.TheVariants.{A, B}
-use Rattle.fallback_state.specs.Modes.{is_starting}
-use Rattle.actor_desk.specs.Desk.{SixBooks}
-use Rattle.stream_apps.specs.Apps.{AppState}
-use Rattle.path_agenda.specs.declared.duty.Duty.{Duty}
-use Rattle.path_agenda.specs.declared.duty.AskDuty.{AskDuty}
-use Rattle.path_agenda.specs.declared.duty.SendDuty.{SendDuty}
-use Rattle.path_agenda.specs.declared.duty.SilentDuty.{SilentDuty}
-use Rattle.path_agenda.specs.declared.duty.StepDuty.{StepDuty}
-use Rattle.path_core.specs.Duties.{stands, passed}
-use Rattle.path_core.specs.State.{PathState, with_agenda}
-use Rattle.path_core.specs.Values.{Carried}
-use Rattle.world_laws.specs.Openings.{PathPlan, Start}
-use Rattle.pace.specs.Lane.{Setting, Lane, all_left}
-use Rattle.pace.specs.Going.{Going}
-use Rattle.clean_finish.specs.Segments.{Keys}
-use Rattle.clean_finish.specs.Running.{fin_duties, IsSetting, Runs, keys_in}
+use Rattle.clean_finish.proofs.Words.{◌≡◌, refl, sym, subst, ap, ℕ, true, false, ◌||◌, Option, List, ◌∷◌, suc, zero, is_some, both_ways, is_starting, A, B}
+use Rattle.clean_finish.proofs.Words.{Duty, SendDuty, StepDuty, AskDuty, SilentDuty, SixBooks, AppState, Carried, PathState, with_agenda, stands, passed}
+use Rattle.clean_finish.proofs.Words.{Setting, Lane, all_left, Going, PathPlan, Start, Keys, IsSetting, Runs, keys_in, fin_duties}
 use Rattle.clean_finish.proofs.EdgePlacing.{passes_checked_a, passes_checked_b, passes_edge_a, passes_edge_b}
 use Rattle.clean_finish.proofs.EndPassing.{passes_fin_one_a, passes_fin_one_b, passes_heard_fin_a, passes_heard_fin_b, passes_unmapped_a, passes_unmapped_b}
 use Rattle.clean_finish.proofs.FinPassing.{passes_pass_fin_a, passes_pass_fin_b, passes_subflow_fin_a, passes_subflow_fin_b}

@@ -1,20 +1,7 @@
 -- Duties that come to nothing, from one side: what stays, and the move that a lane makes.
-use Rattle.std.proofs.Common.{◌≡◌, refl, ap, ℕ, suc, ◌+◌, ◌<◌, ◌≤◌, false, List, ◌∷◌}
-use Rattle.sides.specs.declared.side.Side.{Side}
-use Rattle.sides.specs.declared.side.Side.TheVariants.{A, B}
-use Rattle.sides.specs.Side.{peer}
-use Rattle.path_agenda.specs.declared.duty.Duty.{Duty}
-use Rattle.path_agenda.specs.declared.duty.AskDuty.{AskDuty}
-use Rattle.path_agenda.specs.declared.duty.SendDuty.{SendDuty}
-use Rattle.path_agenda.specs.declared.duty.StepDuty.{StepDuty}
-use Rattle.path_core.specs.Profile.{Profile}
-use Rattle.pace.specs.Lane.{Setting, Lane, Stage, all_left}
-use Rattle.pace.specs.Going.{Going}
-use Rattle.pace.specs.Moves.{Move, HasEmitted}
-use Rattle.pace.specs.Moves.Move.{keeps_quiet, has_emitted, has_finished}
-use Rattle.pace.proofs.Moving.{all_moves_going}
-use Rattle.clean_finish.specs.Segments.{Keys}
-use Rattle.clean_finish.specs.Running.{LaneStands, Half, Facing}
+use Rattle.clean_finish.proofs.Words.{◌≡◌, refl, ap, ℕ, ◌+◌, ◌<◌, ◌≤◌, false, List, ◌∷◌, suc, Side, A, B, peer, Duty, SendDuty, StepDuty, AskDuty, Profile}
+use Rattle.clean_finish.proofs.Words.{Setting, Lane, Stage, all_left, Going, Move, HasEmitted, keeps_quiet, has_emitted, has_finished, all_moves_going, Keys}
+use Rattle.clean_finish.proofs.Words.{Facing, Half, LaneStands}
 use Rattle.clean_finish.proofs.Dropping.{is_waited, apart, differ, is_apart, stage_drops, update_drops, emit_drops, finish_drops, settles_drop, begun_drops}
 
 -- one move more

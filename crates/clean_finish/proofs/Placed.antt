@@ -1,26 +1,10 @@
 -- The bytes of a copy are placed: their lane takes them.
-use Rattle.std.proofs.Common.{◌≡◌, refl, sym, subst, ap, ◌∙◌, ℕ, ◌+◌, ◌<◌, ◌≤◌, max, true, false, inl, inr, Some, List, ◌∷◌, ◌++◌, length, map, arith}
-use Rattle.std.proofs.lemmas.Bool.{both_ways}
-use Rattle.sides.specs.declared.side.Side.{Side}
-use Rattle.sides.specs.declared.side.Side.TheVariants.{B}
-use Rattle.reassembly_book.specs.State.{Arriving, filled, received}
-use Rattle.reassembly_book.specs.Steps.{edge, after_place}
-use Rattle.path_agenda.specs.declared.duty.Duty.{Duty}
-use Rattle.path_agenda.specs.declared.duty.AskDuty.{AskDuty}
-use Rattle.path_agenda.specs.declared.duty.SendDuty.{SendDuty}
-use Rattle.path_agenda.specs.declared.duty.StepDuty.{StepDuty}
+use Rattle.clean_finish.proofs.Words.{◌≡◌, refl, sym, subst, ap, ◌∙◌, ℕ, ◌+◌, ◌<◌, ◌≤◌, max, true, false, inl, inr, List, ◌∷◌, ◌++◌, length, map, arith, Some}
+use Rattle.clean_finish.proofs.Words.{both_ways, Side, B, Arriving, filled, received, edge, after_place, Duty, SendDuty, StepDuty, AskDuty, Profile, PathEnd}
+use Rattle.clean_finish.proofs.Words.{having_asked, after_piece, Setting, Lane, all_left, Going, Chain, IsOpen, Sent, Keys, copy_in, octets_of, CountsAs}
+use Rattle.clean_finish.proofs.Words.{data_fin_of, IsSetting, Facing, Half, Has, end_known, ReaderShows, ReceiverIs}
 use Rattle.path_store.specs.Passing.{Piece}
-use Rattle.path_core.specs.Deliver.{after_piece, having_asked}
-use Rattle.path_core.specs.End.{PathEnd}
-use Rattle.path_core.specs.Profile.{Profile}
-use Rattle.pace.specs.Lane.{Setting, Lane, all_left}
-use Rattle.pace.specs.Lists.{Chain}
-use Rattle.pace.specs.Going.{Going}
-use Rattle.clean_finish.specs.Books.{ReceiverIs}
-use Rattle.clean_finish.specs.Reading.{ReaderShows, end_known}
-use Rattle.clean_finish.specs.Segments.{Sent, Keys, copy_in, is_opening, octets_of, data_fin_of, CountsAs}
-use Rattle.clean_finish.specs.Shows.{IsOpen}
-use Rattle.clean_finish.specs.Running.{Has, Half, Facing, IsSetting}
+use Rattle.clean_finish.specs.Segments.{is_opening}
 use Rattle.clean_finish.proofs.Brought.{brought}
 use Rattle.clean_finish.proofs.BytesPlaced.{placed_is, more_filled}
 use Rattle.clean_finish.proofs.DutyMore.{duty_more}

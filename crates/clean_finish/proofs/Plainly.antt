@@ -1,26 +1,8 @@
 -- Duties that come to nothing are passed, as long as no copy is treated.
-use Rattle.std.proofs.Common.{◌≡◌, refl, ℕ, Bool, false, ◌⊎◌, inl, inr, List, [], ◌∷◌, arith}
-use Rattle.std.proofs.lemmas.Bool.{both_ways}
-use Rattle.sides.specs.declared.side.Side.{Side}
-use Rattle.sides.specs.declared.side.Side.TheVariants.{A, B}
-use Rattle.actor_desk.specs.Desk.{SixBooks}
-use Rattle.actor_desk.specs.Words.{pick}
-use Rattle.stream_apps.specs.Apps.{AppState}
-use Rattle.path_agenda.specs.declared.duty.Duty.{Duty}
-use Rattle.path_agenda.specs.declared.duty.AskDuty.{AskDuty}
-use Rattle.path_agenda.specs.declared.duty.SendDuty.{SendDuty}
-use Rattle.path_agenda.specs.declared.duty.SilentDuty.{SilentDuty}
-use Rattle.path_agenda.specs.declared.duty.StepDuty.{StepDuty}
-use Rattle.path_core.specs.DataFin.{is_data_fin_due}
-use Rattle.path_core.specs.Emission.{first_unsent, data_stands}
-use Rattle.path_core.specs.Standing.{is_update_due}
-use Rattle.path_core.specs.State.{PathState, with_agenda}
-use Rattle.path_core.specs.Values.{Carried}
-use Rattle.world_laws.specs.Openings.{PathPlan, Start}
-use Rattle.pace.specs.Lane.{Setting, Lane, all_left}
-use Rattle.pace.specs.Going.{Going}
-use Rattle.clean_finish.specs.Segments.{Keys}
-use Rattle.clean_finish.specs.Running.{Has, Bench, own_bench, other_bench, is_window, any_duty, AreBetween, ArePlain, IsMapped, Treats, IsSetting, Runs, keys_in}
+use Rattle.clean_finish.proofs.Words.{◌≡◌, refl, ℕ, Bool, false, ◌⊎◌, inl, inr, List, [], ◌∷◌, arith, both_ways, Side, A, B, Duty, SendDuty, StepDuty, AskDuty}
+use Rattle.clean_finish.proofs.Words.{SilentDuty, pick, SixBooks, AppState, Carried, is_data_fin_due, is_update_due, PathState, with_agenda, first_unsent}
+use Rattle.clean_finish.proofs.Words.{data_stands, Setting, Lane, all_left, Going, PathPlan, Start, Keys, Treats, own_bench, other_bench, IsSetting, Runs}
+use Rattle.clean_finish.proofs.Words.{keys_in, Has, Bench, any_duty, ArePlain, is_window, AreBetween, IsMapped}
 use Rattle.clean_finish.proofs.Dropping.{is_waited, differ}
 use Rattle.clean_finish.proofs.Passing.{free_drops, update_passes, data_passes, end_passes}
 use Rattle.clean_finish.proofs.Quiet.{is_quiet, is_finished, no_window}

@@ -1,14 +1,5 @@
 -- A stage goes back to all that follows an event: bytes and a DATA_FIN may be sent, and segments may arrive.
-use Rattle.std.proofs.Common.{refl, Bool, true, inr, List}
-use Rattle.std.proofs.lemmas.Bool.{both_ways}
-use Rattle.sides.specs.declared.side.Side.{Side}
-use Rattle.path_agenda.specs.declared.duty.Duty.{Duty}
-use Rattle.path_agenda.specs.declared.duty.SendDuty.{SendDuty}
-use Rattle.path_agenda.specs.declared.duty.SilentDuty.{SilentDuty}
-use Rattle.path_agenda.specs.declared.duty.StepDuty.{StepDuty}
-use Rattle.pace.specs.Lane.{Stage}
-use Rattle.pace.specs.Moves.{IsBefore}
-use Rattle.clean_finish.specs.Running.{Has, StageIs}
+use Rattle.clean_finish.proofs.Words.{refl, Bool, true, inr, List, both_ways, Side, Duty, SendDuty, StepDuty, SilentDuty, Stage, IsBefore, Has, StageIs}
 
 abbrev pub raised : Stage → Stage
 raised p = record p { emit = true; finish = true; wait = true }

@@ -1,25 +1,9 @@
 -- The congestion window grows by what the control book answers of all paths.
-use Rattle.std.proofs.Common.{◌≡◌, refl, sym, subst, ap, ◌∙◌, ℕ, ◌+◌, ◌≤◌, false, Option, Some, None, IfSome, inl, List, ◌∷◌, arith}
+use Rattle.clean_finish.proofs.Words.{◌≡◌, refl, sym, subst, ap, ◌∙◌, ℕ, ◌+◌, ◌≤◌, false, inl, Option, None, List, ◌∷◌, arith, Some, IfSome, Side, peer}
+use Rattle.clean_finish.proofs.Words.{Control, after_rate, RegistryPath, with_row, Congestion, grown_by, after_growth, Told, Grows, same_grows, ack_grows, Duty}
+use Rattle.clean_finish.proofs.Words.{AskDuty, Profile, PathEnd, Setting, Lane, EndIs, last_told, row_seen, ControlIs, Keys, dss_from, Facing, Half}
 use Rattle.linked_increase.specs.Places.{row_of}
-use Rattle.sides.specs.declared.side.Side.{Side}
-use Rattle.sides.specs.Side.{peer}
-use Rattle.control_book.specs.declared.registry.PathState.{PathState as RegistryPath}
-use Rattle.control_book.specs.Control.{Control}
-use Rattle.control_book.specs.Registry.{with_row}
-use Rattle.control_book.specs.Steps.{after_rate}
-use Rattle.loss_recovery.specs.declared.windows.Congestion.{Congestion}
 use Rattle.loss_recovery.specs.declared.windows.Pending.{Pending}
-use Rattle.loss_recovery.specs.declared.windows.Told.{Told}
-use Rattle.loss_recovery.specs.Windows.{grown_by, after_growth}
-use Rattle.subflow_tcp.proofs.WindowGrowth.{Grows, same_grows, ack_grows}
-use Rattle.path_agenda.specs.declared.duty.Duty.{Duty}
-use Rattle.path_agenda.specs.declared.duty.AskDuty.{AskDuty}
-use Rattle.path_core.specs.End.{PathEnd}
-use Rattle.path_core.specs.Profile.{Profile}
-use Rattle.pace.specs.Lane.{Setting, Lane}
-use Rattle.clean_finish.specs.Segments.{Keys, dss_from}
-use Rattle.clean_finish.specs.Shows.{EndIs, ControlIs, last_told, row_seen}
-use Rattle.clean_finish.specs.Running.{Half, Facing}
 use Rattle.clean_finish.proofs.Passing.{free_drops}
 
 pub rated_on : (s : Side) (keys : Keys) (path window rtt : ℕ) (c : Control) → path ≡ 0 → ControlIs s keys c → ControlIs s keys (after_rate path window rtt c)

@@ -1,18 +1,9 @@
 -- An application was told the end of its stream exactly by its own steps, and of no abort, where its book was never aborted.
-use Rattle.std.proofs.Common.{◌≡◌, refl, sym, subst, ap, ◌∙◌, ℕ, Bool, true, false, ◌||◌, if◌then◌else◌, Option, None, List, [], ◌∷◌, ◌++◌, take}
-use Rattle.std.proofs.lemmas.Bool.{or_from}
-use Rattle.reassembly_book.specs.declared.call.ReassemblyReply.TheVariants.{NoneYet}
-use Rattle.reassembly_book.specs.declared.call.ReassemblyReply.TheVariants.{End as TheEnd}
-use Rattle.reassembly_book.specs.State.{Arriving, filled}
-use Rattle.reassembly_book.specs.Steps.{is_end, bytes_reply, reading}
+use Rattle.clean_finish.proofs.Words.{◌≡◌, refl, sym, subst, ap, ◌∙◌, ℕ, Bool, true, false, ◌||◌, if◌then◌else◌, Option, None, List, [], ◌∷◌, ◌++◌, take}
+use Rattle.clean_finish.proofs.Words.{or_from, Arriving, filled, is_end, bytes_reply, reading, NoneYet, TheEnd, Reply, SixBooks, reply_of, reassembly_of}
+use Rattle.clean_finish.proofs.Words.{AppDuty, Read, FastClose, AppState, app_ask, app_answered, app_answers, app_settles_down, app_takes, app_next_round}
+use Rattle.clean_finish.proofs.Words.{fresh_turn, start_of_app, ends_in, tells_abort, tells_end, was_told, note_tells}
 use Rattle.actor_desk.specs.declared.ask.Note.{Note}
-use Rattle.actor_desk.specs.declared.ask.Reply.{Reply}
-use Rattle.actor_desk.specs.Desk.{SixBooks, reassembly_of, reply_of}
-use Rattle.stream_apps.specs.declared.duty.AppDuty.{AppDuty}
-use Rattle.stream_apps.specs.declared.duty.AppDuty.TheVariants.{FastClose, Read}
-use Rattle.stream_apps.specs.Apps.{AppState}
-use Rattle.stream_apps.specs.AppSteps.{app_ask, app_answered, app_answers, app_settles_down, app_takes, app_next_round, fresh_turn, start_of_app, ends_in}
-use Rattle.world_laws.specs.Outcomes.{note_tells, tells_end, tells_abort, was_told}
 use Rattle.world_laws.proofs.Lanes.Applying.{any_more, settled_app}
 
 pub record TellsAs (a : AppState) (notes : List Note) : Type 0 where

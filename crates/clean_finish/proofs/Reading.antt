@@ -1,22 +1,9 @@
 -- An application that reads is moves of the lane that comes to it.
-use Rattle.std.proofs.Common.{◌≡◌, refl, sym, subst, ap, ◌∙◌, ℕ, zero, suc, ◌+◌, ◌≤◌, min, Bool, true, false, not, nat_lt, if◌then◌else◌, ◌⊎◌, inl, inr, ⊎_elim, List, [], ◌∷◌, length, take, drop, Option, None, Some, length-take, le_refl, arith}
-use Rattle.std.proofs.lemmas.Bool.{both_ways, cases_lt, ltb-false, eqb-true, eqb-false}
-use Rattle.subflow_tcp.specs.Segments.{one_if}
-use Rattle.reassembly_book.specs.declared.call.ReassemblyReply.TheVariants.{NoneYet}
-use Rattle.reassembly_book.specs.declared.call.ReassemblyReply.TheVariants.{End as TheEnd}
-use Rattle.reassembly_book.specs.State.{Arriving, received, filled}
-use Rattle.reassembly_book.specs.Steps.{is_end, bytes_reply, read_reply, after_read, after_reading}
-use Rattle.actor_desk.specs.declared.ask.Reply.{Reply}
-use Rattle.stream_apps.specs.declared.duty.AppDuty.{AppDuty}
-use Rattle.stream_apps.specs.declared.duty.AppDuty.TheVariants.{Read, End}
-use Rattle.stream_apps.specs.Apps.{AppState}
-use Rattle.stream_apps.specs.AppSteps.{app_takes, app_settled, app_next_round}
-use Rattle.pace.specs.Lane.{Setting, Lane, Stage}
-use Rattle.pace.specs.Rules.{has_read}
-use Rattle.pace.specs.Going.{Going}
-use Rattle.pace.specs.Moves.{MayEndReading}
-use Rattle.pace.specs.Moves.Move.{reads, ends_reading}
-use Rattle.clean_finish.specs.Reading.{is_reading, end_known, ReaderIs, ReaderShows, ReaderGoes}
+use Rattle.clean_finish.proofs.Words.{◌≡◌, refl, sym, subst, ap, ◌∙◌, ℕ, ◌+◌, ◌≤◌, min, nat_lt, Bool, true, false, not, if◌then◌else◌, ◌⊎◌, inl, inr, ⊎_elim}
+use Rattle.clean_finish.proofs.Words.{Option, None, List, [], ◌∷◌, length, arith, Some, suc, le_refl, zero, drop, take, length-take, both_ways, cases_lt}
+use Rattle.clean_finish.proofs.Words.{ltb-false, eqb-true, eqb-false, Arriving, filled, received, after_read, after_reading, is_end, read_reply, bytes_reply}
+use Rattle.clean_finish.proofs.Words.{NoneYet, TheEnd, one_if, Reply, AppDuty, Read, End, AppState, app_takes, app_next_round, app_settled, Setting, Lane}
+use Rattle.clean_finish.proofs.Words.{Stage, Going, MayEndReading, ends_reading, reads, has_read, is_reading, end_known, ReaderIs, ReaderShows, ReaderGoes}
 
 filled_left : (n : ℕ) (places : List (Option ℕ)) → n ≤ length (filled places)
     → n + length (filled (drop n places)) ≡ length (filled places)

@@ -1,31 +1,11 @@
 -- A refusal of a grant: nothing more is asked for.
-use Rattle.std.proofs.Common.{◌≡◌, refl, sym, ap, ◌∙◌, ℕ, ◌+◌, ◌≤◌, Bool, true, false, not, ◌&&◌, if◌then◌else◌, inl, inr, Option, Some, None, List, ◌∷◌, length, arith}
-use Rattle.std.proofs.lemmas.Bool.{both_ways}
-use Rattle.std.proofs.lemmas.List.Elements.{All-weaker}
-use Rattle.subflow_tcp.specs.Segments.{one_if}
-use Rattle.sides.specs.declared.side.Side.{Side}
-use Rattle.sides.specs.Side.{peer}
-use Rattle.subflow_send.specs.Records.{Record}
-use Rattle.send_book.specs.declared.call.Why.{Why}
+use Rattle.clean_finish.proofs.Words.{◌≡◌, refl, sym, ap, ◌∙◌, ℕ, ◌+◌, ◌≤◌, Bool, true, false, not, ◌&&◌, if◌then◌else◌, inl, inr, Option, None, List, ◌∷◌}
+use Rattle.clean_finish.proofs.Words.{length, arith, Some, both_ways, All-weaker, Side, peer, Why, Record, one_if, Duty, SendDuty, StepDuty, Profile, PathEnd}
+use Rattle.clean_finish.proofs.Words.{is_shut, after_refusal, told_last, Setting, Lane, Stage, MayRefuse, IsBefore, is_refused, goes_back, refused_by, EndIs}
+use Rattle.clean_finish.proofs.Words.{IsGranted, Waits, WaitsSyn, WaitsNone, WaitsBytes, Keys, Facing, Half, Has, StageIs, end_known}
 use Rattle.send_book.specs.Steps.{end_of}
-use Rattle.path_agenda.specs.declared.duty.Duty.{Duty}
-use Rattle.path_agenda.specs.declared.duty.SendDuty.{SendDuty}
-use Rattle.path_agenda.specs.declared.duty.StepDuty.{StepDuty}
-use Rattle.path_core.specs.End.{PathEnd}
-use Rattle.path_core.specs.Profile.{Profile}
-use Rattle.path_core.specs.DataFin.{after_refusal, is_shut}
-use Rattle.path_core.specs.Choices.{told_last}
-use Rattle.pace.specs.Lane.{Setting, Lane, Stage}
-use Rattle.pace.specs.Rules.{refused_by}
-use Rattle.pace.specs.Moves.{MayRefuse, IsBefore}
-use Rattle.pace.specs.Moves.Move.{goes_back, is_refused}
-use Rattle.clean_finish.specs.Segments.{Keys}
-use Rattle.clean_finish.specs.Shows.{EndIs, IsGranted, Waits}
-use Rattle.clean_finish.specs.Shows.Waits.{WaitsSyn, WaitsNone, WaitsBytes}
-use Rattle.clean_finish.specs.Running.{Has, StageIs, Half, Facing}
 use Rattle.clean_finish.proofs.Dropping.{differ, IsApart, stage_drops, emit_drops, settles_drop, begun_drops}
 use Rattle.clean_finish.proofs.Passing.{stands_then, peer_is_other, same_data}
-use Rattle.clean_finish.specs.Reading.{end_known}
 
 pub before_finishing : (p : Stage) → IsBefore (record p { finish = true }) p
 before_finishing p = record {

@@ -1,20 +1,8 @@
 -- An end sends a segment: both lanes and the link, whatever it brings.
-use Rattle.std.proofs.Common.{◌≡◌, refl, sym, subst, ℕ, ◌+◌, ◌≤◌, Bool, true, false, ◌⊎◌, inl, Option, List, [], ◌∷◌, ◌++◌, arith}
-use Rattle.sides.specs.declared.side.Side.{Side}
-use Rattle.sides.specs.Side.{peer}
-use Rattle.link_model.specs.declared.flight.Flight.{Flight}
-use Rattle.path_agenda.specs.declared.duty.Duty.{Duty}
-use Rattle.path_agenda.specs.declared.duty.StepDuty.{StepDuty}
-use Rattle.path_core.specs.End.{PathEnd}
-use Rattle.path_core.specs.Profile.{Profile}
-use Rattle.path_core.specs.Values.{Carried}
-use Rattle.pace.specs.Lane.{Setting, Lane}
-use Rattle.pace.specs.Rules.{sends, said_by}
-use Rattle.pace.specs.Moves.{Move, MaySay}
-use Rattle.pace.specs.Moves.Move.{goes_back, says}
-use Rattle.clean_finish.specs.Segments.{Sent, Keys, copy_in, FliesAs, CountsAs, TellsAs, AcknowledgesAs, ShowsFirst, BringsAs}
-use Rattle.clean_finish.specs.Shows.{Hand, brings_still, AreTaken, EndIs, WayIs}
-use Rattle.clean_finish.specs.Running.{Has, StageIs, IsSettledSoon, HasNotBegun, Half, Facing}
+use Rattle.clean_finish.proofs.Words.{◌≡◌, refl, sym, subst, ℕ, ◌+◌, ◌≤◌, Bool, true, false, ◌⊎◌, inl, Option, List, [], ◌∷◌, ◌++◌, arith, Side, peer, Flight}
+use Rattle.clean_finish.proofs.Words.{Duty, StepDuty, Profile, Carried, PathEnd, Setting, Lane, Move, MaySay, says, goes_back, said_by, sends, AreTaken, Hand}
+use Rattle.clean_finish.proofs.Words.{EndIs, WayIs, brings_still, Sent, Keys, BringsAs, copy_in, CountsAs, TellsAs, AcknowledgesAs, ShowsFirst, FliesAs, Facing}
+use Rattle.clean_finish.proofs.Words.{Half, Has, StageIs, HasNotBegun, IsSettledSoon}
 use Rattle.clean_finish.proofs.Opened.{waiting_on, before_waiting, stage_waits}
 use Rattle.clean_finish.proofs.Passing.{stands_then}
 use Rattle.clean_finish.proofs.Ways.{way_more}

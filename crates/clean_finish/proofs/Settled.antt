@@ -1,38 +1,14 @@
 -- The timer is settled: it runs for a reason of the lane.
-use Rattle.std.proofs.Common.{◌≡◌, refl, sym, subst, ap, ◌∙◌, ℕ, ◌+◌, ◌-◌, ◌<◌, ◌≤◌, min, cond, Bool, true, false, not, ◌&&◌, ◌||◌, ◌⊎◌, inl, inr, ⊎_elim, Option, Some, None, List, [], ◌∷◌, map, All, arith}
-use Rattle.std.proofs.lemmas.Bool.{both_ways, cases_lt, and_parts, ltb-false}
-use Rattle.std.proofs.lemmas.List.Elements.{All-head, All-weaker}
-use Rattle.sides.specs.declared.side.Side.{Side}
-use Rattle.sides.specs.declared.side.Side.TheVariants.{A}
-use Rattle.sides.specs.Side.{peer}
-use Rattle.link_script.specs.Places.{same_side}
-use Rattle.subflow_send.specs.Records.{Record, Tile, Follow, span_of}
-use Rattle.loss_recovery.specs.Timers.{timer_settled}
-use Rattle.subflow_tcp.specs.declared.handshake.State.{State}
+use Rattle.clean_finish.proofs.Words.{◌≡◌, refl, sym, subst, ap, ◌∙◌, ℕ, ◌+◌, ◌-◌, ◌<◌, ◌≤◌, min, Bool, true, false, cond, not, ◌&&◌, ◌||◌, ◌⊎◌, inl, inr}
+use Rattle.clean_finish.proofs.Words.{⊎_elim, Option, None, List, [], ◌∷◌, map, All, arith, Some, both_ways, cases_lt, and_parts, ltb-false, All-head}
+use Rattle.clean_finish.proofs.Words.{All-weaker, Side, A, peer, same_side, Record, Tile, span_of, timer_settled, State, has_records, is_some_record}
+use Rattle.clean_finish.proofs.Words.{is_closed_to_segments, one_if, GrantedPiece, is_all_acknowledged, Duty, SendDuty, SilentDuty, Profile, PathEnd}
+use Rattle.clean_finish.proofs.Words.{is_data_fin_owed, sends_plainly, after_timer, Setting, Lane, all_left, Sender, Going, Reason, lane_settles, tick_or}
+use Rattle.clean_finish.proofs.Words.{settled_by, seen_timer, IsLong, EndIs, IsGranted, IsPhase, Waits, WaitsSyn, WaitsNone, WaitsBytes, Keys, IsSetting}
+use Rattle.clean_finish.proofs.Words.{Facing, Half, HasNotBegun, any_duty, is_syn, Opening, Listening, HalfOpen, Open}
+use Rattle.subflow_send.specs.Records.{Follow}
 use Rattle.subflow_tcp.specs.Expiring.{is_timed}
-use Rattle.subflow_tcp.specs.State.{has_records, is_some_record}
-use Rattle.subflow_tcp.specs.States.{is_closed_to_segments}
-use Rattle.subflow_tcp.specs.Segments.{one_if}
-use Rattle.path_store.specs.Granted.{is_all_acknowledged}
-use Rattle.path_agenda.specs.declared.duty.Duty.{Duty}
-use Rattle.path_agenda.specs.declared.duty.SendDuty.{SendDuty}
-use Rattle.path_agenda.specs.declared.duty.SilentDuty.{SilentDuty}
-use Rattle.path_store.specs.declared.granted_piece.GrantedPiece.{GrantedPiece}
-use Rattle.path_core.specs.DataFin.{is_waiting, is_data_fin_owed}
-use Rattle.path_core.specs.Timer.{after_timer}
-use Rattle.path_core.specs.End.{PathEnd}
-use Rattle.path_core.specs.Modes.{sends_plainly}
-use Rattle.path_core.specs.Profile.{Profile}
-use Rattle.pace.specs.Lane.{Setting, Lane, Sender, all_left}
-use Rattle.pace.specs.Rules.{tick_or, settled_by}
-use Rattle.pace.specs.Going.{Going, Reason}
-use Rattle.pace.specs.Moves.Move.{settles as lane_settles}
-use Rattle.clean_finish.specs.Machine.{IsLong, seen_timer}
-use Rattle.clean_finish.specs.Segments.{Keys}
-use Rattle.clean_finish.specs.Shows.{EndIs, IsPhase, IsGranted, Waits}
-use Rattle.clean_finish.specs.Shows.IsPhase.{Opening, Listening, HalfOpen, Open}
-use Rattle.clean_finish.specs.Shows.Waits.{WaitsSyn, WaitsNone, WaitsBytes}
-use Rattle.clean_finish.specs.Running.{Half, Facing, IsSetting, HasNotBegun, is_syn, any_duty}
+use Rattle.path_core.specs.DataFin.{is_waiting}
 use Rattle.clean_finish.proofs.Dropping.{differ, IsApart, stage_drops, settles_drop, begun_drops}
 use Rattle.clean_finish.proofs.Machine.{settles_as_a_lane}
 use Rattle.clean_finish.proofs.Passing.{stands_then, peer_is_other}

@@ -1,20 +1,9 @@
 -- A copy that only acknowledges brings its lane nothing.
-use Rattle.std.proofs.Common.{◌≡◌, refl, sym, subst, ap, ◌∙◌, ℕ, ◌+◌, ◌≤◌, true, false, inl, Option, List, ◌∷◌, ◌++◌, length, map, arith, Bool}
-use Rattle.std.proofs.lemmas.Bool.{both_ways}
-use Rattle.sides.specs.declared.side.Side.{Side}
-use Rattle.sides.specs.declared.side.Side.TheVariants.{B}
-use Rattle.sides.specs.Side.{peer}
-use Rattle.path_agenda.specs.declared.duty.Duty.{Duty}
-use Rattle.path_agenda.specs.declared.duty.StepDuty.{StepDuty}
-use Rattle.path_core.specs.Profile.{Profile}
-use Rattle.pace.specs.Lane.{Setting, Copy, Lane}
-use Rattle.pace.specs.Rules.{skipped as lane_skipped}
-use Rattle.pace.specs.Moves.{MaySkip}
-use Rattle.pace.specs.Moves.Move.{goes_back, skips}
-use Rattle.clean_finish.specs.Segments.{Sent, Keys, Brings, copy_in, octets_of, data_fin_of, is_opening, CountsAs, Follow, low_after, control_after, keys_after}
-use Rattle.clean_finish.specs.Segments.Brings.{Acknowledges}
-use Rattle.clean_finish.specs.Shows.{Hand, brings_in, tells_in, EndIs, HeardIs, last_told, row_seen}
-use Rattle.clean_finish.specs.Running.{Has, Half, Facing}
+use Rattle.clean_finish.proofs.Words.{◌≡◌, refl, sym, subst, ap, ◌∙◌, ℕ, ◌+◌, ◌≤◌, Bool, true, false, inl, Option, List, ◌∷◌, ◌++◌, length, map, arith}
+use Rattle.clean_finish.proofs.Words.{both_ways, Side, B, peer, Duty, StepDuty, Profile, Setting, Copy, Lane, MaySkip, skips, goes_back, lane_skipped, Hand}
+use Rattle.clean_finish.proofs.Words.{EndIs, HeardIs, last_told, row_seen, brings_in, tells_in, Sent, Keys, Brings, copy_in, octets_of, CountsAs, Follow}
+use Rattle.clean_finish.proofs.Words.{data_fin_of, low_after, control_after, keys_after, Acknowledges, Facing, Half, Has}
+use Rattle.clean_finish.specs.Segments.{is_opening}
 use Rattle.clean_finish.proofs.Hands.{in_hand}
 use Rattle.clean_finish.proofs.Opened.{waiting_on, before_waiting, stage_waits}
 use Rattle.clean_finish.proofs.Passing.{stands_then}

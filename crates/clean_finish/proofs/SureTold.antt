@@ -1,23 +1,9 @@
 -- A Data ACK that covers something is told to the control book, which is sure of Multipath TCP from then on.
-use Rattle.std.proofs.Common.{refl, sym, subst, ℕ, Bool, List, ◌∷◌}
-use Rattle.sides.specs.declared.side.Side.{Side}
-use Rattle.sides.specs.declared.side.Side.TheVariants.{A, B}
-use Rattle.fallback_state.specs.Table.{after_sure_sign}
+use Rattle.clean_finish.proofs.Words.{refl, sym, subst, ℕ, Bool, List, ◌∷◌, after_sure_sign, Side, A, B, Duty, AskDuty, SixBooks, reply_of, after_ask, AppState}
+use Rattle.clean_finish.proofs.Words.{Carried, PathEnd, Modes, PathState, with_agenda, with_end, mode_in, fell_ask, answered_fell, Setting, Lane, all_left}
+use Rattle.clean_finish.proofs.Words.{Going, PathPlan, Start, Keys, Brings, Treats, TreatsCopy, own_bench, other_bench, IsSetting, Runs, keys_in, Bench}
+use Rattle.clean_finish.proofs.Words.{Treatment}
 use Rattle.fallback_state.specs.declared.fall.Event.{Event}
-use Rattle.actor_desk.specs.Desk.{SixBooks, reply_of, after_ask}
-use Rattle.stream_apps.specs.Apps.{AppState}
-use Rattle.path_agenda.specs.declared.duty.Duty.{Duty}
-use Rattle.path_agenda.specs.declared.duty.AskDuty.{AskDuty}
-use Rattle.path_core.specs.declared.modes.Modes.{Modes}
-use Rattle.path_core.specs.End.{PathEnd}
-use Rattle.path_core.specs.Fallback.{answered_fell, fell_ask, mode_in}
-use Rattle.path_core.specs.State.{PathState, with_agenda, with_end}
-use Rattle.path_core.specs.Values.{Carried}
-use Rattle.world_laws.specs.Openings.{PathPlan, Start}
-use Rattle.pace.specs.Lane.{Setting, Lane, all_left}
-use Rattle.pace.specs.Going.{Going}
-use Rattle.clean_finish.specs.Segments.{Keys, Brings}
-use Rattle.clean_finish.specs.Running.{Bench, Treatment, Treats, TreatsCopy, own_bench, other_bench, IsSetting, Runs, keys_in}
 use Rattle.clean_finish.proofs.EndPassing.{sent_some}
 use Rattle.clean_finish.proofs.FellOn.{fell_control, fell_done, fell_modes, sign_reply}
 use Rattle.clean_finish.proofs.HeardFirst.{no_third}

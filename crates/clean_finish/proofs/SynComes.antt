@@ -1,34 +1,10 @@
 -- The step in which A's SYN arrives at B.
-use Rattle.std.proofs.Common.{◌≡◌, refl, sym, subst, ap, ◌∙◌, ℕ, ◌+◌, ◌<◌, ◌≤◌, min, max, nat_lt, Bool, true, false, if◌then◌else◌, Option, Some, None, List, [], ◌∷◌, arith}
-use Rattle.sides.specs.declared.side.Side.TheVariants.{A, B}
-use Rattle.link_model.specs.declared.flight.Flight.{Flight}
-use Rattle.link_model.specs.Laws.{going_to}
-use Rattle.link_model.specs.Steps.{due_of}
-use Rattle.path_segments.specs.Laws.{meant}
-use Rattle.subflow_tcp.specs.declared.handshake.State.{State}
-use Rattle.subflow_tcp.specs.declared.handshake.State.TheVariants.{Listen}
-use Rattle.subflow_tcp.specs.declared.verdicts.Meaning.{Meaning}
-use Rattle.subflow_tcp.specs.Judging.{is_syn_alone, meaning_of}
-use Rattle.subflow_tcp.specs.Segments.{Copy as SubflowCopy}
-use Rattle.subflow_tcp.specs.State.{EndState}
-use Rattle.subflow_tcp.specs.Taking.{first_fin}
-use Rattle.actor_desk.specs.Desk.{SixBooks}
-use Rattle.stream_apps.specs.Apps.{AppState}
-use Rattle.path_agenda.specs.declared.duty.Duty.{Duty}
-use Rattle.path_agenda.specs.declared.duty.StepDuty.{StepDuty}
-use Rattle.path_core.specs.Arrival.{copy_of, reset_for, copy_taken}
-use Rattle.path_core.specs.DssIn.{held_of}
-use Rattle.path_core.specs.State.{PathState}
-use Rattle.path_core.specs.Profile.{Profile}
-use Rattle.path_core.specs.Values.{Carried, values}
-use Rattle.world_laws.specs.Openings.{PathPlan, Start}
-use Rattle.pace.specs.Lane.{Setting, Lane, Receiver, all_left}
-use Rattle.pace.specs.Going.{Going}
-use Rattle.clean_finish.specs.Segments.{Sent, Keys, Brings, said, CountsAs, TellsAs}
-use Rattle.clean_finish.specs.Segments.Brings.{OpensSubflow}
-use Rattle.clean_finish.specs.Shows.{IsIdle, IsPhase}
-use Rattle.clean_finish.specs.Shows.IsPhase.{Opening, Listening, HalfOpen, Open}
-use Rattle.clean_finish.specs.Running.{Half, Facing, half, IsSetting, Runs, keys_in}
+use Rattle.clean_finish.proofs.Words.{◌≡◌, refl, sym, subst, ap, ◌∙◌, ℕ, ◌+◌, ◌<◌, ◌≤◌, min, max, nat_lt, Bool, true, false, if◌then◌else◌, Option, None, List}
+use Rattle.clean_finish.proofs.Words.{[], ◌∷◌, arith, Some, both_ways, A, B, State, EndState, first_fin, Listen, Meaning, meaning_of, is_syn_alone, SubflowCopy}
+use Rattle.clean_finish.proofs.Words.{Flight, going_to, due_of, meant, Duty, StepDuty, SixBooks, AppState, Profile, Carried, values, held_of, copy_of}
+use Rattle.clean_finish.proofs.Words.{reset_for, copy_taken, PathState, Setting, Lane, all_left, Receiver, Going, PathPlan, Start, IsPhase, IsIdle, Sent, Keys}
+use Rattle.clean_finish.proofs.Words.{Brings, CountsAs, TellsAs, said, OpensSubflow, IsSetting, Runs, keys_in, Facing, Half, half, Opening, Listening, HalfOpen}
+use Rattle.clean_finish.proofs.Words.{Open}
 use Rattle.clean_finish.proofs.ArrivesAtB.{copy, q, tick, moment, first, faced, link, Follows, follows, comes_as}
 use Rattle.clean_finish.proofs.CopyTaken.{heard_as}
 use Rattle.clean_finish.proofs.Hands.{way_none}
@@ -36,7 +12,6 @@ use Rattle.clean_finish.proofs.Quiet.{now_out}
 use Rattle.clean_finish.proofs.SynArrived.{syn_arrived}
 use Rattle.clean_finish.proofs.SynHeard.{syn_at}
 use Rattle.clean_finish.proofs.Turned.{from_b}
-use Rattle.std.proofs.lemmas.Bool.{both_ways}
 
 -- before the SYN comes B listens
 listens : (came una : ℕ) (finished : Bool) (state : State) → IsPhase B came una finished state → came ≡ 0 → (una ≡ 0) × (state ≡ Listen)

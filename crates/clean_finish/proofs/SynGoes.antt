@@ -1,34 +1,11 @@
 -- The step in which A sends its SYN.
-use Rattle.std.proofs.Common.{◌≡◌, refl, sym, subst, ap, ◌∙◌, ℕ, ◌+◌, ◌≤◌, max, true, false, is_some, inl, inr, ⊎_elim, Some, List, [], ◌∷◌, find, arith}
-use Rattle.std.proofs.lemmas.Bool.{both_ways, and_parts}
-use Rattle.sides.specs.declared.side.Side.{Side}
-use Rattle.sides.specs.declared.side.Side.TheVariants.{A, B}
-use Rattle.link_model.specs.Laws.{plain_flight, going_to}
-use Rattle.link_model.specs.Steps.{after_send}
-use Rattle.path_segments.specs.Spelled.{PlainSegment}
-use Rattle.subflow_send.specs.Records.{Record}
-use Rattle.subflow_send.specs.Rules.{is_unsent, syn_record}
-use Rattle.subflow_send.specs.Sendings.{never_sent}
-use Rattle.subflow_tcp.specs.declared.handshake.State.{State}
-use Rattle.subflow_tcp.specs.declared.segments.Occasion.{Occasion}
+use Rattle.clean_finish.proofs.Words.{◌≡◌, refl, sym, subst, ap, ◌∙◌, ℕ, ◌+◌, ◌≤◌, max, true, false, inl, inr, ⊎_elim, List, [], ◌∷◌, arith, Some, is_some}
+use Rattle.clean_finish.proofs.Words.{find, both_ways, and_parts, Side, A, B, Record, is_unsent, syn_record, never_sent, State, Occasion, going_to}
+use Rattle.clean_finish.proofs.Words.{plain_flight, after_send, PlainSegment, Duty, SendDuty, AskDuty, SixBooks, AppState, Carried, carried_by, stripped}
+use Rattle.clean_finish.proofs.Words.{altered, values, is_connected, PathState, with_agenda, having_sent, sent_on, first_unsent, is_syn_due, answered_syn}
+use Rattle.clean_finish.proofs.Words.{Setting, Lane, all_left, Going, PathPlan, Start, Waits, WaitsSyn, WaitsNone, WaitsBytes, Keys, said, own_bench}
+use Rattle.clean_finish.proofs.Words.{other_bench, IsSetting, Runs, keys_in, Facing, Half, Has, HasNotBegun, any_duty, is_window}
 use Rattle.subflow_tcp.specs.States.{is_opening}
-use Rattle.actor_desk.specs.Desk.{SixBooks}
-use Rattle.stream_apps.specs.Apps.{AppState}
-use Rattle.path_agenda.specs.declared.duty.Duty.{Duty}
-use Rattle.path_agenda.specs.declared.duty.AskDuty.{AskDuty}
-use Rattle.path_agenda.specs.declared.duty.SendDuty.{SendDuty}
-use Rattle.path_core.specs.Emission.{first_unsent, is_syn_due, answered_syn}
-use Rattle.path_core.specs.Handover.{having_sent, sent_on}
-use Rattle.path_core.specs.Standing.{is_connected}
-use Rattle.path_core.specs.State.{PathState, with_agenda}
-use Rattle.path_core.specs.Values.{Carried, carried_by, stripped, altered, values}
-use Rattle.world_laws.specs.Openings.{PathPlan, Start}
-use Rattle.pace.specs.Lane.{Setting, Lane, all_left}
-use Rattle.pace.specs.Going.{Going}
-use Rattle.clean_finish.specs.Segments.{Keys, said}
-use Rattle.clean_finish.specs.Shows.{Waits}
-use Rattle.clean_finish.specs.Shows.Waits.{WaitsSyn, WaitsNone, WaitsBytes}
-use Rattle.clean_finish.specs.Running.{Has, Facing, Half, own_bench, other_bench, is_window, any_duty, IsSetting, HasNotBegun, Runs, keys_in}
 use Rattle.clean_finish.proofs.Dropping.{differ}
 use Rattle.clean_finish.proofs.Emitted.{first_waits}
 use Rattle.clean_finish.proofs.Linking.{carried_is, last_from_a, others_of_a, link_after_a}

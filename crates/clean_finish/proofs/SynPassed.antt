@@ -1,30 +1,10 @@
 -- A SYN that was sent isn't sent again, and B's goes out by its answer; and the turn of a path ends.
-use Rattle.std.proofs.Common.{◌≡◌, refl, subst, ap, ◌∙◌, ℕ, ◌≤◌, Bool, true, false, ◌&&◌, is_some, ◌⊎◌, inl, inr, ⊎_elim, List, [], ◌∷◌, find, arith}
-use Rattle.std.proofs.lemmas.Bool.{both_ways, cases_lt}
-use Rattle.sides.specs.declared.side.Side.{Side}
-use Rattle.sides.specs.declared.side.Side.TheVariants.{A, B}
-use Rattle.sides.specs.Side.{peer}
-use Rattle.subflow_send.specs.Records.{Record}
-use Rattle.subflow_send.specs.Rules.{is_unsent}
-use Rattle.subflow_tcp.specs.declared.handshake.State.{State}
+use Rattle.clean_finish.proofs.Words.{◌≡◌, refl, subst, ap, ◌∙◌, ℕ, ◌≤◌, Bool, true, false, ◌&&◌, ◌⊎◌, inl, inr, ⊎_elim, List, [], ◌∷◌, arith, is_some, find}
+use Rattle.clean_finish.proofs.Words.{both_ways, cases_lt, Side, A, B, peer, Record, is_unsent, State, Duty, SendDuty, AskDuty, SixBooks, AppState, Profile}
+use Rattle.clean_finish.proofs.Words.{Carried, PathEnd, PathState, with_agenda, first_unsent, is_syn_due, Setting, Lane, Sender, Receiver, PathPlan, Start}
+use Rattle.clean_finish.proofs.Words.{IsPhase, Waits, WaitsSyn, WaitsNone, WaitsBytes, Keys, Runs, keys_in, Facing, Half, Has, HasNotBegun, Opening, Listening}
+use Rattle.clean_finish.proofs.Words.{HalfOpen, Open}
 use Rattle.subflow_tcp.specs.States.{is_opening}
-use Rattle.actor_desk.specs.Desk.{SixBooks}
-use Rattle.stream_apps.specs.Apps.{AppState}
-use Rattle.path_agenda.specs.declared.duty.Duty.{Duty}
-use Rattle.path_agenda.specs.declared.duty.AskDuty.{AskDuty}
-use Rattle.path_agenda.specs.declared.duty.SendDuty.{SendDuty}
-use Rattle.path_core.specs.Emission.{first_unsent, is_syn_due}
-use Rattle.path_core.specs.End.{PathEnd}
-use Rattle.path_core.specs.State.{PathState, with_agenda}
-use Rattle.path_core.specs.Profile.{Profile}
-use Rattle.path_core.specs.Values.{Carried}
-use Rattle.world_laws.specs.Openings.{PathPlan, Start}
-use Rattle.pace.specs.Lane.{Setting, Lane, Sender, Receiver}
-use Rattle.clean_finish.specs.Segments.{Keys}
-use Rattle.clean_finish.specs.Shows.{IsPhase, Waits}
-use Rattle.clean_finish.specs.Shows.IsPhase.{Opening, Listening, HalfOpen, Open}
-use Rattle.clean_finish.specs.Shows.Waits.{WaitsSyn, WaitsNone, WaitsBytes}
-use Rattle.clean_finish.specs.Running.{Has, Half, Facing, HasNotBegun, Runs, keys_in}
 use Rattle.clean_finish.proofs.Dropping.{differ, behind, IsApart, stage_drops, settles_drop}
 use Rattle.clean_finish.proofs.Emitted.{first_waits}
 use Rattle.clean_finish.proofs.Passing.{free_drops}

@@ -1,21 +1,11 @@
 -- What comes behind a SYN in order is taken by the subflow.
-use Rattle.std.proofs.Common.{◌≡◌, refl, ap, ◌∙◌, ℕ, ◌+◌, ◌-◌, ◌^◌, ◌==◌, ◌<◌, ◌≤◌, nat_lt, nat_le, Bool, true, false, not, ◌&&◌, ◌||◌, if◌then◌else◌, Option, Some, length, arith}
-use Rattle.std.proofs.lemmas.Bool.{both_ways, le-ltb, lt-ltb, le-leb, ne_eqb}
-use Rattle.sides.specs.declared.side.Side.{Side}
-use Rattle.sides.specs.declared.side.Side.TheVariants.{A, B}
-use Rattle.path_segments.specs.Laws.{meant}
-use Rattle.subflow_tcp.specs.declared.handshake.State.{State}
-use Rattle.subflow_tcp.specs.declared.verdicts.Meaning.{Meaning}
-use Rattle.subflow_tcp.specs.Judging.{is_in_window, ends_in_window, is_at_right_edge, is_acceptable, is_repeated_syn, meaning_acknowledging, meaning_at, meaning_connected, meaning_of, meaning_outside, meaning_placed, meaning_within}
-use Rattle.subflow_tcp.specs.Segments.{Copy as SubflowCopy, occupied}
-use Rattle.subflow_tcp.specs.State.{EndState}
-use Rattle.subflow_tcp.specs.States.{is_half_open}
-use Rattle.path_core.specs.Arrival.{copy_of}
-use Rattle.path_core.specs.Profile.{Profile}
-use Rattle.clean_finish.specs.Segments.{Sent, Keys, Brings, is_opening, acknowledged_by, position_of, said}
-use Rattle.clean_finish.specs.Segments.Brings.{OpensSubflow, ShowsKeys, FirstPiece, Piece, Acknowledges, EndsStream, EndsSubflow}
-use Rattle.clean_finish.specs.Shows.{IsOpen, IsPhase}
-use Rattle.clean_finish.specs.Shows.IsPhase.{Opening, Listening, HalfOpen, Open}
+use Rattle.clean_finish.proofs.Words.{◌≡◌, refl, ap, ◌∙◌, ℕ, ◌+◌, ◌-◌, ◌<◌, ◌≤◌, nat_lt, Bool, true, false, not, ◌&&◌, ◌||◌, if◌then◌else◌, Option, length}
+use Rattle.clean_finish.proofs.Words.{arith, Some, nat_le, ◌==◌, ◌^◌, both_ways, lt-ltb, le-ltb, le-leb, ne_eqb, Side, A, B, State, EndState, is_half_open}
+use Rattle.clean_finish.proofs.Words.{Meaning, is_in_window, ends_in_window, is_at_right_edge, is_acceptable, is_repeated_syn, meaning_acknowledging}
+use Rattle.clean_finish.proofs.Words.{meaning_at, meaning_connected, meaning_of, meaning_outside, meaning_placed, meaning_within, SubflowCopy, occupied, meant}
+use Rattle.clean_finish.proofs.Words.{Profile, copy_of, IsPhase, IsOpen, Sent, Keys, Brings, position_of, said, acknowledged_by, OpensSubflow, ShowsKeys}
+use Rattle.clean_finish.proofs.Words.{FirstPiece, Piece, Acknowledges, EndsStream, EndsSubflow, Opening, Listening, HalfOpen, Open}
+use Rattle.clean_finish.specs.Segments.{is_opening}
 
 -- an end that heard a SYN judges by positions
 connected_open : (state : State) (finished : Bool) (c : SubflowCopy) (s : EndState) → IsOpen finished state → meaning_at state c s ≡ meaning_connected c s

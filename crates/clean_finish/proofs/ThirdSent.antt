@@ -1,39 +1,12 @@
 -- A answers the SYN/ACK: its third segment shows both keys (RFC 8684, section 3.1).
-use Rattle.std.proofs.Common.{◌≡◌, refl, sym, subst, ap, ◌∙◌, ℕ, ◌+◌, ◌-◌, ◌==◌, ◌<◌, ◌≤◌, min, max, nat_lt, Bool, true, false, cond, if◌then◌else◌, ◌&&◌, inl, inr, ⊎_elim, Option, Some, None, List, [], ◌∷◌, ◌++◌, le_refl, arith}
-use Rattle.std.proofs.lemmas.Bool.{both_ways, eqb-true, and_parts}
-use Rattle.sides.specs.declared.side.Side.{Side}
-use Rattle.sides.specs.declared.side.Side.TheVariants.{A, B}
-use Rattle.link_model.specs.declared.flight.Flight.{Flight}
-use Rattle.link_model.specs.Laws.{plain_flight, going_to}
-use Rattle.link_model.specs.Steps.{after_send}
-use Rattle.path_segments.specs.Spelled.{PlainSegment}
-use Rattle.subflow_tcp.specs.declared.segments.Occasion.{Occasion}
-use Rattle.actor_desk.specs.Desk.{SixBooks}
-use Rattle.stream_apps.specs.Apps.{AppState}
-use Rattle.path_agenda.specs.declared.duty.Duty.{Duty}
-use Rattle.path_agenda.specs.declared.duty.AskDuty.{AskDuty}
-use Rattle.path_agenda.specs.declared.duty.SendDuty.{SendDuty}
-use Rattle.path_agenda.specs.declared.duty.SilentDuty.{SilentDuty}
-use Rattle.path_agenda.specs.declared.duty.StepDuty.{StepDuty}
-use Rattle.path_agenda.specs.Agenda.{emission}
-use Rattle.path_core.specs.End.{PathEnd}
-use Rattle.path_core.specs.OptionsOut.{ack_said}
-use Rattle.path_core.specs.Handover.{having_sent, sent_on}
-use Rattle.path_core.specs.Standing.{acknowledges}
-use Rattle.path_core.specs.State.{PathState, with_agenda}
-use Rattle.path_core.specs.Profile.{Profile}
-use Rattle.path_core.specs.Values.{Carried, carried_by, stripped, altered, values}
-use Rattle.world_laws.specs.Openings.{PathPlan, Start}
-use Rattle.pace.specs.Lane.{Setting, Copy, Lane, Stage, data_ack, is_whole, all_left}
-use Rattle.pace.specs.Rules.{is_same, repeats}
-use Rattle.pace.specs.Going.{Going, pending}
-use Rattle.pace.specs.Moves.{MaySay, MaySend}
-use Rattle.pace.specs.Moves.Move.{sends_none}
-use Rattle.clean_finish.specs.Segments.{Sent, Keys, copy_in, said, FliesAs}
-use Rattle.clean_finish.specs.Segments.Brings.{ShowsKeys}
-use Rattle.clean_finish.specs.Shows.{Hand, brings_still, HeardIs, WayIs, last_told, row_seen}
-use Rattle.clean_finish.specs.Shows.IsToldEdge.{Before}
-use Rattle.clean_finish.specs.Running.{Has, Half, Facing, own_bench, other_bench, IsSetting, StageIs, TreatsThird, Runs, keys_in}
+use Rattle.clean_finish.proofs.Words.{◌≡◌, refl, sym, subst, ap, ◌∙◌, ℕ, ◌+◌, ◌-◌, ◌<◌, ◌≤◌, min, max, nat_lt, Bool, true, false, cond, ◌&&◌, if◌then◌else◌}
+use Rattle.clean_finish.proofs.Words.{inl, inr, ⊎_elim, Option, None, List, [], ◌∷◌, ◌++◌, arith, Some, le_refl, ◌==◌, both_ways, and_parts, eqb-true, Side, A}
+use Rattle.clean_finish.proofs.Words.{B, Occasion, Flight, going_to, plain_flight, after_send, PlainSegment, Duty, SendDuty, StepDuty, AskDuty, emission}
+use Rattle.clean_finish.proofs.Words.{SilentDuty, SixBooks, AppState, Profile, Carried, carried_by, stripped, altered, values, PathEnd, acknowledges, PathState}
+use Rattle.clean_finish.proofs.Words.{with_agenda, ack_said, having_sent, sent_on, Setting, Copy, Lane, Stage, is_whole, all_left, data_ack, Going, pending}
+use Rattle.clean_finish.proofs.Words.{MaySay, MaySend, sends_none, repeats, is_same, PathPlan, Start, Hand, HeardIs, WayIs, last_told, row_seen, brings_still}
+use Rattle.clean_finish.proofs.Words.{Sent, Keys, copy_in, said, FliesAs, ShowsKeys, Before, own_bench, other_bench, IsSetting, Runs, keys_in, Facing, Half}
+use Rattle.clean_finish.proofs.Words.{Has, StageIs, TreatsThird}
 use Rattle.clean_finish.proofs.Dropping.{differ, behind, behind_or, IsApart, stage_drops, settles_drop, begun_drops}
 use Rattle.clean_finish.proofs.Hands.{in_hand, way_done}
 use Rattle.clean_finish.proofs.Linking.{carried_is, last_from_a, others_of_a, link_after_a}

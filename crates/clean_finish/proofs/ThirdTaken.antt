@@ -1,26 +1,11 @@
 -- B takes the third segment: A's keys, which were told before, and what it acknowledges.
-use Rattle.std.proofs.Common.{◌≡◌, refl, sym, subst, ap, ◌∙◌, ℕ, ◌+◌, ◌<◌, ◌≤◌, min, max, nat_lt, true, false, if◌then◌else◌, inl, inr, Option, Some, None, List, ◌∷◌, ◌++◌, length, le_refl, arith}
-use Rattle.std.proofs.lemmas.Bool.{both_ways, le-ltb}
-use Rattle.sides.specs.declared.side.Side.TheVariants.{A, B}
-use Rattle.send_book.specs.declared.call.SendCall.{SendCall}
-use Rattle.send_book.specs.State.{Sending as SendBook}
-use Rattle.actor_desk.specs.declared.ask.Ask.{Ask}
-use Rattle.actor_desk.specs.Desk.{SixBooks, after_ask}
-use Rattle.stream_apps.specs.Apps.{AppState}
-use Rattle.path_agenda.specs.Agenda.{payload_came}
-use Rattle.path_agenda.specs.declared.duty.Duty.{Duty}
-use Rattle.path_agenda.specs.declared.duty.SendDuty.{SendDuty}
-use Rattle.path_agenda.specs.declared.duty.StepDuty.{StepDuty}
-use Rattle.path_core.specs.State.{PathState, with_agenda}
-use Rattle.path_core.specs.Values.{Carried}
-use Rattle.world_laws.specs.Openings.{PathPlan, Start}
-use Rattle.pace.specs.Lane.{Setting, Lane, Sender, Receiver, all_left}
-use Rattle.pace.specs.Going.{Going}
-use Rattle.clean_finish.specs.Segments.{Sent, Keys, Brings, octets_of, data_fin_of, is_opening, CountsAs, Follow, TellsAs}
-use Rattle.clean_finish.specs.Segments.Brings.{ShowsKeys}
-use Rattle.clean_finish.specs.Shows.{Hand, IsOpen, brings_in}
-use Rattle.clean_finish.specs.Running.{Has, Bench, Beside, FacesOfA, FacesOfB, Treats, TreatsCopy, own_bench, other_bench, IsSetting, Runs, keys_in}
-use Rattle.clean_finish.specs.Running.Treatment.{AtFirst, AfterOne}
+use Rattle.clean_finish.proofs.Words.{◌≡◌, refl, sym, subst, ap, ◌∙◌, ℕ, ◌+◌, ◌<◌, ◌≤◌, min, max, nat_lt, true, false, if◌then◌else◌, inl, inr, Option, None}
+use Rattle.clean_finish.proofs.Words.{List, ◌∷◌, ◌++◌, length, arith, Some, le_refl, both_ways, le-ltb, A, B, SendBook, SendCall, Duty, SendDuty, StepDuty}
+use Rattle.clean_finish.proofs.Words.{payload_came, SixBooks, after_ask, Ask, AppState, Carried, PathState, with_agenda, Setting, Lane, all_left, Sender}
+use Rattle.clean_finish.proofs.Words.{Receiver, Going, PathPlan, Start, Hand, brings_in, IsOpen, Sent, Keys, Brings, octets_of, CountsAs, TellsAs, Follow}
+use Rattle.clean_finish.proofs.Words.{data_fin_of, ShowsKeys, Beside, Treats, TreatsCopy, own_bench, other_bench, FacesOfB, IsSetting, Runs, keys_in, Has}
+use Rattle.clean_finish.proofs.Words.{Bench, FacesOfA, AtFirst, AfterOne}
+use Rattle.clean_finish.specs.Segments.{is_opening}
 use Rattle.clean_finish.proofs.Acknowledged.{hears_on}
 use Rattle.clean_finish.proofs.BookStays.{ack_of_nothing}
 use Rattle.clean_finish.proofs.Brought.{brought}

@@ -1,18 +1,6 @@
 -- The timer of either end is settled.
-use Rattle.std.proofs.Common.{ℕ, List, ◌∷◌}
-use Rattle.sides.specs.declared.side.Side.TheVariants.{A, B}
-use Rattle.actor_desk.specs.Desk.{SixBooks}
-use Rattle.stream_apps.specs.Apps.{AppState}
-use Rattle.path_agenda.specs.declared.duty.Duty.{Duty}
-use Rattle.path_agenda.specs.declared.duty.SilentDuty.{SilentDuty}
-use Rattle.path_core.specs.Timer.{after_timer}
-use Rattle.path_core.specs.State.{PathState, with_agenda, with_end}
-use Rattle.path_core.specs.Values.{Carried}
-use Rattle.world_laws.specs.Openings.{PathPlan, Start}
-use Rattle.pace.specs.Lane.{Setting, Lane, all_left}
-use Rattle.pace.specs.Going.{Going}
-use Rattle.clean_finish.specs.Segments.{Keys}
-use Rattle.clean_finish.specs.Running.{own_bench, other_bench, IsSetting, Runs, keys_in}
+use Rattle.clean_finish.proofs.Words.{ℕ, List, ◌∷◌, A, B, Duty, SilentDuty, SixBooks, AppState, Carried, PathState, with_agenda, with_end, after_timer, Setting}
+use Rattle.clean_finish.proofs.Words.{Lane, all_left, Going, PathPlan, Start, Keys, own_bench, other_bench, IsSetting, Runs, keys_in}
 use Rattle.clean_finish.proofs.Plainly.{plain_on}
 use Rattle.clean_finish.proofs.Settled.{settled_on}
 use Rattle.clean_finish.proofs.Turned.{from_a, from_b}

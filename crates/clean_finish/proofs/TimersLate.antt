@@ -1,14 +1,6 @@
 -- No timer runs out in the round: that of an end is the one of its lane, once it is settled.
-use Rattle.std.proofs.Common.{◌≡◌, refl, subst, ap, ◌∙◌, ℕ, ◌≤◌, Bool, false, ◌||◌, inl, inr, Option, Some, None, IfSome, [], ◌∷◌, arith}
-use Rattle.sides.specs.declared.side.Side.{Side}
-use Rattle.path_agenda.specs.declared.duty.Duty.{Duty}
-use Rattle.path_agenda.specs.declared.duty.StepDuty.{StepDuty}
-use Rattle.path_core.specs.Profile.{Profile}
-use Rattle.pace.specs.Lane.{Setting, Lane, all_left}
-use Rattle.pace.specs.Going.{Going, Reason}
-use Rattle.clean_finish.specs.Machine.{seen_timer}
-use Rattle.clean_finish.specs.Segments.{Keys}
-use Rattle.clean_finish.specs.Running.{IsSettledSoon, Half, Facing, IsSetting}
+use Rattle.clean_finish.proofs.Words.{◌≡◌, refl, subst, ap, ◌∙◌, ℕ, ◌≤◌, Bool, false, ◌||◌, inl, inr, Option, None, [], ◌∷◌, arith, Some, IfSome, Side, Duty}
+use Rattle.clean_finish.proofs.Words.{StepDuty, Profile, Setting, Lane, all_left, Going, Reason, seen_timer, Keys, IsSetting, Facing, Half, IsSettledSoon}
 use Rattle.clean_finish.proofs.Dropping.{differ}
 use Rattle.clean_finish.proofs.Quiet.{now_out}
 

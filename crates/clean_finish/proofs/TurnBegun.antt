@@ -1,22 +1,7 @@
 -- The first steps of a turn: how the side stands, and what is to be acknowledged.
-use Rattle.std.proofs.Common.{sym, subst, ℕ, List, ◌∷◌}
-use Rattle.sides.specs.declared.side.Side.{Side}
-use Rattle.sides.specs.declared.side.Side.TheVariants.{A, B}
-use Rattle.control_book.specs.declared.call.ControlCall.{ControlCall}
-use Rattle.actor_desk.specs.declared.ask.Ask.{Ask}
-use Rattle.actor_desk.specs.Desk.{SixBooks, reply_of, after_ask}
-use Rattle.stream_apps.specs.Apps.{AppState}
-use Rattle.path_agenda.specs.declared.duty.Duty.{Duty}
-use Rattle.path_agenda.specs.declared.duty.AskDuty.{AskDuty}
-use Rattle.path_agenda.specs.declared.duty.StepDuty.{StepDuty}
-use Rattle.path_core.specs.Standing.{look_ask, answered_look, ack_out_ask, answered_ack_out}
-use Rattle.path_core.specs.State.{PathState, with_agenda}
-use Rattle.path_core.specs.Values.{Carried}
-use Rattle.world_laws.specs.Openings.{PathPlan, Start}
-use Rattle.pace.specs.Lane.{Setting, Lane, all_left}
-use Rattle.pace.specs.Going.{Going}
-use Rattle.clean_finish.specs.Segments.{Keys}
-use Rattle.clean_finish.specs.Running.{own_bench, other_bench, IsSetting, Runs, keys_in}
+use Rattle.clean_finish.proofs.Words.{sym, subst, ℕ, List, ◌∷◌, Side, A, B, ControlCall, Duty, StepDuty, AskDuty, SixBooks, reply_of, after_ask, Ask, AppState}
+use Rattle.clean_finish.proofs.Words.{Carried, look_ask, answered_look, ack_out_ask, answered_ack_out, PathState, with_agenda, Setting, Lane, all_left, Going}
+use Rattle.clean_finish.proofs.Words.{PathPlan, Start, Keys, own_bench, other_bench, IsSetting, Runs, keys_in}
 use Rattle.clean_finish.proofs.Asked.{window_asked}
 use Rattle.clean_finish.proofs.Looked.{looked}
 use Rattle.clean_finish.proofs.Plainly.{plain_on}

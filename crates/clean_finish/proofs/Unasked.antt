@@ -1,10 +1,6 @@
 -- In what is left of a turn in which no copy is treated, the window is asked for no more.
-use Rattle.std.proofs.Common.{◌≡◌, refl, sym, ap, ◌∙◌, Bool, true, false, ◌⊎◌, inl, inr, List, [], ◌∷◌}
-use Rattle.std.proofs.lemmas.Bool.{both_ways}
-use Rattle.sides.specs.declared.side.Side.{Side}
-use Rattle.path_agenda.specs.declared.duty.Duty.{Duty}
-use Rattle.path_agenda.specs.declared.duty.AskDuty.{AskDuty}
-use Rattle.clean_finish.specs.Running.{Has, is_plain, ArePlain, is_window, any_duty}
+use Rattle.clean_finish.proofs.Words.{◌≡◌, refl, sym, ap, ◌∙◌, Bool, true, false, ◌⊎◌, inl, inr, List, [], ◌∷◌, both_ways, Side, Duty, AskDuty, Has, any_duty}
+use Rattle.clean_finish.proofs.Words.{ArePlain, is_window, is_plain}
 use Rattle.clean_finish.proofs.Quiet.{no_window}
 
 none_plain : (d : Duty) → is_plain d ≡ false → (ds : List Duty) → ArePlain ds → Has d ds → ⊥

@@ -1,32 +1,10 @@
 -- An end tells that its window has grown.
-use Rattle.std.proofs.Common.{◌≡◌, refl, sym, subst, ap, ◌∙◌, ℕ, ◌+◌, ◌-◌, ◌*◌, ◌<◌, ◌≤◌, min, max, Bool, true, false, inl, inr, ⊎_elim, Option, None, List, [], ◌∷◌, ◌++◌, le_refl, arith}
-use Rattle.std.proofs.lemmas.Bool.{both_ways, and_parts, leb-true}
-use Rattle.sides.specs.declared.side.Side.{Side}
-use Rattle.sides.specs.declared.side.Side.TheVariants.{A, B}
-use Rattle.sides.specs.Side.{peer}
-use Rattle.link_model.specs.declared.flight.Flight.{Flight}
-use Rattle.path_segments.specs.Laws.{window_told}
-use Rattle.subflow_tcp.specs.declared.handshake.State.{State}
-use Rattle.subflow_tcp.specs.Segments.{one_if}
-use Rattle.path_agenda.specs.declared.duty.Duty.{Duty}
-use Rattle.path_agenda.specs.declared.duty.SendDuty.{SendDuty}
-use Rattle.path_agenda.specs.declared.duty.StepDuty.{StepDuty}
-use Rattle.path_core.specs.End.{PathEnd}
-use Rattle.path_core.specs.OptionsOut.{ack_said}
-use Rattle.path_core.specs.Standing.{is_connected, has_grown, is_update_due}
-use Rattle.path_core.specs.Profile.{Profile}
-use Rattle.path_core.specs.Values.{Carried}
-use Rattle.actor_desk.specs.Words.{pick}
-use Rattle.pace.specs.Lane.{Setting, Lane, Stage, is_whole, all_left}
-use Rattle.pace.specs.Going.{Going, pending}
-use Rattle.pace.specs.Moves.{MaySay, MaySend}
-use Rattle.pace.specs.Moves.Move.{sends_none}
-use Rattle.clean_finish.specs.Segments.{Sent, Keys, copy_in, dss_from, said, FliesAs, AcknowledgesAs}
-use Rattle.clean_finish.specs.Segments.Brings.{Acknowledges}
-use Rattle.clean_finish.specs.Shows.{Hand, brings_still, HeardIs, IsMapping, IsPhase, IsToldEdge, last_told, row_seen}
-use Rattle.clean_finish.specs.Shows.IsPhase.{Opening, Listening, HalfOpen, Open}
-use Rattle.clean_finish.specs.Shows.IsToldEdge.{Same, Before}
-use Rattle.clean_finish.specs.Running.{Has, Half, Facing, IsSetting, StageIs}
+use Rattle.clean_finish.proofs.Words.{◌≡◌, refl, sym, subst, ap, ◌∙◌, ℕ, ◌+◌, ◌-◌, ◌<◌, ◌≤◌, min, max, Bool, true, false, inl, inr, ⊎_elim, Option, None, List}
+use Rattle.clean_finish.proofs.Words.{[], ◌∷◌, ◌++◌, arith, le_refl, ◌*◌, both_ways, and_parts, leb-true, Side, A, B, peer, State, one_if, Flight, window_told}
+use Rattle.clean_finish.proofs.Words.{Duty, SendDuty, StepDuty, pick, Profile, Carried, PathEnd, is_connected, is_update_due, has_grown, ack_said, Setting}
+use Rattle.clean_finish.proofs.Words.{Lane, Stage, is_whole, all_left, Going, pending, MaySay, MaySend, sends_none, Hand, HeardIs, last_told, row_seen}
+use Rattle.clean_finish.proofs.Words.{brings_still, IsPhase, IsToldEdge, IsMapping, Sent, Keys, copy_in, AcknowledgesAs, said, FliesAs, dss_from, Acknowledges}
+use Rattle.clean_finish.proofs.Words.{Same, Before, IsSetting, Facing, Half, Has, StageIs, Opening, Listening, HalfOpen, Open}
 use Rattle.clean_finish.proofs.Dropping.{differ, behind, behind_or, IsApart, stage_drops, settles_drop, begun_drops}
 use Rattle.clean_finish.proofs.Hands.{way_none}
 use Rattle.clean_finish.proofs.Mapped.{said_alone}

@@ -1,33 +1,11 @@
 -- The events of a turn are over, and the turn ends.
-use Rattle.std.proofs.Common.{◌≡◌, refl, sym, subst, ap, ◌∙◌, ℕ, ◌≤◌, nat_lt, nat_le, Bool, true, false, if◌then◌else◌, is_some, inl, inr, ⊎_elim, Option, Some, None, IfSome, List, [], ◌∷◌, ◌++◌, map, le_refl, arith}
-use Rattle.std.proofs.lemmas.Bool.{both_ways, ltb-false, leb-false}
-use Rattle.std.specs.List.{AllByRecursion}
-use Rattle.std.specs.Option.{option_and_then}
-use Rattle.sides.specs.declared.side.Side.{Side}
-use Rattle.sides.specs.declared.side.Side.TheVariants.{A, B}
-use Rattle.sides.specs.Side.{peer}
-use Rattle.link_script.specs.Places.{same_side}
-use Rattle.link_model.specs.declared.flight.Flight.{Flight}
-use Rattle.link_model.specs.Laws.{going_to}
-use Rattle.link_model.specs.Steps.{next_due}
-use Rattle.link_model.proofs.Order.{earliest as first_of_all}
-use Rattle.actor_desk.specs.Desk.{SixBooks}
-use Rattle.stream_apps.specs.Apps.{AppState}
-use Rattle.path_agenda.specs.declared.duty.Duty.{Duty}
-use Rattle.path_agenda.specs.declared.duty.StepDuty.{StepDuty}
+use Rattle.clean_finish.proofs.Words.{◌≡◌, refl, sym, subst, ap, ◌∙◌, ℕ, ◌≤◌, nat_lt, Bool, true, false, if◌then◌else◌, inl, inr, ⊎_elim, Option, None, List}
+use Rattle.clean_finish.proofs.Words.{[], ◌∷◌, ◌++◌, map, arith, Some, le_refl, is_some, nat_le, IfSome, both_ways, ltb-false, leb-false, AllByRecursion}
+use Rattle.clean_finish.proofs.Words.{option_and_then, Side, A, B, peer, same_side, Flight, going_to, next_due, first_of_all, Duty, StepDuty, SixBooks}
+use Rattle.clean_finish.proofs.Words.{AppState, Profile, Carried, PathState, with_agenda, tick_of, earlier, before, next_join, next_line, next_copy, next_event}
+use Rattle.clean_finish.proofs.Words.{next_fire, Setting, Copy, Lane, Stage, Sender, Receiver, waits_no_more, first_at, PathPlan, Start, Hand, WayIs, brings_in}
+use Rattle.clean_finish.proofs.Words.{tells_in, Sent, Keys, copy_in, FlyAs, Runs, keys_in, Facing, Half, StageIs}
 use Rattle.path_core.specs.declared.events.Event.{Event}
-use Rattle.path_core.specs.Events.{tick_of, earlier, before, next_join, next_line, next_copy, next_event}
-use Rattle.path_core.specs.Timer.{next_fire}
-use Rattle.path_core.specs.State.{PathState, with_agenda}
-use Rattle.path_core.specs.Profile.{Profile}
-use Rattle.path_core.specs.Values.{Carried}
-use Rattle.world_laws.specs.Openings.{PathPlan, Start}
-use Rattle.pace.specs.Lane.{Setting, Copy, Lane, Sender, Receiver, Stage}
-use Rattle.pace.specs.Lists.{first_at}
-use Rattle.pace.specs.Moves.Move.{waits_no_more}
-use Rattle.clean_finish.specs.Segments.{Sent, Keys, copy_in, FlyAs}
-use Rattle.clean_finish.specs.Shows.{Hand, brings_in, tells_in, WayIs}
-use Rattle.clean_finish.specs.Running.{StageIs, Half, Facing, Runs, keys_in}
 use Rattle.clean_finish.proofs.Dropping.{differ, behind, behind_or, settles_drop, begun_drops}
 use Rattle.clean_finish.proofs.Passing.{stands_then}
 use Rattle.clean_finish.proofs.Plainly.{plain_on}

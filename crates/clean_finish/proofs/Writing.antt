@@ -1,25 +1,12 @@
 -- An application that writes and closes is moves of its lane.
-use Rattle.std.proofs.Common.{◌≡◌, refl, sym, subst, ap, ◌∙◌, ℕ, suc, ◌+◌, ◌-◌, ◌≤◌, min, Bool, true, false, not, Option, None, Some, List, [], ◌∷◌, ◌++◌, length, take, drop, replicate, fold, cond, le_refl, length-append, length-take, length-drop, arith}
-use Rattle.std.proofs.lemmas.Bool.{both_ways}
-use Rattle.subflow_tcp.specs.Segments.{one_if}
+use Rattle.clean_finish.proofs.Words.{◌≡◌, refl, sym, subst, ap, ◌∙◌, ℕ, ◌+◌, ◌-◌, ◌≤◌, min, Bool, true, false, cond, not, Option, None, List, [], ◌∷◌, ◌++◌}
+use Rattle.clean_finish.proofs.Words.{length, arith, Some, suc, le_refl, drop, replicate, take, length-take, fold, both_ways, after_write, after_close}
+use Rattle.clean_finish.proofs.Words.{write_reply, close_reply, bytes_taken, acked_len, Free, no_paths, ByteMark, is_acked, one_if, Reply, AppDuty, Write}
+use Rattle.clean_finish.proofs.Words.{Close, Read, End, AppState, app_takes, app_next_round, offered, app_settled, Setting, Lane, Stage, Going, MayEndWriting}
+use Rattle.clean_finish.proofs.Words.{closes, ends_writing, writes, Moves, is_writing, WriterIs, WriterShows, WriterGoes}
+use Rattle.std.proofs.Common.{length-append, length-drop}
 use Rattle.send_book.specs.declared.call.SendReply.TheVariants.{Closed}
-use Rattle.send_book.specs.State.{Sending, acked_len}
-use Rattle.send_book.specs.declared.mark.ByteMark.{ByteMark}
-use Rattle.send_book.specs.declared.mark.ByteMark.TheVariants.{Free}
-use Rattle.send_book.specs.Marks.{is_acked}
-use Rattle.send_book.specs.Tried.{no_paths}
-use Rattle.send_book.specs.Steps.{bytes_taken, write_reply, after_write, close_reply, after_close}
-use Rattle.actor_desk.specs.declared.ask.Reply.{Reply}
-use Rattle.stream_apps.specs.declared.duty.AppDuty.{AppDuty}
-use Rattle.stream_apps.specs.declared.duty.AppDuty.TheVariants.{Write, Close, Read, End}
-use Rattle.stream_apps.specs.Apps.{AppState}
-use Rattle.stream_apps.specs.AppSteps.{offered, app_takes, app_settled, app_next_round}
-use Rattle.pace.specs.Lane.{Setting, Lane, Stage}
-use Rattle.pace.specs.Going.{Going}
-use Rattle.pace.specs.Moves.{MayEndWriting}
-use Rattle.pace.specs.Rounds.{Moves}
-use Rattle.pace.specs.Moves.Move.{writes, closes, ends_writing}
-use Rattle.clean_finish.specs.Writing.{is_writing, WriterIs, WriterShows, WriterGoes}
+use Rattle.send_book.specs.State.{Sending}
 
 -- more marks count no fewer acknowledged bytes
 marks_more : (n : ℕ) (xs ys : List ByteMark)

@@ -1,20 +1,12 @@
 -- After the end, or an abort, a reader's state stays; and nothing is written to a closed stream.
-use Rattle.std.proofs.Common.{◌≡◌, refl, ◌∙◌, ap, ℕ, Bool, true, false, ◌||◌, if◌then◌else◌, List, [], ◌∷◌, Option, Some, None, Result, Ok, Err, set}
-use Rattle.std.proofs.lemmas.Bool.{both_ways}
-use Rattle.std.specs.List.{slice_get}
-use Rattle.send_book.specs.declared.call.Span.{Span}
-use Rattle.send_book.specs.declared.call.Why.{Why}
+use Rattle.stream_lanes.proofs.Words.{◌≡◌, refl, ◌∙◌, ap, ℕ, Bool, true, false, List, [], ◌∷◌, Option, Some, None, Result, Ok, Err, if◌then◌else◌, ◌||◌, set}
+use Rattle.stream_lanes.proofs.Words.{both_ways, slice_get, Span, Why, WriteBytes, CloseBook, Grant, AckIn, ReturnBytes, GoIdentityBook, GoInfiniteBook}
+use Rattle.stream_lanes.proofs.Words.{AbortBook, Sending, acked_len, is_future, is_gathered, decision, given_by, Ask, Lane, Nothing, AskGrant, AskAckIn, Flags}
+use Rattle.stream_lanes.proofs.Words.{Move, Direction, StreamEvent, after, asks, asks_at, moves, reads, is_done, with_send, goes_infinite, may_go, Write, Close}
+use Rattle.stream_lanes.proofs.Words.{Return, GoIdentity, GoInfinite, AbortSend, Read, AbortRead, Moves, Asks, Duo, Event, flags_ab, flags_ba, after_event}
+use Rattle.stream_lanes.proofs.Words.{after_events, ToB, ToA}
 use Rattle.send_book.specs.declared.call.SendCall.{SendCall}
-use Rattle.send_book.specs.declared.call.SendCall.TheVariants.{Write as WriteBytes, Close as CloseBook, Grant, AckIn, Return as ReturnBytes, GoIdentity as GoIdentityBook, GoInfinite as GoInfiniteBook, Abort as AbortBook}
-use Rattle.send_book.specs.State.{Sending, acked_len}
-use Rattle.send_book.specs.Steps.{after_call, decision, given_by, is_future, is_gathered}
-use Rattle.stream_lanes.specs.Lane.{Ask, Lane}
-use Rattle.stream_lanes.specs.Lane.Ask.{Nothing, AskGrant, AskAckIn}
-use Rattle.stream_lanes.specs.Moves.{Flags, Move}
-use Rattle.stream_lanes.specs.Streams.{Direction, StreamEvent, after, asks, asks_at, moves, reads, is_done, with_send, goes_infinite, may_go}
-use Rattle.stream_lanes.specs.Streams.StreamEvent.{Write, Close, Return, GoIdentity, GoInfinite, AbortSend, Read, AbortRead, Moves, Asks}
-use Rattle.stream_lanes.specs.Duo.{Duo, Event, flags_ab, flags_ba, after_event, after_events}
-use Rattle.stream_lanes.specs.Duo.Event.{ToB, ToA}
+use Rattle.send_book.specs.Steps.{after_call}
 
 -- what a closed book keeps
 record IsShut (s t : Sending) : Type 0 where

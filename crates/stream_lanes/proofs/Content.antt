@@ -1,29 +1,15 @@
 -- What was placed stays as it is: the book overwrites nothing, and a read hands its bytes to the reader.
-use Rattle.std.proofs.Common.{◌≡◌, refl, sym, ◌∙◌, ap, subst, ℕ, zero, suc, ◌+◌, ◌-◌, ◌<◌, ◌≤◌, min, Bool, true, false, ◌||◌, nat_lt, if◌then◌else◌, is_some, ⊎_elim, List, [], ◌∷◌, ◌++◌, length, take, drop, Option, Some, None, Result, Ok, Err, set, arith}
-use Rattle.std.proofs.lemmas.Bool.{ltb-true, ltb-false, cases_lt}
-use Rattle.std.proofs.lemmas.List.{append-nil}
-use Rattle.std.proofs.lemmas.Option.{same_Some}
-use Rattle.std.specs.List.{slice_get}
-use Rattle.send_book.specs.declared.call.Span.{Span}
-use Rattle.send_book.specs.declared.call.Why.{Why}
+use Rattle.stream_lanes.proofs.Words.{◌≡◌, refl, sym, ◌∙◌, ap, subst, ℕ, zero, suc, ◌+◌, ◌-◌, ◌<◌, ◌≤◌, min, Bool, true, false, nat_lt, ⊎_elim, List, [], ◌∷◌}
+use Rattle.stream_lanes.proofs.Words.{◌++◌, length, take, drop, Option, Some, None, Result, Ok, Err, if◌then◌else◌, arith, ◌||◌, set, is_some, cases_lt}
+use Rattle.stream_lanes.proofs.Words.{ltb-true, ltb-false, slice_get, append-nil, same_Some, Arriving, filled, by_place, merged, places_after, fin_clash}
+use Rattle.stream_lanes.proofs.Words.{is_taken, bytes_reply, reading, after_reading, End, NoneYet, Span, Why, WriteBytes, CloseBook, Grant, AckIn, ReturnBytes}
+use Rattle.stream_lanes.proofs.Words.{GoIdentityBook, GoInfiniteBook, AbortBook, Sending, acked_len, after_send, is_future, is_gathered, decision, given_by}
+use Rattle.stream_lanes.proofs.Words.{slice_get-append_right, slice_get-drop, Ask, Lane, AskGrant, AskAckIn, AskPlace, AskFin, Flags, Move, Reader, Direction}
+use Rattle.stream_lanes.proofs.Words.{StreamEvent, after, asks, asks_at, moves, reads, is_done, takes_read, with_send, goes_infinite, may_go, Write, Close}
+use Rattle.stream_lanes.proofs.Words.{Return, GoIdentity, GoInfinite, AbortSend, Read, AbortRead, Moves, Asks, Duo, Event, flags_ab, flags_ba, after_event}
+use Rattle.stream_lanes.proofs.Words.{after_events, ToB, ToA, is_exact, DirectionHolds, Holds, flattened, content, PlacedIsRight}
 use Rattle.send_book.specs.declared.call.SendCall.{SendCall}
-use Rattle.send_book.specs.declared.call.SendCall.TheVariants.{Write as WriteBytes, Close as CloseBook, Grant, AckIn, Return as ReturnBytes, GoIdentity as GoIdentityBook, GoInfinite as GoInfiniteBook, Abort as AbortBook}
-use Rattle.send_book.specs.State.{Sending, acked_len}
-use Rattle.send_book.specs.Steps.{after_call as after_send, decision, given_by, is_future, is_gathered}
-use Rattle.send_book.proofs.Lists.{slice_get-append_right, slice_get-drop}
-use Rattle.reassembly_book.specs.declared.call.ReassemblyReply.TheVariants.{End, NoneYet}
-use Rattle.reassembly_book.specs.State.{Arriving, filled}
-use Rattle.reassembly_book.specs.Steps.{by_place, merged, is_taken, places_after, fin_clash, is_end, bytes_reply, reading, after_reading}
-use Rattle.stream_lanes.specs.Lane.{Ask, Lane}
-use Rattle.stream_lanes.specs.Lane.Ask.{AskGrant, AskAckIn, AskPlace, AskFin}
-use Rattle.stream_lanes.specs.Moves.{Flags, Move}
-use Rattle.stream_lanes.specs.Streams.{Reader, Direction, StreamEvent, after, asks, asks_at, moves, reads, is_done, takes_read, with_send, goes_infinite, may_go}
-use Rattle.stream_lanes.specs.Streams.StreamEvent.{Write, Close, Return, GoIdentity, GoInfinite, AbortSend, Read, AbortRead, Moves, Asks}
-use Rattle.stream_lanes.specs.Duo.{Duo, Event, flags_ab, flags_ba, after_event, after_events}
-use Rattle.stream_lanes.specs.Duo.Event.{ToB, ToA}
-use Rattle.stream_lanes.specs.View.{is_exact}
-use Rattle.stream_lanes.specs.Holding.{DirectionHolds, Holds}
-use Rattle.stream_lanes.specs.Laws.{flattened, content, PlacedIsRight}
+use Rattle.reassembly_book.specs.Steps.{is_end}
 use Rattle.stream_lanes.proofs.Lists.{in_more, in_take, item_at}
 use Rattle.stream_lanes.proofs.Bytes.{in_filled, merged_left}
 use Rattle.stream_lanes.proofs.Duos.{after_event_held}

@@ -1,18 +1,14 @@
 -- The books went on from one view to another: what held of a lane then holds now.
-use Rattle.std.proofs.Common.{◌≡◌, sym, ◌∙◌, ap, ℕ, ◌≤◌, Bool, true, ◌⊎◌, inl, inr, List, ◌++◌, length, Option, Some, arith}
+use Rattle.stream_lanes.proofs.Words.{◌≡◌, sym, ◌∙◌, ap, ℕ, ◌≤◌, Bool, true, List, ◌++◌, length, Option, Some, arith, ◌⊎◌, inl, inr, slice_get, Arriving}
+use Rattle.stream_lanes.proofs.Words.{AckCopy, Pair, Ask, Lane, Cell, AskAckIn, AskPlace, AskFin, place_by, Every, IsEnd, IsIn, View, IsAll, IsSent}
+use Rattle.stream_lanes.proofs.Words.{ArrivedHolds, RecordHolds, AloneHolds, ModeHolds, EndsHold, IsFin, HeardHolds, IsAck, ReceiverHolds, PlaceHolds, AskHolds}
+use Rattle.stream_lanes.proofs.Words.{LinkHolds, LaneHolds, CellFits, AllGranted, IsPassed, PassedHolds, IsAlone, IsEndless, PairsHold, spent, spent_count}
+use Rattle.stream_lanes.proofs.Words.{AreNew, tried, fell}
 use Rattle.std.proofs.lemmas.Grind.{common_steps}
-use Rattle.std.specs.List.{slice_get}
-use Rattle.reassembly_book.specs.State.{Arriving}
-use Rattle.stream_lanes.specs.Marks.{spent, spent_count, AreNew, tried}
-use Rattle.stream_lanes.specs.Lane.{Cell, Pair, AckCopy, Told, Ask, Lane}
-use Rattle.stream_lanes.specs.Lane.Ask.{AskAckIn, AskPlace, AskFin}
-use Rattle.stream_lanes.specs.View.{View, IsEnd, IsIn}
-use Rattle.stream_lanes.specs.Holding.{IsAll, IsSent, ArrivedHolds, RecordHolds, AloneHolds, ModeHolds, EndsHold, IsFin, HeardHolds, IsAck, ReceiverHolds, PlaceHolds, AskHolds, LinkHolds, LaneHolds, CellFits, AllGranted, IsPassed, PassedHolds, IsAlone, IsEndless, PairsHold}
-use Rattle.stream_lanes.specs.Holding.IsAlone.{given, fell}
-use Rattle.stream_lanes.specs.Moves.{place_by}
+use Rattle.stream_lanes.specs.Lane.{Told}
+use Rattle.stream_lanes.specs.Holding.IsAlone.{given}
 use Rattle.stream_lanes.proofs.Lists.{Every-map, From-map, Cells-map, IfSome-map, in_more}
 use Rattle.stream_lanes.proofs.MarkLists.{count_grows}
-use Rattle.stream_lanes.specs.Words.{Every}
 
 -- no other path is granted anything
 abbrev pub Keeps : ℕ → View → View → Type 0

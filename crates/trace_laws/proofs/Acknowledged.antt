@@ -1,16 +1,16 @@
 -- An end whose FIN may be sent has its SYN acknowledged, whatever its path is answered.
-use Rattle.std.proofs.Common.{◌≡◌, refl, sym, ◌∙◌, ap, subst, ℕ, zero, suc, ◌==◌, ◌≤◌, ◌⊎◌, inl, inr, ⊎_elim, Bool, true, false, ◌&&◌, if◌then◌else◌, nat_le, nat_lt, Option, Some, None, is_some, List, [], ◌∷◌, arith}
-use Rattle.std.proofs.lemmas.Bool.{and_parts, both_ways, false≢true, eqb-false, le-leb, leb-true, ltb-false, ltb-true}
-use Rattle.sides.specs.declared.side.Side.{Side}
-use Rattle.sides.specs.declared.side.Side.TheVariants.{A, B}
+use Rattle.trace_laws.proofs.Words.{◌≡◌, refl, sym, ◌∙◌, ap, subst, ℕ, zero, suc, ◌≤◌, ◌⊎◌, inl, inr, ⊎_elim, Bool, true, false, if◌then◌else◌, nat_le, nat_lt}
+use Rattle.trace_laws.proofs.Words.{Option, Some, None, List, [], ◌∷◌, arith, ◌==◌, ◌&&◌, is_some, and_parts, both_ways, false≢true, eqb-false, le-leb}
+use Rattle.trace_laws.proofs.Words.{leb-true, ltb-false, ltb-true, Side, A, B, Record, SendState, ack_kind, after_acknowledge, after_resent, sample_of}
+use Rattle.trace_laws.proofs.Words.{uncovered, EndState, is_at_limit, is_dead, is_half_open, is_waiting, PlainSegment, Duty, StepDuty, Reply, is_nil, tail_of}
+use Rattle.trace_laws.proofs.Words.{stands, passed, answered, Grant, grant_in, answered_grant, answered_data, first_unsent, answer_occasion, answer_of}
+use Rattle.trace_laws.proofs.Words.{resend_occasion, dead_answer, resend_of, PathEnd, died, at_tick, PathState, end_at, goes_on, left, with_agenda, with_end}
+use Rattle.trace_laws.proofs.Words.{syn_ack_said, settled, answers, takes, begins_turn, answered_heard, answered_item, item_of, item_passed}
 use Rattle.dss_mapping.specs.declared.kept.KeptMapping.{KeptMapping}
 use Rattle.link_model.specs.Steps.{arriving, after_delivery}
-use Rattle.path_segments.specs.Spelled.{PlainSegment}
 use Rattle.path_segments.specs.Heard.{HeardSegment}
 use Rattle.join_handshake.specs.declared.hearing.JoinSyn.{JoinSyn}
 use Rattle.subflow_recv.specs.Receiving.{after_forget_from}
-use Rattle.subflow_send.specs.Records.{Record, SendState}
-use Rattle.subflow_send.specs.Rules.{ack_kind, after_acknowledge, after_resent, sample_of, uncovered}
 use Rattle.subflow_send.specs.declared.record.AckKind.{AckKind}
 use Rattle.subflow_tcp.specs.declared.handshake.State.{State as EndPhase}
 use Rattle.loss_recovery.specs.declared.windows.Told.{Told}
@@ -21,23 +21,17 @@ use Rattle.subflow_tcp.specs.declared.segments.Occasion.{Occasion}
 use Rattle.subflow_tcp.specs.Emitting.{after_sending}
 use Rattle.subflow_tcp.specs.Expiring.{is_sixth, after_expiry}
 use Rattle.subflow_tcp.specs.Opening.{after_begin}
-use Rattle.subflow_tcp.specs.State.{EndState, is_at_limit}
 use Rattle.subflow_tcp.specs.States as states
-use Rattle.subflow_tcp.specs.States.{is_dead, is_half_open, is_waiting}
 use Rattle.subflow_tcp.specs.Judging.{is_acceptable, is_repeated_syn, is_syn_alone, meaning_acknowledging, meaning_answer, meaning_answering, meaning_at, meaning_connected, meaning_of, meaning_outside, meaning_placed, meaning_within}
 use Rattle.subflow_tcp.specs.Taking.{after_ack_kind, after_acknowledgement, after_arrival, after_death, after_dropping_held, after_duplicate, after_established, after_hearing, after_holding, after_interruption, after_keeping_held, after_payload, after_row, after_syn, is_duplicate, is_fin_acked, unkept}
 use Rattle.subflow_tcp.specs.Closing.{is_fin_next, after_passing_fin}
 use Rattle.fallback_state.specs.declared.fall.Event.{Event as FallEvent}
-use Rattle.actor_desk.specs.declared.ask.Reply.{Reply}
-use Rattle.actor_desk.specs.Words.{is_nil, tail_of}
 use Rattle.path_agenda.specs.Agenda.{breaks, emission, leaves, resets, rest_of_turn, start_of_turn, stops, announces, withdraws}
 use Rattle.path_agenda.specs.Items.{key_heard, keys_heard}
 use Rattle.path_agenda.specs.Words.{replaced}
-use Rattle.path_agenda.specs.declared.duty.Duty.{Duty}
 use Rattle.path_agenda.specs.declared.duty.AskDuty.{AskDuty}
 use Rattle.path_agenda.specs.declared.duty.SendDuty.{SendDuty}
 use Rattle.path_agenda.specs.declared.duty.SilentDuty.{SilentDuty}
-use Rattle.path_agenda.specs.declared.duty.StepDuty.{StepDuty}
 use Rattle.path_agenda.specs.declared.heard.Heard.{Heard}
 use Rattle.path_agenda.specs.declared.keys.KeyPair.{KeyPair}
 use Rattle.path_core.specs.FastClose.{is_stopped_by}
@@ -49,13 +43,9 @@ use Rattle.path_core.specs.OptionsIn.{hint_of, items_of, options_heard, owes_by}
 use Rattle.path_core.specs.Judged.{is_forged, is_passed_over, judged_of, taken_as}
 use Rattle.path_core.specs.Breaking.{reset_of, reset_on, answered_break, died_unless_dead, refusal_of}
 use Rattle.path_core.specs.Codec.{Codec}
-use Rattle.path_core.specs.Duties.{stands, passed, answered}
-use Rattle.path_core.specs.Emission.{Grant, grant_in, answered_grant, answered_data, first_unsent, answer_occasion, answer_of, resend_occasion, dead_answer, resend_of}
 use Rattle.path_core.specs.Timer.{after_timer, timer_fired, template_fired}
 use Rattle.path_core.specs.DataFin.{fin_segment_of, having_sent_fin, after_pass_fin, answered_fin_heard, answered_plain_fin, is_fin_set}
-use Rattle.path_core.specs.End.{PathEnd, died}
 use Rattle.path_core.specs.Events.{next_event, after_line, happens_if}
-use Rattle.path_core.specs.State.{at_tick, PathState, end_at, goes_on, left, with_agenda, with_end}
 use Rattle.path_core.specs.MpJoin.{join_begun, never_joined, asked_at, is_listening, is_never, join_taken, joined_by, keys_begun, opened_by, syn_alone, with_mode_refused, is_joined, join_answer, join_asked}
 use Rattle.path_core.specs.Addresses.{with_priority, after_peer_notice}
 use Rattle.path_store.specs.declared.lines.LineAction.{LineAction}
@@ -63,11 +53,8 @@ use Rattle.path_core.specs.Fallback.{after_fell, fell_duties, answered_fell, wit
 use Rattle.path_core.specs.MpCapable.{after_keys, answered_opened, answered_peer_key, with_peer_key}
 use Rattle.path_core.specs.Deliver.{answered_piece, is_placed, piece_of, after_check, after_pieces, mapping_here, is_wrong, forgotten_by, after_keep, is_dropped}
 use Rattle.path_store.specs.Passing.{Piece}
-use Rattle.path_core.specs.OptionsOut.{syn_ack_said}
 use Rattle.path_core.specs.Handover.{having_sent, sent_on}
 use Rattle.path_core.specs.Standing.{after_ack_out, answered_ack_out}
-use Rattle.path_core.specs.Steps.{settled, answers, takes, begins_turn}
-use Rattle.path_core.specs.Treating.{answered_heard, answered_item, item_of, item_passed}
 use Rattle.world_laws.proofs.Falls.FailedChecks.{check_failed_so, checked_so, fail_answered_so, fail_heard_so, failed_so, infinite_came_so, infinite_so}
 
 -- ---- an end of a subflow

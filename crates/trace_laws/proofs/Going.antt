@@ -1,75 +1,47 @@
 -- Once a run is delivered each octet of both files was in a segment that was handed to a link.
-use Rattle.std.proofs.Common.{◌≡◌, refl, sym, ◌∙◌, ap, subst, ℕ, zero, suc, ◌+◌, ◌-◌, ◌^◌, ◌<◌, ◌≤◌, ◌⊎◌, inl, inr, ⊎_elim, Bool, true, false, if◌then◌else◌, nat_le, nat_lt, Result, Ok, Err, Option, Some, None, option_map, option_and_then, option_to_list, List, [], ◌∷◌, ◌++◌, length, length-append, length-take, length-drop, take, drop, map, fold, append_assoc, arith}
-use Rattle.std.specs.List.{count_by, slice_get}
-use Rattle.std.proofs.lemmas.Bool.{and_parts, cases_lt, eqb-true, false≢true, leb-true, ltb-true}
+use Rattle.trace_laws.proofs.Words.{◌≡◌, refl, sym, ◌∙◌, ap, subst, ℕ, zero, suc, ◌+◌, ◌-◌, ◌^◌, ◌<◌, ◌≤◌, ◌⊎◌, inl, inr, ⊎_elim, Bool, true, false}
+use Rattle.trace_laws.proofs.Words.{if◌then◌else◌, nat_le, nat_lt, Result, Ok, Err, Option, Some, None, option_map, option_and_then, List, [], ◌∷◌, ◌++◌}
+use Rattle.trace_laws.proofs.Words.{length, length-append, length-take, length-drop, take, drop, map, fold, append_assoc, arith, and_parts, false≢true}
+use Rattle.trace_laws.proofs.Words.{leb-true, ltb-true, cases_lt, eqb-true, count_by, slice_get, same_Some, slice_get_within, Side, A, B, SendCall, covers}
+use Rattle.trace_laws.proofs.Words.{is_asked_by, decision, part_of, reply_by, send_reply, Record, may_finish, Sent, carried_of, HasOctet, Duty, StepDuty, Reply}
+use Rattle.trace_laws.proofs.Words.{is_nil, pick, Ask, books_in, send_of, stands, ask_for, first_unsent, data_stands, may_ask, payload_size, data_ask}
+use Rattle.trace_laws.proofs.Words.{PathState, end_at, with_agenda, path_of, answers, takes, asks_first, asks_of, item_of, departing_as, first_sends, octets}
+use Rattle.trace_laws.proofs.Words.{values, Has, Has-more, in_append, in_map, in_one, in_set, PathPlan, Start, new_path, opened_world, path_begins, paths_from}
+use Rattle.trace_laws.proofs.Words.{IsPlain, NumbersFit, Actor, ActorCrew, is_over, member_asks, member_next, member_takes, AreLawful, WorldState, Turn}
+use Rattle.trace_laws.proofs.Words.{after_turn, all_over, asked, begins, crew_after, end_round, greatest, note_of, stepped, world_run, writes_the_files}
+use Rattle.trace_laws.proofs.Words.{plainly, plainly_free, run_fresh, initials_of, sent_as, sent_at, sent_by, sent_next, trace_of, base_from, CarriesPlace}
+use Rattle.trace_laws.proofs.Words.{DeliveredFilesWereSent, ended}
+use Rattle.std.proofs.Common.{option_to_list}
 use Rattle.std.proofs.lemmas.List.{drop-append-le, take-append-le}
-use Rattle.std.proofs.lemmas.Option.{same_Some, slice_get_within}
-use Rattle.sides.specs.declared.side.Side.{Side}
-use Rattle.sides.specs.declared.side.Side.TheVariants.{A, B}
 use Rattle.octet_text.specs.Prefix.{IsPrefix}
-use Rattle.send_book.specs.declared.call.SendCall.{SendCall}
 use Rattle.send_book.specs.declared.call.Span.{Span}
 use Rattle.send_book.specs.declared.call.Why.{Why}
-use Rattle.send_book.specs.Laws.{covers, is_asked_by}
 use Rattle.send_book.specs.State.{Sending, Tile}
-use Rattle.send_book.specs.Steps.{decision, part_of, reply_by, reply_to as send_reply}
 use Rattle.send_book.proofs.Decisions.{decision-MayTake}
-use Rattle.stream_lanes.specs.Words.{Has}
-use Rattle.stream_lanes.proofs.Lists.{Has-more, in_append, in_map, in_one, in_set}
 use Rattle.stream_lanes.proofs.Promises.{records_fit}
-use Rattle.actor_desk.specs.declared.ask.Ask.{Ask}
 use Rattle.actor_desk.specs.declared.ask.Note.{Note}
-use Rattle.actor_desk.specs.declared.ask.Reply.{Reply}
-use Rattle.actor_desk.specs.Books.{books_in}
-use Rattle.actor_desk.specs.Desk.{send_of}
-use Rattle.actor_desk.specs.Words.{is_nil, pick}
 use Rattle.stream_apps.specs.declared.duty.AppDuty.{AppDuty}
 use Rattle.stream_apps.specs.Apps.{AppState}
 use Rattle.stream_apps.specs.AppSteps.{app_ask, app_asks_first}
 use Rattle.path_agenda.specs.Agenda.{start_of_turn}
-use Rattle.path_agenda.specs.declared.duty.Duty.{Duty}
 use Rattle.path_agenda.specs.declared.duty.AskDuty.{AskDuty}
-use Rattle.path_agenda.specs.declared.duty.StepDuty.{StepDuty}
-use Rattle.path_core.specs.Duties.{ask_for, stands}
-use Rattle.path_core.specs.Emission.{data_ask, data_stands, first_unsent, may_ask, payload_size}
-use Rattle.path_core.specs.Looking.{departing_as, first_sends}
-use Rattle.path_core.specs.Octets.{octets}
 use Rattle.path_core.specs.Start.{PathStart, first_state, first_turn, waiting_path}
-use Rattle.path_core.specs.State.{PathState, end_at, path_of, with_agenda}
-use Rattle.path_core.specs.Steps.{answers, asks_first, asks_of, takes}
-use Rattle.path_core.specs.Treating.{item_of}
 use Rattle.path_core.specs.Turns.{FirstStands, IsSettled}
-use Rattle.path_core.specs.Values.{Carried, values}
-use Rattle.subflow_send.specs.Records.{Record}
-use Rattle.subflow_tcp.specs.States.{may_finish}
+use Rattle.path_core.specs.Values.{Carried}
 use Rattle.link_script.specs.declared.script.ScriptLine.{ScriptLine}
-use Rattle.link_trace.specs.declared.sent.Sent.{Sent}
-use Rattle.link_trace.specs.Carrying.{carried_of}
-use Rattle.link_trace.specs.FirstOctets.{HasOctet}
-use Rattle.run_trace.specs.Initials.{initials_of}
-use Rattle.run_trace.specs.Trace.{sent_as, sent_at, sent_by, sent_next, trace_of}
 use Rattle.world_core.specs.Looking.{crew_path, member_path}
 use Rattle.world_laws.specs.declared.member.Member.TheVariants.{App, Path}
-use Rattle.world_laws.specs.Actors.{Actor, ActorCrew, is_over, member_asks, member_next, member_takes}
 use Rattle.world_laws.specs.Granted.{asks_for, gives, grants_byte}
 use Rattle.world_laws.specs.declared.outcome.Outcome.TheVariants.{Delivered}
 use Rattle.world_laws.specs.Outcomes.{outcome_of}
-use Rattle.world_laws.specs.Openings.{PathPlan, Start, new_path, opened_world, path_begins, paths_from}
-use Rattle.world_laws.specs.Promises.{IsPlain, NumbersFit}
 use Rattle.world_laws.specs.StampedBooks.{answer_to}
-use Rattle.world_laws.specs.Worlds.{AreLawful, WorldState, Turn, after_turn, all_over, asked, begins, crew_after, end_round, greatest, note_of, stepped, world_run}
-use Rattle.world_laws.proofs.Worlds.CastLifting.{writes_the_files}
 use Rattle.world_laws.proofs.Lanes.Doing.{has_last}
 use Rattle.world_laws.proofs.Falls.FailedChecks.{subflow_acks_so}
-use Rattle.world_laws.proofs.Lanes.OfAWorld.{plainly, plainly_free}
 use Rattle.world_laws.proofs.Asks.OfPaths.{IsHeardAsk, IsQuietAsk, IsQuietDuty, heard_asks, quiet_asks}
-use Rattle.world_laws.proofs.Promises.Made.{run_fresh}
 use Rattle.world_laws.proofs.Lanes.Roads.{put_there}
 use Rattle.world_laws.proofs.Worlds.Settled.{settled_settled}
 use Rattle.world_laws.proofs.Weaving.WholeRounds.{run_append}
 use Rattle.trace_laws.specs.Granting.{WasGranted}
-use Rattle.trace_laws.specs.Counting.{base_from}
-use Rattle.trace_laws.specs.Sending.{CarriesPlace, DeliveredFilesWereSent, ended}
 use Rattle.trace_laws.proofs.Acknowledged.{BothAck, ack_at, begins_acks, takes_acks}
 use Rattle.trace_laws.proofs.Grants.{all_noted, delivered_were_granted, same_books, same_from}
 use Rattle.trace_laws.proofs.Handing.{SendsNext, grants, granted_goes}

@@ -1,32 +1,22 @@
 -- Every octet that a path has on a lane was granted to it by a step that an actor noted.
-use Rattle.std.proofs.Common.{◌≡◌, refl, sym, ◌∙◌, ap, subst, ℕ, zero, suc, ◌+◌, ◌-◌, ◌<◌, ◌≤◌, ◌⊎◌, inl, inr, ⊎_elim, Bool, true, false, if◌then◌else◌, nat_le, nat_lt, Option, Some, None, List, [], ◌∷◌, length, set, arith}
-use Rattle.std.specs.List.{slice_get, list_all}
-use Rattle.std.proofs.lemmas.Bool.{and_parts, and_from, le-leb, lt-ltb, false≢true}
-use Rattle.std.proofs.lemmas.Option.{same_Some}
-use Rattle.sides.specs.declared.side.Side.{Side}
-use Rattle.sides.specs.declared.side.Side.TheVariants.{A, B}
-use Rattle.send_book.specs.declared.call.SendCall.{SendCall}
+use Rattle.trace_laws.proofs.Words.{◌≡◌, refl, sym, ◌∙◌, ap, subst, ℕ, zero, suc, ◌+◌, ◌-◌, ◌<◌, ◌≤◌, ◌⊎◌, inl, inr, ⊎_elim, Bool, true, false, if◌then◌else◌}
+use Rattle.trace_laws.proofs.Words.{nat_le, nat_lt, Option, Some, None, List, [], ◌∷◌, length, arith, set, and_parts, false≢true, le-leb, and_from, lt-ltb}
+use Rattle.trace_laws.proofs.Words.{slice_get, list_all, same_Some, Side, A, B, SendCall, covers, send_reply, Ask, in_append, in_set, AskHolds, DirectionHolds}
+use Rattle.trace_laws.proofs.Words.{HasPlace, Holds, view_of, LaneAsk, Cell, Lane, Duo, flags_ab, flags_ba, after_event, after_events, AreSilent, CallIs}
+use Rattle.trace_laws.proofs.Words.{LaneAsks, ReassemblyCallIs, SendCallIs, TurnShows, call_events, is_silent}
 use Rattle.send_book.specs.declared.call.SendCall.TheVariants.{GoIdentity as GoIdentityBook}
 use Rattle.send_book.specs.declared.call.SendReply.{SendReply}
-use Rattle.send_book.specs.Laws.{covers}
-use Rattle.send_book.specs.Steps.{reply_to as send_reply}
 use Rattle.send_book.proofs.Grants.{granted_pieces_are_whole}
 use Rattle.reassembly_book.specs.declared.call.ReassemblyCall.{ReassemblyCall}
 use Rattle.reassembly_book.specs.Steps.{reply_to as arrival_reply}
-use Rattle.stream_lanes.specs.Holding.{AskHolds, DirectionHolds, HasPlace, Holds}
-use Rattle.stream_lanes.specs.View.{view_of}
-use Rattle.stream_lanes.specs.Lane.{Ask as LaneAsk, Cell, Lane}
 use Rattle.stream_lanes.specs.Lane.Ask.{AskGrant, AskAckIn, AskPlace, AskFin, AskAckOut}
 use Rattle.stream_lanes.specs.Moves.{Flags, Move, cells_from, takes_grant}
 use Rattle.stream_lanes.specs.Streams.{Direction, StreamEvent, after, asks, asks_at, is_done, moves, reads, with_send, goes_infinite, may_go}
 use Rattle.stream_lanes.specs.Streams.StreamEvent.{Write, Close, Return, GoIdentity, AbortSend, Read, AbortRead, Moves, Asks, GoInfinite}
-use Rattle.stream_lanes.specs.Duo.{Duo, Event, flags_ab, flags_ba, after_event, after_events}
+use Rattle.stream_lanes.specs.Duo.{Event}
 use Rattle.stream_lanes.specs.Duo.Event.{ToB, ToA, FallA, FallB, LoosenA, LoosenB, BeginJoin, SendJoin, HearJoin}
 use Rattle.stream_lanes.proofs.Directions.{acked_sent, fin_sent, moved_sent, placed_sent}
-use Rattle.stream_lanes.proofs.Lists.{in_append, in_set}
 use Rattle.stream_lanes.proofs.Promises.{records_fit}
-use Rattle.actor_desk.specs.declared.ask.Ask.{Ask}
-use Rattle.world_laws.proofs.Lanes.OfAWorld.{AreSilent, CallIs, LaneAsks, ReassemblyCallIs, SendCallIs, TurnShows, call_events, is_silent}
 use Rattle.world_laws.proofs.Places.Sent.{ack_out_sent}
 use Rattle.world_laws.proofs.Lanes.Strolling.{events_held}
 

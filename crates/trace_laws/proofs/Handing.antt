@@ -1,42 +1,20 @@
 -- What was granted to a path goes out by the path's next step.
-use Rattle.std.proofs.Common.{◌≡◌, refl, sym, ◌∙◌, ap, subst, ℕ, ◌+◌, ◌-◌, ◌%◌, ◌≤◌, Bool, true, false, not, ◌&&◌, if◌then◌else◌, nat_le, Option, Some, None, option_map, find, List, [], ◌∷◌, ◌++◌, length, length-append, drop, replicate, sum_by, arith}
-use Rattle.std.proofs.lemmas.Bool.{and_parts, and_from, false≢true, le-leb, leb-true}
+use Rattle.trace_laws.proofs.Words.{◌≡◌, refl, sym, ◌∙◌, ap, subst, ℕ, ◌+◌, ◌-◌, ◌≤◌, Bool, true, false, if◌then◌else◌, nat_le, Option, Some, None, option_map}
+use Rattle.trace_laws.proofs.Words.{List, [], ◌∷◌, ◌++◌, length, length-append, drop, arith, ◌&&◌, ◌%◌, not, replicate, find, sum_by, and_parts, false≢true}
+use Rattle.trace_laws.proofs.Words.{le-leb, leb-true, and_from, Side, A, B, header_len, Segment, fixed_header, octets_with, segment_text, Record, is_unsent}
+use Rattle.trace_laws.proofs.Words.{octets_under_way, Data, is_at_limit, may_finish, is_closed_to_segments, Sent, PlainSegment, padded, padding, spelled}
+use Rattle.trace_laws.proofs.Words.{unpadded_options, whole_number, Duty, StepDuty, Reply, stands, passed, answered_data, first_unsent, data_stands, may_ask}
+use Rattle.trace_laws.proofs.Words.{payload_size, fits, granted, may_send_data, PathEnd, PathState, end_at, goes_on, with_agenda, record_or_ack, settled}
+use Rattle.trace_laws.proofs.Words.{answers, takes, settles_down, departing_as, unsent_sends, first_sends, departing, made, octets, sum_of, Departing}
+use Rattle.trace_laws.proofs.Words.{mapping_of, Profile, sent_as, sent_by, payload_in}
 use Rattle.std.proofs.lemmas.List.{drop_at, drop-drop, length-replicate}
 use Rattle.std.proofs.lemmas.List.Sums.{sum_by_push}
-use Rattle.sides.specs.declared.side.Side.{Side}
-use Rattle.sides.specs.declared.side.Side.TheVariants.{A, B}
-use Rattle.segment_wire.specs.Reading.{header_len}
-use Rattle.segment_wire.specs.Segment.{Segment, fixed_header, octets_with, segment_text}
 use Rattle.path_segments.specs.declared.spelling.Spelling.{Spelling}
-use Rattle.path_segments.specs.Spelled.{PlainSegment, padding, padded, unpadded_options, spelled}
 use Rattle.send_book.specs.declared.call.Span.{Span}
 use Rattle.send_book.specs.declared.call.SendReply.{SendReply}
-use Rattle.subflow_send.specs.declared.record.RecordKind.TheVariants.{Data}
-use Rattle.subflow_send.specs.Records.{Record}
-use Rattle.subflow_send.specs.Rules.{is_unsent, octets_under_way}
 use Rattle.subflow_send.specs.Sendings.{never_sent}
 use Rattle.subflow_tcp.specs.declared.handshake.State.{State as EndPhase}
 use Rattle.subflow_tcp.specs.Sizes.{room}
-use Rattle.subflow_tcp.specs.State.{is_at_limit}
-use Rattle.subflow_tcp.specs.States.{is_closed_to_segments, may_finish}
-use Rattle.actor_desk.specs.declared.ask.Reply.{Reply}
-use Rattle.path_agenda.specs.declared.duty.Duty.{Duty}
-use Rattle.path_agenda.specs.declared.duty.StepDuty.{StepDuty}
-use Rattle.path_core.specs.declared.looking.Departing.{Departing}
-use Rattle.path_core.specs.Duties.{passed, stands}
-use Rattle.path_core.specs.Emission.{answered_data, data_stands, first_unsent, fits, granted, may_ask, may_send_data, payload_size}
-use Rattle.path_core.specs.End.{PathEnd}
-use Rattle.path_core.specs.Looking.{departing, departing_as, first_sends, unsent_sends}
-use Rattle.path_core.specs.Octets.{made, octets, sum_of}
-use Rattle.path_core.specs.DssOut.{mapping_of}
-use Rattle.path_core.specs.OptionsOut.{record_or_ack}
-use Rattle.path_segments.specs.Spelling.{whole_number}
-use Rattle.path_core.specs.State.{PathState, end_at, goes_on, with_agenda}
-use Rattle.path_core.specs.Profile.{Profile}
-use Rattle.path_core.specs.Steps.{answers, settled, settles_down, takes}
-use Rattle.link_trace.specs.declared.sent.Sent.{Sent}
-use Rattle.run_trace.specs.Trace.{sent_as, sent_by}
-use Rattle.trace_laws.specs.Sending.{payload_in}
 use Rattle.trace_laws.proofs.Acknowledged.{Acks}
 
 -- ---- the payload of a segment that is made

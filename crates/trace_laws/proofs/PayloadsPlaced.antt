@@ -1,68 +1,34 @@
 -- Over links that alter no payload each segment with a payload tells where it stands in its side's file.
-use Rattle.std.proofs.Common.{◌≡◌, refl, sym, ◌∙◌, ap, subst, ℕ, suc, ◌+◌, ◌-◌, ◌%◌, ◌^◌, ◌<◌, ◌≤◌, ◌⊎◌, inl, inr, Bool, true, false, if◌then◌else◌, Result, Ok, Err, Option, Some, None, option_map, List, [], ◌∷◌, length, All, arith}
-use Rattle.std.specs.List.{slice_get}
-use Rattle.std.specs.Option.{IfSome}
+use Rattle.trace_laws.proofs.Words.{◌≡◌, refl, sym, ◌∙◌, ap, subst, ℕ, suc, ◌+◌, ◌-◌, ◌^◌, ◌<◌, ◌≤◌, ◌⊎◌, inl, inr, Bool, true, false, if◌then◌else◌, Result}
+use Rattle.trace_laws.proofs.Words.{Ok, Err, Option, Some, None, option_map, List, [], ◌∷◌, length, arith, ◌%◌, All, slice_get, slice_get_within, IfSome}
+use Rattle.trace_laws.proofs.Words.{idsn_of, Side, A, B, has_broken_option, has_wrong_checksum, has_wrong_offset, is_short, segment_in, segment_meaning}
+use Rattle.trace_laws.proofs.Words.{Segment, SegmentFault, Record, is_unsent, Syn, Data, has_records, Sent, carried_in, carried_of, first_byte, first_number}
+use Rattle.trace_laws.proofs.Words.{initial_in, place_mapped, shifts_after, EndsBy, Base, PathInitials, meaning_in, PlainSegment, CanSayOption, numbers_of}
+use Rattle.trace_laws.proofs.Words.{Duty, StepDuty, pick, first_unsent, ack_resent, answer_said, first_record, resend_said, PathEnd, PathState, end_at, path_of}
+use Rattle.trace_laws.proofs.Words.{ack_said, carried_said, noted_said, record_options, record_or_ack, record_said, reset_said, syn_ack_said, item_of}
+use Rattle.trace_laws.proofs.Words.{broken_by, departing_as, duty_sends, heard_sends, unsent_sends, made, octets, Departing, checksum_told, first_piece_options}
+use Rattle.trace_laws.proofs.Words.{infinite_or, is_first_piece, mapped_options, owes_mapping, piece_mapping, piece_options, place_numbered, plain_options}
+use Rattle.trace_laws.proofs.Words.{Profile, Every, in_map, LaneHolds, IsHonest, IsRight, View, Cell, Lane, Mapping, Start, initials_of, base_from, payload_in}
 use Rattle.std.proofs.lemmas.List.Elements.{All-head}
-use Rattle.std.proofs.lemmas.Option.{slice_get_within}
-use Rattle.sides.specs.declared.side.Side.{Side}
-use Rattle.sides.specs.declared.side.Side.TheVariants.{A, B}
-use Rattle.key_material.specs.KeyDigest.{idsn_of}
 use Rattle.segment_wire.specs.declared.head.Addresses.{Addresses}
-use Rattle.segment_wire.specs.declared.reading.SegmentFault.{SegmentFault}
 use Rattle.segment_wire.specs.declared.reading.SegmentFault.TheVariants.{Short, DataOffset, OptionLength, Checksum}
-use Rattle.segment_wire.specs.Reading.{has_broken_option, has_wrong_checksum, has_wrong_offset, is_short, segment_in, segment_meaning}
-use Rattle.segment_wire.specs.Segment.{Segment}
 use Rattle.path_segments.specs.Options.{PlainOption}
-use Rattle.path_segments.specs.Spelled.{CanSayOption, PlainSegment}
-use Rattle.path_segments.specs.Spelling.{numbers_of}
-use Rattle.subflow_send.specs.declared.record.RecordKind.TheVariants.{Syn, Data}
-use Rattle.subflow_send.specs.Records.{Record}
-use Rattle.subflow_send.specs.Rules.{is_unsent}
 use Rattle.subflow_tcp.specs.Emitting.{is_syn}
-use Rattle.subflow_tcp.specs.State.{has_records}
-use Rattle.stream_lanes.specs.Holding.{IsHonest, IsRight, LaneHolds}
-use Rattle.stream_lanes.specs.Lane.{Cell, Lane, Mapping}
-use Rattle.stream_lanes.specs.View.{View}
-use Rattle.stream_lanes.specs.Words.{Every}
-use Rattle.stream_lanes.proofs.Lists.{in_map}
-use Rattle.actor_desk.specs.Words.{pick}
-use Rattle.link_trace.specs.declared.carried.Base.{Base}
-use Rattle.link_trace.specs.declared.carried.PathInitials.{PathInitials}
-use Rattle.link_trace.specs.declared.sent.Sent.{Sent}
-use Rattle.link_trace.specs.Carrying.{carried_in, carried_of, first_byte, first_number, initial_in, place_mapped, shifts_after}
-use Rattle.link_trace.specs.FirstOctets.{EndsBy}
-use Rattle.link_trace.specs.Meanings.{meaning_in}
 use Rattle.path_agenda.specs.Words.{first_of}
 use Rattle.path_store.specs.declared.infinite_mapping.InfiniteMapping.{InfiniteMapping}
-use Rattle.path_core.specs.declared.looking.Departing.{Departing}
-use Rattle.path_core.specs.Emission.{first_unsent, ack_resent, answer_said, first_record, resend_said}
-use Rattle.path_core.specs.End.{PathEnd}
-use Rattle.path_core.specs.Looking.{broken_by, departing_as, duty_sends, heard_sends, unsent_sends}
 use Rattle.path_core.specs.Fallback.{breaks_by_ack}
 use Rattle.path_core.specs.DssIn.{is_clash}
-use Rattle.path_core.specs.Treating.{item_of}
-use Rattle.path_agenda.specs.declared.duty.Duty.{Duty}
 use Rattle.path_agenda.specs.declared.duty.SendDuty.{SendDuty}
-use Rattle.path_agenda.specs.declared.duty.StepDuty.{StepDuty}
 use Rattle.path_agenda.specs.declared.heard.Heard.{Heard}
 use Rattle.link_trace.specs.declared.carried.Carried.{Carried}
-use Rattle.path_core.specs.Octets.{made, octets}
-use Rattle.path_core.specs.OptionsOut.{ack_said, carried_said, noted_said, record_options, record_or_ack, record_said, reset_said, syn_ack_said}
-use Rattle.path_core.specs.DssOut.{checksum_told, first_piece_options, infinite_or, is_first_piece, mapped_options, owes_mapping, piece_mapping, piece_options, place_numbered, plain_options}
 use Rattle.path_core.specs.DataFin.{is_data_fin_owed}
 use Rattle.path_agenda.specs.declared.notice.OwnNotice.{OwnNotice}
 use Rattle.path_segments.specs.declared.segment.PathMapping.TheVariants.{Infinite}
 use Rattle.path_segments.specs.declared.segment.PathOption.TheVariants.{Capable, Dss}
 use Rattle.mptcp_options.specs.declared.capable.CapableKeys.TheVariants.{WithData}
-use Rattle.path_core.specs.State.{PathState, end_at, path_of}
-use Rattle.path_core.specs.Profile.{Profile}
-use Rattle.run_trace.specs.Initials.{initials_of}
-use Rattle.world_laws.specs.Openings.{Start}
 use Rattle.world_laws.proofs.Lanes.Records.{every_at, every_find}
 use Rattle.world_laws.proofs.Lanes.Showing.{HasMapping}
 use Rattle.world_laws.proofs.Numbers.TellSmall.{EndTells, OptionTells, PairTells, RecordTells, SegmentTells, record_said_tells}
-use Rattle.trace_laws.specs.Counting.{base_from}
-use Rattle.trace_laws.specs.Sending.{payload_in}
 use Rattle.trace_laws.proofs.Handing.{made_payload}
 use Rattle.trace_laws.proofs.ReadingBack.{IsSaid, OneSaid, Placed, by_mapping, mapping_said, by_position, steady_infinite, steady_keys, steady_none, steady_without, unmapped_infinite, unmapped_keys, unmapped_none}
 

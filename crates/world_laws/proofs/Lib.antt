@@ -13,3 +13,4 @@ pub mod Keys
 pub mod Numbers
 pub mod Places
 pub mod Whole
+mod Words

@@ -1,52 +1,17 @@
 -- An announcement goes out as the path was told in the same turn, and as the control book was asked, whatever the order of the steps.
-use Rattle.std.proofs.Common.{◌≡◌, refl, sym, ◌∙◌, ap, subst, ⊎_elim, ◌⊎◌, inl, inr, ℕ, zero, suc, ◌+◌, eqb-true, ◌&&◌, not, Bool, true, false, if◌then◌else◌, Option, Some, None, List, [], ◌∷◌, ◌++◌, map}
-use Rattle.std.proofs.lemmas.Bool.{and_parts, both_ways, false≢true, true≢false}
-use Rattle.std.proofs.lemmas.List.{append_assoc, append-nil}
-use Rattle.std.proofs.lemmas.Option.{same_Some}
-use Rattle.std.specs.List.{slice_get}
-use Rattle.std.specs.Option.{IfSome}
-use Rattle.sides.specs.declared.side.Side.{Side}
-use Rattle.sides.specs.declared.side.Side.TheVariants.{A, B}
-use Rattle.stamped_book.specs.declared.stamped.Entry.{Entry}
-use Rattle.stamped_book.specs.declared.stamped.Pass.{Pass}
-use Rattle.stamped_book.specs.Entering.{entry_of}
-use Rattle.stream_lanes.proofs.Lists.{in_set, in_map}
-use Rattle.subflow_tcp.specs.States.{is_dead}
-use Rattle.address_manager.specs.IdSet.{is_member, no_ids}
-use Rattle.control_book.specs.declared.call.ControlCall.{ControlCall}
-use Rattle.control_book.specs.declared.call.ControlReply.{ControlReply}
-use Rattle.control_book.specs.declared.call.Notice.{Notice}
+use Rattle.world_laws.proofs.Words.{◌≡◌, refl, sym, ◌∙◌, ap, subst, ℕ, zero, suc, ◌+◌, ◌&&◌, not, inl, inr, ◌⊎◌, ⊎_elim, Bool, true, false, if◌then◌else◌}
+use Rattle.world_laws.proofs.Words.{Option, Some, None, List, [], ◌∷◌, ◌++◌, map, and_parts, both_ways, false≢true, true≢false, append-nil, append_assoc}
+use Rattle.world_laws.proofs.Words.{same_Some, slice_get, IfSome, Entry, Pass, entry_of, is_member, no_ids, Side, A, B, ControlCall, ControlReply, Notice}
+use Rattle.world_laws.proofs.Words.{is_dead, start_of_turn, Duty, SendDuty, StepDuty, OwnNotice, Ask, Note, Reply, StampedBooks, books_in, after_entry}
+use Rattle.world_laws.proofs.Words.{control_of, reply_of, is_nil, Codec, stands, ask_for, passed, answered, PathEnd, first_sends, after_notice, after_look}
+use Rattle.world_laws.proofs.Words.{may_note, waiting_path, first_turn, PathState, end_at, goes_on, with_agenda, settled, answers, asks_of, asks_first, takes}
+use Rattle.world_laws.proofs.Words.{begins_turn, IsSettled, in_map, in_set, App, Path, control_journal, Actor, ActorCrew, member_asks, member_takes}
+use Rattle.world_laws.proofs.Words.{member_next, is_over, told_to_announce, ends_turn, look_after, look_of_turn, is_wanted, WasTold, AnnouncesAsTold}
+use Rattle.world_laws.proofs.Words.{AnnouncementsEnd, Always, PathPlan, Start, path_begins, opened_world, looks, WorldState, Turn, crew_after, asked, stepped}
+use Rattle.world_laws.proofs.Words.{all_over, greatest, begins, after_turn, world_run, note_of}
+use Rattle.std.proofs.Common.{eqb-true}
 use Rattle.control_book.specs.Replies as controlling
 use Rattle.control_book.specs.Steps as control
-use Rattle.actor_desk.specs.declared.ask.Ask.{Ask}
-use Rattle.actor_desk.specs.declared.ask.Note.{Note}
-use Rattle.actor_desk.specs.declared.ask.Reply.{Reply}
-use Rattle.actor_desk.specs.Books.{StampedBooks, books_in, after_entry}
-use Rattle.actor_desk.specs.Desk.{control_of, reply_of}
-use Rattle.actor_desk.specs.Words.{is_nil}
-use Rattle.path_agenda.specs.Agenda.{start_of_turn}
-use Rattle.path_agenda.specs.declared.duty.Duty.{Duty}
-use Rattle.path_agenda.specs.declared.duty.SendDuty.{SendDuty}
-use Rattle.path_agenda.specs.declared.duty.StepDuty.{StepDuty}
-use Rattle.path_agenda.specs.declared.notice.OwnNotice.{OwnNotice}
-use Rattle.path_core.specs.Codec.{Codec}
-use Rattle.path_core.specs.Duties.{stands, ask_for, passed, answered}
-use Rattle.path_core.specs.End.{PathEnd}
-use Rattle.path_core.specs.Looking.{first_sends}
-use Rattle.path_core.specs.Notices.{after_notice}
-use Rattle.path_core.specs.Standing.{may_note, after_look}
-use Rattle.path_core.specs.Start.{first_turn, waiting_path}
-use Rattle.path_core.specs.State.{PathState, end_at, goes_on, with_agenda}
-use Rattle.path_core.specs.Steps.{asks_of, asks_first, answers, settled, takes, begins_turn}
-use Rattle.path_core.specs.Turns.{IsSettled}
-use Rattle.world_laws.specs.declared.member.Member.TheVariants.{App, Path}
-use Rattle.world_laws.specs.AbortCause.{control_journal}
-use Rattle.world_laws.specs.Actors.{Actor, ActorCrew, member_asks, member_takes, member_next, is_over}
-use Rattle.world_laws.specs.Announcing.{told_to_announce, ends_turn, look_after, look_of_turn, is_wanted, WasTold, AnnouncesAsTold, AnnouncementsEnd}
-use Rattle.world_laws.specs.Laws.{Always}
-use Rattle.world_laws.specs.Openings.{PathPlan, Start, path_begins, opened_world}
-use Rattle.world_laws.specs.Standbys.{looks}
-use Rattle.world_laws.specs.Worlds.{WorldState, Turn, note_of, crew_after, asked, stepped, all_over, greatest, begins, after_turn, world_run}
 use Rattle.world_laws.proofs.Announcements.LookThenNote.{comes, IsReady, start_ready, ready_rest, mild_or, answered_ready, mild_passed, mild_comes, mild_goes_on}
 use Rattle.world_laws.proofs.Announcements.ToBeNoted.{is_queued, is_noted, pushed, IsMild, passed_sheds, answered_sheds, mild_holds, passed_holds, sheds_at, holds_at}
 use Rattle.world_laws.proofs.Announcements.SaidAsNoted.{first_noted}

@@ -1,11 +1,6 @@
 -- What a copy notes of addresses and paths, where nothing is known of it.
-use Rattle.std.proofs.Common.{ℕ, Bool, true, false, Option, Some, None, List, [], ◌∷◌, map}
-use Rattle.stream_lanes.specs.Words.{Every}
-use Rattle.stream_lanes.proofs.Lists.{Every-nil, Every-push, Every-append}
-use Rattle.key_material.specs.declared.address.Address.{Address}
-use Rattle.path_agenda.specs.declared.heard.Heard.{Heard}
-use Rattle.path_agenda.specs.declared.notice.PeerNotice.{PeerNotice}
-use Rattle.path_core.specs.Addresses.{address_items, item_removed}
+use Rattle.world_laws.proofs.Words.{ℕ, Bool, true, false, Option, Some, None, List, [], ◌∷◌, map, Address, Heard, PeerNotice, item_removed, address_items}
+use Rattle.world_laws.proofs.Words.{Every-push, Every-nil, Every-append, Every}
 
 -- ids that are taken back
 pub removed_each : {P : Heard → Type 0} → ((id : ℕ) → P (Heard.Notice (PeerNotice.Removed id))) → (ids : List ℕ) → Every P (map item_removed ids)

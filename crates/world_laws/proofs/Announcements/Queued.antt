@@ -1,21 +1,7 @@
 -- What holds of each notice that an end has to note to its peer.
-use Rattle.std.proofs.Common.{refl, ℕ, suc, Bool, true, false, if◌then◌else◌, Option, Some, None, List, [], ◌∷◌, ◌++◌}
-use Rattle.std.specs.Option.{IfSome}
-use Rattle.control_book.specs.declared.call.ControlReply.{ControlReply}
-use Rattle.control_book.specs.declared.call.Notice.{Notice}
-use Rattle.key_material.specs.declared.address.Address.{Address}
-use Rattle.subflow_tcp.specs.States.{is_dead}
-use Rattle.stream_lanes.specs.Words.{Every}
-use Rattle.stream_lanes.proofs.Lists.{Every-push}
-use Rattle.actor_desk.specs.declared.ask.Reply.{Reply}
-use Rattle.actor_desk.specs.Words.{tail_of}
-use Rattle.path_agenda.specs.Words.{first_of}
-use Rattle.path_agenda.specs.declared.notice.OwnNotice.{OwnNotice}
-use Rattle.path_agenda.specs.declared.notice.PeerNotice.{PeerNotice}
-use Rattle.path_core.specs.Addresses.{is_kept, with_echo}
-use Rattle.path_core.specs.End.{PathEnd}
-use Rattle.path_core.specs.Notices.{Notices, after_notice}
-use Rattle.path_core.specs.Standing.{may_note, notices_told}
+use Rattle.world_laws.proofs.Words.{refl, ℕ, suc, Bool, true, false, if◌then◌else◌, Option, Some, None, List, [], ◌∷◌, ◌++◌, IfSome, Address, ControlReply}
+use Rattle.world_laws.proofs.Words.{Notice, is_dead, OwnNotice, first_of, PeerNotice, Reply, tail_of, PathEnd, Notices, after_notice, may_note, notices_told}
+use Rattle.world_laws.proofs.Words.{with_echo, is_kept, Every-push, Every}
 
 -- the address that is to be announced, as a side is told
 abbrev pub announced_in : Notice → Option ℕ

@@ -1,38 +1,15 @@
 -- A segment announces an address only where this stands in what its end has to note.
-use Rattle.std.proofs.Common.{◌≡◌, refl, ap, ℕ, ◌-◌, ◌==◌, ◌&&◌, ◌||◌, not, inl, inr, Bool, true, false, if◌then◌else◌, Option, Some, None, List, [], ◌∷◌}
-use Rattle.std.proofs.lemmas.Bool.{both_ways, false≢true, or_cases}
-use Rattle.std.specs.List.{list_any}
-use Rattle.std.specs.Option.{IfSome}
-use Rattle.sides.specs.declared.side.Side.{Side}
-use Rattle.sides.specs.declared.side.Side.TheVariants.{A, B}
-use Rattle.path_segments.specs.Options.{PlainOption}
-use Rattle.path_segments.specs.Spelled.{PlainSegment}
-use Rattle.subflow_send.specs.declared.record.RecordKind.{RecordKind}
-use Rattle.subflow_send.specs.declared.record.RecordKind.TheVariants.{Syn, Data, Fin}
-use Rattle.subflow_send.specs.Records.{Record}
-use Rattle.subflow_tcp.specs.Emitting.{fin_position}
-use Rattle.subflow_tcp.specs.State.{has_records}
-use Rattle.path_agenda.specs.declared.duty.Duty.{Duty}
-use Rattle.path_agenda.specs.declared.duty.SendDuty.{SendDuty}
-use Rattle.path_agenda.specs.declared.duty.StepDuty.{StepDuty}
-use Rattle.path_agenda.specs.declared.heard.Heard.{Heard}
-use Rattle.path_agenda.specs.declared.notice.OwnNotice.{OwnNotice}
-use Rattle.path_agenda.specs.Words.{first_of}
-use Rattle.path_core.specs.Emission.{first_unsent, first_record, answer_said, ack_resent, resend_said}
-use Rattle.path_core.specs.End.{PathEnd}
-use Rattle.path_core.specs.MpJoin.{is_joined, join_options, third_options}
-use Rattle.path_store.specs.declared.infinite_mapping.InfiniteMapping.{InfiniteMapping}
-use Rattle.path_core.specs.Modes.{receives_infinite}
-use Rattle.path_core.specs.DssOut.{owes_mapping, plain_options, infinite_or, fail_options, fail_beside, is_first_piece, first_piece_options, mapped_options, piece_options, fin_options}
-use Rattle.path_core.specs.OptionsOut.{capable_options, syn_options, key_options, opening_options, ack_options, record_options, broken_options, notice_option, ack_said, syn_ack_said, noted_said, carried_said, record_or_ack, fin_said, reset_said}
-use Rattle.path_core.specs.DataFin.{is_data_fin_owed}
-use Rattle.path_core.specs.Looking.{first_sends, segment_sent, broken_by, heard_sends, unsent_sends, step_sends, send_of}
-use Rattle.path_core.specs.State.{PathState, end_at}
-use Rattle.path_core.specs.Profile.{Profile}
-use Rattle.path_core.specs.DssIn.{is_clash}
-use Rattle.path_core.specs.Treating.{item_of}
-use Rattle.path_core.specs.Fallback.{breaks_by_ack}
-use Rattle.world_laws.specs.Announcing.{announces, is_announcement}
+use Rattle.world_laws.proofs.Words.{◌≡◌, refl, ap, ℕ, ◌-◌, ◌&&◌, ◌||◌, ◌==◌, not, inl, inr, Bool, true, false, if◌then◌else◌, Option, Some, None, List, [], ◌∷◌}
+use Rattle.world_laws.proofs.Words.{or_cases, both_ways, false≢true, list_any, IfSome, Side, A, B, Record, RecordKind, Syn, Data, Fin, fin_position}
+use Rattle.world_laws.proofs.Words.{has_records, PlainOption, PlainSegment, InfiniteMapping, Duty, SendDuty, StepDuty, OwnNotice, Heard, first_of, PathEnd}
+use Rattle.world_laws.proofs.Words.{first_sends, segment_sent, broken_by, heard_sends, unsent_sends, step_sends, PathState, end_at, first_unsent, first_record}
+use Rattle.world_laws.proofs.Words.{ack_resent, resend_said, answer_said, is_joined, join_options, third_options, is_data_fin_owed, is_clash, item_of}
+use Rattle.world_laws.proofs.Words.{breaks_by_ack, receives_infinite, owes_mapping, plain_options, is_first_piece, first_piece_options, piece_options}
+use Rattle.world_laws.proofs.Words.{fin_options, fail_options, fail_beside, infinite_or, mapped_options, capable_options, syn_options, key_options}
+use Rattle.world_laws.proofs.Words.{opening_options, ack_options, record_options, ack_said, carried_said, syn_ack_said, fin_said, reset_said, record_or_ack}
+use Rattle.world_laws.proofs.Words.{broken_options, noted_said, notice_option, Profile, is_announcement}
+use Rattle.path_core.specs.Looking.{send_of}
+use Rattle.world_laws.specs.Announcing.{announces}
 use Rattle.world_laws.proofs.Announcements.ToBeNoted.{is_note, is_queued, is_noted}
 
 module _ (id : ℕ) (c : Profile) (s : Side) (e : PathEnd) where

@@ -1,51 +1,19 @@
 -- An announcement comes into what an end has to note by a look alone, and the end may note it until it goes out.
-use Rattle.std.proofs.Common.{inl, inr, ◌⊎◌, subst, ◌==◌, ◌++◌, ◌&&◌, ◌||◌, not, ◌≡◌, refl, sym, ◌∙◌, ap, ℕ, Bool, true, false, if◌then◌else◌, Option, Some, None, List, [], ◌∷◌}
+use Rattle.world_laws.proofs.Words.{◌≡◌, refl, sym, ◌∙◌, ap, subst, ℕ, ◌&&◌, ◌||◌, ◌==◌, not, inl, inr, ◌⊎◌, Bool, true, false, if◌then◌else◌, Option, Some}
+use Rattle.world_laws.proofs.Words.{None, List, [], ◌∷◌, ◌++◌, or_cases, both_ways, false≢true, list_any, Side, A, B, KeptMapping, Record, is_dead, EndPhase}
+use Rattle.world_laws.proofs.Words.{arriving, after_delivery, HeardSegment, LineAction, emission, leaves, Duty, SendDuty, StepDuty, OwnNotice, AskDuty}
+use Rattle.world_laws.proofs.Words.{SilentDuty, Heard, KeyPair, replaced, PeerNotice, Reply, tail_of, Codec, passed, answered, PathEnd, died, is_connected}
+use Rattle.world_laws.proofs.Words.{may_note, at_tick, PathState, end_at, goes_on, left, options_heard, after_judged, judged_in, heard_in, copy_heard, told_at}
+use Rattle.world_laws.proofs.Words.{answered_break, answered_data, answered_grant, first_unsent, grant_in, next_event, after_line, happens_if, join_begun}
+use Rattle.world_laws.proofs.Words.{never_joined, is_never, keys_begun, opened_by, is_joined, is_wrong, mapping_here, forgotten_by, having_sent_fin, is_clash}
+use Rattle.world_laws.proofs.Words.{counts, answered_heard, answered_item, item_of, item_passed, heard_passed, breaks_by_ack, with_priority, having_noted}
+use Rattle.world_laws.proofs.Words.{after_peer_notice, is_kept, Writes, OnlyAt, EndView, writes, side_of}
 use Rattle.std.proofs.Math.Bool.{or-true}
-use Rattle.std.proofs.lemmas.Bool.{both_ways, false≢true, or_cases}
-use Rattle.std.specs.List.{list_any}
-use Rattle.path_segments.specs.Heard.{HeardSegment}
-use Rattle.sides.specs.declared.side.Side.{Side}
-use Rattle.sides.specs.declared.side.Side.TheVariants.{A, B}
-use Rattle.dss_mapping.specs.declared.kept.KeptMapping.{KeptMapping}
-use Rattle.link_model.specs.Steps.{arriving, after_delivery}
-use Rattle.subflow_send.specs.Records.{Record}
-use Rattle.subflow_tcp.specs.States.{is_dead, after_finish}
-use Rattle.subflow_tcp.specs.declared.handshake.State.{State as EndPhase}
-use Rattle.actor_desk.specs.declared.ask.Reply.{Reply}
-use Rattle.actor_desk.specs.Words.{tail_of}
-use Rattle.path_agenda.specs.Agenda.{leaves, emission}
-use Rattle.path_agenda.specs.Words.{replaced}
-use Rattle.path_agenda.specs.declared.duty.Duty.{Duty}
-use Rattle.path_agenda.specs.declared.duty.AskDuty.{AskDuty}
-use Rattle.path_agenda.specs.declared.duty.SendDuty.{SendDuty}
-use Rattle.path_agenda.specs.declared.duty.SilentDuty.{SilentDuty}
-use Rattle.path_agenda.specs.declared.duty.StepDuty.{StepDuty}
-use Rattle.path_agenda.specs.declared.heard.Heard.{Heard}
-use Rattle.path_agenda.specs.declared.keys.KeyPair.{KeyPair}
-use Rattle.path_agenda.specs.declared.notice.OwnNotice.{OwnNotice}
-use Rattle.path_agenda.specs.declared.notice.PeerNotice.{PeerNotice}
-use Rattle.path_core.specs.Addresses.{is_kept, after_peer_notice, having_noted, with_priority}
-use Rattle.path_core.specs.Standing.{may_note, is_connected}
-use Rattle.path_core.specs.Arrival.{judged_in, after_judged, copy_heard, heard_in, told_at}
-use Rattle.path_core.specs.OptionsIn.{options_heard}
-use Rattle.path_core.specs.Breaking.{answered_break}
-use Rattle.path_core.specs.Codec.{Codec}
+use Rattle.subflow_tcp.specs.States.{after_finish}
 use Rattle.path_core.specs.declared.events.Event.{Event}
-use Rattle.path_core.specs.Duties.{passed, answered}
-use Rattle.path_core.specs.DataFin.{having_sent_fin}
-use Rattle.path_core.specs.Emission.{Grant, grant_in, answered_grant, answered_data, first_unsent}
-use Rattle.path_core.specs.End.{PathEnd, died}
-use Rattle.path_core.specs.Events.{next_event, after_line, happens_if}
-use Rattle.path_core.specs.State.{at_tick, PathState, end_at, goes_on, left}
-use Rattle.path_core.specs.MpJoin.{join_begun, never_joined, keys_begun, is_never, opened_by, is_joined}
-use Rattle.path_store.specs.declared.lines.LineAction.{LineAction}
-use Rattle.path_core.specs.Deliver.{is_wrong, forgotten_by, mapping_here}
-use Rattle.path_core.specs.DssIn.{counts, is_clash}
-use Rattle.path_core.specs.Treating.{heard_passed, item_passed, answered_heard, answered_item, item_of}
-use Rattle.path_core.specs.Fallback.{breaks_by_ack}
+use Rattle.path_core.specs.Emission.{Grant}
 use Rattle.world_laws.proofs.Falls.FailedChecks.{infinite_came_so, fail_answered_so}
 use Rattle.world_laws.proofs.Standby.OneDutyLooks.{MayNotLook}
-use Rattle.world_laws.specs.Writes.{EndView, Writes, OnlyAt, writes, side_of}
 use Rattle.world_laws.proofs.Writes.Paths.{writes_no_more}
 use Rattle.world_laws.proofs.Writes.Steps.{both_ends, unwritten}
 

@@ -1,27 +1,19 @@
 -- An id whose announcement is due is wanted by the calls that the control book took: since it was to be announced last, neither its echo
 -- nor its removal was heard.
-use Rattle.std.proofs.Common.{◌≡◌, refl, sym, ◌∙◌, ap, subst, ℕ, inl, inr, ◌==◌, ◌&&◌, ◌||◌, is_some, Bool, true, false, if◌then◌else◌, Option, Some, None, List, [], ◌∷◌, ◌++◌, length, set, replicate, eq-eqb, eqb-true, get_or-set_same, get_or-set_other}
+use Rattle.world_laws.proofs.Words.{◌≡◌, refl, sym, ◌∙◌, ap, subst, ℕ, ◌&&◌, ◌||◌, ◌==◌, inl, inr, Bool, true, false, if◌then◌else◌, Option, Some, None, List}
+use Rattle.world_laws.proofs.Words.{[], ◌∷◌, ◌++◌, length, replicate, is_some, set, get_or-set_same, get_or-set_other, both_ways, false≢true, cases_lt}
+use Rattle.world_laws.proofs.Words.{get_or_past, get_or-replicate, set_past, Mode, Entry, is_member, lowest, no_ids, Addresses, address_of, after_announce}
+use Rattle.world_laws.proofs.Words.{after_removed, Address, ControlCall, ControlReply, Notice, with_removed, lowest_living, standby, sole, Control}
+use Rattle.world_laws.proofs.Words.{withdrawals_on, peer_or_zero, is_path, carries, address_notice, notice_on, is_known, Reply, told_to_announce, is_wanted}
+use Rattle.world_laws.proofs.Words.{wanted_after}
+use Rattle.std.proofs.Common.{eq-eqb, eqb-true}
 use Rattle.std.proofs.Math.Bool.{or-true}
-use Rattle.std.proofs.lemmas.Bool.{both_ways, cases_lt, false≢true}
-use Rattle.std.proofs.lemmas.List.{get_or_past, get_or-replicate, set_past}
 use Rattle.std.proofs.lemmas.List.Quantifiers.{position-Some}
 use Rattle.std.specs.Map.{remove_entry}
-use Rattle.key_material.specs.declared.address.Address.{Address}
-use Rattle.address_manager.specs.Addresses.{Addresses, address_of}
-use Rattle.address_manager.specs.IdSet.{is_member, lowest, no_ids}
-use Rattle.stamped_book.specs.declared.stamped.Entry.{Entry}
-use Rattle.control_book.specs.declared.call.ControlCall.{ControlCall}
-use Rattle.control_book.specs.declared.call.ControlReply.{ControlReply}
-use Rattle.control_book.specs.declared.call.Notice.{Notice}
-use Rattle.fallback_state.specs.declared.fall.Mode.{Mode}
-use Rattle.address_manager.specs.Steps.{after_announce, after_removed}
-use Rattle.control_book.specs.Registry.{stands, with_removed, lowest_living, standby, sole}
-use Rattle.control_book.specs.Control.{Control, is_path, peer_or_zero, withdrawals_on}
-use Rattle.control_book.specs.Replies.{is_right, resets, carries, address_notice, notice_on, reply_to}
-use Rattle.control_book.specs.Steps.{after, is_known}
+use Rattle.control_book.specs.Registry.{stands}
+use Rattle.control_book.specs.Replies.{is_right, resets, reply_to}
+use Rattle.control_book.specs.Steps.{after}
 use Rattle.control_book.proofs.Kept.{either, told}
-use Rattle.actor_desk.specs.declared.ask.Reply.{Reply}
-use Rattle.world_laws.specs.Announcing.{told_to_announce, wanted_after, is_wanted}
 
 -- ---- sets of ids
 

@@ -1,71 +1,31 @@
 -- Each step of a path asks its reassembly book what is to be acknowledged before the end sends anything, where bytes or an end were
 -- told to the book. So what an end sends shows all that it told.
-use Rattle.std.proofs.Common.{◌≡◌, refl, ap, ◌∙◌, ℕ, ◌+◌, Bool, true, false, if◌then◌else◌, Option, Some, None, List, [], ◌∷◌, subst, ⊎_elim, ◌||◌, ◌&&◌, ◌++◌, length, zero, suc, sym}
-use Rattle.std.proofs.lemmas.Bool.{both_ways, and_parts, or_cases, true≢false, false≢true}
-use Rattle.path_segments.specs.Heard.{HeardSegment}
-use Rattle.sides.specs.declared.side.Side.TheVariants.{A, B}
-use Rattle.sides.specs.declared.side.Side.{Side}
-use Rattle.dss_mapping.specs.declared.kept.KeptMapping.{KeptMapping}
-use Rattle.link_model.specs.Steps.{arriving, after_delivery}
-use Rattle.link_script.specs.Places.{same_side}
-use Rattle.link_script.specs.declared.script.ScriptLine.{ScriptLine}
-use Rattle.fallback_state.specs.declared.fall.Event.{Event as FallEvent}
-use Rattle.subflow_send.specs.Records.{Record}
-use Rattle.join_handshake.specs.declared.hearing.JoinSyn.{JoinSyn}
-use Rattle.subflow_tcp.specs.States.{is_dead}
-use Rattle.subflow_tcp.specs.declared.verdicts.Meaning.{Meaning}
-use Rattle.subflow_tcp.specs.Expiring.{is_sixth}
-use Rattle.stream_lanes.specs.Words.{Every}
-use Rattle.actor_desk.specs.Words.{tail_of, is_nil}
-use Rattle.actor_desk.specs.declared.ask.Reply.{Reply}
-use Rattle.actor_desk.specs.Books.{StampedBooks}
-use Rattle.actor_desk.specs.declared.ask.Ask.{Ask}
-use Rattle.path_agenda.specs.Agenda.{start_of_turn, leaves, emission, heard_and, payload_came, rest_of_turn, breaks, resets, stops}
-use Rattle.path_agenda.specs.Items.{keys_heard, key_heard}
-use Rattle.path_agenda.specs.declared.duty.AskDuty.{AskDuty}
-use Rattle.path_agenda.specs.declared.duty.SendDuty.{SendDuty}
-use Rattle.path_agenda.specs.declared.duty.SilentDuty.{SilentDuty}
-use Rattle.path_agenda.specs.declared.duty.StepDuty.{StepDuty}
-use Rattle.path_agenda.specs.declared.duty.Duty.{Duty}
-use Rattle.path_agenda.specs.declared.heard.Heard.{Heard}
-use Rattle.path_agenda.specs.declared.keys.KeyPair.{KeyPair}
-use Rattle.path_core.specs.OptionsIn.{items_of, options_heard}
-use Rattle.path_core.specs.Arrival.{judged_in, after_judged, template_by, template_judged, copy_heard, heard_in, told_at}
-use Rattle.path_core.specs.Breaking.{answered_break, reset_on, died_unless_dead}
-use Rattle.path_core.specs.Codec.{Codec}
-use Rattle.path_core.specs.Duties.{stands, passed, answered}
-use Rattle.path_core.specs.Emission.{Grant, grant_in, answered_grant, answered_data, first_unsent}
-use Rattle.path_core.specs.Timer.{after_timer, template_fired, after_firing}
-use Rattle.path_core.specs.End.{PathEnd, died}
-use Rattle.path_core.specs.Events.{next_event, after_line, happens_if}
-use Rattle.path_core.specs.State.{at_tick, PathState, end_at, goes_on, with_agenda, left}
-use Rattle.path_core.specs.MpJoin.{join_begun, never_joined, keys_begun, is_never, opened_by, join_taken, asked_at, is_joined}
-use Rattle.path_core.specs.Addresses.{with_priority}
-use Rattle.path_store.specs.declared.lines.LineAction.{LineAction}
-use Rattle.path_core.specs.MpCapable.{answered_peer_key, answered_opened}
-use Rattle.path_core.specs.Deliver.{answered_piece, is_placed, piece_of, having_asked, refused, is_wrong, forgotten_by, mapping_here, after_check, after_pieces, after_piece, after_keep}
-use Rattle.path_core.specs.DataFin.{is_fin_set, after_pass_fin, with_peer_data_fin, with_fin_told, answered_fin_heard, answered_plain_fin}
-use Rattle.path_store.specs.Passing.{Piece}
-use Rattle.path_core.specs.DssIn.{with_learned, with_skipped, counts, is_clash, with_data_fin, told_next}
-use Rattle.path_core.specs.Standing.{after_ack_out, answered_ack_out}
-use Rattle.path_core.specs.Steps.{settled, takes, next_round}
-use Rattle.path_core.specs.Treating.{heard_passed, item_passed, answered_item, item_of}
-use Rattle.path_core.specs.Fallback.{breaks_by_ack, after_fell, with_plain_ack, fell_duties, answered_fell, answered_plain_ack, after_check_failed, with_infinite, after_fail_heard, after_infinite, breaks_by, in_identity, answered_identity}
+use Rattle.world_laws.proofs.Words.{◌≡◌, refl, sym, ◌∙◌, ap, subst, ℕ, zero, suc, ◌+◌, ◌&&◌, ◌||◌, ⊎_elim, Bool, true, false, if◌then◌else◌, Option, Some, None}
+use Rattle.world_laws.proofs.Words.{List, [], ◌∷◌, ◌++◌, length, or_cases, and_parts, both_ways, false≢true, true≢false, FallEvent, Side, A, B, same_side}
+use Rattle.world_laws.proofs.Words.{ScriptLine, JoinSyn, KeptMapping, Record, is_dead, Meaning, is_sixth, arriving, after_delivery, HeardSegment, LineAction}
+use Rattle.world_laws.proofs.Words.{Piece, rest_of_turn, emission, heard_and, payload_came, leaves, resets, stops, start_of_turn, Duty, SendDuty, StepDuty}
+use Rattle.world_laws.proofs.Words.{AskDuty, SilentDuty, Heard, KeyPair, key_heard, keys_heard, Ask, Reply, StampedBooks, tail_of, is_nil, Codec, stands}
+use Rattle.world_laws.proofs.Words.{passed, answered, PathEnd, died, answered_ack_out, after_ack_out, PathStart, waiting_path, first_turn, at_tick, PathState}
+use Rattle.world_laws.proofs.Words.{end_at, goes_on, with_agenda, left, settled, takes, next_round, Carried, values, items_of, options_heard, after_judged}
+use Rattle.world_laws.proofs.Words.{judged_in, template_by, template_judged, heard_in, copy_heard, told_at, reset_on, answered_break, died_unless_dead}
+use Rattle.world_laws.proofs.Words.{answered_data, answered_grant, first_unsent, grant_in, Judged, next_event, after_line, happens_if, join_begun, never_joined}
+use Rattle.world_laws.proofs.Words.{asked_at, is_never, join_taken, keys_begun, opened_by, is_joined, after_timer, template_fired, after_firing, having_asked}
+use Rattle.world_laws.proofs.Words.{after_piece, is_wrong, mapping_here, piece_of, is_placed, answered_piece, forgotten_by, after_keep, after_pieces}
+use Rattle.world_laws.proofs.Words.{after_check, with_peer_data_fin, with_fin_told, answered_plain_fin, answered_fin_heard, is_fin_set, after_pass_fin}
+use Rattle.world_laws.proofs.Words.{is_clash, with_learned, with_data_fin, counts, with_skipped, told_next, answered_item, item_of, item_passed, heard_passed}
+use Rattle.world_laws.proofs.Words.{after_check_failed, after_fell, fell_duties, answered_plain_ack, with_plain_ack, breaks_by_ack, after_fail_heard}
+use Rattle.world_laws.proofs.Words.{answered_identity, answered_fell, with_infinite, in_identity, breaks_by, answered_peer_key, answered_opened, is_stopped_by}
+use Rattle.world_laws.proofs.Words.{with_priority, Every, App, Path, Actor, ActorCrew, member_takes, member_next, is_over, Start, path_begins, opened_world}
+use Rattle.world_laws.proofs.Words.{Turn, crew_after, begins, world_run, Writes, OnlyAt, EndView, writes, side_of, answer_to}
+use Rattle.path_agenda.specs.Agenda.{breaks}
+use Rattle.path_core.specs.Emission.{Grant}
+use Rattle.path_core.specs.Deliver.{refused}
+use Rattle.path_core.specs.Fallback.{after_infinite}
 use Rattle.path_core.specs.declared.events.Event.{Event}
-use Rattle.path_core.specs.declared.judged.Judged.{Judged}
-use Rattle.path_core.specs.Start.{PathStart, waiting_path, first_turn}
-use Rattle.path_core.specs.Values.{Carried, values}
-use Rattle.path_core.specs.FastClose.{is_stopped_by}
-use Rattle.world_laws.specs.declared.member.Member.TheVariants.{App, Path}
-use Rattle.world_laws.specs.Actors.{Actor, ActorCrew, member_takes, member_next, is_over}
-use Rattle.world_laws.specs.Openings.{Start, path_begins, opened_world}
-use Rattle.world_laws.specs.Worlds.{Turn, begins, crew_after, world_run}
-use Rattle.world_laws.specs.StampedBooks.{answer_to}
 use Rattle.world_laws.proofs.Asks.AckOutDuties.{is_asking, is_telling, is_shield, guarded, needs, is_sheltered}
 use Rattle.world_laws.proofs.Falls.Verdicts.{fell_cases, told_cases}
 use Rattle.world_laws.proofs.Rounds.Lifting.{run_lifted, opened_lifted}
 use Rattle.world_laws.proofs.Falls.FailedChecks.{check_failed_so, fail_heard_so, infinite_came_so, fail_answered_so}
-use Rattle.world_laws.specs.Writes.{EndView, Writes, OnlyAt, writes, side_of}
 use Rattle.world_laws.proofs.Writes.Paths.{writes_no_more}
 use Rattle.world_laws.proofs.Writes.Steps.{both_ends, unwritten}
 

@@ -1,11 +1,5 @@
 -- Where bytes or an end were told to a reassembly book, the book is asked what is to be acknowledged before the end sends anything.
-use Rattle.std.proofs.Common.{Bool, true, false, ◌&&◌, ◌||◌, List, [], ◌∷◌}
-use Rattle.sides.specs.declared.side.Side.{Side}
-use Rattle.link_script.specs.Places.{same_side}
-use Rattle.path_agenda.specs.declared.duty.Duty.{Duty}
-use Rattle.path_agenda.specs.declared.duty.AskDuty.{AskDuty}
-use Rattle.path_agenda.specs.declared.duty.SilentDuty.{SilentDuty}
-use Rattle.path_agenda.specs.declared.duty.StepDuty.{StepDuty}
+use Rattle.world_laws.proofs.Words.{◌&&◌, ◌||◌, Bool, true, false, List, [], ◌∷◌, Side, same_side, Duty, StepDuty, AskDuty, SilentDuty}
 
 -- ---- what is to be done before
 

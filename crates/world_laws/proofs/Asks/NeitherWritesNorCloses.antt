@@ -1,19 +1,10 @@
 -- A path never writes to a send book and never closes one.
-use Rattle.std.proofs.Common.{◌≡◌, refl, sym, ◌∙◌, ap, Result, Ok, Err, ℕ, Bool, true, false, if◌then◌else◌, Some, List, ◌++◌}
-use Rattle.send_book.specs.declared.call.Span.{Span}
-use Rattle.send_book.specs.declared.call.Why.{Why}
-use Rattle.send_book.specs.declared.call.SendCall.{SendCall}
-use Rattle.send_book.specs.State.{Sending}
-use Rattle.send_book.specs.Steps.{decision, given_by, is_future, is_gathered, after_call}
-use Rattle.actor_desk.specs.declared.ask.Ask.{Ask}
-use Rattle.path_agenda.specs.declared.duty.Duty.{Duty}
-use Rattle.path_core.specs.Codec.{Codec}
-use Rattle.path_core.specs.Duties.{ask_for}
-use Rattle.path_core.specs.State.{PathState}
+use Rattle.world_laws.proofs.Words.{◌≡◌, refl, sym, ◌∙◌, ap, ℕ, Bool, true, false, if◌then◌else◌, Some, Result, Ok, Err, List, ◌++◌, false≢true, Span, Why}
+use Rattle.world_laws.proofs.Words.{SendCall, Sending, decision, given_by, is_future, is_gathered, Duty, Ask, Codec, ask_for, PathState, May, may, asking}
+use Rattle.world_laws.proofs.Words.{may_send}
+use Rattle.send_book.specs.Steps.{after_call}
 use Rattle.world_laws.proofs.Lanes.Applying.{Writes}
-use Rattle.world_laws.specs.Asking.{May, may, may_send, asking}
 use Rattle.world_laws.proofs.Writes.Asks.{asks_no_more}
-use Rattle.std.proofs.lemmas.Bool.{false≢true}
 
 -- neither writes nor closes
 abbrev pub LeavesFile : SendCall → Type 0

@@ -1,25 +1,11 @@
 -- What a path asks: of the reassembly books neither to read nor to abort; of the send books grants at one duty, acknowledgements where
 -- it heard something, and else returns alone.
-use Rattle.std.proofs.Common.{◌≡◌, refl, sym, ◌∙◌, true, false, ℕ, Option}
-use Rattle.sides.specs.declared.side.Side.{Side}
-use Rattle.send_book.specs.declared.call.SendCall.{SendCall}
-use Rattle.reassembly_book.specs.declared.call.ReassemblyCall.{ReassemblyCall}
-use Rattle.actor_desk.specs.declared.ask.Ask.{Ask}
-use Rattle.path_agenda.specs.declared.duty.Duty.{Duty}
-use Rattle.path_agenda.specs.declared.duty.AskDuty.{AskDuty}
-use Rattle.path_agenda.specs.declared.duty.StepDuty.{StepDuty}
-use Rattle.path_agenda.specs.declared.heard.Heard.{Heard}
-use Rattle.path_core.specs.Codec.{Codec}
-use Rattle.path_core.specs.Duties.{ask_for}
-use Rattle.path_core.specs.State.{PathState, end_at, path_of}
-use Rattle.path_core.specs.Treating.{item_ask}
-use Rattle.path_core.specs.Fallback.{subflow_ack_ask}
+use Rattle.world_laws.proofs.Words.{◌≡◌, refl, sym, ◌∙◌, ℕ, true, false, Option, false≢true, Side, ReassemblyCall, SendCall, Duty, StepDuty, AskDuty, Heard}
+use Rattle.world_laws.proofs.Words.{Ask, Codec, ask_for, PathState, end_at, path_of, item_ask, subflow_ack_ask, side_of, May, may, may_reassemble, asking}
+use Rattle.world_laws.proofs.Words.{IsAsked, asks_of_steps}
 use Rattle.world_laws.proofs.Asks.SendBooks.{IsQuiet}
 use Rattle.world_laws.proofs.Falls.FailedChecks.{subflow_acks_so}
-use Rattle.world_laws.specs.Asking.{May, may, may_reassemble, asking, IsAsked, asks_of_steps}
 use Rattle.world_laws.proofs.Writes.Asks.{asks_no_more, item_asked}
-use Rattle.std.proofs.lemmas.Bool.{false≢true}
-use Rattle.world_laws.specs.Writes.{side_of}
 
 -- not a read
 abbrev pub IsArrival : ReassemblyCall → Type 0

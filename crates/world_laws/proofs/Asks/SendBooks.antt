@@ -1,30 +1,20 @@
 -- What a refused grant says of a send book in numbers, and what the calls of applications and paths make of it.
-use Rattle.std.proofs.Common.{◌≡◌, refl, sym, ◌∙◌, ap, subst, ℕ, zero, suc, ◌+◌, ◌-◌, ◌≤◌, ◌&&◌, ◌||◌, ◌==◌, not, min, max, nat_lt, nat_le, inl, inr, ◌⊎◌, ⊎_elim, Bool, true, false, cond, if◌then◌else◌, Option, Some, None, Result, Ok, Err, List, [], ◌∷◌, ◌++◌, length, take, drop, map, replicate, arith, is_none}
-use Rattle.std.proofs.lemmas.Bool.{and_parts, or_cases, eqb-true, leb-true, ltb-false, false≢true}
-use Rattle.std.proofs.lemmas.List.{drop-drop, drop_min, length-append, length-take, length-drop, length-map, length-replicate}
-use Rattle.std.proofs.lemmas.List.Sums.{count_by-le-length, sum_by-cons}
-use Rattle.std.specs.List.{count_by, list_any, position}
-use Rattle.sides.specs.declared.side.Side.{Side}
-use Rattle.send_book.specs.declared.call.Span.{Span}
-use Rattle.send_book.specs.declared.call.Why.{Why}
+use Rattle.world_laws.proofs.Words.{◌≡◌, refl, sym, ◌∙◌, ap, subst, ℕ, zero, suc, ◌+◌, ◌-◌, ◌≤◌, ◌&&◌, ◌||◌, ◌==◌, not, min, max, nat_lt, nat_le, inl, inr, ◌⊎◌}
+use Rattle.world_laws.proofs.Words.{⊎_elim, Bool, true, false, cond, if◌then◌else◌, Option, Some, None, Result, Ok, Err, List, [], ◌∷◌, ◌++◌, length, take}
+use Rattle.world_laws.proofs.Words.{drop, map, replicate, arith, is_none, eqb-true, or_cases, and_parts, false≢true, ltb-false, leb-true, drop-drop, drop_min}
+use Rattle.world_laws.proofs.Words.{length-append, length-take, length-drop, length-map, length-replicate, count_by, list_any, count_by-le-length, sum_by-cons}
+use Rattle.world_laws.proofs.Words.{Side, Span, Why, SendCall, Sending, acked_len, bytes_taken, is_for, span_at, decision, reply_by, run_len, given_by}
+use Rattle.world_laws.proofs.Words.{is_future, fin_after, is_gathered, tried_first, AckIn, Abort, Acked, Held, Free, is_free_for, is_held_by, given, returned}
+use Rattle.world_laws.proofs.Words.{contains, no_paths, MayTake, decision-MayTake, Note, Reply, grant_in, in_take, in_drop, in_map, Every-append, in_replicate}
+use Rattle.world_laws.proofs.Words.{Every, asks_grant, last_asked, AskedForAll, is_standby, taken_len, last_on_standby}
+use Rattle.std.specs.List.{position}
 use Rattle.send_book.specs.declared.call.Why.TheVariants.{Ended, Backup, WindowShut}
-use Rattle.send_book.specs.declared.call.SendCall.{SendCall}
-use Rattle.send_book.specs.declared.call.SendCall.TheVariants.{Write, Close, Grant, AckIn, Return, GoIdentity, GoInfinite, Abort}
+use Rattle.send_book.specs.declared.call.SendCall.TheVariants.{Write, Close, Grant, Return, GoIdentity, GoInfinite}
 use Rattle.send_book.specs.declared.mark.ByteMark.{ByteMark}
-use Rattle.send_book.specs.declared.mark.ByteMark.TheVariants.{Acked, Held, Free}
-use Rattle.send_book.specs.Marks.{is_acked, is_free_for, is_held_by, given, returned}
-use Rattle.send_book.specs.State.{Sending, acked_len}
-use Rattle.send_book.specs.Steps.{bytes_taken, is_for, span_at, decision, reply_by, run_len, given_by, is_future, fin_after, after_call, is_gathered, tried_first}
-use Rattle.send_book.specs.Tried.{contains, no_paths}
-use Rattle.send_book.proofs.Decisions.{MayTake, decision-MayTake}
+use Rattle.send_book.specs.Marks.{is_acked}
+use Rattle.send_book.specs.Steps.{after_call}
 use Rattle.send_book.proofs.PathSets.{contains-insert}
-use Rattle.stream_lanes.specs.Words.{Every}
-use Rattle.stream_lanes.proofs.Lists.{Every-append, in_take, in_drop, in_map, in_replicate}
-use Rattle.actor_desk.specs.declared.ask.Note.{Note}
-use Rattle.actor_desk.specs.declared.ask.Reply.{Reply}
-use Rattle.path_core.specs.Emission.{grant_in}
-use Rattle.world_laws.specs.RoundEnd.{asks_grant}
-use Rattle.world_laws.specs.RoundNumbers.{taken_len, is_standby, standby_after, last_on_standby, last_asked, AskedForAll}
+use Rattle.world_laws.specs.RoundNumbers.{standby_after}
 use Rattle.world_laws.specs.RoundNumbers.AskedForAll.{Taken, Standby, Barred, Stopped}
 
 -- ---- marks

@@ -1,54 +1,14 @@
 -- A side that fell back to plain TCP did so rightly.
-use Rattle.std.proofs.Common.{◌≡◌, refl, sym, ◌∙◌, ap, subst, ℕ, suc, ◌+◌, ⊎_elim, ◌||◌, not, Bool, true, false, if◌then◌else◌, Option, Some, None, List, [], ◌∷◌, ◌++◌, length, map, arith}
-use Rattle.std.proofs.lemmas.Bool.{and_parts, both_ways, false≢true, or_cases, or_from}
-use Rattle.std.proofs.lemmas.Option.{same_Some}
-use Rattle.std.specs.List.{list_any, slice_get}
-use Rattle.std.specs.Option.{IfSome}
-use Rattle.sides.specs.declared.side.Side.{Side}
-use Rattle.sides.specs.declared.side.Side.TheVariants.{A, B}
-use Rattle.dss_mapping.specs.declared.kept.KeptMapping.{KeptMapping}
-use Rattle.control_book.specs.Replies.{is_aborted}
-use Rattle.fallback_state.specs.Modes.{is_identity}
-use Rattle.send_book.specs.declared.call.SendCall.{SendCall}
-use Rattle.subflow_send.specs.declared.record.RecordKind.{RecordKind}
-use Rattle.subflow_send.specs.declared.record.RecordKind.TheVariants.{Syn, Data, Fin}
-use Rattle.subflow_send.specs.Records.{Record}
-use Rattle.subflow_tcp.specs.States.{may_finish}
-use Rattle.stream_lanes.specs.Duo.{Duo, after_events}
-use Rattle.stream_lanes.specs.Holding.{Holds, IsHonest, IsRight, LaneHolds}
-use Rattle.stream_lanes.specs.Lane.{Cell, Lane, Mapping}
-use Rattle.stream_lanes.specs.View.{View}
-use Rattle.stream_lanes.proofs.Duos.{any_held}
-use Rattle.stream_lanes.proofs.Lists.{Every-map, in_map, in_set}
-use Rattle.actor_desk.specs.declared.ask.Ask.{Ask}
-use Rattle.actor_desk.specs.Books.{books_in}
-use Rattle.actor_desk.specs.Desk.{SixBooks, control_of, after_ask}
-use Rattle.stream_apps.specs.declared.duty.AppDuty.{AppDuty}
-use Rattle.stream_apps.specs.Apps.{AppState}
-use Rattle.stream_apps.specs.AppSteps.{app_ask, app_asks_first}
-use Rattle.path_agenda.specs.declared.duty.Duty.{Duty}
-use Rattle.path_agenda.specs.declared.duty.AskDuty.{AskDuty}
-use Rattle.path_agenda.specs.declared.duty.SendDuty.{SendDuty}
-use Rattle.path_agenda.specs.declared.duty.SilentDuty.{SilentDuty}
-use Rattle.path_agenda.specs.declared.duty.StepDuty.{StepDuty}
-use Rattle.path_core.specs.Duties.{stands, ask_for}
-use Rattle.path_core.specs.Emission.{first_unsent, data_stands, data_ask}
-use Rattle.path_core.specs.Octets.{octets}
-use Rattle.path_core.specs.Shown.{shown_path}
-use Rattle.path_core.specs.State.{PathState, end_at}
-use Rattle.path_core.specs.Profile.{Profile}
-use Rattle.path_core.specs.Steps.{asks_first}
-use Rattle.path_core.specs.Turns.{FirstStands}
-use Rattle.path_core.specs.Values.{Carried, values}
-use Rattle.world_laws.specs.declared.member.Member.TheVariants.{App, Path}
-use Rattle.world_laws.specs.Actors.{Actor, ActorCrew, member_asks}
+use Rattle.world_laws.proofs.Words.{◌≡◌, refl, sym, ◌∙◌, ap, subst, ℕ, suc, ◌+◌, ◌||◌, not, ⊎_elim, Bool, true, false, if◌then◌else◌, Option, Some, None, List}
+use Rattle.world_laws.proofs.Words.{[], ◌∷◌, ◌++◌, length, map, arith, or_cases, and_parts, both_ways, false≢true, or_from, same_Some, list_any, slice_get}
+use Rattle.world_laws.proofs.Words.{IfSome, is_identity, Side, A, B, is_aborted, SendCall, KeptMapping, Record, RecordKind, Syn, Data, Fin, may_finish, Duty}
+use Rattle.world_laws.proofs.Words.{SendDuty, StepDuty, AskDuty, SilentDuty, Ask, books_in, SixBooks, control_of, after_ask, AppDuty, AppState, app_ask}
+use Rattle.world_laws.proofs.Words.{app_asks_first, stands, ask_for, PathState, end_at, asks_first, FirstStands, Carried, values, data_stands, first_unsent}
+use Rattle.world_laws.proofs.Words.{data_ask, Profile, octets, shown_path, Every-map, in_map, in_set, Duo, after_events, Holds, IsHonest, IsRight, LaneHolds}
+use Rattle.world_laws.proofs.Words.{Cell, Mapping, Lane, View, any_held, App, Path, Actor, ActorCrew, member_asks, Always, Start, opened_world, WorldState}
+use Rattle.world_laws.proofs.Words.{Turn, crew_after, asked, stepped, all_over, greatest, begins, after_turn, world_run, note_of, HasRoom, HoldsAnywayOfOctets}
+use Rattle.world_laws.proofs.Words.{HoldsAnyway, asks_grant, shown_crew, shown_member, shown_world}
 use Rattle.world_laws.specs.FallsRight.{asks_bytes, has_fallen, is_fallen, is_stopped, IsAtPlace, EndIsPlain, FallsAreRight, FallsLast, PathIsPlain, PositionsArePlaces, PositionsWerePlaces}
-use Rattle.world_laws.specs.Fresh.{shown_crew, shown_member, shown_world}
-use Rattle.world_laws.specs.Laws.{Always}
-use Rattle.world_laws.specs.Openings.{Start, opened_world}
-use Rattle.world_laws.specs.Promises.{HasRoom, HoldsAnyway, HoldsAnywayOfOctets}
-use Rattle.world_laws.specs.RoundEnd.{asks_grant}
-use Rattle.world_laws.specs.Worlds.{WorldState, Turn, note_of, crew_after, asked, stepped, all_over, greatest, begins, after_turn, world_run}
 use Rattle.world_laws.proofs.Lanes.Applying.{any_more}
 use Rattle.world_laws.proofs.Lanes.Beginning.{each_run_shows}
 use Rattle.world_laws.proofs.Worlds.Casts.{Walker, walking, world_of}

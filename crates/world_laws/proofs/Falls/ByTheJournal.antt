@@ -1,27 +1,11 @@
 -- The modes that a side was in by the journal of its control book: it was in them for ever, and the present one is one of them.
-use Rattle.std.proofs.Common.{◌≡◌, ⊎_elim, ◌⊎◌, inl, inr, ◌||◌, Bool, true, false, if◌then◌else◌, Option, Some, None, List, [], ◌∷◌, ◌++◌, map, refl}
-use Rattle.std.proofs.lemmas.Bool.{false≢true, or_cases}
-use Rattle.std.specs.List.{slice_get}
-use Rattle.sides.specs.declared.side.Side.{Side}
-use Rattle.sides.specs.declared.side.Side.TheVariants.{A, B}
-use Rattle.stamped_book.specs.declared.stamped.Entry.{Entry}
-use Rattle.stamped_book.specs.declared.stamped.Pass.{Pass}
-use Rattle.stamped_book.specs.Entering.{entry_of}
-use Rattle.stamped_book.specs.Journal.{replay}
-use Rattle.fallback_state.specs.declared.fall.Mode.{Mode}
-use Rattle.control_book.specs.declared.call.ControlCall.{ControlCall}
-use Rattle.control_book.specs.declared.call.ControlReply.{ControlReply}
-use Rattle.control_book.specs.Control.{Control}
+use Rattle.world_laws.proofs.Words.{◌≡◌, refl, ◌||◌, inl, inr, ◌⊎◌, ⊎_elim, Bool, true, false, if◌then◌else◌, Option, Some, None, List, [], ◌∷◌, ◌++◌, map}
+use Rattle.world_laws.proofs.Words.{or_cases, false≢true, slice_get, Mode, Entry, Pass, entry_of, replay, Side, A, B, ControlCall, ControlReply, Control, Ask}
+use Rattle.world_laws.proofs.Words.{StampedBooks, books_in, after_entry, control_of, pick, Codec, ActorCrew, member_asks, WorldState, Turn, asked, stepped}
+use Rattle.world_laws.proofs.Words.{all_over, greatest, begins, after_turn, world_run}
 use Rattle.control_book.specs.Replies as controlling
 use Rattle.control_book.specs.Steps as control
-use Rattle.actor_desk.specs.declared.ask.Ask.{Ask}
-use Rattle.actor_desk.specs.Books.{StampedBooks, books_in, after_entry}
-use Rattle.actor_desk.specs.Desk.{control_of}
-use Rattle.actor_desk.specs.Words.{pick}
-use Rattle.path_core.specs.Codec.{Codec}
-use Rattle.world_laws.specs.Actors.{ActorCrew, member_asks}
 use Rattle.world_laws.specs.ModesSoFar.{was_by, was_in}
-use Rattle.world_laws.specs.Worlds.{WorldState, Turn, asked, stepped, all_over, greatest, begins, after_turn, world_run}
 
 or_first : (a b : Bool) → a ≡ true → (a || b) ≡ true
 or_first true b is = refl

@@ -1,15 +1,8 @@
 -- What a call of a control book is to the modes of the two directions: a side falls back, begins a join or answers one, or all is as before.
-use Rattle.std.proofs.Common.{◌≡◌, refl, sym, ◌∙◌, ap, ◌⊎◌, inl, inr, Bool, true, false, not, ◌&&◌, if◌then◌else◌, List, [], ◌∷◌}
-use Rattle.sides.specs.declared.side.Side.{Side}
-use Rattle.sides.specs.declared.side.Side.TheVariants.{A, B}
-use Rattle.fallback_state.specs.declared.fall.Fall.{Fall}
-use Rattle.control_book.specs.declared.call.ControlCall.{ControlCall}
-use Rattle.actor_desk.specs.declared.ask.Ask.{Ask}
-use Rattle.actor_desk.specs.Desk.{SixBooks, after_ask}
-use Rattle.stream_lanes.specs.Lane.{Lane}
-use Rattle.stream_lanes.specs.Streams.{Reader}
-use Rattle.stream_lanes.specs.Duo.{Modes, Duo, Event, after_events, falls_a, falls_b, begins_join, sends_join, hears_join}
-use Rattle.stream_lanes.specs.Duo.Event.{FallA, FallB, LoosenA, LoosenB, BeginJoin, SendJoin, HearJoin}
+use Rattle.world_laws.proofs.Words.{◌≡◌, refl, sym, ◌∙◌, ap, ◌&&◌, not, inl, inr, ◌⊎◌, Bool, true, false, if◌then◌else◌, List, [], ◌∷◌, Fall, Side, A, B}
+use Rattle.world_laws.proofs.Words.{ControlCall, Ask, SixBooks, after_ask, Duo, after_events, falls_a, falls_b, begins_join, sends_join, hears_join, Lane}
+use Rattle.world_laws.proofs.Words.{Reader, FallA, FallB, LoosenA, LoosenB, BeginJoin, SendJoin, HearJoin}
+use Rattle.stream_lanes.specs.Duo.{Modes, Event}
 use Rattle.world_laws.proofs.Falls.WhereASideStands.{is_plain, is_loose, Loosened, SameFall, FellBack, HasJoined, Fallen, call_falls, fell_unjoined}
 use Rattle.world_laws.proofs.Lanes.OfAWorld.{Links, MayCall, Moved, AreSilent, duo_of, modes_by, then_moved}
 

@@ -1,84 +1,23 @@
 -- Where no payload is altered no check fails: the octets of a mapping that are all there are those that were sent. So no control book is
 -- told of a failure, and none knows of one.
-use Rattle.std.proofs.Common.{◌≡◌, refl, sym, ◌∙◌, ap, subst, ℕ, ◌&&◌, ◌==◌, is_some, not, ⊎_elim, Bool, true, false, if◌then◌else◌, Option, Some, None, List, [], ◌∷◌, ◌++◌, map, length, arith}
-use Rattle.std.proofs.lemmas.Bool.{and_parts, both_ways, false≢true, or_from, or_parts}
-use Rattle.std.proofs.lemmas.Option.{same_Some}
-use Rattle.std.specs.List.{list_any, slice_get}
-use Rattle.std.specs.Option.{IfSome}
-use Rattle.sides.specs.declared.side.Side.{Side}
-use Rattle.sides.specs.declared.side.Side.TheVariants.{A, B}
-use Rattle.loss_recovery.specs.declared.windows.Pending.{Pending}
-use Rattle.reassembly_book.specs.declared.call.ReassemblyCall.{ReassemblyCall}
-use Rattle.fallback_state.specs.declared.fall.Event.{Event as FallEvent}
-use Rattle.fallback_state.specs.declared.fall.Fall.{Fall}
-use Rattle.fallback_state.specs.Modes.{is_infinite, sending, reads_mappings, writes_mappings}
-use Rattle.fallback_state.specs.Table.{fall_step, goes, stays, breaks}
+use Rattle.world_laws.proofs.Words.{◌≡◌, refl, sym, ◌∙◌, ap, subst, ℕ, ◌&&◌, ◌==◌, not, ⊎_elim, Bool, true, false, if◌then◌else◌, Option, Some, None, List, []}
+use Rattle.world_laws.proofs.Words.{◌∷◌, ◌++◌, length, map, arith, is_some, or_parts, and_parts, both_ways, false≢true, or_from, same_Some, list_any, slice_get}
+use Rattle.world_laws.proofs.Words.{IfSome, FallEvent, is_infinite, reads_mappings, sending, writes_mappings, Fall, goes, fall_step, Side, A, B, JoinSyn}
+use Rattle.world_laws.proofs.Words.{ControlCall, Notice, sole, Control, ReassemblyCall, Record, Pending, may_finish, EndPhase, PlainOption, PlainSegment, Fail}
+use Rattle.world_laws.proofs.Words.{Piece, InfiniteMapping, Duty, SendDuty, StepDuty, AskDuty, SilentDuty, Heard, KeyPair, key_heard, keys_heard, PeerNotice}
+use Rattle.world_laws.proofs.Words.{Ask, Note, books_in, SixBooks, control_of, after_ask, AppDuty, AppState, app_ask, app_asks_first, stands, ask_for}
+use Rattle.world_laws.proofs.Words.{PathState, end_at, path_of, asks_first, FirstStands, IsSettled, Carried, values, reset_of, break_ask, first_unsent}
+use Rattle.world_laws.proofs.Words.{data_ask, next_event, step_for, asked_at, join_heard_ask, piece_of, piece_ask, failing_mapping, plain_fin, data_fin_of}
+use Rattle.world_laws.proofs.Words.{fin_ask, is_clash, mapping_ask, item_ask, item_of, fell_ask, plain_ack_ask, breaks_by_ack, peer_key_ask, opened_ask}
+use Rattle.world_laws.proofs.Words.{notice_call, Profile, sends, rate_ask, Every-map, in_map, in_set, Every, Duo, after_events, Holds, LaneHolds, Pair, AckCopy}
+use Rattle.world_laws.proofs.Words.{Lane, View, any_held, App, Path, Actor, ActorCrew, member_asks, Start, opened_world, WorldState, Turn, crew_after, asked}
+use Rattle.world_laws.proofs.Words.{stepped, all_over, greatest, begins, after_turn, world_run, note_of, IsPromised, IsPromisedOfOctets, notes_or}
+use Rattle.fallback_state.specs.Table.{stays, breaks}
 use Rattle.fallback_state.proofs.Steps.{IsUnfailed, unfailed_kept}
-use Rattle.control_book.specs.declared.call.ControlCall.{ControlCall}
-use Rattle.control_book.specs.declared.call.Notice.{Notice}
-use Rattle.control_book.specs.Control.{Control}
-use Rattle.control_book.specs.Registry.{sole}
 use Rattle.control_book.specs.Replies as replying
 use Rattle.control_book.specs.Steps as controlling
-use Rattle.path_segments.specs.declared.segment.PathOption.TheVariants.{Fail}
-use Rattle.path_segments.specs.Options.{PlainOption}
-use Rattle.path_segments.specs.Spelled.{PlainSegment}
-use Rattle.stream_lanes.specs.Duo.{Duo, after_events}
-use Rattle.stream_lanes.specs.Holding.{Holds, LaneHolds}
-use Rattle.stream_lanes.specs.Lane.{AckCopy, Lane, Pair}
-use Rattle.stream_lanes.specs.View.{View}
-use Rattle.stream_lanes.specs.Words.{Every}
-use Rattle.stream_lanes.proofs.Duos.{any_held}
-use Rattle.stream_lanes.proofs.Lists.{Every-map, in_map, in_set}
-use Rattle.stream_apps.specs.declared.duty.AppDuty.{AppDuty}
-use Rattle.stream_apps.specs.Apps.{AppState}
-use Rattle.stream_apps.specs.AppSteps.{app_ask, app_asks_first}
-use Rattle.actor_desk.specs.declared.ask.Ask.{Ask}
-use Rattle.actor_desk.specs.declared.ask.Note.{Note}
-use Rattle.actor_desk.specs.Books.{books_in}
-use Rattle.actor_desk.specs.Desk.{SixBooks, after_ask, control_of}
-use Rattle.path_agenda.specs.declared.duty.Duty.{Duty}
-use Rattle.path_agenda.specs.declared.duty.AskDuty.{AskDuty}
-use Rattle.path_agenda.specs.declared.duty.SendDuty.{SendDuty}
-use Rattle.path_agenda.specs.declared.duty.SilentDuty.{SilentDuty}
-use Rattle.path_agenda.specs.declared.duty.StepDuty.{StepDuty}
-use Rattle.path_agenda.specs.declared.heard.Heard.{Heard}
-use Rattle.path_agenda.specs.declared.keys.KeyPair.{KeyPair}
-use Rattle.path_agenda.specs.declared.notice.PeerNotice.{PeerNotice}
-use Rattle.path_agenda.specs.Items.{key_heard, keys_heard}
-use Rattle.path_store.specs.declared.infinite_mapping.InfiniteMapping.{InfiniteMapping}
-use Rattle.join_handshake.specs.declared.hearing.JoinSyn.{JoinSyn}
-use Rattle.subflow_send.specs.Records.{Record}
-use Rattle.subflow_tcp.specs.declared.handshake.State.{State as EndPhase}
-use Rattle.subflow_tcp.specs.States.{may_finish}
 use Rattle.path_core.specs.declared.events.Event.{Event}
-use Rattle.path_core.specs.Addresses.{notice_call}
-use Rattle.path_core.specs.Breaking.{break_ask, reset_of}
-use Rattle.path_store.specs.Passing.{Piece}
-use Rattle.path_core.specs.Deliver.{failing_mapping, piece_of, piece_ask}
-use Rattle.path_core.specs.Duties.{ask_for, stands}
-use Rattle.path_core.specs.Emission.{first_unsent, data_ask}
-use Rattle.path_core.specs.Events.{next_event, step_for}
-use Rattle.path_core.specs.Handover.{sends}
-use Rattle.path_core.specs.MpJoin.{asked_at, join_heard_ask}
-use Rattle.path_core.specs.MpCapable.{peer_key_ask, opened_ask}
-use Rattle.path_core.specs.DataFin.{data_fin_of, fin_ask, plain_fin}
-use Rattle.path_core.specs.Rate.{rate_ask}
-use Rattle.path_core.specs.State.{PathState, end_at, path_of}
-use Rattle.path_core.specs.Profile.{Profile}
-use Rattle.path_core.specs.Steps.{asks_first}
-use Rattle.path_core.specs.DssIn.{is_clash, mapping_ask}
-use Rattle.path_core.specs.Fallback.{fell_ask, plain_ack_ask, breaks_by_ack}
-use Rattle.path_core.specs.Treating.{item_ask, item_of}
-use Rattle.path_core.specs.Turns.{FirstStands, IsSettled}
-use Rattle.path_core.specs.Values.{Carried, values}
-use Rattle.world_laws.specs.declared.member.Member.TheVariants.{App, Path}
-use Rattle.world_laws.specs.Actors.{Actor, ActorCrew, member_asks}
 use Rattle.world_laws.specs.ChecksPass.{tells_failure, note_tells_failure, ChecksPass, is_fail, TellsNoFailure, NoFailureIsTold}
-use Rattle.world_laws.specs.Openings.{Start, opened_world}
-use Rattle.world_laws.specs.Outcomes.{notes_or}
-use Rattle.world_laws.specs.Promises.{IsPromised, IsPromisedOfOctets}
-use Rattle.world_laws.specs.Worlds.{WorldState, Turn, note_of, crew_after, asked, stepped, all_over, greatest, begins, after_turn, world_run}
 use Rattle.world_laws.proofs.Falls.FailedChecks.{fail_asks_so, subflow_acks_so}
 use Rattle.world_laws.proofs.Lanes.Beginning.{each_run_shows}
 use Rattle.world_laws.proofs.Lanes.OfAWorld.{plainly, plainly_free, free_run, Links, WorldShows, PathThere, duo_of, first_duo}

@@ -1,48 +1,16 @@
 -- An end that may send a DSS may always send one: it stays clear. And one that fell back to plain TCP stays so.
-use Rattle.std.proofs.Common.{◌≡◌, refl, ap, ◌∙◌, ℕ, ◌+◌, Bool, true, false, if◌then◌else◌, Option, Some, None, List, []}
-use Rattle.std.proofs.lemmas.Bool.{or_left, both_ways}
-use Rattle.path_segments.specs.Heard.{HeardSegment}
-use Rattle.sides.specs.declared.side.Side.{Side}
-use Rattle.sides.specs.declared.side.Side.TheVariants.{A, B}
-use Rattle.control_book.specs.declared.call.ControlReply.{ControlReply}
-use Rattle.fallback_state.specs.declared.fall.Event.{Event as FallEvent}
-use Rattle.join_handshake.specs.declared.hearing.JoinAnswer.{JoinAnswer}
-use Rattle.link_model.specs.Steps.{arriving, after_delivery}
-use Rattle.subflow_tcp.specs.States.{is_dead, is_half_open}
-use Rattle.subflow_tcp.specs.declared.handshake.State.{State as EndPhase}
-use Rattle.subflow_tcp.specs.declared.verdicts.Meaning.{Meaning}
-use Rattle.actor_desk.specs.declared.ask.Reply.{Reply}
-use Rattle.actor_desk.specs.Words.{tail_of}
-use Rattle.path_agenda.specs.Agenda.{leaves, emission}
-use Rattle.path_agenda.specs.Items.{keys_heard}
-use Rattle.path_agenda.specs.declared.duty.Duty.{Duty}
-use Rattle.path_agenda.specs.declared.duty.AskDuty.{AskDuty}
-use Rattle.path_agenda.specs.declared.duty.SendDuty.{SendDuty}
-use Rattle.path_agenda.specs.declared.duty.SilentDuty.{SilentDuty}
-use Rattle.path_agenda.specs.declared.duty.StepDuty.{StepDuty}
-use Rattle.path_agenda.specs.declared.heard.Heard.{Heard}
-use Rattle.path_agenda.specs.declared.keys.KeyPair.{KeyPair}
-use Rattle.path_core.specs.OptionsIn.{items_of, options_heard}
-use Rattle.path_core.specs.Arrival.{judged_in, asked_in, after_judged, with_held, copy_heard, heard_in, told_at}
-use Rattle.path_core.specs.Judged.{taken_as, answered_in, cleared_in, with_answer, after_join}
-use Rattle.path_core.specs.DssIn.{HeardOption, held_of, counts, is_clash}
-use Rattle.path_core.specs.Breaking.{answered_break}
-use Rattle.path_core.specs.Codec.{Codec}
+use Rattle.world_laws.proofs.Words.{◌≡◌, refl, ◌∙◌, ap, ℕ, ◌+◌, Bool, true, false, if◌then◌else◌, Option, Some, None, List, [], both_ways, or_left, FallEvent}
+use Rattle.world_laws.proofs.Words.{Side, A, B, JoinAnswer, ControlReply, is_dead, is_half_open, Meaning, EndPhase, arriving, after_delivery, HeardSegment}
+use Rattle.world_laws.proofs.Words.{LineAction, emission, leaves, Duty, SendDuty, StepDuty, AskDuty, SilentDuty, Heard, KeyPair, keys_heard, Reply, tail_of}
+use Rattle.world_laws.proofs.Words.{Codec, passed, answered, PathEnd, died, at_tick, PathState, end_at, goes_on, takes, begins_turn, next_round, items_of}
+use Rattle.world_laws.proofs.Words.{options_heard, after_judged, asked_in, judged_in, with_held, heard_in, copy_heard, told_at, answered_break, next_event}
+use Rattle.world_laws.proofs.Words.{after_line, happens_if, join_begun, never_joined, is_never, keys_begun, opened_by, is_joined, join_answer, is_clash, counts}
+use Rattle.world_laws.proofs.Words.{held_of, HeardOption, answered_heard, answered_item, item_of, item_passed, heard_passed, after_fell, fell_in}
+use Rattle.world_laws.proofs.Words.{answered_opened, keys_in, answered_in, cleared_in, taken_as, with_answer, Modes, is_side_a, EndWrites, Only, Writes, OnlyAt}
+use Rattle.world_laws.proofs.Words.{EndView, writes, side_of}
+use Rattle.path_core.specs.Judged.{after_join}
 use Rattle.path_core.specs.declared.events.Event.{Event}
-use Rattle.path_core.specs.declared.modes.Modes.{Modes}
-use Rattle.path_core.specs.Duties.{passed, answered}
-use Rattle.path_core.specs.End.{PathEnd, died}
-use Rattle.path_core.specs.Events.{next_event, after_line, happens_if}
-use Rattle.path_core.specs.State.{at_tick, PathState, end_at, goes_on}
-use Rattle.path_core.specs.MpJoin.{join_begun, never_joined, keys_begun, is_never, opened_by, is_joined, join_answer}
-use Rattle.path_store.specs.declared.lines.LineAction.{LineAction}
-use Rattle.path_core.specs.MpCapable.{keys_in, answered_opened}
-use Rattle.path_core.specs.Steps.{takes, begins_turn, next_round}
-use Rattle.path_core.specs.Treating.{heard_passed, item_passed, answered_heard, answered_item, item_of}
-use Rattle.path_core.specs.Fallback.{after_fell, fell_in}
-use Rattle.path_core.specs.Choices.{is_side_a}
 use Rattle.world_laws.proofs.Falls.FailedChecks.{infinite_came_so, fail_answered_so}
-use Rattle.world_laws.specs.Writes.{EndWrites, EndView, Only, Writes, OnlyAt, writes, side_of}
 use Rattle.world_laws.proofs.Writes.Ends.{fell_so}
 use Rattle.world_laws.proofs.Writes.Paths.{writes_no_more, passes_no_more}
 use Rattle.world_laws.proofs.Writes.Steps.{both_ends, Lasts, unwritten, takes_lasts, begins_lasts}

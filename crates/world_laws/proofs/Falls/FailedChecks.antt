@@ -1,22 +1,12 @@
 -- What an end becomes where the check of a mapping failed, or where the peer's MP_FAIL or its infinite mapping came: what any verdict
 -- makes of it, but for what it knows of failed checks and of infinite mappings.
-use Rattle.std.proofs.Common.{◌≡◌, refl, ℕ, ◌⊎◌, inl, inr, Bool, true, false, if◌then◌else◌, Option, Some, None, is_some}
-use Rattle.sides.specs.declared.side.Side.{Side}
-use Rattle.dss_mapping.specs.declared.kept.KeptMapping.{KeptMapping}
+use Rattle.world_laws.proofs.Words.{◌≡◌, refl, ℕ, inl, inr, ◌⊎◌, Bool, true, false, if◌then◌else◌, Option, Some, None, is_some, Verdict, Side, ControlReply}
+use Rattle.world_laws.proofs.Words.{SendCall, KeptMapping, after_forget_from, Receiving, InfiniteMapping, Ask, Reply, LocalStep, PathEnd, PathState, end_at}
+use Rattle.world_laws.proofs.Words.{path_of, is_wrong, failing_by, mapping_here, forgotten_by, with_failure, after_check_failed, is_infinite_receive}
+use Rattle.world_laws.proofs.Words.{receiving_infinite, fell_ask, after_fell, subflow_ack_ask, plain_next, plain_ack_in, may_go_infinite, fail_ask}
+use Rattle.world_laws.proofs.Words.{answered_fail, book_answered, after_fail_heard, is_infinite_send, answered_fell, mode_in, sending_infinite, Modes}
 use Rattle.fallback_state.specs.declared.fall.Event.{Event}
-use Rattle.fallback_state.specs.declared.fall.Verdict.{Verdict}
-use Rattle.control_book.specs.declared.call.ControlReply.{ControlReply}
-use Rattle.send_book.specs.declared.call.SendCall.{SendCall}
-use Rattle.subflow_recv.specs.Receiving.{Receiving, after_forget_from}
-use Rattle.actor_desk.specs.declared.ask.Ask.{Ask}
-use Rattle.actor_desk.specs.declared.ask.LocalStep.{LocalStep}
-use Rattle.actor_desk.specs.declared.ask.Reply.{Reply}
-use Rattle.path_store.specs.declared.infinite_mapping.InfiniteMapping.{InfiniteMapping}
-use Rattle.path_core.specs.Deliver.{is_wrong, failing_by, forgotten_by, mapping_here}
-use Rattle.path_core.specs.End.{PathEnd}
-use Rattle.path_core.specs.Fallback.{with_failure, after_check_failed, mode_in, fell_ask, after_fell, answered_fell, is_infinite_receive, receiving_infinite, after_infinite, is_infinite_send, sending_infinite, after_fail_heard, may_go_infinite, fail_ask, book_answered, answered_fail, plain_next, plain_ack_in, subflow_ack_ask}
-use Rattle.path_core.specs.State.{PathState, end_at, path_of}
-use Rattle.path_core.specs.declared.modes.Modes.{Modes}
+use Rattle.path_core.specs.Fallback.{after_infinite}
 
 -- ---- the ends
 

@@ -1,27 +1,8 @@
 -- Where a side hasn't fallen back after a run, by its control book's journal, no turn of the run made it fall: it may be firm.
-use Rattle.std.proofs.Common.{◌≡◌, refl, sym, ◌∙◌, ap, subst, ℕ, zero, suc, Bool, true, false, Some, List, [], ◌∷◌, ◌++◌}
-use Rattle.std.proofs.lemmas.Bool.{both_ways, false≢true}
-use Rattle.std.specs.List.{slice_get}
-use Rattle.sides.specs.declared.side.Side.{Side}
-use Rattle.fallback_state.specs.declared.fall.Mode.{Mode}
-use Rattle.fallback_state.specs.Modes.{is_identity}
-use Rattle.stream_lanes.proofs.Lists.{in_map}
-use Rattle.actor_desk.specs.declared.ask.Ask.{Ask}
-use Rattle.actor_desk.specs.Books.{StampedBooks, books_in}
-use Rattle.actor_desk.specs.Desk.{SixBooks, control_of, after_ask}
-use Rattle.path_agenda.specs.declared.duty.Duty.{Duty}
-use Rattle.path_agenda.specs.declared.duty.AskDuty.{AskDuty}
-use Rattle.path_agenda.specs.declared.duty.StepDuty.{StepDuty}
-use Rattle.path_core.specs.State.{PathState, end_at}
-use Rattle.path_core.specs.Steps.{asks_first}
-use Rattle.path_core.specs.Treating.{item_ask, item_of}
-use Rattle.path_core.specs.Values.{Carried, values}
-use Rattle.world_laws.specs.declared.member.Member.TheVariants.{App, Path}
-use Rattle.world_laws.specs.Actors.{Actor, ActorCrew, member_asks}
-use Rattle.world_laws.specs.Altered.{is_fallback, fell_back}
-use Rattle.world_laws.specs.Laws.{Always}
-use Rattle.world_laws.specs.Openings.{Start, opened_world}
-use Rattle.world_laws.specs.Worlds.{WorldState, Turn, asked, stepped, after_turn, world_run}
+use Rattle.world_laws.proofs.Words.{◌≡◌, refl, sym, ◌∙◌, ap, subst, ℕ, zero, suc, Bool, true, false, Some, List, [], ◌∷◌, ◌++◌, both_ways, false≢true}
+use Rattle.world_laws.proofs.Words.{slice_get, Mode, is_identity, Side, Duty, StepDuty, AskDuty, Ask, StampedBooks, books_in, SixBooks, control_of, after_ask}
+use Rattle.world_laws.proofs.Words.{PathState, end_at, asks_first, Carried, values, item_ask, item_of, in_map, App, Path, Actor, ActorCrew, member_asks, Always}
+use Rattle.world_laws.proofs.Words.{Start, opened_world, WorldState, Turn, asked, stepped, after_turn, world_run, fell_back, is_fallback}
 use Rattle.world_laws.proofs.Falls.ByTheJournal.{Was, was_wider, was_now, turn_was, run_was}
 use Rattle.world_laws.proofs.Keys.ByJournals.{Knows, run_causes}
 use Rattle.world_laws.proofs.Keys.WhatWakes.{Voice, first_speaks, itself, speaks}

@@ -1,18 +1,9 @@
 -- A side that was in plain TCP once is so at every later moment.
-use Rattle.std.proofs.Common.{◌≡◌, refl, sym, subst, ⊎_elim, ◌⊎◌, Bool, true, false, if◌then◌else◌, Option, Some, None, List, [], ◌∷◌, map}
-use Rattle.std.specs.List.{slice_get}
-use Rattle.sides.specs.declared.side.Side.{Side}
-use Rattle.sides.specs.declared.side.Side.TheVariants.{A, B}
-use Rattle.stamped_book.specs.declared.stamped.Pass.{Pass}
-use Rattle.fallback_state.specs.Modes.{is_identity}
-use Rattle.actor_desk.specs.declared.ask.Ask.{Ask}
-use Rattle.actor_desk.specs.Books.{StampedBooks, books_in, after_entry}
-use Rattle.actor_desk.specs.Desk.{SixBooks, control_of, after_ask}
-use Rattle.path_core.specs.Values.{Carried, values}
-use Rattle.world_laws.specs.Actors.{ActorCrew, member_asks}
+use Rattle.world_laws.proofs.Words.{◌≡◌, refl, sym, subst, ◌⊎◌, ⊎_elim, Bool, true, false, if◌then◌else◌, Option, Some, None, List, [], ◌∷◌, map, slice_get}
+use Rattle.world_laws.proofs.Words.{is_identity, Pass, Side, A, B, Ask, StampedBooks, books_in, after_entry, SixBooks, control_of, after_ask, Carried, values}
+use Rattle.world_laws.proofs.Words.{ActorCrew, member_asks, Start, opened_world, WorldState, Turn, asked, stepped, all_over, greatest, begins, after_turn}
+use Rattle.world_laws.proofs.Words.{world_run}
 use Rattle.world_laws.specs.FallsRight.{has_fallen}
-use Rattle.world_laws.specs.Openings.{Start, opened_world}
-use Rattle.world_laws.specs.Worlds.{WorldState, Turn, asked, stepped, all_over, greatest, begins, after_turn, world_run}
 use Rattle.world_laws.proofs.Falls.ByTheJournal.{Was, was_more}
 use Rattle.world_laws.proofs.Falls.WhereASideStands.{IsUnjoined, fell_plain, unjoined_stays}
 use Rattle.world_laws.proofs.Weaving.Journals.{books_after}

@@ -1,34 +1,12 @@
 -- A side receives by the peer's infinite mapping from now on: the lane that it hears goes by that mapping.
-use Rattle.std.proofs.Common.{◌≡◌, refl, sym, ◌∙◌, ap, ℕ, ◌-◌, ◌⊎◌, Bool, true, false, ◌&&◌, not, is_none, if◌then◌else◌, inl, inr, Option, Some, None, [], ◌∷◌, set}
-use Rattle.std.proofs.lemmas.Bool.{both_ways, false≢true}
-use Rattle.std.proofs.lemmas.List.{append-nil, set-set}
-use Rattle.sides.specs.declared.side.Side.{Side}
-use Rattle.sides.specs.declared.side.Side.TheVariants.{A, B}
+use Rattle.world_laws.proofs.Words.{◌≡◌, refl, sym, ◌∙◌, ap, ℕ, ◌-◌, ◌&&◌, not, inl, inr, ◌⊎◌, Bool, true, false, if◌then◌else◌, Option, Some, None, [], ◌∷◌}
+use Rattle.world_laws.proofs.Words.{is_none, set, both_ways, false≢true, append-nil, set-set, Verdict, Mode, reads_mappings, receiving, writes_mappings, Fall}
+use Rattle.world_laws.proofs.Words.{is_failed_path, goes, fall_step, stays_so, Side, A, B, ControlCall, ControlReply, sole_path, Ask, Reply, SixBooks}
+use Rattle.world_laws.proofs.Words.{control_of, reply_of, after_ask, pick, PathEnd, PathState, Carried, is_infinite_receive, receiving_infinite, Profile, Pair}
+use Rattle.world_laws.proofs.Words.{Lane, ToB, ToA, takes_pair, Moves, LookAtReceiver, TakePair, is_fallback}
 use Rattle.fallback_state.specs.declared.fall.Event.{Event}
-use Rattle.fallback_state.specs.declared.fall.Fall.{Fall}
-use Rattle.fallback_state.specs.declared.fall.Mode.{Mode}
-use Rattle.fallback_state.specs.declared.fall.Verdict.{Verdict}
-use Rattle.fallback_state.specs.Modes.{reads_mappings, writes_mappings, receiving}
-use Rattle.fallback_state.specs.Table.{is_failed_path, goes, stays as stays_so, breaks, fall_step}
-use Rattle.control_book.specs.declared.call.ControlCall.{ControlCall}
-use Rattle.control_book.specs.declared.call.ControlReply.{ControlReply}
-use Rattle.control_book.specs.Registry.{sole as sole_path}
-use Rattle.stream_lanes.specs.Lane.{Lane, Pair}
-use Rattle.stream_lanes.specs.Moves.{takes_pair}
-use Rattle.stream_lanes.specs.Moves.Move.{LookAtReceiver, TakePair}
+use Rattle.fallback_state.specs.Table.{breaks}
 use Rattle.stream_lanes.specs.Streams.{moves}
-use Rattle.stream_lanes.specs.Streams.StreamEvent.{Moves}
-use Rattle.stream_lanes.specs.Duo.Event.{ToB, ToA}
-use Rattle.actor_desk.specs.declared.ask.Ask.{Ask}
-use Rattle.actor_desk.specs.declared.ask.Reply.{Reply}
-use Rattle.actor_desk.specs.Desk.{SixBooks, control_of, after_ask, reply_of}
-use Rattle.actor_desk.specs.Words.{pick}
-use Rattle.path_core.specs.End.{PathEnd}
-use Rattle.path_core.specs.Fallback.{is_infinite_receive, receiving_infinite}
-use Rattle.path_core.specs.State.{PathState}
-use Rattle.path_core.specs.Profile.{Profile}
-use Rattle.path_core.specs.Values.{Carried}
-use Rattle.world_laws.specs.Altered.{is_fallback}
 use Rattle.world_laws.proofs.Lanes.Ending.{Did}
 use Rattle.world_laws.proofs.Falls.WhereASideStands.{is_plain, is_loose}
 use Rattle.world_laws.proofs.Falls.CallsAndModes.{control_moves}

@@ -1,29 +1,10 @@
 -- A send book is given to a path that joins only where its side joined, and no side that joined falls back: so where a side falls
 -- back, its book wasn't given to another path than path 0.
-use Rattle.std.proofs.Common.{◌≡◌, refl, sym, ◌∙◌, ap, subst, ℕ, zero, suc, ◌==◌, ◌||◌, nat_lt, ◌⊎◌, inl, inr, ⊎_elim, Bool, true, false, if◌then◌else◌, Option, Some, None, Result, Ok, Err, List, ◌∷◌, arith}
-use Rattle.std.proofs.lemmas.Bool.{both_ways}
-use Rattle.sides.specs.declared.side.Side.{Side}
-use Rattle.sides.specs.declared.side.Side.TheVariants.{A, B}
-use Rattle.send_book.specs.declared.call.SendCall.{SendCall}
-use Rattle.send_book.specs.declared.call.Span.{Span}
-use Rattle.send_book.specs.declared.call.Why.{Why}
-use Rattle.send_book.specs.State.{Sending}
-use Rattle.send_book.specs.Steps.{is_for, is_future, is_gathered, decision, given_by, after_call}
-use Rattle.subflow_send.specs.Records.{Record}
-use Rattle.stream_apps.specs.declared.duty.AppDuty.{AppDuty}
-use Rattle.stream_apps.specs.Apps.{AppState}
-use Rattle.stream_apps.specs.AppSteps.{app_ask}
-use Rattle.actor_desk.specs.declared.ask.Ask.{Ask}
-use Rattle.actor_desk.specs.Desk.{SixBooks, send_of, control_of, after_ask}
-use Rattle.path_agenda.specs.declared.duty.Duty.{Duty}
-use Rattle.path_agenda.specs.declared.duty.AskDuty.{AskDuty}
-use Rattle.path_agenda.specs.declared.duty.StepDuty.{StepDuty}
-use Rattle.path_core.specs.Codec.{Codec}
-use Rattle.path_core.specs.Duties.{ask_for}
-use Rattle.path_core.specs.Emission.{first_unsent, data_ask}
-use Rattle.path_core.specs.MpJoin.{is_joined}
-use Rattle.path_core.specs.State.{PathState, end_at, path_of}
-use Rattle.path_core.specs.Treating.{item_of}
+use Rattle.world_laws.proofs.Words.{◌≡◌, refl, sym, ◌∙◌, ap, subst, ℕ, zero, suc, ◌||◌, ◌==◌, nat_lt, inl, inr, ◌⊎◌, ⊎_elim, Bool, true, false, if◌then◌else◌}
+use Rattle.world_laws.proofs.Words.{Option, Some, None, Result, Ok, Err, List, ◌∷◌, arith, both_ways, Side, A, B, Span, Why, SendCall, Sending, is_for}
+use Rattle.world_laws.proofs.Words.{decision, given_by, is_future, is_gathered, Record, Duty, StepDuty, AskDuty, Ask, SixBooks, send_of, control_of, after_ask}
+use Rattle.world_laws.proofs.Words.{AppDuty, AppState, app_ask, Codec, ask_for, PathState, end_at, path_of, first_unsent, data_ask, is_joined, item_of}
+use Rattle.send_book.specs.Steps.{after_call}
 use Rattle.world_laws.proofs.Joins.AwakeAfterBegun.{Awake}
 use Rattle.world_laws.proofs.Falls.FailedChecks.{subflow_acks_so}
 use Rattle.world_laws.proofs.Falls.WhereASideStands.{fell_unjoined}

@@ -1,16 +1,8 @@
 -- What follows from a verdict of the control book: the side falls back, the path is broken, or nothing is left of the duty.
-use Rattle.std.proofs.Common.{◌≡◌, refl, ℕ, Bool, true, false, List}
-use Rattle.sides.specs.declared.side.Side.{Side}
+use Rattle.world_laws.proofs.Words.{◌≡◌, refl, ℕ, Bool, true, false, List, Verdict, Side, ControlReply, resets, Duty, AskDuty, replaced, Reply, PathState}
+use Rattle.world_laws.proofs.Words.{end_at, left, fell_duties, is_fall, breaks_by}
 use Rattle.fallback_state.specs.declared.fall.Mode.TheVariants.{Starting, Sure, Identity, InfiniteSend, InfiniteReceive, InfiniteBoth, Aborted}
-use Rattle.fallback_state.specs.declared.fall.Verdict.{Verdict}
-use Rattle.control_book.specs.declared.call.ControlReply.{ControlReply}
-use Rattle.actor_desk.specs.declared.ask.Reply.{Reply}
-use Rattle.path_agenda.specs.Agenda.{breaks, resets}
-use Rattle.path_agenda.specs.Words.{replaced}
-use Rattle.path_agenda.specs.declared.duty.Duty.{Duty}
-use Rattle.path_agenda.specs.declared.duty.AskDuty.{AskDuty}
-use Rattle.path_core.specs.Fallback.{is_fall, breaks_by, fell_duties}
-use Rattle.path_core.specs.State.{PathState, end_at, left}
+use Rattle.path_agenda.specs.Agenda.{breaks}
 
 breaks_so : (P : List Duty → Type 0) (s : Side) (reason : ℕ) (asked : Bool) → P (breaks s reason) → P (resets s reason) → P (breaks_by asked s reason)
 breaks_so P s reason true broken reset = broken

@@ -1,22 +1,11 @@
 -- What a call of a control book is to where its side stands: it falls back, it joins, or neither.
-use Rattle.std.proofs.Common.{◌≡◌, refl, sym, ◌∙◌, ap, ℕ, ◌==◌, ◌&&◌, ◌||◌, not, is_none, ◌⊎◌, inl, inr, Bool, true, false, if◌then◌else◌, Some}
-use Rattle.std.proofs.lemmas.Bool.{false≢true, and_parts, both_ways}
-use Rattle.key_material.specs.KeyDigest.{token_of}
-use Rattle.fallback_state.specs.declared.fall.Event.{Event as FallEvent}
-use Rattle.fallback_state.specs.declared.fall.Fall.{Fall}
-use Rattle.fallback_state.specs.declared.fall.Mode.{Mode}
-use Rattle.fallback_state.specs.declared.fall.Verdict.{Verdict}
-use Rattle.fallback_state.specs.Modes.{is_starting, is_identity, reads_mappings, writes_mappings, receiving, sending}
-use Rattle.fallback_state.specs.Table.{is_failed_path, goes, stays, breaks, fall_step}
-use Rattle.control_book.specs.declared.call.ControlCall.{ControlCall}
-use Rattle.control_book.specs.declared.call.Notice.{Notice}
-use Rattle.control_book.specs.declared.call.ControlReply.{ControlReply}
-use Rattle.control_book.specs.Control.{Control}
-use Rattle.control_book.specs.Registry.{sole as sole_path}
+use Rattle.world_laws.proofs.Words.{◌≡◌, refl, sym, ◌∙◌, ap, ℕ, ◌&&◌, ◌||◌, ◌==◌, not, inl, inr, ◌⊎◌, Bool, true, false, if◌then◌else◌, Some, is_none}
+use Rattle.world_laws.proofs.Words.{and_parts, both_ways, false≢true, Verdict, Mode, FallEvent, is_identity, is_starting, reads_mappings, receiving, sending}
+use Rattle.world_laws.proofs.Words.{writes_mappings, Fall, is_failed_path, goes, fall_step, token_of, ControlCall, ControlReply, Notice, sole_path, Control}
+use Rattle.world_laws.proofs.Words.{Reply, is_fall}
+use Rattle.fallback_state.specs.Table.{stays, breaks}
 use Rattle.control_book.specs.Replies as control
 use Rattle.control_book.specs.Steps as controlling
-use Rattle.actor_desk.specs.declared.ask.Reply.{Reply}
-use Rattle.path_core.specs.Fallback.{is_fall}
 
 -- ---- plain TCP
 

@@ -1,35 +1,11 @@
 -- What is known of the sides that joined: B answers a join after A began one, and an end that may finish, of a path that joins, has
 -- joined. And a side that fell back to plain TCP fell back by its control book, on no path that joins.
-use Rattle.std.proofs.Common.{◌≡◌, refl, sym, ◌∙◌, ap, subst, ℕ, zero, suc, ⊎_elim, ◌+◌, is_some, Bool, true, false, if◌then◌else◌, Option, Some, None, List, [], ◌∷◌, map, nat_lt, arith}
-use Rattle.std.proofs.lemmas.Bool.{false≢true, both_ways, lt-ltb}
-use Rattle.std.specs.List.{slice_get}
-use Rattle.std.specs.Option.{IfSome}
-use Rattle.sides.specs.declared.side.Side.{Side}
-use Rattle.sides.specs.declared.side.Side.TheVariants.{A, B}
-use Rattle.control_book.specs.declared.call.ControlCall.{ControlCall}
-use Rattle.stream_lanes.proofs.Lists.{in_set, in_map}
-use Rattle.join_handshake.specs.declared.hearing.JoinSyn.{JoinSyn as Asked}
-use Rattle.actor_desk.specs.declared.ask.Ask.{Ask}
-use Rattle.actor_desk.specs.declared.ask.Reply.{Reply}
-use Rattle.actor_desk.specs.Books.{books_in}
-use Rattle.actor_desk.specs.Desk.{SixBooks, reply_of, after_ask}
-use Rattle.path_agenda.specs.declared.duty.Duty.{Duty}
-use Rattle.path_agenda.specs.declared.duty.AskDuty.{AskDuty}
-use Rattle.path_agenda.specs.declared.duty.StepDuty.{StepDuty}
-use Rattle.path_agenda.specs.declared.heard.Heard.{Heard}
-use Rattle.path_core.specs.Choices.{item_at}
-use Rattle.path_core.specs.MpJoin.{asked_at, is_joined}
-use Rattle.path_core.specs.State.{PathState, end_at}
-use Rattle.path_core.specs.Turns.{FirstStands}
-use Rattle.path_core.specs.Values.{Carried, values}
-use Rattle.subflow_tcp.specs.declared.handshake.State.{State as EndPhase}
-use Rattle.subflow_tcp.specs.States.{may_finish}
-use Rattle.world_laws.specs.declared.member.Member.TheVariants.{App, Path}
-use Rattle.world_laws.specs.Actors.{Actor, ActorCrew, member_asks, member_takes, member_next}
-use Rattle.world_laws.specs.Laws.{Always}
-use Rattle.path_core.specs.Start.{waiting_path}
-use Rattle.world_laws.specs.Openings.{Start, path_begins, opened_world}
-use Rattle.world_laws.specs.Worlds.{WorldState, Turn, crew_after, asked, stepped, all_over, greatest, begins, after_turn, world_run}
+use Rattle.world_laws.proofs.Words.{◌≡◌, refl, sym, ◌∙◌, ap, subst, ℕ, zero, suc, ◌+◌, nat_lt, ⊎_elim, Bool, true, false, if◌then◌else◌, Option, Some, None}
+use Rattle.world_laws.proofs.Words.{List, [], ◌∷◌, map, arith, is_some, lt-ltb, both_ways, false≢true, slice_get, IfSome, Side, A, B, Asked, ControlCall}
+use Rattle.world_laws.proofs.Words.{may_finish, EndPhase, Duty, StepDuty, AskDuty, Heard, Ask, Reply, books_in, SixBooks, reply_of, after_ask, waiting_path}
+use Rattle.world_laws.proofs.Words.{PathState, end_at, FirstStands, Carried, values, asked_at, is_joined, item_at, in_map, in_set, App, Path, Actor, ActorCrew}
+use Rattle.world_laws.proofs.Words.{member_asks, member_takes, member_next, Always, Start, path_begins, opened_world, WorldState, Turn, crew_after, asked}
+use Rattle.world_laws.proofs.Words.{stepped, all_over, greatest, begins, after_turn, world_run}
 use Rattle.world_laws.proofs.Weaving.Journals.{books_after}
 use Rattle.world_laws.proofs.Falls.WhereASideStands.{IsNoJoin, same_joined}
 use Rattle.world_laws.proofs.Keys.AreDrawn.{is_past, ItemIs}

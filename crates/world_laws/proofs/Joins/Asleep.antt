@@ -1,52 +1,20 @@
 -- A path that joins the connection does nothing before it is begun, and nothing where it died before: its ends say nothing, nothing
 -- is under way, no timer runs, and what it has to do comes to nothing, but that it asks whether it may begin.
-use Rattle.std.proofs.Common.{◌≡◌, refl, sym, ◌∙◌, ap, subst, ℕ, ◌+◌, not, is_none, ◌&&◌, ◌||◌, nat_lt, nat_le, Bool, true, false, if◌then◌else◌, Option, Some, None, List, [], ◌∷◌, ◌++◌}
-use Rattle.std.proofs.lemmas.Bool.{and_parts, and_from, false≢true}
-use Rattle.std.proofs.lemmas.Option.{same_Some}
-use Rattle.std.specs.List.{list_all}
-use Rattle.std.specs.Option.{IfSome, option_and_then}
-use Rattle.sides.specs.declared.side.Side.{Side}
-use Rattle.sides.specs.declared.side.Side.TheVariants.{A, B}
-use Rattle.link_script.specs.declared.script.ScriptLine.{ScriptLine}
-use Rattle.link_model.specs.Steps.{next_due}
-use Rattle.subflow_send.specs.Records.{Record}
-use Rattle.subflow_tcp.specs.declared.handshake.State.{State as EndPhase}
-use Rattle.subflow_tcp.specs.State.{has_records}
-use Rattle.subflow_tcp.specs.States.{is_closed_to_segments, is_opening, is_dead, is_waiting as is_waiting_phase, may_finish}
+use Rattle.world_laws.proofs.Words.{◌≡◌, refl, sym, ◌∙◌, ap, subst, ℕ, ◌+◌, ◌&&◌, ◌||◌, not, nat_lt, nat_le, Bool, true, false, if◌then◌else◌, Option, Some}
+use Rattle.world_laws.proofs.Words.{None, List, [], ◌∷◌, ◌++◌, is_none, and_parts, and_from, false≢true, same_Some, list_all, IfSome, option_and_then, Side, A}
+use Rattle.world_laws.proofs.Words.{B, ScriptLine, Control, is_sure, join_waits, begin, join_begin_reply, Record, is_closed_to_segments, is_opening, is_dead}
+use Rattle.world_laws.proofs.Words.{is_waiting_phase, may_finish, has_records, EndPhase, next_due, LineAction, LineLeft, rest_of_turn, emission, leaves}
+use Rattle.world_laws.proofs.Words.{start_of_turn, Duty, SendDuty, StepDuty, AskDuty, SilentDuty, replaced, Ask, Reply, SixBooks, reply_of, tail_of, Codec}
+use Rattle.world_laws.proofs.Words.{stands, ask_for, passed, answered, PathEnd, died, after_look, is_connected, may_note, after_ack_out, PathStart, first_state}
+use Rattle.world_laws.proofs.Words.{waiting_path, first_turn, at_tick, PathState, end_at, goes_on, with_end, with_agenda, left, path_of, settled, settles_down}
+use Rattle.world_laws.proofs.Words.{answers, asks_of, asks_first, takes, next_round, FirstStands, IsSettled, died_unless_dead, leaves_unless_dead, data_stands}
+use Rattle.world_laws.proofs.Words.{first_unsent, data_ask, tick_of, next_join, next_line, next_copy, earlier, next_event, step_for, after_line, happens}
+use Rattle.world_laws.proofs.Words.{happens_if, join_begun, never_joined, is_never, keys_begun, opened_by, after_timer, next_fire, with_priority, Profile}
 use Rattle.loss_recovery.specs.Timers.{timer_settled}
 use Rattle.control_book.specs.declared.call.ControlReply.TheVariants.{NotYet, Never}
-use Rattle.control_book.specs.Control.{Control}
-use Rattle.control_book.specs.Replies.{is_sure, join_waits, begin, join_begin_reply}
-use Rattle.actor_desk.specs.declared.ask.Ask.{Ask}
-use Rattle.actor_desk.specs.declared.ask.Reply.{Reply}
-use Rattle.actor_desk.specs.Desk.{SixBooks, reply_of}
-use Rattle.actor_desk.specs.Words.{tail_of}
-use Rattle.path_agenda.specs.declared.duty.Duty.{Duty}
-use Rattle.path_agenda.specs.declared.duty.AskDuty.{AskDuty}
-use Rattle.path_agenda.specs.declared.duty.SendDuty.{SendDuty}
-use Rattle.path_agenda.specs.declared.duty.SilentDuty.{SilentDuty}
-use Rattle.path_agenda.specs.declared.duty.StepDuty.{StepDuty}
 use Rattle.path_core.specs.declared.events.Event.{Event}
-use Rattle.path_agenda.specs.Agenda.{rest_of_turn, emission, leaves, start_of_turn}
-use Rattle.path_agenda.specs.Words.{replaced}
-use Rattle.path_store.specs.declared.lines.LineLeft.{LineLeft}
 use Rattle.path_core.specs.DataFin.{is_waiting}
-use Rattle.path_core.specs.Codec.{Codec}
-use Rattle.path_core.specs.Duties.{stands, ask_for, passed, answered}
-use Rattle.path_core.specs.Emission.{first_unsent, data_stands, data_ask}
-use Rattle.path_core.specs.Timer.{after_timer, next_fire}
-use Rattle.path_core.specs.End.{PathEnd, died}
-use Rattle.path_core.specs.Events.{tick_of, next_join, next_line, next_copy, earlier, before, next_event, step_for, after_line, happens, happens_if}
-use Rattle.path_core.specs.Breaking.{died_unless_dead, leaves_unless_dead}
-use Rattle.path_core.specs.MpJoin.{join_begun, never_joined, keys_begun, is_never, opened_by}
-use Rattle.path_core.specs.State.{at_tick, PathState, end_at, goes_on, with_end, with_agenda, left, path_of}
-use Rattle.path_core.specs.Addresses.{with_priority}
-use Rattle.path_store.specs.declared.lines.LineAction.{LineAction}
-use Rattle.path_core.specs.Standing.{after_look, after_ack_out, is_connected, may_note}
-use Rattle.path_core.specs.Start.{PathStart, first_state, waiting_path, first_turn}
-use Rattle.path_core.specs.Profile.{Profile}
-use Rattle.path_core.specs.Steps.{settled, settles_down, asks_first, asks_of, answers, takes, next_round}
-use Rattle.path_core.specs.Turns.{FirstStands, IsSettled}
+use Rattle.path_core.specs.Events.{before}
 
 -- ---- an end
 

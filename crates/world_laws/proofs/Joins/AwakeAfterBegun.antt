@@ -1,70 +1,29 @@
 -- An end of a path that joins does nothing before its side's book joined, and never falls back: over octets as over values.
-use Rattle.std.proofs.Common.{◌≡◌, refl, sym, ◌∙◌, ap, subst, ℕ, ◌&&◌, ◌||◌, not, is_some, nat_lt, length, Bool, true, false, if◌then◌else◌, Option, Some, None, List, [], ◌∷◌, ◌++◌, ◌⊎◌, inl, inr, ⊎_elim}
-use Rattle.std.proofs.lemmas.Bool.{both_ways, false≢true}
-use Rattle.sides.specs.declared.side.Side.{Side}
-use Rattle.sides.specs.declared.side.Side.TheVariants.{A, B}
-use Rattle.dss_mapping.specs.declared.kept.KeptMapping.{KeptMapping}
-use Rattle.link_script.specs.Places.{same_side}
-use Rattle.link_model.specs.Steps.{arriving, after_delivery}
-use Rattle.path_segments.specs.Spelled.{PlainSegment}
-use Rattle.path_segments.specs.Heard.{HeardSegment}
-use Rattle.join_handshake.specs.declared.hearing.JoinSyn.{JoinSyn}
-use Rattle.join_handshake.specs.declared.hearing.JoinAnswer.{JoinAnswer}
-use Rattle.subflow_recv.specs.Receiving.{after_forget_from}
-use Rattle.subflow_send.specs.Records.{Record}
-use Rattle.subflow_tcp.specs.declared.handshake.State.{State as EndPhase}
-use Rattle.subflow_tcp.specs.declared.segments.Occasion.{Occasion}
-use Rattle.subflow_tcp.specs.declared.segments.Outgoing.{Outgoing}
-use Rattle.subflow_tcp.specs.declared.verdicts.Meaning.{Meaning}
-use Rattle.subflow_tcp.specs.Expiring.{is_sixth, after_expiry}
-use Rattle.subflow_tcp.specs.State.{EndState}
-use Rattle.subflow_tcp.specs.States.{is_closed_to_segments, is_dead}
-use Rattle.subflow_tcp.specs.Taking.{after_death, after_dropping_held, after_keeping_held}
-use Rattle.send_book.specs.declared.call.SendCall.{SendCall}
-use Rattle.fallback_state.specs.declared.fall.Event.{Event as FallEvent}
-use Rattle.control_book.specs.declared.call.ControlCall.{ControlCall}
-use Rattle.control_book.specs.declared.call.ControlReply.{ControlReply}
-use Rattle.actor_desk.specs.declared.ask.Ask.{Ask}
-use Rattle.actor_desk.specs.declared.ask.Reply.{Reply}
-use Rattle.actor_desk.specs.Words.{tail_of}
-use Rattle.path_agenda.specs.Agenda.{breaks, emission, leaves, resets, rest_of_turn, start_of_turn, stops, announces, withdraws}
-use Rattle.path_agenda.specs.Items.{key_heard, keys_heard}
-use Rattle.path_agenda.specs.Words.{replaced}
-use Rattle.path_agenda.specs.declared.duty.Duty.{Duty}
-use Rattle.path_agenda.specs.declared.duty.AskDuty.{AskDuty}
-use Rattle.path_agenda.specs.declared.duty.SendDuty.{SendDuty}
-use Rattle.path_agenda.specs.declared.duty.SilentDuty.{SilentDuty}
-use Rattle.path_agenda.specs.declared.duty.StepDuty.{StepDuty}
-use Rattle.path_agenda.specs.declared.heard.Heard.{Heard}
-use Rattle.path_agenda.specs.declared.keys.KeyPair.{KeyPair}
+use Rattle.world_laws.proofs.Words.{◌≡◌, refl, sym, ◌∙◌, ap, subst, ℕ, ◌&&◌, ◌||◌, not, nat_lt, inl, inr, ◌⊎◌, ⊎_elim, Bool, true, false, if◌then◌else◌, Option}
+use Rattle.world_laws.proofs.Words.{Some, None, List, [], ◌∷◌, ◌++◌, length, is_some, both_ways, false≢true, FallEvent, Side, A, B, same_side, JoinSyn}
+use Rattle.world_laws.proofs.Words.{JoinAnswer, ControlCall, ControlReply, SendCall, KeptMapping, after_forget_from, Record, is_closed_to_segments, is_dead}
+use Rattle.world_laws.proofs.Words.{Meaning, is_sixth, after_expiry, EndState, EndPhase, Occasion, Outgoing, after_death, after_dropping_held}
+use Rattle.world_laws.proofs.Words.{after_keeping_held, arriving, after_delivery, HeardSegment, PlainSegment, LineAction, Piece, rest_of_turn, emission, leaves}
+use Rattle.world_laws.proofs.Words.{resets, stops, announces, withdraws, start_of_turn, Duty, SendDuty, StepDuty, AskDuty, SilentDuty, Heard, KeyPair, replaced}
+use Rattle.world_laws.proofs.Words.{key_heard, keys_heard, Ask, Reply, tail_of, Codec, stands, ask_for, passed, answered, PathEnd, died, answered_ack_out}
+use Rattle.world_laws.proofs.Words.{after_look, modes_told, after_ack_out, at_tick, PathState, end_at, goes_on, with_end, with_agenda, left, path_of, settled}
+use Rattle.world_laws.proofs.Words.{answers, asks_of, asks_first, takes, begins_turn, hint_of, items_of, owes_by, options_heard, after_judged, asked_in}
+use Rattle.world_laws.proofs.Words.{copy_judged, copy_of, judged_in, reset_for, template_by, template_judged, template_of, with_held, heard_in, copy_heard}
+use Rattle.world_laws.proofs.Words.{reset_of, reset_on, answered_break, refusal_of, break_ask, answered_data, answered_grant, first_unsent, grant_in}
+use Rattle.world_laws.proofs.Words.{answer_occasion, answer_of, dead_answer, resend_occasion, resend_of, Judged, next_event, step_for, after_line, happens_if}
+use Rattle.world_laws.proofs.Words.{join_begun, never_joined, asked_at, is_never, join_taken, keys_begun, opened_by, with_mode_refused, is_joined}
+use Rattle.world_laws.proofs.Words.{join_heard_ask, join_answer, after_timer, template_fired, timer_fired, is_wrong, mapping_here, piece_of, is_placed}
+use Rattle.world_laws.proofs.Words.{answered_piece, forgotten_by, after_keep, after_pieces, is_dropped, after_check, fin_segment_of, having_sent_fin}
+use Rattle.world_laws.proofs.Words.{answered_plain_fin, answered_fin_heard, is_fin_set, after_pass_fin, is_clash, with_learned, with_data_fin, counts}
+use Rattle.world_laws.proofs.Words.{with_skipped, held_of, HeardOption, with_acked, heard_ask, item_ask, answered_heard, answered_item, item_of, item_passed}
+use Rattle.world_laws.proofs.Words.{fell_ask, after_fell, fell_duties, plain_ack_ask, answered_plain_ack, with_plain_ack, breaks_by_ack, may_go_infinite}
+use Rattle.world_laws.proofs.Words.{book_answered, answered_fell, with_infinite, fell_in, is_fall, in_identity, after_keys, peer_key_ask, opened_ask}
+use Rattle.world_laws.proofs.Words.{answered_peer_key, answered_opened, with_peer_key, keys_in, is_stopped_by, with_priority, after_peer_notice, sent_on}
+use Rattle.world_laws.proofs.Words.{answered_in, cleared_in, taken_as, with_answer, Modes}
+use Rattle.path_agenda.specs.Agenda.{breaks}
 use Rattle.path_core.specs.declared.events.Event.{Event}
-use Rattle.path_core.specs.declared.judged.Judged.{Judged}
-use Rattle.path_core.specs.declared.modes.Modes.{Modes}
-use Rattle.path_core.specs.Arrival.{after_judged, asked_in, copy_judged, copy_of, judged_in, reset_for, template_by, template_judged, template_of, with_held, heard_in, copy_heard}
-use Rattle.path_core.specs.Judged.{answered_in, cleared_in, taken_as, with_answer}
-use Rattle.path_core.specs.DssIn.{held_of, HeardOption, with_learned, with_skipped, counts, is_acked, is_clash, with_acked, with_data_fin}
-use Rattle.path_core.specs.OptionsIn.{hint_of, items_of, options_heard, owes_by}
-use Rattle.path_core.specs.Breaking.{break_ask, reset_of, reset_on, answered_break, refusal_of}
-use Rattle.path_core.specs.Codec.{Codec}
-use Rattle.path_core.specs.Duties.{stands, passed, answered, ask_for}
-use Rattle.path_core.specs.Emission.{Grant, grant_in, answered_grant, answered_data, first_unsent, answer_occasion, answer_of, resend_occasion, dead_answer, resend_of}
-use Rattle.path_core.specs.Timer.{after_timer, timer_fired, template_fired}
-use Rattle.path_core.specs.DataFin.{fin_segment_of, having_sent_fin, after_pass_fin, answered_fin_heard, answered_plain_fin, is_fin_set}
-use Rattle.path_core.specs.End.{PathEnd, died}
-use Rattle.path_core.specs.Events.{next_event, step_for, after_line, happens_if}
-use Rattle.path_core.specs.State.{at_tick, PathState, end_at, goes_on, left, path_of, with_agenda, with_end}
-use Rattle.path_core.specs.MpJoin.{join_begun, never_joined, asked_at, is_never, join_heard_ask, join_taken, keys_begun, opened_by, with_mode_refused, is_joined, join_answer}
-use Rattle.path_core.specs.Addresses.{with_priority, after_peer_notice}
-use Rattle.path_store.specs.declared.lines.LineAction.{LineAction}
-use Rattle.path_core.specs.Fallback.{is_fall, fell_ask, fell_in, after_fell, fell_duties, answered_fell, in_identity, may_go_infinite, with_infinite, book_answered, plain_ack_ask, answered_plain_ack, breaks_by_ack, with_plain_ack}
-use Rattle.path_core.specs.MpCapable.{after_keys, keys_in, opened_ask, answered_opened, peer_key_ask, answered_peer_key, with_peer_key}
-use Rattle.path_core.specs.Deliver.{answered_piece, is_placed, piece_of, after_check, after_pieces, mapping_here, is_wrong, forgotten_by, after_keep, is_dropped}
-use Rattle.path_store.specs.Passing.{Piece}
-use Rattle.path_core.specs.Handover.{sent_on}
-use Rattle.path_core.specs.Standing.{after_ack_out, after_look, answered_ack_out, modes_told}
-use Rattle.path_core.specs.Steps.{settled, answers, asks_of, asks_first, takes, begins_turn}
-use Rattle.path_core.specs.Treating.{heard_ask, item_ask, answered_heard, answered_item, item_of, item_passed}
-use Rattle.path_core.specs.FastClose.{is_stopped_by}
+use Rattle.path_core.specs.DssIn.{is_acked}
+use Rattle.path_core.specs.Emission.{Grant}
 use Rattle.world_laws.proofs.Falls.FailedChecks.{check_failed_so, checked_so, fail_heard_so, failed_so, infinite_came_so, infinite_so}
 use Rattle.world_laws.proofs.Falls.Verdicts.{fell_cases}
 use Rattle.world_laws.proofs.Keys.AreDrawn.{Known}

@@ -1,52 +1,16 @@
 -- On a path that joins A asks for no byte of its stream before it may send a DSS there.
-use Rattle.std.proofs.Common.{◌≡◌, refl, sym, ◌∙◌, ap, subst, ℕ, zero, suc, ◌+◌, ◌==◌, nat_lt, nat_le, not, is_some, ◌&&◌, ◌||◌, Bool, true, false, if◌then◌else◌, Option, Some, None, List, [], ◌∷◌, ◌++◌, arith}
-use Rattle.std.proofs.lemmas.Bool.{and_parts, both_ways, false≢true}
-use Rattle.std.proofs.lemmas.Option.{same_Some}
-use Rattle.std.specs.List.{list_any}
-use Rattle.sides.specs.declared.side.Side.{Side}
-use Rattle.sides.specs.declared.side.Side.TheVariants.{A, B}
-use Rattle.key_material.specs.KeyDigest.{token_of}
-use Rattle.control_book.specs.declared.call.ControlCall.{ControlCall}
-use Rattle.control_book.specs.declared.call.ControlReply.{ControlReply}
-use Rattle.control_book.specs.declared.registry.Phase.TheVariants.{Opening}
-use Rattle.control_book.specs.Control.{Control}
-use Rattle.control_book.specs.Registry.{sole as sole_path, with_phase}
+use Rattle.world_laws.proofs.Words.{◌≡◌, refl, sym, ◌∙◌, ap, subst, ℕ, zero, suc, ◌+◌, ◌&&◌, ◌||◌, ◌==◌, not, nat_lt, nat_le, Bool, true, false, if◌then◌else◌}
+use Rattle.world_laws.proofs.Words.{Option, Some, None, List, [], ◌∷◌, ◌++◌, arith, is_some, and_parts, both_ways, false≢true, same_Some, list_any, FallEvent}
+use Rattle.world_laws.proofs.Words.{fall_step, Pass, token_of, Side, A, B, ControlCall, ControlReply, sole_path, with_phase, Control, Opening, Record}
+use Rattle.world_laws.proofs.Words.{may_finish, is_at_limit, start_of_turn, Duty, SendDuty, StepDuty, AskDuty, SilentDuty, Ask, Reply, books_in, after_entry}
+use Rattle.world_laws.proofs.Words.{SixBooks, control_of, reply_of, after_ask, app_ask, Codec, stands, ask_for, PathEnd, waiting_path, PathState, end_at}
+use Rattle.world_laws.proofs.Words.{with_agenda, answers, asks_first, takes, FirstStands, IsSettled, data_stands, first_unsent, data_ask, payload_size, may_ask}
+use Rattle.world_laws.proofs.Words.{may_send_data, keys_begun, is_joined, is_fall, Profile, in_map, Every, Always, PathPlan, Start, path_begins, opened_world}
+use Rattle.world_laws.proofs.Words.{Turn, greatest, world_run, note_of, answer_to, asks_grant}
 use Rattle.control_book.specs.Replies as control
 use Rattle.control_book.specs.Steps as controlling
-use Rattle.subflow_send.specs.Records.{Record}
 use Rattle.subflow_tcp.specs.Sizes.{room}
-use Rattle.subflow_tcp.specs.State.{is_at_limit}
-use Rattle.subflow_tcp.specs.States.{may_finish}
-use Rattle.stream_lanes.specs.Words.{Every}
-use Rattle.actor_desk.specs.declared.ask.Ask.{Ask}
-use Rattle.stamped_book.specs.declared.stamped.Pass.{Pass}
-use Rattle.actor_desk.specs.declared.ask.Reply.{Reply}
-use Rattle.actor_desk.specs.Books.{books_in, after_entry}
-use Rattle.actor_desk.specs.Desk.{SixBooks, reply_of, after_ask, control_of}
-use Rattle.stream_apps.specs.AppSteps.{app_ask}
-use Rattle.path_core.specs.MpJoin.{keys_begun, is_joined}
-use Rattle.stream_lanes.proofs.Lists.{in_map}
-use Rattle.path_agenda.specs.Agenda.{start_of_turn}
-use Rattle.path_agenda.specs.declared.duty.Duty.{Duty}
-use Rattle.path_agenda.specs.declared.duty.AskDuty.{AskDuty}
-use Rattle.path_agenda.specs.declared.duty.SendDuty.{SendDuty}
-use Rattle.path_agenda.specs.declared.duty.SilentDuty.{SilentDuty}
-use Rattle.path_agenda.specs.declared.duty.StepDuty.{StepDuty}
-use Rattle.path_core.specs.Codec.{Codec}
-use Rattle.path_core.specs.Duties.{stands, ask_for}
-use Rattle.path_core.specs.Emission.{first_unsent, payload_size, may_send_data, may_ask, data_stands, data_ask}
-use Rattle.path_core.specs.End.{PathEnd}
-use Rattle.path_core.specs.Start.{waiting_path}
-use Rattle.path_core.specs.State.{PathState, with_agenda, end_at}
-use Rattle.path_core.specs.Profile.{Profile}
-use Rattle.path_core.specs.Steps.{answers, asks_first, takes}
-use Rattle.path_core.specs.Turns.{FirstStands, IsSettled}
 use Rattle.world_laws.specs.JoinsWait.{asks_for_a, WaitsSo, JoinsWait}
-use Rattle.world_laws.specs.Laws.{Always}
-use Rattle.world_laws.specs.Openings.{PathPlan, Start, path_begins, opened_world}
-use Rattle.world_laws.specs.RoundEnd.{asks_grant}
-use Rattle.world_laws.specs.StampedBooks.{answer_to}
-use Rattle.world_laws.specs.Worlds.{Turn, note_of, greatest, world_run}
 use Rattle.world_laws.proofs.Lanes.Applying.{any_more}
 use Rattle.world_laws.proofs.Worlds.CastLifting.{Has, turns_have, each_actor, Stepwise}
 use Rattle.world_laws.proofs.Joins.AwakeAfterBegun.{Awake, CallSo, So, takes_awake, begins_awake, more_awake}
@@ -60,9 +24,6 @@ use Rattle.world_laws.proofs.Worlds.Settled.{settled_settled}
 use Rattle.world_laws.proofs.Rounds.Frame.{takes_keeps, first_keeps}
 use Rattle.world_laws.proofs.Rounds.GrantAtOneDuty.{MayNotAsk, ask_isn't, asks_none}
 use Rattle.world_laws.proofs.Keys.ToldAreOwn.{FellBack, fell_stays}
-use Rattle.fallback_state.specs.Table.{fall_step}
-use Rattle.fallback_state.specs.declared.fall.Event.{Event as FallEvent}
-use Rattle.path_core.specs.Fallback.{is_fall}
 
 -- ---- what a path asks
 

@@ -1,80 +1,32 @@
 -- What the ends of a path that joins are, and its copies: A's end never has the peer's SYN before its own was answered, and B's never
 -- opens; a SYN that shows options shows an MP_JOIN.
-use Rattle.std.proofs.Common.{◌≡◌, refl, sym, ◌∙◌, ap, subst, ℕ, ◌+◌, ◌-◌, Bool, true, false, if◌then◌else◌, Option, Some, None, List, [], position}
-use Rattle.std.proofs.lemmas.Bool.{both_ways, false≢true}
-use Rattle.sides.specs.declared.side.Side.{Side}
-use Rattle.sides.specs.declared.side.Side.TheVariants.{A, B}
-use Rattle.sides.specs.Side.{peer}
-use Rattle.dss_mapping.specs.declared.kept.KeptMapping.{KeptMapping}
-use Rattle.link_model.specs.declared.flight.Flight.{Flight}
-use Rattle.link_model.specs.Fate.{is_stripped, is_altered, fate_of}
-use Rattle.link_model.specs.Steps.{is_due, arriving, arrivals, changed, next_number, without, after_delivery}
-use Rattle.path_segments.specs.Spelled.{PlainSegment}
-use Rattle.path_segments.specs.Heard.{HeardSegment}
-use Rattle.join_handshake.specs.declared.hearing.JoinSyn.{JoinSyn}
-use Rattle.subflow_recv.specs.Receiving.{after_forget_from}
-use Rattle.subflow_send.specs.Records.{Record}
-use Rattle.subflow_tcp.specs.declared.handshake.State.{State as EndPhase}
-use Rattle.subflow_tcp.specs.declared.segments.Occasion.{Occasion}
-use Rattle.subflow_tcp.specs.declared.segments.Outgoing.{Outgoing}
-use Rattle.subflow_tcp.specs.Emitting.{after_sending}
-use Rattle.subflow_tcp.specs.Expiring.{is_sixth, after_expiry}
-use Rattle.subflow_tcp.specs.Opening.{after_begin}
-use Rattle.subflow_tcp.specs.State.{EndState, has_records}
-use Rattle.subflow_tcp.specs.States.{is_dead, is_waiting}
-use Rattle.subflow_tcp.specs.Taking.{after_death, after_dropping_held, after_keeping_held, after_syn, unkept}
-use Rattle.subflow_tcp.specs.Closing.{is_fin_next, after_passing_fin}
-use Rattle.fallback_state.specs.declared.fall.Event.{Event as FallEvent}
-use Rattle.stream_lanes.specs.Words.{Every}
-use Rattle.stream_lanes.proofs.Lists.{Every-nil}
-use Rattle.actor_desk.specs.declared.ask.Reply.{Reply}
-use Rattle.actor_desk.specs.Words.{tail_of}
-use Rattle.path_agenda.specs.Agenda.{emission, leaves, resets, rest_of_turn, stops, announces, withdraws}
-use Rattle.path_agenda.specs.Words.{replaced, first_of}
-use Rattle.path_agenda.specs.declared.duty.Duty.{Duty}
-use Rattle.path_agenda.specs.declared.duty.AskDuty.{AskDuty}
-use Rattle.path_agenda.specs.declared.duty.SendDuty.{SendDuty}
-use Rattle.path_agenda.specs.declared.duty.SilentDuty.{SilentDuty}
-use Rattle.path_agenda.specs.declared.duty.StepDuty.{StepDuty}
-use Rattle.path_agenda.specs.declared.heard.Heard.{Heard}
-use Rattle.path_agenda.specs.declared.keys.KeyPair.{KeyPair}
-use Rattle.path_core.specs.FastClose.{is_stopped_by}
+use Rattle.world_laws.proofs.Words.{◌≡◌, refl, sym, ◌∙◌, ap, subst, ℕ, ◌+◌, ◌-◌, Bool, true, false, if◌then◌else◌, Option, Some, None, List, [], position}
+use Rattle.world_laws.proofs.Words.{both_ways, false≢true, FallEvent, Side, A, B, peer, JoinSyn, KeptMapping, after_forget_from, Record, is_dead, is_waiting}
+use Rattle.world_laws.proofs.Words.{is_sixth, after_expiry, after_sending, EndState, has_records, EndPhase, Occasion, Outgoing, after_death}
+use Rattle.world_laws.proofs.Words.{after_dropping_held, after_keeping_held, after_syn, unkept, after_begin, is_fin_next, after_passing_fin, is_due, arriving}
+use Rattle.world_laws.proofs.Words.{arrivals, changed, next_number, without, after_delivery, Flight, is_stripped, is_altered, fate_of, LinkState, HeardSegment}
+use Rattle.world_laws.proofs.Words.{PlainSegment, LineAction, rest_of_turn, emission, leaves, resets, stops, announces, withdraws, Duty, SendDuty, StepDuty}
+use Rattle.world_laws.proofs.Words.{OwnNotice, AskDuty, SilentDuty, Heard, KeyPair, replaced, first_of, Reply, tail_of, passed, answered, PathEnd, died}
+use Rattle.world_laws.proofs.Words.{answered_ack_out, after_ack_out, at_tick, PathState, end_at, goes_on, with_end, with_agenda, left, takes, begins_turn}
+use Rattle.world_laws.proofs.Words.{Carried, as_arrived, carried_by, stripped, altered, values, hint_of, items_of, owes_by, options_heard, after_judged}
+use Rattle.world_laws.proofs.Words.{copy_judged, copy_of, judged_in, reset_for, template_of, heard_in, copy_heard, heard_at, reset_of, reset_on, answered_break}
+use Rattle.world_laws.proofs.Words.{refusal_of, died_unless_dead, answered_data, answered_grant, first_unsent, grant_in, answer_occasion, answer_of}
+use Rattle.world_laws.proofs.Words.{dead_answer, resend_occasion, resend_of, first_record, Judged, next_event, after_line, happens_if, join_begun, never_joined}
+use Rattle.world_laws.proofs.Words.{asked_at, is_listening, is_never, join_taken, joined_by, keys_begun, opened_by, syn_alone, with_mode_refused, is_joined}
+use Rattle.world_laws.proofs.Words.{after_timer, template_fired, timer_fired, is_wrong, mapping_here, forgotten_by, after_keep, after_pieces, is_dropped}
+use Rattle.world_laws.proofs.Words.{after_check, is_data_fin_owed, fin_segment_of, having_sent_fin, after_pass_fin, is_clash, with_learned, with_data_fin}
+use Rattle.world_laws.proofs.Words.{counts, with_skipped, held_of, with_acked, with_data_ack, answered_heard, answered_item, item_of, item_passed, after_fell}
+use Rattle.world_laws.proofs.Words.{fell_duties, answered_plain_ack, with_plain_ack, breaks_by_ack, answered_fell, with_infinite, after_keys, is_stopped_by}
+use Rattle.world_laws.proofs.Words.{with_priority, after_peer_notice, reset_options, ack_said, carried_said, syn_ack_said, record_or_ack, noted_said, Profile}
+use Rattle.world_laws.proofs.Words.{having_sent, sent_on, taken_as, Treated, Every-nil, Every, EndWrites, Only, Writes, OnlyAt, EndView, PathView, writes}
+use Rattle.world_laws.proofs.Words.{side_of, copy_said}
 use Rattle.path_core.specs.declared.events.Event.{Event}
-use Rattle.path_core.specs.declared.judged.Judged.{Judged}
-use Rattle.path_core.specs.Arrival.{after_judged, copy_judged, copy_of, judged_in, reset_for, template_of, heard_at, heard_in, copy_heard}
-use Rattle.path_core.specs.DssIn.{held_of, with_learned, with_skipped, counts, is_clash, with_acked, with_data_fin, with_data_ack}
-use Rattle.path_core.specs.OptionsIn.{hint_of, items_of, options_heard, owes_by}
-use Rattle.path_core.specs.Judged.{taken_as}
-use Rattle.path_core.specs.Breaking.{reset_of, reset_on, answered_break, died_unless_dead, refusal_of}
-use Rattle.path_core.specs.DataFin.{is_data_fin_owed, fin_segment_of, having_sent_fin, after_pass_fin}
-use Rattle.path_core.specs.Duties.{passed, answered}
-use Rattle.path_core.specs.Emission.{Grant, grant_in, answered_grant, answered_data, first_unsent, answer_occasion, answer_of, resend_occasion, dead_answer, first_record, resend_of}
-use Rattle.path_core.specs.Timer.{after_timer, timer_fired, template_fired}
-use Rattle.path_core.specs.End.{PathEnd, died}
-use Rattle.path_core.specs.Treated.{Treated}
-use Rattle.path_core.specs.Events.{next_event, after_line, happens_if}
-use Rattle.path_core.specs.State.{at_tick, PathState, end_at, goes_on, left, with_agenda, with_end}
-use Rattle.path_core.specs.MpJoin.{join_begun, never_joined, asked_at, is_listening, is_never, join_taken, joined_by, keys_begun, opened_by, syn_alone, with_mode_refused, is_joined}
-use Rattle.path_core.specs.Addresses.{with_priority, after_peer_notice}
-use Rattle.path_store.specs.declared.lines.LineAction.{LineAction}
-use Rattle.path_core.specs.Fallback.{after_fell, fell_duties, answered_fell, answered_plain_ack, breaks_by_ack, with_plain_ack, with_infinite}
-use Rattle.path_core.specs.MpCapable.{after_keys}
-use Rattle.path_core.specs.Deliver.{after_check, after_pieces, mapping_here, is_wrong, forgotten_by, after_keep, is_dropped}
-use Rattle.path_core.specs.OptionsOut.{ack_said, carried_said, reset_options, record_or_ack, syn_ack_said, noted_said}
-use Rattle.path_core.specs.Handover.{having_sent, sent_on}
-use Rattle.path_core.specs.Standing.{after_ack_out, answered_ack_out}
-use Rattle.path_core.specs.Profile.{Profile}
-use Rattle.path_core.specs.Steps.{takes, begins_turn}
-use Rattle.path_core.specs.Treating.{answered_heard, answered_item, item_of, item_passed}
-use Rattle.path_core.specs.Values.{Carried, as_arrived, carried_by, stripped, altered, values}
-use Rattle.path_agenda.specs.declared.notice.OwnNotice.{OwnNotice}
+use Rattle.path_core.specs.Emission.{Grant}
 use Rattle.world_laws.proofs.Keys.Held.{in_removed}
 use Rattle.world_laws.proofs.Keys.WhatWakes.{WakesNone, joined_wakes_none}
 use Rattle.world_laws.proofs.Keys.AnswerHeardFirst.{is_apart, finish_apart, passed_apart, apart_stays, arrived_state, TellsKey, no_syn, record_or_ack_tells, syn_ack_tells, IsNoSyn, reset_answers, outgoing_tells}
 use Rattle.world_laws.proofs.Lanes.Saying.{flights_kept}
 use Rattle.world_laws.proofs.Falls.FailedChecks.{infinite_came_so, fail_answered_so}
-use Rattle.link_model.specs.State.{LinkState}
-use Rattle.world_laws.specs.Writes.{EndWrites, EndView, Only, Writes, OnlyAt, PathView, copy_said, writes, side_of}
 use Rattle.world_laws.proofs.Writes.Paths.{writes_no_more}
 use Rattle.world_laws.proofs.Writes.Steps.{Lasts, both_ends, unwritten, takes_lasts, begins_lasts}
 

@@ -1,66 +1,21 @@
 -- No step is answered that a token isn't that of the book's key, or that an HMAC is wrong, whatever is stripped: A's book has B's key
 -- as soon as it is sure, so each join begins with it.
-use Rattle.std.proofs.Common.{◌≡◌, refl, sym, ◌∙◌, ap, subst, inl, inr, ◌⊎◌, ⊎_elim, ℕ, zero, suc, ◌+◌, ◌==◌, ◌&&◌, ◌||◌, not, is_some, is_none, arith, Bool, true, false, if◌then◌else◌, Option, Some, None, List, [], ◌∷◌, map}
-use Rattle.std.proofs.lemmas.Bool.{and_parts, both_ways, false≢true, or_right, lt-ltb}
-use Rattle.std.proofs.lemmas.Option.{same_Some}
-use Rattle.std.specs.List.{slice_get}
-use Rattle.std.specs.Option.{IfSome}
-use Rattle.sides.specs.declared.side.Side.{Side}
-use Rattle.sides.specs.declared.side.Side.TheVariants.{A, B}
-use Rattle.key_material.specs.declared.address.Address.{Address}
+use Rattle.world_laws.proofs.Words.{◌≡◌, refl, sym, ◌∙◌, ap, subst, ℕ, zero, suc, ◌+◌, ◌&&◌, ◌||◌, ◌==◌, not, inl, inr, ◌⊎◌, ⊎_elim, Bool, true, false}
+use Rattle.world_laws.proofs.Words.{if◌then◌else◌, Option, Some, None, List, [], ◌∷◌, map, arith, is_none, is_some, lt-ltb, and_parts, both_ways, false≢true}
+use Rattle.world_laws.proofs.Words.{or_right, same_Some, slice_get, IfSome, Verdict, Mode, FallEvent, is_identity, is_starting, reads_mappings, receiving}
+use Rattle.world_laws.proofs.Words.{sending, writes_mappings, Fall, after_plain, is_failed_path, goes, fall_step, Stay, SendFail, heard_reply, Address, Side, A}
+use Rattle.world_laws.proofs.Words.{B, ControlCall, ControlReply, Notice, sole_path, with_phase, Control, Opening, Duty, StepDuty, AskDuty, Heard, KeyPair}
+use Rattle.world_laws.proofs.Words.{key_heard, keys_heard, Ask, Reply, books_in, SixBooks, reply_of, after_ask, is_nil, AppDuty, AppState, app_asks_first}
+use Rattle.world_laws.proofs.Words.{ask_for, ack_out_ask, waiting_path, PathState, end_at, asks_of, asks_first, Carried, values, reset_of, break_ask, is_joined}
+use Rattle.world_laws.proofs.Words.{is_clash, mapping_ask, item_ask, item_of, fell_ask, plain_ack_ask, breaks_by_ack, peer_key_ask, opened_ask, sends, in_map}
+use Rattle.world_laws.proofs.Words.{in_set, Every, App, Path, Actor, ActorCrew, member_asks, member_takes, member_next, is_over, Always, PathPlan, Start}
+use Rattle.world_laws.proofs.Words.{path_begins, new_path, opened_world, WorldState, Turn, crew_after, asked, stepped, world_step, all_over, greatest, begins}
+use Rattle.world_laws.proofs.Words.{end_round, after_turn, world_run, JoinsAreRight, tells_wrong_join, May, may, asking}
 use Rattle.address_manager.specs.declared.manager.Heard.{Heard as AddressHeard}
-use Rattle.address_manager.specs.Steps.{heard_reply}
-use Rattle.control_book.specs.declared.call.ControlCall.{ControlCall}
-use Rattle.control_book.specs.declared.call.ControlReply.{ControlReply}
-use Rattle.control_book.specs.declared.call.Notice.{Notice}
-use Rattle.control_book.specs.declared.registry.Phase.TheVariants.{Opening}
-use Rattle.control_book.specs.Control.{Control}
-use Rattle.control_book.specs.Registry.{sole as sole_path, with_phase}
 use Rattle.control_book.specs.SameAddress.{is_same}
 use Rattle.control_book.specs.Replies as control
 use Rattle.control_book.specs.Steps as controlling
-use Rattle.stream_lanes.specs.Words.{Every}
-use Rattle.stream_lanes.proofs.Lists.{in_set, in_map}
-use Rattle.actor_desk.specs.declared.ask.Ask.{Ask}
-use Rattle.actor_desk.specs.declared.ask.Reply.{Reply}
-use Rattle.actor_desk.specs.Words.{is_nil}
-use Rattle.actor_desk.specs.Books.{books_in}
-use Rattle.actor_desk.specs.Desk.{SixBooks, reply_of, after_ask}
-use Rattle.stream_apps.specs.declared.duty.AppDuty.{AppDuty}
-use Rattle.stream_apps.specs.Apps.{AppState}
-use Rattle.stream_apps.specs.AppSteps.{app_asks_first}
-use Rattle.path_agenda.specs.Items.{key_heard, keys_heard}
-use Rattle.path_agenda.specs.declared.duty.Duty.{Duty}
-use Rattle.path_agenda.specs.declared.duty.AskDuty.{AskDuty}
-use Rattle.path_agenda.specs.declared.duty.StepDuty.{StepDuty}
-use Rattle.path_agenda.specs.declared.heard.Heard.{Heard}
-use Rattle.path_agenda.specs.declared.keys.KeyPair.{KeyPair}
-use Rattle.path_core.specs.Breaking.{break_ask, reset_of}
-use Rattle.path_core.specs.Duties.{ask_for}
-use Rattle.path_core.specs.MpJoin.{is_joined}
-use Rattle.path_core.specs.MpCapable.{peer_key_ask, opened_ask}
-use Rattle.path_core.specs.Handover.{sends}
-use Rattle.path_core.specs.Standing.{ack_out_ask}
-use Rattle.path_core.specs.Start.{waiting_path}
-use Rattle.path_core.specs.State.{PathState, end_at}
-use Rattle.path_core.specs.Steps.{asks_first, asks_of}
-use Rattle.path_core.specs.Fallback.{breaks_by_ack, plain_ack_ask, fell_ask}
-use Rattle.path_core.specs.DssIn.{is_clash, mapping_ask}
-use Rattle.path_core.specs.Treating.{item_ask, item_of}
-use Rattle.fallback_state.specs.declared.fall.Event.{Event as FallEvent}
-use Rattle.fallback_state.specs.declared.fall.Fall.{Fall}
-use Rattle.fallback_state.specs.declared.fall.Mode.{Mode}
-use Rattle.fallback_state.specs.declared.fall.Verdict.{Verdict}
-use Rattle.fallback_state.specs.declared.fall.Verdict.TheVariants.{Stay, SendFail}
-use Rattle.fallback_state.specs.Modes.{is_starting, is_identity, reads_mappings, writes_mappings, receiving, sending}
-use Rattle.fallback_state.specs.Table.{after_plain, is_failed_path, goes, stays, breaks, fall_step}
-use Rattle.path_core.specs.Values.{Carried, values}
-use Rattle.world_laws.specs.declared.member.Member.TheVariants.{App, Path}
-use Rattle.world_laws.specs.Actors.{Actor, ActorCrew, is_over, member_asks, member_takes, member_next}
-use Rattle.world_laws.specs.Openings.{PathPlan, Start, path_begins, new_path, opened_world}
-use Rattle.world_laws.specs.Laws.{Always}
-use Rattle.world_laws.specs.Promises.{JoinsAreRight, tells_wrong_join}
-use Rattle.world_laws.specs.Worlds.{WorldState, Turn, crew_after, asked, stepped, world_step, all_over, greatest, begins, end_round, after_turn, world_run}
+use Rattle.fallback_state.specs.Table.{stays, breaks}
 use Rattle.world_laws.proofs.Weaving.Journals.{books_after}
 use Rattle.world_laws.proofs.Falls.WhereASideStands.{Fallen, event_falls}
 use Rattle.world_laws.proofs.Keys.AnswerHeardFirst.{is_sign_duty, signs}
@@ -73,7 +28,6 @@ use Rattle.world_laws.proofs.Rounds.Frame.{takes_keeps, first_keeps}
 use Rattle.world_laws.proofs.Keys.ToldAreOwn.{MemberIs, WorldIs, KeysAsk, member_asks_are, turn_keys, opened_keys, joins_untold}
 use Rattle.world_laws.proofs.Worlds.Opened.{opened_actors}
 use Rattle.world_laws.proofs.Promises.NoSuchNote.{NoneTold, from_each, turn_none, opened_none}
-use Rattle.world_laws.specs.Asking.{May, may, asking}
 use Rattle.world_laws.proofs.Writes.Asks.{asks_no_more}
 
 -- ---- who tells a sign

@@ -1,59 +1,18 @@
 -- No copy that arrives on a path that joins is refused for what it says, unless its options were taken away.
-use Rattle.std.proofs.Common.{◌≡◌, refl, sym, ◌∙◌, ap, subst, ⊎_elim, ℕ, zero, suc, ◌+◌, map, ◌&&◌, ◌==◌, not, is_some, is_none, Bool, true, false, if◌then◌else◌, unwrap_or, Option, Some, None, Ok, Err, List, [], ◌∷◌}
-use Rattle.std.proofs.lemmas.Bool.{and_parts, both_ways, eq-eqb, not-true, false≢true}
-use Rattle.std.proofs.lemmas.Option.{same_Some}
-use Rattle.std.specs.List.{flat_map, slice_get}
+use Rattle.world_laws.proofs.Words.{◌≡◌, refl, sym, ◌∙◌, ap, subst, ℕ, zero, suc, ◌+◌, ◌&&◌, ◌==◌, not, ⊎_elim, Bool, true, false, if◌then◌else◌, Option, Some}
+use Rattle.world_laws.proofs.Words.{None, Ok, Err, List, [], ◌∷◌, map, is_none, is_some, unwrap_or, eq-eqb, and_parts, both_ways, false≢true, not-true}
+use Rattle.world_laws.proofs.Words.{same_Some, slice_get, flat_map, IfSome, option_or, result_ok, join_a160_of, join_b64_of, Side, A, B, peer, same_side}
+use Rattle.world_laws.proofs.Words.{JoinForm, Answer, Third, JoinAnswer, BadHmac, answer_heard, answer_taken, syn_heard, third_heard, is_closed_to_segments}
+use Rattle.world_laws.proofs.Words.{is_half_open, Meaning, EndState, EndPhase, is_syn_alone, meaning_at, meaning_of, Copy, is_due, arriving, Flight}
+use Rattle.world_laws.proofs.Words.{HeardSegment, PlainOption, PlainSegment, Join, meant, meant_option, window_told, Heard, is_of_step, join_in, join_heard}
+use Rattle.world_laws.proofs.Words.{JoinStep, Ask, Reply, books_in, SixBooks, reply_of, is_nil, PathEnd, waiting_path, PathState, end_at, Carried, as_arrived}
+use Rattle.world_laws.proofs.Words.{values, items_in, items_of, copy_of, judged_in, heard_in, Judged, is_joined, join_answer, join_asked, peer_key_of}
+use Rattle.world_laws.proofs.Words.{join_value, is_hmac_right, is_third_right, third_in, is_forged, is_passed_over, join_judged, in_map, Every-nil, in_set}
+use Rattle.world_laws.proofs.Words.{Every, App, Path, Actor, ActorCrew, member_asks, member_takes, member_next, Always, PathPlan, Start, path_begins, new_path}
+use Rattle.world_laws.proofs.Words.{opened_world, WorldState, Turn, crew_after, asked, stepped, all_over, greatest, begins, after_turn, world_run}
 use Rattle.std.specs.Cmp.Lexicographic.{pointwise}
-use Rattle.std.specs.Option.{IfSome, option_or}
-use Rattle.std.specs.Result.{result_ok}
-use Rattle.sides.specs.declared.side.Side.{Side}
-use Rattle.sides.specs.declared.side.Side.TheVariants.{A, B}
-use Rattle.sides.specs.Side.{peer}
-use Rattle.key_material.specs.JoinHmac.{join_a160_of, join_b64_of}
-use Rattle.link_script.specs.Places.{same_side}
-use Rattle.link_model.specs.declared.flight.Flight.{Flight}
-use Rattle.link_model.specs.Steps.{is_due, arriving}
-use Rattle.mptcp_options.specs.declared.join.JoinForm.{JoinForm}
-use Rattle.mptcp_options.specs.declared.join.JoinForm.TheVariants.{Syn, Answer, Third}
-use Rattle.join_handshake.specs.declared.hearing.JoinAnswer.{JoinAnswer}
-use Rattle.join_handshake.specs.declared.fault.JoinFault.TheVariants.{BadHmac}
-use Rattle.join_handshake.specs.Heard.{answer_heard, answer_taken, syn_heard, third_heard}
-use Rattle.path_segments.specs.declared.segment.PathOption.TheVariants.{Join}
-use Rattle.path_segments.specs.Laws.{meant, window_told, meant_option}
-use Rattle.path_segments.specs.Spelled.{PlainSegment}
-use Rattle.subflow_tcp.specs.declared.handshake.State.{State as EndPhase}
-use Rattle.subflow_tcp.specs.declared.verdicts.Meaning.{Meaning}
-use Rattle.subflow_tcp.specs.Judging.{is_syn_alone, meaning_at, meaning_of}
-use Rattle.subflow_tcp.specs.Segments.{Copy}
-use Rattle.subflow_tcp.specs.State.{EndState}
-use Rattle.subflow_tcp.specs.States.{is_closed_to_segments, is_half_open}
-use Rattle.stream_lanes.specs.Words.{Every}
-use Rattle.path_agenda.specs.Items.{is_of_step, join_heard, join_in}
-use Rattle.path_agenda.specs.declared.heard.Heard.{Heard}
-use Rattle.path_agenda.specs.declared.heard.JoinStep.{JoinStep}
-use Rattle.path_core.specs.declared.judged.Judged.{Judged}
-use Rattle.path_core.specs.Arrival.{copy_of, judged_in, heard_in}
-use Rattle.path_core.specs.Judged.{is_forged, is_passed_over, join_judged}
-use Rattle.path_core.specs.OptionsIn.{items_in, items_of}
-use Rattle.path_core.specs.End.{PathEnd}
-use Rattle.path_core.specs.MpJoin.{is_joined, is_hmac_right, is_third_right, join_answer, join_asked, join_value, peer_key_of, third_in}
-use Rattle.path_core.specs.State.{PathState, end_at}
-use Rattle.path_core.specs.Values.{Carried, as_arrived, values}
-use Rattle.actor_desk.specs.declared.ask.Ask.{Ask}
-use Rattle.actor_desk.specs.declared.ask.Reply.{Reply}
-use Rattle.actor_desk.specs.Books.{books_in}
-use Rattle.actor_desk.specs.Desk.{SixBooks, reply_of}
-use Rattle.actor_desk.specs.Words.{is_nil}
-use Rattle.path_segments.specs.Options.{PlainOption}
-use Rattle.path_segments.specs.Heard.{HeardSegment}
-use Rattle.stream_lanes.proofs.Lists.{Every-nil, in_set, in_map}
-use Rattle.world_laws.specs.declared.member.Member.TheVariants.{App, Path}
-use Rattle.world_laws.specs.Actors.{Actor, ActorCrew, member_asks, member_takes, member_next}
-use Rattle.world_laws.specs.Laws.{Always}
-use Rattle.world_laws.specs.Openings.{PathPlan, Start, path_begins, new_path, opened_world}
-use Rattle.path_core.specs.Start.{waiting_path}
+use Rattle.mptcp_options.specs.declared.join.JoinForm.TheVariants.{Syn}
 use Rattle.world_laws.specs.Welcome.{IsWelcome, NextIsWelcome, WelcomesNext, EachCopyIsWelcome}
-use Rattle.world_laws.specs.Worlds.{WorldState, Turn, crew_after, asked, stepped, all_over, greatest, begins, after_turn, world_run}
 use Rattle.world_laws.proofs.Joins.TokensAgree.{WorldMet, run_met, opened_met}
 use Rattle.world_laws.proofs.Keys.ToldAreOwn.{Joined, NoMore, Past, MemberIs, with_nonces}
 use Rattle.world_laws.proofs.Worlds.Opened.{opened_actors}

@@ -1,51 +1,18 @@
 -- The states of A's end of path 0: as soon as A hears a sign of B that may make its side sure, B's answer to the SYN was heard. And
 -- what the SYNs of a path that joins show.
-use Rattle.std.proofs.Common.{◌≡◌, refl, sym, ◌∙◌, ap, ℕ, zero, suc, ◌+◌, ◌&&◌, ◌||◌, ◌==◌, nat_lt, nat_le, is_some, not, Bool, true, false, if◌then◌else◌, Option, Some, None, List, [], ◌∷◌, subst}
-use Rattle.std.proofs.lemmas.Bool.{and_parts, and_from, both_ways, or_right, false≢true}
-use Rattle.std.specs.List.{list_all, list_any}
-use Rattle.std.specs.Option.{IfSome}
-use Rattle.sides.specs.declared.side.Side.{Side}
-use Rattle.sides.specs.declared.side.Side.TheVariants.{A, B}
-use Rattle.sides.specs.Side.{peer}
-use Rattle.path_segments.specs.Laws.{meant}
-use Rattle.path_segments.specs.Options.{PlainOption}
-use Rattle.path_segments.specs.declared.segment.PathOption.TheVariants.{Join}
+use Rattle.world_laws.proofs.Words.{◌≡◌, refl, sym, ◌∙◌, ap, subst, ℕ, zero, suc, ◌+◌, ◌&&◌, ◌||◌, ◌==◌, not, nat_lt, nat_le, Bool, true, false, if◌then◌else◌}
+use Rattle.world_laws.proofs.Words.{Option, Some, None, List, [], ◌∷◌, is_some, and_parts, and_from, both_ways, false≢true, or_right, list_any, list_all}
+use Rattle.world_laws.proofs.Words.{IfSome, Side, A, B, peer, Record, RecordKind, AckKind, after_acknowledge, ack_kind, sample_of, is_half_open, Meaning}
+use Rattle.world_laws.proofs.Words.{syn_ack_segment, reset_segment, is_syn, record_segment, EndState, is_at_limit, EndPhase, Outgoing, is_fin_acked}
+use Rattle.world_laws.proofs.Words.{after_ack_kind, after_acknowledgement, is_duplicate, after_duplicate, after_interruption, told_by, after_payload}
+use Rattle.world_laws.proofs.Words.{after_hearing, after_established, after_taken, after_arrival, is_syn_alone, is_repeated_syn, is_acceptable, meaning_outside}
+use Rattle.world_laws.proofs.Words.{meaning_acknowledging, meaning_within, meaning_placed, meaning_connected, meaning_answer, meaning_answering}
+use Rattle.world_laws.proofs.Words.{meaning_opening, meaning_at, Copy, Hint, HeardSegment, PlainOption, PlainSegment, Join, meant, heard_and, payload_came}
+use Rattle.world_laws.proofs.Words.{copy_came, Duty, StepDuty, AskDuty, replaced, join_heard, JoinStep, tail_of, is_nil, PathEnd, items_of, reset_for}
+use Rattle.world_laws.proofs.Words.{template_judged, owing_if, with_payload, outgoing_or, Judged, is_joined, join_options, capable_options, syn_options}
+use Rattle.world_laws.proofs.Words.{record_options, segment_of, ack_said, record_said, syn_ack_said, record_or_ack, Profile, taken_as, is_side_a}
 use Rattle.mptcp_options.specs.declared.join.JoinForm.TheVariants.{Syn as JoinSyn}
-use Rattle.subflow_tcp.specs.Emitting.{is_syn, record_segment, reset_segment, syn_ack_segment}
-use Rattle.path_segments.specs.Spelled.{PlainSegment}
-use Rattle.path_segments.specs.Heard.{HeardSegment}
-use Rattle.subflow_send.specs.declared.record.RecordKind.{RecordKind}
-use Rattle.subflow_send.specs.Records.{Record}
-use Rattle.subflow_tcp.specs.declared.handshake.State.{State as EndPhase}
-use Rattle.subflow_tcp.specs.declared.segments.Hint.{Hint}
-use Rattle.subflow_tcp.specs.declared.segments.Outgoing.{Outgoing}
-use Rattle.subflow_tcp.specs.declared.verdicts.Meaning.{Meaning}
-use Rattle.subflow_tcp.specs.Judging.{is_syn_alone, is_acceptable, is_repeated_syn, meaning_acknowledging, meaning_outside, meaning_placed, meaning_within, meaning_answer, meaning_answering, meaning_opening, meaning_connected, meaning_at}
-use Rattle.subflow_tcp.specs.Segments.{Copy}
-use Rattle.subflow_tcp.specs.State.{EndState, is_at_limit}
 use Rattle.subflow_tcp.specs.States as states
-use Rattle.subflow_tcp.specs.States.{is_half_open}
-use Rattle.subflow_tcp.specs.Taking.{after_arrival, is_fin_acked, after_acknowledgement, after_ack_kind, after_hearing, after_payload, after_established, after_duplicate, after_interruption, is_duplicate, told_by, after_taken}
-use Rattle.subflow_send.specs.declared.record.AckKind.{AckKind}
-use Rattle.subflow_send.specs.Rules.{ack_kind, after_acknowledge, sample_of}
-use Rattle.actor_desk.specs.Words.{is_nil, tail_of}
-use Rattle.path_agenda.specs.Agenda.{heard_and, payload_came, copy_came}
-use Rattle.path_agenda.specs.Items.{join_heard}
-use Rattle.path_agenda.specs.Words.{replaced}
-use Rattle.path_agenda.specs.declared.duty.Duty.{Duty}
-use Rattle.path_agenda.specs.declared.duty.AskDuty.{AskDuty}
-use Rattle.path_agenda.specs.declared.duty.StepDuty.{StepDuty}
-use Rattle.path_core.specs.declared.judged.Judged.{Judged}
-use Rattle.path_core.specs.OptionsIn.{items_of}
-use Rattle.path_core.specs.Arrival.{owing_if, reset_for, template_judged, with_payload}
-use Rattle.path_core.specs.Judged.{taken_as}
-use Rattle.path_core.specs.End.{PathEnd}
-use Rattle.path_core.specs.MpJoin.{is_joined, join_options}
-use Rattle.path_core.specs.Emission.{outgoing_or}
-use Rattle.path_core.specs.OptionsOut.{ack_said, capable_options, record_options, record_or_ack, record_said, segment_of, syn_ack_said, syn_options}
-use Rattle.path_core.specs.Profile.{Profile}
-use Rattle.path_core.specs.Choices.{is_side_a}
-use Rattle.path_agenda.specs.declared.heard.JoinStep.{JoinStep}
 use Rattle.world_laws.proofs.Keys.WhatWakes.{is_opens, is_lively}
 
 -- ---- states

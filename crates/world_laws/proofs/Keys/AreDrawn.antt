@@ -1,49 +1,23 @@
 -- The keys and nonces that an end keeps, hears and shows are those that were drawn.
-use Rattle.std.proofs.Common.{◌≡◌, refl, sym, ◌∙◌, ap, subst, ℕ, suc, ◌-◌, not, ◌||◌, ◌&&◌, nat_lt, nat_le, is_some, unwrap_or, Bool, true, false, if◌then◌else◌, Option, Some, None, List, [], ◌∷◌, map, ◌^◌}
-use Rattle.std.specs.List.{flat_map}
-use Rattle.std.specs.Option.{IfSome, option_map}
-use Rattle.sides.specs.declared.side.Side.{Side}
-use Rattle.sides.specs.declared.side.Side.TheVariants.{A, B}
-use Rattle.sides.specs.Side.{peer}
+use Rattle.world_laws.proofs.Words.{◌≡◌, refl, sym, ◌∙◌, ap, subst, ℕ, suc, ◌-◌, ◌&&◌, ◌||◌, not, nat_lt, nat_le, Bool, true, false, if◌then◌else◌, Option}
+use Rattle.world_laws.proofs.Words.{Some, None, List, [], ◌∷◌, map, is_some, ◌^◌, unwrap_or, flat_map, IfSome, Address, token_of, join_a160_of, join_b64_of}
+use Rattle.world_laws.proofs.Words.{Side, A, B, peer, JoinForm, Answer, Third, CapableKeys, NoKey, Sender, Both, WithData, octets_in, Record, RecordKind, Syn}
+use Rattle.world_laws.proofs.Words.{Data, Fin, is_closed_to_segments, EndPhase, PlainOption, PlainSegment, Capable, Join, Dss, AddAddr, Remove, Prio, Fail}
+use Rattle.world_laws.proofs.Words.{Reset, meant, meant_option, meant_mapping, PathMapping, Bytes, Infinite, InfiniteMapping, OwnNotice, Heard, PeerNotice}
+use Rattle.world_laws.proofs.Words.{PathEnd, items_in, items_of, options_heard, is_joined, join_options, third_options, peer_key_of, join_items, ack_items}
+use Rattle.world_laws.proofs.Words.{is_mapping, mapping_items, map_items, first_items, data_fin_items, infinite_items, key_items, address_items}
+use Rattle.world_laws.proofs.Words.{receives_infinite, owes_mapping, plain_options, data_fin_mapping, piece_mapping, is_first_piece, first_piece_options}
+use Rattle.world_laws.proofs.Words.{piece_options, fin_options, fail_options, fail_beside, infinite_or, mapped_options, capable_options, syn_options}
+use Rattle.world_laws.proofs.Words.{key_options, opening_options, ack_options, record_options, reset_options, ack_said, carried_said, syn_ack_said, reset_said}
+use Rattle.world_laws.proofs.Words.{record_or_ack, broken_options, noted_said, Profile, Modes, Every-push, Every-nil, Every-append, Every}
+use Rattle.std.specs.Option.{option_map}
 use Rattle.key_material.specs.AddressHmac.{add_addr64_of}
-use Rattle.key_material.specs.JoinHmac.{join_a160_of, join_b64_of}
-use Rattle.key_material.specs.KeyDigest.{token_of}
-use Rattle.key_material.specs.declared.address.Address.{Address}
 use Rattle.key_material.specs.declared.address.Address.TheVariants.{V4}
-use Rattle.mptcp_options.specs.declared.capable.CapableKeys.{CapableKeys}
-use Rattle.mptcp_options.specs.declared.capable.CapableKeys.TheVariants.{NoKey, Sender, Both, WithData}
-use Rattle.mptcp_options.specs.declared.join.JoinForm.{JoinForm}
-use Rattle.mptcp_options.specs.declared.join.JoinForm.TheVariants.{Syn as JoinSyn, Answer, Third}
-use Rattle.path_segments.specs.declared.segment.PathMapping.{PathMapping}
-use Rattle.path_segments.specs.declared.segment.PathMapping.TheVariants.{Bytes, End, Infinite}
-use Rattle.path_segments.specs.declared.segment.PathOption.TheVariants.{Capable, Join, Dss, AddAddr, Remove, Prio, Fail, FastClose, Reset}
-use Rattle.path_segments.specs.Laws.{meant_mapping, meant_option, meant}
-use Rattle.path_segments.specs.Options.{PlainOption}
-use Rattle.path_segments.specs.Spelled.{PlainSegment}
-use Rattle.subflow_send.specs.declared.record.RecordKind.{RecordKind}
-use Rattle.subflow_send.specs.declared.record.RecordKind.TheVariants.{Syn, Data, Fin}
-use Rattle.subflow_send.specs.Records.{Record}
-use Rattle.subflow_tcp.specs.declared.handshake.State.{State as EndPhase}
-use Rattle.subflow_tcp.specs.States.{is_closed_to_segments}
-use Rattle.stream_lanes.specs.Words.{Every}
-use Rattle.stream_lanes.proofs.Lists.{Every-nil, Every-append, Every-push}
-use Rattle.path_agenda.specs.declared.heard.Heard.{Heard}
-use Rattle.path_agenda.specs.declared.notice.PeerNotice.{PeerNotice}
+use Rattle.mptcp_options.specs.declared.join.JoinForm.TheVariants.{Syn as JoinSyn}
+use Rattle.path_segments.specs.declared.segment.PathMapping.TheVariants.{End}
+use Rattle.path_segments.specs.declared.segment.PathOption.TheVariants.{FastClose}
 use Rattle.world_laws.proofs.Announcements.NothingKnown.{removed_each}
-use Rattle.path_core.specs.declared.modes.Modes.{Modes}
-use Rattle.path_core.specs.Addresses.{address_items}
-use Rattle.path_core.specs.OptionsIn.{options_heard, items_in, items_of}
-use Rattle.path_core.specs.DssIn.{ack_items, is_mapping, mapping_items, data_fin_items, infinite_items, map_items, first_items}
-use Rattle.path_core.specs.MpCapable.{key_items}
-use Rattle.path_core.specs.MpJoin.{join_items, is_joined, peer_key_of, join_options, third_options}
-use Rattle.path_core.specs.End.{PathEnd}
-use Rattle.path_store.specs.declared.infinite_mapping.InfiniteMapping.{InfiniteMapping}
-use Rattle.path_core.specs.Modes.{receives_infinite}
-use Rattle.path_core.specs.OptionsOut.{announcement, capable_options, syn_options, key_options, opening_options, ack_options, record_options, reset_options, broken_options, reset_said, ack_said, carried_said, syn_ack_said, record_or_ack, noted_said}
-use Rattle.path_core.specs.DssOut.{fail_options, fail_beside, data_fin_mapping, is_first_piece, first_piece_options, mapped_options, piece_options, infinite_or, piece_mapping, owes_mapping, plain_options, fin_options}
-use Rattle.path_core.specs.Profile.{Profile}
-use Rattle.path_agenda.specs.declared.notice.OwnNotice.{OwnNotice}
-use Rattle.dss_mapping.specs.Mappings.{octets_in}
+use Rattle.path_core.specs.OptionsOut.{announcement}
 
 every_one : {X : Type 0} {P : X → Type 0} (x : X) → P x → Every P (x ∷ [])
 every_one {X} {P} x h = Every-push {xs = []} x (Every-nil P) h

@@ -1,36 +1,17 @@
 -- What the calls that a path makes do to the keys of a control book, and what it answers.
-use Rattle.std.proofs.Common.{◌≡◌, refl, sym, ◌∙◌, ap, subst, ℕ, ◌==◌, ◌&&◌, ◌||◌, not, is_none, is_some, Bool, true, false, if◌then◌else◌, Option, Some, None}
-use Rattle.std.proofs.lemmas.Bool.{eq-eqb, both_ways, false≢true}
-use Rattle.std.specs.Option.{IfSome}
-use Rattle.sides.specs.declared.side.Side.{Side}
-use Rattle.sides.specs.Side.{peer}
-use Rattle.control_book.specs.declared.call.ControlCall.{ControlCall}
-use Rattle.control_book.specs.declared.call.ControlReply.{ControlReply}
-use Rattle.control_book.specs.declared.call.Notice.{Notice}
-use Rattle.control_book.specs.Control.{Control, peer_or_zero, is_path, withdrawals_on}
-use Rattle.control_book.specs.Registry.{sole as sole_path, with_phase, lowest_living}
-use Rattle.control_book.specs.declared.registry.Phase.TheVariants.{Opening}
+use Rattle.world_laws.proofs.Words.{◌≡◌, refl, sym, ◌∙◌, ap, subst, ℕ, ◌&&◌, ◌||◌, ◌==◌, not, Bool, true, false, if◌then◌else◌, Option, Some, None, is_none}
+use Rattle.world_laws.proofs.Words.{is_some, eq-eqb, both_ways, false≢true, IfSome, Verdict, Mode, FallEvent, is_identity, is_starting, reads_mappings}
+use Rattle.world_laws.proofs.Words.{receiving, sending, writes_mappings, Fall, after_sure_sign, after_plain, after_failed_check, after_fail, is_failed_path}
+use Rattle.world_laws.proofs.Words.{goes, fall_step, SendFail, lowest, address_of, heard_reply, Address, token_of, Side, peer, ControlCall, ControlReply}
+use Rattle.world_laws.proofs.Words.{Notice, lowest_living, sole_path, with_phase, Control, withdrawals_on, peer_or_zero, is_path, Opening, Ask, Reply, begins}
+use Rattle.world_laws.proofs.Words.{tells_bad_address, tells_wrong_join, tells_other_key}
 use Rattle.key_material.specs.AddressHmac.{add_addr64_of}
-use Rattle.key_material.specs.KeyDigest.{token_of}
-use Rattle.key_material.specs.declared.address.Address.{Address}
 use Rattle.address_manager.specs.declared.manager.Heard.{Heard as AddressHeard}
-use Rattle.address_manager.specs.Addresses.{address_of}
-use Rattle.address_manager.specs.IdSet.{lowest}
-use Rattle.address_manager.specs.Steps.{heard_reply, is_kept}
-use Rattle.fallback_state.specs.declared.fall.Event.{Event as FallEvent}
-use Rattle.fallback_state.specs.declared.fall.Fall.{Fall}
-use Rattle.fallback_state.specs.declared.fall.Mode.{Mode}
-use Rattle.fallback_state.specs.declared.fall.Verdict.{Verdict}
-use Rattle.fallback_state.specs.declared.fall.Verdict.TheVariants.{SendFail}
-use Rattle.fallback_state.specs.Modes.{is_starting, is_identity, reads_mappings, writes_mappings, receiving, sending}
-use Rattle.fallback_state.specs.Table.{after_sure_sign, after_plain, after_infinite, after_failed_check, after_fail, is_failed_path, goes, stays, breaks, fall_step}
+use Rattle.address_manager.specs.Steps.{is_kept}
+use Rattle.fallback_state.specs.Table.{after_infinite, stays, breaks}
 use Rattle.control_book.specs.SameAddress.{is_same}
 use Rattle.control_book.specs.Replies as control
 use Rattle.control_book.specs.Steps as controlling
-use Rattle.actor_desk.specs.declared.ask.Ask.{Ask}
-use Rattle.actor_desk.specs.declared.ask.Reply.{Reply}
-use Rattle.world_laws.specs.Promises.{tells_other_key, tells_wrong_join, tells_bad_address}
-use Rattle.world_laws.specs.Worlds.{begins}
 use Rattle.world_laws.proofs.Keys.AreDrawn.{Deed, Secrets, KeysFor, drawn_key}
 use Rattle.world_laws.proofs.Announcements.Queued.{announced_in}
 use Rattle.world_laws.proofs.Keys.Held.{IsSign, is_noted}

@@ -1,55 +1,22 @@
 -- What the paths know of both sides, as lists and journals have it: that a side fell back to plain TCP, was asked for a fast close, or
 -- accepted one. So a reader is told of an abort by its peer only where the peer's application asked for it.
-use Rattle.std.proofs.Common.{◌≡◌, refl, sym, ◌∙◌, ap, subst, ℕ, ◌==◌, ◌||◌, is_some, Bool, true, false, if◌then◌else◌, Option, Some, None, List, [], ◌∷◌, ◌++◌, take, arith}
-use Rattle.std.proofs.lemmas.Bool.{false≢true}
-use Rattle.std.specs.List.{list_any, slice_get}
-use Rattle.std.specs.Option.{IfSome}
-use Rattle.sides.specs.declared.side.Side.{Side}
-use Rattle.sides.specs.declared.side.Side.TheVariants.{A, B}
-use Rattle.stamped_book.specs.declared.stamped.Pass.{Pass}
-use Rattle.stamped_book.specs.Entering.{entry_of}
-use Rattle.sides.specs.Side.{peer}
-use Rattle.reassembly_book.specs.declared.call.ReassemblyCall.{ReassemblyCall}
-use Rattle.reassembly_book.specs.declared.call.ReassemblyReply.{ReassemblyReply}
-use Rattle.reassembly_book.specs.State.{Arriving, filled}
-use Rattle.reassembly_book.specs.Steps.{is_taken, is_end, bytes_reply, places_after, fin_clash, first_abort, reading, after_reading, after_call}
-use Rattle.control_book.specs.declared.call.ControlCall.{ControlCall}
-use Rattle.control_book.specs.declared.call.ControlReply.{ControlReply}
-use Rattle.control_book.specs.declared.call.Notice.{Notice}
-use Rattle.control_book.specs.Control.{Control, is_path, peer_or_zero}
+use Rattle.world_laws.proofs.Words.{◌≡◌, refl, sym, ◌∙◌, ap, subst, ℕ, ◌||◌, ◌==◌, Bool, true, false, if◌then◌else◌, Option, Some, None, List, [], ◌∷◌, ◌++◌}
+use Rattle.world_laws.proofs.Words.{take, arith, is_some, false≢true, list_any, slice_get, IfSome, FallEvent, is_identity, Pass, entry_of, Side, A, B, peer}
+use Rattle.world_laws.proofs.Words.{ControlCall, ControlReply, Notice, sole_path, Control, peer_or_zero, is_path, ReassemblyCall, Arriving, filled}
+use Rattle.world_laws.proofs.Words.{ReassemblyReply, places_after, fin_clash, is_end, bytes_reply, reading, after_reading, first_abort, Duty, Ask, Note, Reply}
+use Rattle.world_laws.proofs.Words.{StampedBooks, books_in, after_entry, SixBooks, reassembly_of, control_of, reply_of, after_ask, pick, AppDuty, AppState}
+use Rattle.world_laws.proofs.Words.{app_ask, ask_for, PathState, asks_first, Carried, values, is_fall, is_stopped_by, in_map, Every, asks_fast_close}
+use Rattle.world_laws.proofs.Words.{note_asks_fast_close, accepts_fast_close, entry_accepts, control_journal, Start, opened_world, Turn, greatest, world_run}
+use Rattle.world_laws.proofs.Words.{note_of, was_told, note_tells, tells_abort}
+use Rattle.reassembly_book.specs.Steps.{is_taken, after_call}
 use Rattle.control_book.specs.Replies as controlling
 use Rattle.control_book.specs.Steps as control
-use Rattle.stream_lanes.specs.Words.{Every}
-use Rattle.stream_lanes.proofs.Lists.{in_map}
-use Rattle.actor_desk.specs.declared.ask.Ask.{Ask}
-use Rattle.actor_desk.specs.declared.ask.Note.{Note}
-use Rattle.actor_desk.specs.declared.ask.Reply.{Reply}
-use Rattle.actor_desk.specs.Books.{StampedBooks, books_in, after_entry}
-use Rattle.actor_desk.specs.Desk.{SixBooks, control_of, reassembly_of, reply_of, after_ask}
-use Rattle.actor_desk.specs.Words.{pick}
-use Rattle.stream_apps.specs.declared.duty.AppDuty.{AppDuty}
-use Rattle.stream_apps.specs.Apps.{AppState}
-use Rattle.stream_apps.specs.AppSteps.{app_ask}
-use Rattle.path_agenda.specs.declared.duty.Duty.{Duty}
-use Rattle.path_core.specs.Duties.{ask_for}
-use Rattle.path_core.specs.FastClose.{is_stopped_by}
-use Rattle.path_core.specs.State.{PathState}
-use Rattle.path_core.specs.Steps.{asks_first}
-use Rattle.path_core.specs.Values.{Carried, values}
-use Rattle.world_laws.specs.AbortCause.{asks_fast_close, note_asks_fast_close, accepts_fast_close, entry_accepts, control_journal}
-use Rattle.world_laws.specs.Openings.{Start, opened_world}
-use Rattle.world_laws.specs.Outcomes.{tells_abort, note_tells, was_told}
-use Rattle.world_laws.specs.Worlds.{Turn, greatest, note_of, world_run}
 use Rattle.world_laws.proofs.Worlds.CastLifting.{Has, turns_have}
 use Rattle.world_laws.proofs.Worlds.Casts.{Cast, Every-put, Fare, Seat, Walker, after_a, after_b, after_path, first_cast, first_fare, next_cast, opened_is, walked, walker_there, walks_on, world_of}
 use Rattle.world_laws.proofs.Weaving.Journals.{books_after}
 use Rattle.world_laws.proofs.Keys.ToldAreOwn.{AsksFor, BooksAre, NoMore, PathKnows, Tells, app_asks_are, ask_keeps, opened_books_are, opened_path, path_asks, path_more, path_next, path_same, path_takes}
 use Rattle.world_laws.proofs.Keys.StepsKeep.{carrier_in}
 use Rattle.world_laws.proofs.Keys.AreDrawn.{Deed}
-use Rattle.fallback_state.specs.declared.fall.Event.{Event as FallEvent}
-use Rattle.fallback_state.specs.Modes.{is_identity}
-use Rattle.control_book.specs.Registry.{sole as sole_path}
-use Rattle.path_core.specs.Fallback.{is_fall}
 use Rattle.world_laws.proofs.Falls.ByTheJournal.{Was, was_now, was_stays}
 use Rattle.world_laws.proofs.Falls.WhereASideStands.{row_falls}
 

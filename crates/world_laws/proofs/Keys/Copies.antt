@@ -1,38 +1,11 @@
 -- What a copy that arrives makes of what the end of a path that joins knows.
-use Rattle.std.proofs.Common.{◌≡◌, refl, sym, ◌∙◌, subst, ℕ, ◌||◌, is_some, length, Bool, true, false, if◌then◌else◌, Option, Some, None, List, position}
-use Rattle.std.proofs.lemmas.Bool.{false≢true}
-use Rattle.std.specs.Option.{IfSome}
-use Rattle.sides.specs.declared.side.Side.{Side}
-use Rattle.sides.specs.declared.side.Side.TheVariants.{A, B}
-use Rattle.sides.specs.Side.{peer}
-use Rattle.dss_mapping.specs.declared.kept.KeptMapping.{KeptMapping}
-use Rattle.link_model.specs.declared.flight.Due.{Due}
-use Rattle.link_model.specs.declared.flight.Flight.{Flight}
-use Rattle.link_model.specs.Steps.{is_due, without, after_delivery}
-use Rattle.join_handshake.specs.declared.hearing.JoinAnswer.{JoinAnswer}
-use Rattle.path_segments.specs.Laws.{meant}
-use Rattle.path_segments.specs.Spelled.{PlainSegment}
-use Rattle.path_segments.specs.Heard.{HeardSegment}
-use Rattle.subflow_tcp.specs.declared.segments.Outgoing.{Outgoing}
-use Rattle.subflow_tcp.specs.declared.verdicts.Meaning.{Meaning}
-use Rattle.subflow_tcp.specs.declared.handshake.State.{State as EndPhase}
-use Rattle.subflow_tcp.specs.State.{EndState}
-use Rattle.subflow_tcp.specs.States.{is_half_open, is_waiting}
-use Rattle.subflow_tcp.specs.Judging.{meaning_of}
-use Rattle.stream_lanes.specs.Words.{Every}
-use Rattle.path_agenda.specs.declared.duty.Duty.{Duty}
-use Rattle.path_agenda.specs.declared.heard.Heard.{Heard}
-use Rattle.path_core.specs.declared.judged.Judged.{Judged}
-use Rattle.path_core.specs.declared.modes.Modes.{Modes}
-use Rattle.path_agenda.specs.Agenda.{emission}
-use Rattle.path_core.specs.Arrival.{template_by, asked_in, copy_judged, copy_of, judged_in, reset_for, template_judged, template_of, with_held, heard_at, heard_in, copy_heard}
-use Rattle.path_core.specs.DssIn.{HeardOption, held_of}
-use Rattle.path_core.specs.OptionsIn.{options_heard, hint_of, items_of, owes_by}
-use Rattle.path_core.specs.Judged.{answered_in, cleared_in, is_forged, is_passed_over, join_judged, taken_as, with_answer}
-use Rattle.path_core.specs.End.{PathEnd}
-use Rattle.path_core.specs.State.{at_tick, PathState, end_at, with_end, goes_on}
-use Rattle.path_core.specs.MpJoin.{is_joined, join_answer, join_asked}
-use Rattle.path_core.specs.Values.{Carried, as_arrived, values}
+use Rattle.world_laws.proofs.Words.{◌≡◌, refl, sym, ◌∙◌, subst, ℕ, ◌||◌, Bool, true, false, if◌then◌else◌, Option, Some, None, List, length, is_some, position}
+use Rattle.world_laws.proofs.Words.{false≢true, IfSome, Side, A, B, peer, JoinAnswer, KeptMapping, is_waiting, is_half_open, Meaning, EndState, EndPhase}
+use Rattle.world_laws.proofs.Words.{Outgoing, meaning_of, is_due, without, after_delivery, Due, Flight, HeardSegment, PlainSegment, meant, emission, Duty}
+use Rattle.world_laws.proofs.Words.{Heard, PathEnd, at_tick, PathState, end_at, goes_on, with_end, Carried, as_arrived, values, hint_of, items_of, owes_by}
+use Rattle.world_laws.proofs.Words.{options_heard, asked_in, copy_judged, copy_of, judged_in, reset_for, template_by, template_judged, template_of, with_held}
+use Rattle.world_laws.proofs.Words.{heard_in, copy_heard, heard_at, Judged, is_joined, join_answer, join_asked, held_of, HeardOption, answered_in, cleared_in}
+use Rattle.world_laws.proofs.Words.{is_forged, is_passed_over, join_judged, taken_as, with_answer, Modes, Every}
 use Rattle.world_laws.proofs.Keys.Held.{VoiceIs, arrived_is, in_removed, FlightIs, AreKnown, PathIs, end_is, goes_by, agenda_is, AnswerIs, answer_is_right}
 use Rattle.world_laws.proofs.Keys.AreDrawn.{Deed, Secrets, of_b, is_past, known_in, SegmentIs, ItemIs, ModesAre, EndIs, Needs, Knows, met_needs, needs_key, same_knows, same_modes, heard_items_are}
 use Rattle.world_laws.proofs.Keys.WhatWakes.{is_up, is_lively, arrived_waits, held_past, copy_up, copy_past, WakesNone, joined_wakes_none, Voice, speaks, came_said, came_calm, came_goes_on, same_or_calm}

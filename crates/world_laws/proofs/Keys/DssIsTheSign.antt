@@ -1,62 +1,23 @@
 -- At an end of A nothing but a DSS is told to its control book as the sign of Multipath TCP: each acknowledgement, mapping and end of
 -- the stream that a copy says comes behind a DSS, and that one clears the end. So the end is clear before it tells one.
-use Rattle.std.proofs.Common.{◌≡◌, refl, sym, ap, subst, ℕ, zero, suc, ◌+◌, ◌⊎◌, inl, inr, ⊎_elim, ◌||◌, Bool, true, false, if◌then◌else◌, Option, Some, None, List, [], ◌∷◌, ◌++◌, map, length, arith}
-use Rattle.std.proofs.lemmas.Bool.{or_left, or_right, false≢true, both_ways}
-use Rattle.std.specs.List.{flat_map}
-use Rattle.sides.specs.declared.side.Side.{Side}
-use Rattle.sides.specs.declared.side.Side.TheVariants.{A, B}
-use Rattle.link_model.specs.Steps.{arriving, after_delivery}
-use Rattle.mptcp_options.specs.declared.capable.CapableKeys.{CapableKeys}
-use Rattle.mptcp_options.specs.declared.capable.CapableKeys.TheVariants.{Sender}
-use Rattle.mptcp_options.specs.declared.join.JoinForm.{JoinForm}
-use Rattle.fallback_state.specs.declared.fall.Event.{Event as FallEvent}
-use Rattle.join_handshake.specs.declared.hearing.JoinSyn.{JoinSyn}
-use Rattle.path_segments.specs.declared.segment.PathOption.TheVariants.{Capable, Join, Dss, AddAddr, Remove, Prio, Fail, FastClose, Reset}
-use Rattle.path_segments.specs.Heard.{HeardSegment}
-use Rattle.dss_mapping.specs.declared.kept.KeptMapping.{KeptMapping}
-use Rattle.subflow_send.specs.Records.{Record}
-use Rattle.subflow_tcp.specs.Expiring.{is_sixth}
-use Rattle.subflow_tcp.specs.States.{is_dead}
-use Rattle.subflow_tcp.specs.declared.verdicts.Meaning.{Meaning}
-use Rattle.actor_desk.specs.declared.ask.Reply.{Reply}
-use Rattle.actor_desk.specs.Words.{tail_of}
-use Rattle.path_agenda.specs.Agenda.{start_of_turn, rest_of_turn, heard_and, payload_came, resets, leaves, emission, stops}
-use Rattle.path_agenda.specs.Items.{is_dss, key_heard, keys_heard}
-use Rattle.path_agenda.specs.declared.duty.Duty.{Duty}
-use Rattle.path_agenda.specs.declared.duty.AskDuty.{AskDuty}
-use Rattle.path_agenda.specs.declared.duty.SendDuty.{SendDuty}
-use Rattle.path_agenda.specs.declared.duty.SilentDuty.{SilentDuty}
-use Rattle.path_agenda.specs.declared.duty.StepDuty.{StepDuty}
-use Rattle.path_agenda.specs.declared.heard.Heard.{Heard}
-use Rattle.path_agenda.specs.declared.keys.KeyPair.{KeyPair}
-use Rattle.key_material.specs.declared.address.Address.{Address}
-use Rattle.path_core.specs.DssIn.{HeardOption, ack_items, map_items, with_learned, with_skipped, counts, is_clash, told_next, with_data_fin}
-use Rattle.path_core.specs.MpCapable.{key_items, answered_peer_key, answered_opened}
-use Rattle.path_core.specs.MpJoin.{join_items, join_begun, keys_begun, is_never, opened_by, join_taken, asked_at, is_joined}
-use Rattle.path_core.specs.Addresses.{address_items, item_removed}
-use Rattle.path_core.specs.OptionsIn.{items_in, items_of, options_heard}
-use Rattle.path_core.specs.Arrival.{judged_in, template_by, template_judged, copy_heard, heard_in}
-use Rattle.path_core.specs.Breaking.{answered_break, reset_on, died_unless_dead}
-use Rattle.path_core.specs.Codec.{Codec}
+use Rattle.world_laws.proofs.Words.{◌≡◌, refl, sym, ap, subst, ℕ, zero, suc, ◌+◌, ◌||◌, inl, inr, ◌⊎◌, ⊎_elim, Bool, true, false, if◌then◌else◌, Option, Some}
+use Rattle.world_laws.proofs.Words.{None, List, [], ◌∷◌, ◌++◌, length, map, arith, both_ways, false≢true, or_right, or_left, flat_map, FallEvent, Address, Side}
+use Rattle.world_laws.proofs.Words.{A, B, JoinForm, CapableKeys, Sender, JoinSyn, KeptMapping, Record, is_dead, Meaning, is_sixth, arriving, after_delivery}
+use Rattle.world_laws.proofs.Words.{HeardSegment, Capable, Join, Dss, AddAddr, Remove, Prio, Fail, Reset, LineAction, Piece, rest_of_turn, emission, heard_and}
+use Rattle.world_laws.proofs.Words.{payload_came, leaves, resets, stops, start_of_turn, Duty, SendDuty, StepDuty, AskDuty, SilentDuty, Heard, KeyPair}
+use Rattle.world_laws.proofs.Words.{key_heard, keys_heard, is_dss, Reply, tail_of, Codec, stands, passed, answered, PathEnd, died, answered_ack_out, at_tick}
+use Rattle.world_laws.proofs.Words.{PathState, end_at, goes_on, with_end, with_agenda, settled, answers, takes, begins_turn, next_round, FirstStands, IsSettled}
+use Rattle.world_laws.proofs.Words.{items_in, items_of, options_heard, judged_in, template_by, template_judged, heard_in, copy_heard, reset_on, answered_break}
+use Rattle.world_laws.proofs.Words.{died_unless_dead, answered_data, answered_grant, first_unsent, grant_in, Judged, next_event, after_line, happens_if}
+use Rattle.world_laws.proofs.Words.{join_begun, asked_at, is_never, join_taken, keys_begun, opened_by, is_joined, join_items, template_fired, is_wrong}
+use Rattle.world_laws.proofs.Words.{mapping_here, piece_of, is_placed, answered_piece, forgotten_by, answered_plain_fin, answered_fin_heard, is_fin_set}
+use Rattle.world_laws.proofs.Words.{ack_items, map_items, is_clash, with_learned, with_data_fin, counts, with_skipped, HeardOption, told_next, answered_item}
+use Rattle.world_laws.proofs.Words.{item_of, item_passed, item_stands, after_check_failed, after_fell, fell_duties, answered_plain_ack, with_plain_ack}
+use Rattle.world_laws.proofs.Words.{breaks_by_ack, after_fail_heard, answered_fell, answered_peer_key, answered_opened, key_items, is_stopped_by, item_removed}
+use Rattle.world_laws.proofs.Words.{address_items, item_at}
+use Rattle.path_segments.specs.declared.segment.PathOption.TheVariants.{FastClose}
 use Rattle.path_core.specs.declared.events.Event.{Event}
-use Rattle.path_core.specs.declared.judged.Judged.{Judged}
-use Rattle.path_core.specs.Duties.{stands, passed, answered}
-use Rattle.path_core.specs.Emission.{Grant, grant_in, answered_grant, answered_data, first_unsent}
-use Rattle.path_core.specs.End.{PathEnd, died}
-use Rattle.path_core.specs.Events.{next_event, after_line, happens_if}
-use Rattle.path_core.specs.State.{at_tick, PathState, end_at, goes_on, with_end, with_agenda}
-use Rattle.path_core.specs.Timer.{template_fired}
-use Rattle.path_store.specs.declared.lines.LineAction.{LineAction}
-use Rattle.path_core.specs.Deliver.{answered_piece, is_placed, piece_of, is_wrong, forgotten_by, mapping_here}
-use Rattle.path_core.specs.DataFin.{is_fin_set, answered_fin_heard, answered_plain_fin}
-use Rattle.path_store.specs.Passing.{Piece}
-use Rattle.path_core.specs.Standing.{answered_ack_out}
-use Rattle.path_core.specs.Steps.{settled, answers, takes, begins_turn, next_round}
-use Rattle.path_core.specs.Turns.{FirstStands, IsSettled}
-use Rattle.path_core.specs.Treating.{item_stands, item_passed, answered_item, item_of}
-use Rattle.path_core.specs.Fallback.{after_fell, fell_duties, answered_fell, answered_plain_ack, breaks_by_ack, with_plain_ack, after_check_failed, after_fail_heard}
-use Rattle.path_core.specs.Choices.{item_at}
-use Rattle.path_core.specs.FastClose.{is_stopped_by}
+use Rattle.path_core.specs.Emission.{Grant}
 use Rattle.world_laws.proofs.Falls.ClearStays.{maybe_end, passed_clear, answered_clear, Stays}
 use Rattle.world_laws.proofs.Falls.Verdicts.{fell_cases}
 use Rattle.world_laws.proofs.Falls.FailedChecks.{check_failed_so, fail_heard_so, infinite_came_so, fail_answered_so}

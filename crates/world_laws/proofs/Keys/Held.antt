@@ -1,58 +1,16 @@
 -- What the ends of a path know of keys and nonces, and hear of them, and how they go on.
-use Rattle.std.proofs.Common.{◌≡◌, refl, sym, ◌∙◌, ap, subst, ℕ, zero, suc, ◌+◌, ◌==◌, not, ◌||◌, Bool, true, false, if◌then◌else◌, Option, Some, None, Ok, Err, List, [], ◌∷◌, remove}
-use Rattle.std.proofs.lemmas.Bool.{both_ways, false≢true}
-use Rattle.std.specs.List.{slice_get}
-use Rattle.std.specs.Option.{IfSome, option_or}
-use Rattle.std.specs.Result.{result_ok}
-use Rattle.sides.specs.declared.side.Side.{Side}
-use Rattle.sides.specs.declared.side.Side.TheVariants.{A, B}
-use Rattle.sides.specs.Side.{peer}
-use Rattle.fallback_state.specs.declared.fall.Verdict.{Verdict}
-use Rattle.link_model.specs.declared.flight.Flight.{Flight}
-use Rattle.link_model.specs.Fate.{is_stripped, is_altered, fate_of}
-use Rattle.link_model.specs.Steps.{arrivals, changed, next_number}
-use Rattle.key_material.specs.JoinHmac.{join_b64_of}
-use Rattle.key_material.specs.KeyDigest.{token_of}
-use Rattle.key_material.specs.declared.address.Address.{Address}
-use Rattle.mptcp_options.specs.declared.capable.CapableKeys.{CapableKeys}
-use Rattle.mptcp_options.specs.declared.capable.CapableKeys.TheVariants.{NoKey, Sender, Both, WithData}
-use Rattle.mptcp_options.specs.declared.join.JoinForm.{JoinForm}
-use Rattle.mptcp_options.specs.declared.join.JoinForm.TheVariants.{Syn as JoinSyn, Answer, Third}
-use Rattle.join_handshake.specs.declared.hearing.JoinAnswer.{JoinAnswer}
-use Rattle.join_handshake.specs.declared.hearing.JoinSyn.{JoinSyn as Asked}
-use Rattle.join_handshake.specs.declared.fault.JoinFault.TheVariants.{BadHmac}
-use Rattle.path_segments.specs.declared.segment.PathOption.TheVariants.{Capable, Join, Dss, AddAddr, Fail, FastClose}
-use Rattle.path_segments.specs.Options.{PlainOption}
-use Rattle.path_segments.specs.Spelled.{PlainSegment}
-use Rattle.subflow_tcp.specs.declared.handshake.State.{State as EndPhase}
-use Rattle.subflow_tcp.specs.States.{is_dead, is_opening, is_waiting, is_closed_to_segments, may_finish}
-use Rattle.subflow_tcp.specs.Opening.{after_begin}
-use Rattle.subflow_tcp.specs.Taking.{after_syn, unkept}
-use Rattle.fallback_state.specs.declared.fall.Event.{Event as FallEvent}
-use Rattle.control_book.specs.declared.call.ControlReply.{ControlReply}
-use Rattle.stream_lanes.specs.Words.{Every}
-use Rattle.stream_lanes.proofs.Lists.{Every-nil}
-use Rattle.actor_desk.specs.declared.ask.Reply.{Reply}
-use Rattle.path_agenda.specs.Words.{replaced}
-use Rattle.path_agenda.specs.declared.duty.Duty.{Duty}
-use Rattle.path_agenda.specs.declared.heard.Heard.{Heard}
-use Rattle.path_agenda.specs.declared.heard.JoinStep.{JoinStep}
-use Rattle.path_agenda.specs.declared.keys.KeyPair.{KeyPair}
-use Rattle.path_agenda.specs.declared.notice.OwnNotice.{OwnNotice}
-use Rattle.path_agenda.specs.declared.notice.PeerNotice.{PeerNotice}
-use Rattle.path_core.specs.declared.modes.Modes.{Modes}
-use Rattle.path_core.specs.End.{PathEnd, died}
-use Rattle.path_core.specs.Breaking.{died_unless_dead}
-use Rattle.path_agenda.specs.Items.{is_of_step, join_heard, key_heard, keys_heard}
-use Rattle.path_core.specs.MpJoin.{joined_by, opened_by, syn_alone, is_listening, with_mode_refused, is_joined, join_answer, join_asked, join_value, peer_key_of}
-use Rattle.path_core.specs.MpCapable.{after_keys, keys_in}
-use Rattle.path_core.specs.Handover.{sent_on}
-use Rattle.path_core.specs.Standing.{modes_told}
-use Rattle.path_core.specs.State.{PathState, end_at, with_end, with_agenda, goes_on, left}
-use Rattle.path_core.specs.Profile.{Profile}
-use Rattle.path_core.specs.Fallback.{mode_in, fell_in, after_fell}
-use Rattle.path_core.specs.Values.{Carried, as_arrived, carried_by, stripped, altered, values}
-use Rattle.join_handshake.specs.Heard.{answer_heard, answer_taken, syn_heard}
+use Rattle.world_laws.proofs.Words.{◌≡◌, refl, sym, ◌∙◌, ap, subst, ℕ, zero, suc, ◌+◌, ◌||◌, ◌==◌, not, Bool, true, false, if◌then◌else◌, Option, Some, None}
+use Rattle.world_laws.proofs.Words.{Ok, Err, List, [], ◌∷◌, remove, both_ways, false≢true, slice_get, IfSome, option_or, result_ok, Verdict, FallEvent, Address}
+use Rattle.world_laws.proofs.Words.{token_of, join_b64_of, Side, A, B, peer, JoinForm, Answer, Third, CapableKeys, NoKey, Sender, Both, WithData, Asked}
+use Rattle.world_laws.proofs.Words.{JoinAnswer, BadHmac, answer_heard, answer_taken, syn_heard, ControlReply, is_closed_to_segments, is_opening, is_dead}
+use Rattle.world_laws.proofs.Words.{may_finish, is_waiting, EndPhase, after_syn, unkept, after_begin, arrivals, changed, next_number, Flight, is_stripped}
+use Rattle.world_laws.proofs.Words.{is_altered, fate_of, PlainOption, PlainSegment, Capable, Join, Dss, AddAddr, Fail, Duty, OwnNotice, Heard, KeyPair}
+use Rattle.world_laws.proofs.Words.{replaced, key_heard, keys_heard, is_of_step, join_heard, PeerNotice, JoinStep, Reply, PathEnd, died, modes_told, PathState}
+use Rattle.world_laws.proofs.Words.{end_at, goes_on, with_end, with_agenda, left, Carried, as_arrived, carried_by, stripped, altered, values, died_unless_dead}
+use Rattle.world_laws.proofs.Words.{is_listening, joined_by, opened_by, syn_alone, with_mode_refused, is_joined, join_answer, join_asked, peer_key_of}
+use Rattle.world_laws.proofs.Words.{join_value, after_fell, fell_in, mode_in, after_keys, keys_in, Profile, sent_on, Modes, Every-nil, Every}
+use Rattle.mptcp_options.specs.declared.join.JoinForm.TheVariants.{Syn as JoinSyn}
+use Rattle.path_segments.specs.declared.segment.PathOption.TheVariants.{FastClose}
 use Rattle.world_laws.proofs.Keys.AreDrawn.{Deed, Secrets, KeysFor, AddressIs, NoteIs, PeerNoteIs, ShownBy, twice, of_b, told_in, is_past, known_in, OfB, IsFor, drawn_key, drawn_nonce, JoinIs, OptionIs, SegmentIs, ItemIs, ModesAre, EndIs, HasMet, Knows, met_needs, same_knows, same_end}
 use Rattle.world_laws.proofs.Keys.WhatWakes.{NoWaking, Voice, is_said_by, speaks, tail_speaks}
 use Rattle.world_laws.proofs.Lanes.Saying.{flights_kept}

@@ -1,63 +1,17 @@
 -- Every step of path 0 keeps that A's side has B's key, or is past being sure, where B answered, and where it may tell a sign of B.
-use Rattle.std.proofs.Common.{◌≡◌, refl, sym, ◌∙◌, ap, subst, inl, inr, ◌⊎◌, ℕ, length, Bool, true, false, if◌then◌else◌, Option, Some, None, List, [], ◌∷◌, ◌++◌, ◌||◌, is_some}
-use Rattle.std.proofs.lemmas.Bool.{both_ways, or_parts, false≢true}
-use Rattle.std.specs.Option.{IfSome}
-use Rattle.sides.specs.declared.side.Side.{Side}
-use Rattle.sides.specs.declared.side.Side.TheVariants.{A, B}
-use Rattle.dss_mapping.specs.declared.kept.KeptMapping.{KeptMapping}
-use Rattle.link_model.specs.Steps.{arriving, after_delivery}
-use Rattle.path_segments.specs.Spelled.{PlainSegment}
-use Rattle.path_segments.specs.Heard.{HeardSegment}
-use Rattle.subflow_recv.specs.Receiving.{after_forget_from}
-use Rattle.subflow_tcp.specs.declared.segments.Outgoing.{Outgoing}
-use Rattle.subflow_tcp.specs.declared.verdicts.Meaning.{Meaning}
-use Rattle.subflow_tcp.specs.Expiring.{is_sixth, after_expiry}
-use Rattle.subflow_tcp.specs.Judging.{meaning_of}
-use Rattle.subflow_tcp.specs.Opening.{after_begin}
-use Rattle.subflow_tcp.specs.States.{is_dead, is_waiting}
-use Rattle.subflow_tcp.specs.Taking.{after_death, after_dropping_held, after_keeping_held}
-use Rattle.subflow_tcp.specs.Closing.{is_fin_next, after_passing_fin}
-use Rattle.fallback_state.specs.declared.fall.Event.{Event as FallEvent}
-use Rattle.fallback_state.specs.declared.fall.Mode.{Mode}
-use Rattle.fallback_state.specs.declared.fall.Verdict.{Verdict}
-use Rattle.fallback_state.specs.Modes.{is_starting}
-use Rattle.control_book.specs.declared.call.ControlCall.{ControlCall}
-use Rattle.control_book.specs.declared.call.ControlReply.{ControlReply}
-use Rattle.actor_desk.specs.declared.ask.Ask.{Ask}
-use Rattle.actor_desk.specs.declared.ask.Reply.{Reply}
-use Rattle.actor_desk.specs.Words.{tail_of}
-use Rattle.path_agenda.specs.Agenda.{emission, leaves, rest_of_turn, announces, withdraws}
-use Rattle.path_agenda.specs.Items.{key_heard}
-use Rattle.path_agenda.specs.declared.duty.Duty.{Duty}
-use Rattle.path_agenda.specs.declared.duty.AskDuty.{AskDuty}
-use Rattle.path_agenda.specs.declared.duty.SendDuty.{SendDuty}
-use Rattle.path_agenda.specs.declared.duty.SilentDuty.{SilentDuty}
-use Rattle.path_agenda.specs.declared.duty.StepDuty.{StepDuty}
-use Rattle.path_agenda.specs.declared.heard.Heard.{Heard}
-use Rattle.path_agenda.specs.declared.keys.KeyPair.{KeyPair}
+use Rattle.world_laws.proofs.Words.{◌≡◌, refl, sym, ◌∙◌, ap, subst, ℕ, ◌||◌, inl, inr, ◌⊎◌, Bool, true, false, if◌then◌else◌, Option, Some, None, List, [], ◌∷◌}
+use Rattle.world_laws.proofs.Words.{◌++◌, length, is_some, or_parts, both_ways, false≢true, IfSome, Verdict, Mode, FallEvent, is_starting, Side, A, B}
+use Rattle.world_laws.proofs.Words.{ControlCall, ControlReply, KeptMapping, after_forget_from, is_dead, is_waiting, Meaning, is_sixth, after_expiry, Outgoing}
+use Rattle.world_laws.proofs.Words.{after_death, after_dropping_held, after_keeping_held, after_begin, is_fin_next, after_passing_fin, meaning_of, arriving}
+use Rattle.world_laws.proofs.Words.{after_delivery, HeardSegment, PlainSegment, LineAction, rest_of_turn, emission, leaves, announces, withdraws, Duty}
+use Rattle.world_laws.proofs.Words.{SendDuty, StepDuty, AskDuty, SilentDuty, Heard, KeyPair, key_heard, Ask, Reply, tail_of, stands, passed, PathEnd, died}
+use Rattle.world_laws.proofs.Words.{modes_told, at_tick, PathState, end_at, goes_on, with_end, with_agenda, path_of, settled, Carried, values, hint_of}
+use Rattle.world_laws.proofs.Words.{items_of, owes_by, options_heard, after_judged, asked_in, copy_judged, copy_of, judged_in, reset_for, template_of, heard_in}
+use Rattle.world_laws.proofs.Words.{copy_heard, heard_at, Judged, step_for, after_line, happens_if, join_begun, never_joined, is_never, keys_begun, opened_by}
+use Rattle.world_laws.proofs.Words.{is_joined, mode_refused, after_timer, template_fired, timer_fired, is_wrong, mapping_here, forgotten_by, after_keep}
+use Rattle.world_laws.proofs.Words.{after_pieces, is_dropped, after_check, after_pass_fin, with_learned, with_data_fin, counts, with_skipped, held_of}
+use Rattle.world_laws.proofs.Words.{HeardOption, item_of, item_passed, with_plain_ack, fell_in, mode_in, with_priority, sent_on, taken_as, Modes}
 use Rattle.path_core.specs.declared.events.Event.{Event}
-use Rattle.path_core.specs.declared.judged.Judged.{Judged}
-use Rattle.path_core.specs.declared.modes.Modes.{Modes}
-use Rattle.path_core.specs.Arrival.{after_judged, asked_in, copy_judged, copy_of, judged_in, reset_for, template_of, heard_at, heard_in, copy_heard}
-use Rattle.path_core.specs.DssIn.{held_of, HeardOption, with_learned, with_skipped, counts, with_data_fin}
-use Rattle.path_core.specs.OptionsIn.{hint_of, items_of, options_heard, owes_by}
-use Rattle.path_core.specs.Judged.{taken_as}
-use Rattle.path_core.specs.Duties.{stands, passed}
-use Rattle.path_core.specs.Timer.{after_timer, timer_fired, template_fired}
-use Rattle.path_core.specs.End.{PathEnd, died}
-use Rattle.path_core.specs.State.{at_tick, PathState, end_at, goes_on, with_agenda, with_end, path_of}
-use Rattle.path_core.specs.Events.{after_line, happens_if, step_for}
-use Rattle.path_core.specs.MpJoin.{join_begun, never_joined, is_never, keys_begun, opened_by, mode_refused, is_joined}
-use Rattle.path_core.specs.Addresses.{with_priority}
-use Rattle.path_store.specs.declared.lines.LineAction.{LineAction}
-use Rattle.path_core.specs.DataFin.{after_pass_fin}
-use Rattle.path_core.specs.Deliver.{after_check, after_pieces, mapping_here, is_wrong, forgotten_by, after_keep, is_dropped}
-use Rattle.path_core.specs.Handover.{sent_on}
-use Rattle.path_core.specs.Standing.{modes_told}
-use Rattle.path_core.specs.Steps.{settled}
-use Rattle.path_core.specs.Treating.{item_of, item_passed}
-use Rattle.path_core.specs.Fallback.{mode_in, with_plain_ack, fell_in}
-use Rattle.path_core.specs.Values.{Carried, values}
 use Rattle.world_laws.proofs.Keys.AnswerHeardFirst.{is_met, passed_met_state, is_accepts, Fits, fits, is_calm, signs, Fewer, same_duties, tail_fewer, new_duties, b_template, arrived_state, unmet_stays, a_template, a_signs}
 
 -- ---- what is told

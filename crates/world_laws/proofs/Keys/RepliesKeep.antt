@@ -1,54 +1,21 @@
 -- Each reply to path 0, and each round, keeps that A's side has B's key, or is past being sure, where B answered.
-use Rattle.std.proofs.Common.{◌≡◌, refl, sym, ◌∙◌, ap, subst, inl, inr, ℕ, ◌&&◌, nat_lt, not, is_some, Bool, true, false, if◌then◌else◌, Option, Some, None, List, [], ◌∷◌}
-use Rattle.std.proofs.lemmas.Bool.{and_parts, not-true, or_left, false≢true, both_ways}
-use Rattle.sides.specs.declared.side.Side.{Side}
-use Rattle.sides.specs.declared.side.Side.TheVariants.{A, B}
-use Rattle.subflow_tcp.specs.Emitting.{after_sending}
-use Rattle.path_segments.specs.Spelled.{PlainSegment}
-use Rattle.join_handshake.specs.declared.hearing.JoinSyn.{JoinSyn}
-use Rattle.subflow_send.specs.Records.{Record}
-use Rattle.subflow_tcp.specs.declared.segments.Occasion.{Occasion}
-use Rattle.subflow_tcp.specs.State.{EndState}
-use Rattle.control_book.specs.declared.call.ControlReply.{ControlReply}
-use Rattle.actor_desk.specs.declared.ask.Ask.{Ask}
-use Rattle.actor_desk.specs.declared.ask.Reply.{Reply}
-use Rattle.actor_desk.specs.Words.{tail_of}
-use Rattle.path_agenda.specs.Agenda.{breaks, leaves, resets, start_of_turn, stops}
-use Rattle.path_agenda.specs.Items.{key_heard, keys_heard}
-use Rattle.path_agenda.specs.Words.{replaced}
-use Rattle.path_agenda.specs.declared.duty.Duty.{Duty}
-use Rattle.path_agenda.specs.declared.duty.AskDuty.{AskDuty}
-use Rattle.path_agenda.specs.declared.duty.SendDuty.{SendDuty}
-use Rattle.path_agenda.specs.declared.duty.StepDuty.{StepDuty}
-use Rattle.path_agenda.specs.declared.heard.Heard.{Heard}
-use Rattle.path_agenda.specs.declared.keys.KeyPair.{KeyPair}
-use Rattle.path_core.specs.Breaking.{reset_of, reset_on, answered_break, refusal_of, break_ask}
-use Rattle.path_core.specs.Duties.{answered, ask_for}
-use Rattle.path_core.specs.Emission.{Grant, grant_in, answered_grant, answered_data, first_unsent, answer_occasion, answer_of, resend_occasion, dead_answer, resend_of}
-use Rattle.path_core.specs.DataFin.{fin_segment_of, having_sent_fin, answered_fin_heard, answered_plain_fin, is_fin_set}
-use Rattle.path_core.specs.End.{PathEnd, died}
-use Rattle.path_core.specs.Events.{next_event}
-use Rattle.path_core.specs.MpJoin.{asked_at, join_taken, joined_by, keys_begun, with_mode_refused, join_heard_ask, is_listening, syn_alone}
-use Rattle.path_core.specs.MpCapable.{after_keys, keys_in, opened_ask, answered_opened, peer_key_ask, answered_peer_key, with_peer_key}
-use Rattle.path_core.specs.Deliver.{answered_piece, is_placed, piece_of}
-use Rattle.path_store.specs.Passing.{Piece}
-use Rattle.path_core.specs.DssIn.{with_learned, is_acked, is_clash, with_acked, with_data_fin}
-use Rattle.path_core.specs.Handover.{having_sent, sent_on}
-use Rattle.path_core.specs.Standing.{after_ack_out, after_look, answered_ack_out}
-use Rattle.path_core.specs.State.{PathState, end_at, goes_on, left, path_of, with_agenda}
-use Rattle.path_core.specs.declared.modes.Modes.{Modes}
-use Rattle.send_book.specs.declared.call.SendCall.{SendCall}
-use Rattle.fallback_state.specs.declared.fall.Event.{Event as FallEvent}
-use Rattle.fallback_state.specs.Modes.{is_starting}
-use Rattle.control_book.specs.declared.call.ControlCall.{ControlCall}
-use Rattle.path_core.specs.Steps.{settled, answers, asks_of, asks_first, takes, begins_turn}
-use Rattle.path_core.specs.Fallback.{fell_ask, fell_in, after_fell, fell_duties, answered_fell, in_identity, may_go_infinite, with_infinite, book_answered, plain_ack_ask, breaks_by_ack, with_plain_ack, answered_plain_ack}
-use Rattle.path_core.specs.Treating.{heard_ask, item_ask, answered_heard, answered_item, item_of}
-use Rattle.path_core.specs.Values.{Carried, values}
-use Rattle.subflow_tcp.specs.Taking.{after_syn, unkept}
-use Rattle.path_core.specs.Addresses.{after_peer_notice}
-use Rattle.path_core.specs.FastClose.{is_stopped_by}
-use Rattle.subflow_tcp.specs.declared.handshake.State.{State as EndPhase}
+use Rattle.world_laws.proofs.Words.{◌≡◌, refl, sym, ◌∙◌, ap, subst, ℕ, ◌&&◌, not, nat_lt, inl, inr, Bool, true, false, if◌then◌else◌, Option, Some, None, List}
+use Rattle.world_laws.proofs.Words.{[], ◌∷◌, is_some, and_parts, both_ways, false≢true, not-true, or_left, FallEvent, is_starting, Side, A, B, JoinSyn}
+use Rattle.world_laws.proofs.Words.{ControlCall, ControlReply, SendCall, Record, after_sending, EndState, EndPhase, Occasion, after_syn, unkept, PlainSegment}
+use Rattle.world_laws.proofs.Words.{Piece, leaves, resets, stops, start_of_turn, Duty, SendDuty, StepDuty, AskDuty, Heard, KeyPair, replaced, key_heard}
+use Rattle.world_laws.proofs.Words.{keys_heard, Ask, Reply, tail_of, ask_for, answered, PathEnd, died, answered_ack_out, after_look, after_ack_out, PathState}
+use Rattle.world_laws.proofs.Words.{end_at, goes_on, with_agenda, left, path_of, settled, answers, asks_of, asks_first, takes, begins_turn, Carried, values}
+use Rattle.world_laws.proofs.Words.{reset_of, reset_on, answered_break, refusal_of, break_ask, answered_data, answered_grant, first_unsent, grant_in}
+use Rattle.world_laws.proofs.Words.{answer_occasion, answer_of, dead_answer, resend_occasion, resend_of, next_event, asked_at, is_listening, join_taken}
+use Rattle.world_laws.proofs.Words.{joined_by, keys_begun, syn_alone, with_mode_refused, join_heard_ask, piece_of, is_placed, answered_piece, fin_segment_of}
+use Rattle.world_laws.proofs.Words.{having_sent_fin, answered_plain_fin, answered_fin_heard, is_fin_set, is_clash, with_learned, with_data_fin, with_acked}
+use Rattle.world_laws.proofs.Words.{heard_ask, item_ask, answered_heard, answered_item, item_of, fell_ask, after_fell, fell_duties, plain_ack_ask}
+use Rattle.world_laws.proofs.Words.{answered_plain_ack, with_plain_ack, breaks_by_ack, may_go_infinite, book_answered, answered_fell, with_infinite, fell_in}
+use Rattle.world_laws.proofs.Words.{in_identity, after_keys, peer_key_ask, opened_ask, answered_peer_key, answered_opened, with_peer_key, keys_in}
+use Rattle.world_laws.proofs.Words.{is_stopped_by, after_peer_notice, having_sent, sent_on, Modes}
+use Rattle.path_agenda.specs.Agenda.{breaks}
+use Rattle.path_core.specs.Emission.{Grant}
+use Rattle.path_core.specs.DssIn.{is_acked}
 use Rattle.world_laws.proofs.Falls.FailedChecks.{check_failed_so, checked_so, fail_heard_so, failed_so, infinite_came_so, infinite_so}
 use Rattle.world_laws.proofs.Falls.Verdicts.{fell_cases}
 use Rattle.world_laws.proofs.Keys.AnswerHeardFirst.{is_met, finish_met, is_key_duty, is_calm, is_sign_duty, signs, Fewer, same_duties, tail_fewer, replaced_fewer, new_duties}

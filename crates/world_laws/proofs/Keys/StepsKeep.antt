@@ -1,77 +1,32 @@
 -- Every step of a path keeps its keys and nonces, those of what was heard, and those of the copies under way.
-use Rattle.std.proofs.Common.{◌≡◌, refl, sym, ◌∙◌, ap, subst, ℕ, zero, suc, ◌-◌, ◌&&◌, ◌||◌, ◌==◌, is_some, not, Bool, true, false, if◌then◌else◌, Option, Some, None, List, [], ◌∷◌, ◌++◌, nat_lt, is_none, position}
-use Rattle.std.proofs.lemmas.Bool.{and_parts, false≢true}
-use Rattle.std.specs.Option.{IfSome}
-use Rattle.sides.specs.declared.side.Side.{Side}
-use Rattle.sides.specs.declared.side.Side.TheVariants.{A, B}
-use Rattle.sides.specs.Side.{peer}
-use Rattle.dss_mapping.specs.declared.kept.KeptMapping.{KeptMapping}
-use Rattle.link_script.specs.Places.{same_side}
-use Rattle.link_model.specs.declared.flight.Flight.{Flight}
-use Rattle.link_model.specs.Steps.{is_due, arriving, after_delivery}
-use Rattle.key_material.specs.KeyDigest.{token_of}
-use Rattle.join_handshake.specs.declared.hearing.JoinSyn.{JoinSyn as Asked}
-use Rattle.subflow_recv.specs.Receiving.{Receiving, after_forget_from}
-use Rattle.send_book.specs.declared.call.SendCall.{SendCall}
-use Rattle.subflow_send.specs.Records.{Record}
-use Rattle.subflow_tcp.specs.State.{has_records}
-use Rattle.subflow_tcp.specs.States.{is_dead, is_opening, is_waiting, is_closed_to_segments, may_finish}
-use Rattle.subflow_tcp.specs.Taking.{after_death, after_keeping_held, after_dropping_held}
-use Rattle.subflow_tcp.specs.Opening.{after_begin}
-use Rattle.subflow_tcp.specs.declared.segments.Occasion.{Occasion}
-use Rattle.subflow_tcp.specs.Expiring.{is_sixth, after_expiry}
-use Rattle.control_book.specs.declared.call.ControlCall.{ControlCall}
-use Rattle.control_book.specs.declared.call.ControlReply.{ControlReply}
-use Rattle.control_book.specs.declared.call.Notice.{Notice}
-use Rattle.reassembly_book.specs.declared.call.ReassemblyCall.{ReassemblyCall}
-use Rattle.stream_lanes.specs.Words.{Every}
-use Rattle.stream_lanes.proofs.Lists.{Every-nil}
-use Rattle.actor_desk.specs.declared.ask.Ask.{Ask}
-use Rattle.actor_desk.specs.declared.ask.Reply.{Reply}
-use Rattle.actor_desk.specs.Words.{tail_of}
-use Rattle.path_agenda.specs.declared.duty.Duty.{Duty}
-use Rattle.path_agenda.specs.declared.duty.AskDuty.{AskDuty}
-use Rattle.path_agenda.specs.declared.duty.SendDuty.{SendDuty}
-use Rattle.path_agenda.specs.declared.duty.SilentDuty.{SilentDuty}
-use Rattle.path_agenda.specs.declared.duty.StepDuty.{StepDuty}
+use Rattle.world_laws.proofs.Words.{◌≡◌, refl, sym, ◌∙◌, ap, subst, ℕ, zero, suc, ◌-◌, ◌&&◌, ◌||◌, ◌==◌, not, nat_lt, Bool, true, false, if◌then◌else◌, Option}
+use Rattle.world_laws.proofs.Words.{Some, None, List, [], ◌∷◌, ◌++◌, is_none, is_some, position, and_parts, false≢true, IfSome, FallEvent, token_of, Side, A, B}
+use Rattle.world_laws.proofs.Words.{peer, same_side, Asked, ControlCall, ControlReply, Notice, ReassemblyCall, SendCall, KeptMapping, after_forget_from}
+use Rattle.world_laws.proofs.Words.{Receiving, Record, is_closed_to_segments, is_opening, is_dead, may_finish, is_waiting, is_sixth, after_expiry, fin_position}
+use Rattle.world_laws.proofs.Words.{has_records, EndPhase, Occasion, after_death, after_dropping_held, after_keeping_held, after_begin, is_due, arriving}
+use Rattle.world_laws.proofs.Words.{after_delivery, Flight, LineAction, Piece, rest_of_turn, emission, leaves, resets, stops, start_of_turn, Duty, SendDuty}
+use Rattle.world_laws.proofs.Words.{StepDuty, AskDuty, SilentDuty, Heard, KeyPair, replaced, first_of, key_heard, keys_heard, Ask, Reply, tail_of, stands}
+use Rattle.world_laws.proofs.Words.{ask_for, passed, answered, PathEnd, died, after_notice, OwnNotices, answered_ack_out, after_look, is_connected, may_note}
+use Rattle.world_laws.proofs.Words.{modes_told, notices_told, at_tick, PathState, end_at, goes_on, with_end, with_agenda, left, path_of, settled, answers}
+use Rattle.world_laws.proofs.Words.{asks_of, asks_first, takes, begins_turn, FirstStands, IsSettled, Carried, values, reset_of, reset_on, answered_break}
+use Rattle.world_laws.proofs.Words.{path_died, refusal_of, break_ask, answered_data, answered_grant, data_stands, first_unsent, grant_in, answer_occasion}
+use Rattle.world_laws.proofs.Words.{answer_of, resend_occasion, resend_of, first_record, fits, next_event, step_for, after_line, happens_if, join_begun}
+use Rattle.world_laws.proofs.Words.{never_joined, asked_at, is_never, join_taken, joined_by, keys_begun, opened_by, with_mode_refused, is_joined}
+use Rattle.world_laws.proofs.Words.{join_heard_ask, after_timer, template_fired, timer_fired, is_wrong, mapping_here, piece_of, is_placed, answered_piece}
+use Rattle.world_laws.proofs.Words.{forgotten_by, after_pieces, is_dropped, is_data_fin_owed, fin_segment_of, having_sent_fin, answered_plain_fin}
+use Rattle.world_laws.proofs.Words.{answered_fin_heard, is_fin_set, after_pass_fin, is_clash, with_learned, with_data_fin, counts, with_skipped, with_acked}
+use Rattle.world_laws.proofs.Words.{with_data_ack, heard_ask, item_ask, answered_heard, answered_item, item_of, item_passed, answered_check_failed, fell_ask}
+use Rattle.world_laws.proofs.Words.{after_fell, fell_duties, plain_ack_ask, answered_plain_ack, with_plain_ack, breaks_by_ack, may_go_infinite, book_answered}
+use Rattle.world_laws.proofs.Words.{answered_fell, with_infinite, is_fall, in_identity, peer_key_ask, opened_ask, answered_peer_key, answered_opened}
+use Rattle.world_laws.proofs.Words.{is_stopped_by, is_fast_close_due, with_priority, is_note_due, having_noted, after_peer_notice, with_echo, ack_said}
+use Rattle.world_laws.proofs.Words.{carried_said, syn_ack_said, record_or_ack, having_sent, Modes, is_side_a, item_at, Every-nil, Every}
 use Rattle.path_core.specs.declared.events.Event.{Event}
-use Rattle.path_agenda.specs.declared.heard.Heard.{Heard}
-use Rattle.path_agenda.specs.declared.keys.KeyPair.{KeyPair}
-use Rattle.path_core.specs.declared.modes.Modes.{Modes}
-use Rattle.path_agenda.specs.Agenda.{emission, leaves, resets, rest_of_turn, start_of_turn, stops}
-use Rattle.path_core.specs.Breaking.{reset_of, reset_on, answered_break, path_died, refusal_of, break_ask}
-use Rattle.path_core.specs.DataFin.{is_data_fin_owed, fin_segment_of, having_sent_fin, after_pass_fin, is_fin_set, answered_fin_heard, answered_plain_fin}
-use Rattle.path_core.specs.Duties.{stands, passed, answered, ask_for}
-use Rattle.path_core.specs.Emission.{Grant, grant_in, answered_grant, answered_data, first_unsent, data_stands, fits, answer_occasion, resend_occasion, first_record, answer_of, resend_of}
-use Rattle.path_core.specs.Timer.{after_timer, timer_fired, template_fired}
-use Rattle.path_core.specs.End.{PathEnd, died}
-use Rattle.path_core.specs.Notices.{Notices as OwnNotices, after_notice}
-use Rattle.path_core.specs.Events.{next_event, step_for, after_line, happens_if}
-use Rattle.path_core.specs.State.{at_tick, PathState, end_at, with_end, with_agenda, goes_on, left, path_of}
-use Rattle.path_core.specs.MpJoin.{join_begun, never_joined, asked_at, is_never, join_heard_ask, join_taken, joined_by, keys_begun, opened_by, with_mode_refused, is_joined}
-use Rattle.path_core.specs.Addresses.{with_priority, is_note_due, having_noted, note_of, after_peer_notice, with_echo}
-use Rattle.path_store.specs.declared.lines.LineAction.{LineAction}
-use Rattle.path_agenda.specs.Items.{key_heard, keys_heard}
-use Rattle.path_agenda.specs.Words.{replaced, first_of}
-use Rattle.path_core.specs.MpCapable.{peer_key_ask, opened_ask, answered_peer_key, answered_opened}
-use Rattle.path_core.specs.Deliver.{is_placed, piece_of, answered_piece, mapping_here, is_wrong, forgotten_by, after_pieces, is_dropped}
-use Rattle.path_store.specs.Passing.{Piece}
-use Rattle.path_core.specs.DssIn.{with_learned, with_skipped, is_acked, with_acked, with_data_ack, counts, is_clash, with_data_fin}
-use Rattle.path_core.specs.OptionsOut.{ack_said, carried_said, syn_ack_said, record_or_ack}
-use Rattle.path_core.specs.Standing.{answered_ack_out, after_look, is_connected, may_note, modes_told, notices_told}
-use Rattle.path_core.specs.Steps.{settled, answers, asks_of, asks_first, takes, begins_turn}
-use Rattle.path_core.specs.Turns.{FirstStands, IsSettled}
-use Rattle.path_core.specs.Choices.{is_side_a, item_at}
-use Rattle.path_core.specs.Fallback.{is_fall, fell_ask, in_identity, after_fell, fell_duties, answered_fell, answered_check_failed, may_go_infinite, with_infinite, book_answered, with_plain_ack, breaks_by_ack, answered_plain_ack, plain_ack_ask}
-use Rattle.path_core.specs.Treating.{answered_heard, answered_item, item_of, item_passed, heard_ask, item_ask}
-use Rattle.path_core.specs.Values.{Carried, values}
-use Rattle.path_core.specs.FastClose.{is_stopped_by, fast_close_of, is_fast_close_due}
-use Rattle.path_core.specs.Handover.{having_sent}
+use Rattle.path_core.specs.Emission.{Grant}
+use Rattle.path_core.specs.Addresses.{note_of}
+use Rattle.path_core.specs.DssIn.{is_acked}
+use Rattle.path_core.specs.FastClose.{fast_close_of}
 use Rattle.world_laws.proofs.Worlds.Finding.{find_every, one_side}
 use Rattle.world_laws.proofs.Announcements.Queued.{announced_told, echo_queued, first_queued, look_queued, prio_queued, tail_queued}
-use Rattle.fallback_state.specs.declared.fall.Event.{Event as FallEvent}
-use Rattle.subflow_tcp.specs.Emitting.{fin_position}
-use Rattle.subflow_tcp.specs.declared.handshake.State.{State as EndPhase}
 use Rattle.world_laws.proofs.Falls.FailedChecks.{check_failed_so, checked_so, fail_heard_so, failed_so, infinite_came_so, infinite_so}
 use Rattle.world_laws.proofs.Falls.Verdicts.{fell_cases}
 use Rattle.world_laws.proofs.Keys.Held.{VoiceIs, with_voice, fewer_known, stays_same, replaced_known, is_noted, look_leaves, verdict_leaves, fell_leaves, opening_open, not_closed, finish_open, IsSign, FlightIs, OnJoined, AreKnown, PathIs, end_is, Fewer, none_left, Stays, requeued, goes_by, goes_is, with_is, agenda_is, kept_end, same_goes, sent_is, same_sent, died_is, refused_is, unless_dead_is, key_found, PairIs, pair_found, AskedIs, asked_is, rekeyed, rekeyed_knows, keys_are, keys_stay, BeginIs, opened_end, opened_stays, joined_end, joined_knows, joined_waits}

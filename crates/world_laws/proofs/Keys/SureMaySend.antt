@@ -1,71 +1,19 @@
 -- A's side is sure of Multipath TCP only where A may send a DSS on path 0; so no other path begins before.
-use Rattle.std.proofs.Common.{◌≡◌, refl, sym, ◌∙◌, ap, subst, ℕ, zero, suc, ◌+◌, ◌⊎◌, inl, inr, ⊎_elim, ◌==◌, Bool, true, false, if◌then◌else◌, Option, Some, None, List, [], ◌∷◌, map, set, arith, ◌&&◌, not, is_none}
-use Rattle.std.proofs.lemmas.Bool.{false≢true, both_ways, and_parts}
-use Rattle.std.specs.List.{slice_get, list_all}
-use Rattle.sides.specs.declared.side.Side.{Side}
-use Rattle.sides.specs.declared.side.Side.TheVariants.{A, B}
-use Rattle.fallback_state.specs.declared.fall.Fall.{Fall}
-use Rattle.fallback_state.specs.declared.fall.Mode.{Mode}
-use Rattle.fallback_state.specs.Modes.{is_identity, is_starting, reads_mappings, writes_mappings, receiving, sending}
-use Rattle.fallback_state.specs.declared.fall.Verdict.TheVariants.{Stay, SendFail}
-use Rattle.fallback_state.specs.Table.{stays, after_keys as fall_keys, after_plain as fall_plain, goes, breaks, fall_step, is_failed_path}
-use Rattle.fallback_state.specs.declared.fall.Event.{Event as FallEvent}
-use Rattle.fallback_state.specs.declared.fall.Verdict.{Verdict}
-use Rattle.loss_recovery.specs.declared.windows.Pending.{Pending}
-use Rattle.reassembly_book.specs.declared.call.ReassemblyCall.{ReassemblyCall}
-use Rattle.control_book.specs.declared.call.ControlCall.{ControlCall}
-use Rattle.control_book.specs.declared.call.Notice.{Notice}
-use Rattle.control_book.specs.Control.{Control}
+use Rattle.world_laws.proofs.Words.{◌≡◌, refl, sym, ◌∙◌, ap, subst, ℕ, zero, suc, ◌+◌, ◌&&◌, ◌==◌, not, inl, inr, ◌⊎◌, ⊎_elim, Bool, true, false, if◌then◌else◌}
+use Rattle.world_laws.proofs.Words.{Option, Some, None, List, [], ◌∷◌, map, arith, is_none, set, and_parts, both_ways, false≢true, slice_get, list_all, Verdict}
+use Rattle.world_laws.proofs.Words.{Mode, FallEvent, is_identity, is_starting, reads_mappings, receiving, sending, writes_mappings, Fall, is_failed_path, goes}
+use Rattle.world_laws.proofs.Words.{fall_step, fall_keys, fall_plain, Stay, SendFail, Side, A, B, JoinSyn, ControlCall, Notice, sole_path, Control, is_sure}
+use Rattle.world_laws.proofs.Words.{ReassemblyCall, Record, Pending, Piece, start_of_turn, Duty, SendDuty, StepDuty, AskDuty, SilentDuty, Heard, KeyPair}
+use Rattle.world_laws.proofs.Words.{key_heard, keys_heard, PeerNotice, Ask, books_in, SixBooks, reply_of, after_ask, AppDuty, AppState, app_ask, stands}
+use Rattle.world_laws.proofs.Words.{ask_for, passed, waiting_path, PathState, end_at, with_agenda, path_of, settled, answers, asks_first, IsSettled, Carried}
+use Rattle.world_laws.proofs.Words.{values, reset_of, break_ask, first_unsent, data_ask, next_event, step_for, asked_at, join_heard_ask, piece_of, piece_ask}
+use Rattle.world_laws.proofs.Words.{plain_fin, data_fin_of, fin_ask, is_clash, mapping_ask, item_ask, item_of, fell_ask, plain_ack_ask, breaks_by_ack}
+use Rattle.world_laws.proofs.Words.{peer_key_ask, opened_ask, notice_ask, sends, rate_ask, item_at, in_map, in_set, Every, ActorCrew, Always, PathPlan, Start}
+use Rattle.world_laws.proofs.Words.{path_begins, opened_world, greatest, world_run}
+use Rattle.fallback_state.specs.Table.{stays, breaks}
 use Rattle.control_book.specs.Replies as control
-use Rattle.control_book.specs.Replies.{is_sure}
 use Rattle.control_book.specs.Steps as controlling
-use Rattle.control_book.specs.Registry.{sole as sole_path}
-use Rattle.subflow_send.specs.Records.{Record}
-use Rattle.stream_lanes.specs.Words.{Every}
-use Rattle.stream_lanes.proofs.Lists.{in_set, in_map}
-use Rattle.actor_desk.specs.declared.ask.Ask.{Ask}
-use Rattle.actor_desk.specs.Books.{books_in}
-use Rattle.actor_desk.specs.Desk.{SixBooks, reply_of, after_ask}
-use Rattle.stream_apps.specs.declared.duty.AppDuty.{AppDuty}
-use Rattle.stream_apps.specs.Apps.{AppState}
-use Rattle.stream_apps.specs.AppSteps.{app_ask}
-use Rattle.join_handshake.specs.declared.hearing.JoinSyn.{JoinSyn}
-use Rattle.path_agenda.specs.declared.notice.PeerNotice.{PeerNotice}
-use Rattle.path_agenda.specs.Agenda.{start_of_turn}
-use Rattle.path_agenda.specs.Items.{key_heard, keys_heard}
-use Rattle.path_agenda.specs.declared.duty.Duty.{Duty}
-use Rattle.path_agenda.specs.declared.duty.AskDuty.{AskDuty}
-use Rattle.path_agenda.specs.declared.duty.SendDuty.{SendDuty}
-use Rattle.path_agenda.specs.declared.duty.SilentDuty.{SilentDuty}
-use Rattle.path_agenda.specs.declared.duty.StepDuty.{StepDuty}
-use Rattle.path_agenda.specs.declared.heard.Heard.{Heard}
-use Rattle.path_agenda.specs.declared.keys.KeyPair.{KeyPair}
-use Rattle.path_core.specs.Addresses.{notice_ask}
 use Rattle.path_core.specs.declared.events.Event.{Event}
-use Rattle.path_core.specs.Breaking.{break_ask, reset_of}
-use Rattle.path_core.specs.Duties.{stands, ask_for, passed}
-use Rattle.path_core.specs.Emission.{first_unsent, data_ask}
-use Rattle.path_core.specs.Events.{next_event, step_for}
-use Rattle.path_core.specs.MpJoin.{asked_at, join_heard_ask}
-use Rattle.path_core.specs.MpCapable.{peer_key_ask, opened_ask}
-use Rattle.path_core.specs.Deliver.{piece_of, piece_ask}
-use Rattle.path_core.specs.DataFin.{data_fin_of, fin_ask, plain_fin}
-use Rattle.path_core.specs.Rate.{rate_ask}
-use Rattle.path_store.specs.Passing.{Piece}
-use Rattle.path_core.specs.Handover.{sends}
-use Rattle.path_core.specs.Start.{waiting_path}
-use Rattle.path_core.specs.State.{PathState, end_at, path_of, with_agenda}
-use Rattle.path_core.specs.Steps.{settled, asks_first, answers}
-use Rattle.path_core.specs.DssIn.{is_clash, mapping_ask}
-use Rattle.path_core.specs.Fallback.{fell_ask, plain_ack_ask, breaks_by_ack}
-use Rattle.path_core.specs.Treating.{item_ask, item_of}
-use Rattle.path_core.specs.Turns.{IsSettled}
-use Rattle.path_core.specs.Values.{Carried, values}
-use Rattle.path_core.specs.Choices.{item_at}
-use Rattle.world_laws.specs.Actors.{ActorCrew}
-use Rattle.world_laws.specs.Laws.{Always}
-use Rattle.world_laws.specs.Openings.{PathPlan, Start, path_begins, opened_world}
-use Rattle.world_laws.specs.Worlds.{greatest, world_run}
 use Rattle.world_laws.proofs.Joins.Asleep.{is_idle, AreIdle, IsAsleep, begins_nothing, takes_asleep, begins_asleep, first_asleep}
 use Rattle.world_laws.proofs.Worlds.CastLifting.{Has, turns_have}
 use Rattle.world_laws.proofs.Worlds.Casts.{Walker, Cast, world_of, walking, walked, after_a, after_b, after_path, Every-put, walks_on, next_cast, first_cast, first_fare, opened_is, new_walker, walker_there}

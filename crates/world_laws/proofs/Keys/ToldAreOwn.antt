@@ -1,75 +1,21 @@
 -- No control book is told another key than its own: what an end hears are the keys that were drawn.
-use Rattle.std.proofs.Common.{◌≡◌, refl, sym, ◌∙◌, ap, subst, ℕ, zero, suc, ◌+◌, ◌==◌, ◌&&◌, ◌||◌, not, is_some, is_none, nat_lt, ⊎_elim, Bool, true, false, if◌then◌else◌, Option, Some, None, List, [], ◌∷◌, map, arith}
-use Rattle.std.proofs.lemmas.Bool.{and_parts, lt-ltb, both_ways, false≢true}
-use Rattle.std.proofs.lemmas.Option.{same_Some}
-use Rattle.std.specs.List.{slice_get}
-use Rattle.std.specs.Option.{IfSome}
-use Rattle.sides.specs.declared.side.Side.{Side}
-use Rattle.sides.specs.declared.side.Side.TheVariants.{A, B}
-use Rattle.sides.specs.Side.{peer}
-use Rattle.subflow_send.specs.Records.{Record}
-use Rattle.loss_recovery.specs.declared.windows.Pending.{Pending}
-use Rattle.reassembly_book.specs.declared.call.ReassemblyCall.{ReassemblyCall}
-use Rattle.control_book.specs.declared.call.ControlCall.{ControlCall}
-use Rattle.control_book.specs.declared.call.ControlReply.{ControlReply}
-use Rattle.control_book.specs.Control.{Control, peer_or_zero}
-use Rattle.control_book.specs.Registry.{sole as sole_path, with_phase}
-use Rattle.control_book.specs.declared.registry.Phase.TheVariants.{Opening}
-use Rattle.key_material.specs.KeyDigest.{token_of}
-use Rattle.join_handshake.specs.declared.hearing.JoinSyn.{JoinSyn as Asked}
+use Rattle.world_laws.proofs.Words.{◌≡◌, refl, sym, ◌∙◌, ap, subst, ℕ, zero, suc, ◌+◌, ◌&&◌, ◌||◌, ◌==◌, not, nat_lt, ⊎_elim, Bool, true, false, if◌then◌else◌}
+use Rattle.world_laws.proofs.Words.{Option, Some, None, List, [], ◌∷◌, map, arith, is_none, is_some, lt-ltb, and_parts, both_ways, false≢true, same_Some}
+use Rattle.world_laws.proofs.Words.{slice_get, IfSome, token_of, Side, A, B, peer, Asked, ControlCall, ControlReply, sole_path, with_phase, Control}
+use Rattle.world_laws.proofs.Words.{peer_or_zero, Opening, ReassemblyCall, Record, Pending, is_waiting, EndState, Piece, start_of_turn, Duty, SendDuty}
+use Rattle.world_laws.proofs.Words.{StepDuty, AskDuty, SilentDuty, Heard, KeyPair, key_heard, keys_heard, PeerNotice, Ask, Reply, books_in, SixBooks, reply_of}
+use Rattle.world_laws.proofs.Words.{after_ask, LocalStep, AppDuty, AppState, app_ask, app_asks_first, ask_for, waiting_path, first_turn, PathState, end_at}
+use Rattle.world_laws.proofs.Words.{with_agenda, answers, asks_of, asks_first, takes, next_round, IsSettled, Carried, values, reset_of, break_ask, first_unsent}
+use Rattle.world_laws.proofs.Words.{data_ask, next_event, step_for, asked_at, keys_begun, is_joined, join_heard_ask, piece_of, piece_ask, plain_fin}
+use Rattle.world_laws.proofs.Words.{data_fin_of, fin_ask, is_clash, mapping_ask, item_ask, item_of, fell_ask, plain_ack_ask, breaks_by_ack, is_fall}
+use Rattle.world_laws.proofs.Words.{peer_key_ask, opened_ask, is_stopped_by, notice_ask, sends, rate_ask, in_map, Every-nil, in_set, Every, App, Path, Actor}
+use Rattle.world_laws.proofs.Words.{ActorCrew, member_asks, member_takes, member_next, Always, PathPlan, Start, path_begins, opened_world, WorldState, Turn}
+use Rattle.world_laws.proofs.Words.{crew_after, asked, stepped, world_step, all_over, greatest, begins, end_round, after_turn, world_run, KeysNeverDiffer}
+use Rattle.world_laws.proofs.Words.{tells_bad_address, tells_wrong_join, tells_other_key}
 use Rattle.control_book.specs.Replies as control
 use Rattle.control_book.specs.Steps as controlling
 use Rattle.fallback_state.specs.declared.fall.Event.TheVariants as events
-use Rattle.stream_lanes.specs.Words.{Every}
-use Rattle.stream_lanes.proofs.Lists.{Every-nil, in_set, in_map}
-use Rattle.actor_desk.specs.declared.ask.Ask.{Ask}
-use Rattle.actor_desk.specs.declared.ask.LocalStep.{LocalStep}
-use Rattle.actor_desk.specs.declared.ask.Reply.{Reply}
-use Rattle.actor_desk.specs.Books.{books_in}
-use Rattle.actor_desk.specs.Desk.{SixBooks, reply_of, after_ask}
-use Rattle.stream_apps.specs.declared.duty.AppDuty.{AppDuty}
-use Rattle.stream_apps.specs.Apps.{AppState}
-use Rattle.stream_apps.specs.AppSteps.{app_ask, app_asks_first}
-use Rattle.path_agenda.specs.declared.notice.PeerNotice.{PeerNotice}
-use Rattle.path_agenda.specs.declared.duty.Duty.{Duty}
-use Rattle.path_agenda.specs.declared.duty.AskDuty.{AskDuty}
-use Rattle.path_agenda.specs.declared.duty.SendDuty.{SendDuty}
-use Rattle.path_agenda.specs.declared.duty.SilentDuty.{SilentDuty}
-use Rattle.path_agenda.specs.declared.duty.StepDuty.{StepDuty}
-use Rattle.path_core.specs.Addresses.{notice_ask}
 use Rattle.path_core.specs.declared.events.Event.{Event}
-use Rattle.path_agenda.specs.declared.heard.Heard.{Heard}
-use Rattle.path_agenda.specs.declared.keys.KeyPair.{KeyPair}
-use Rattle.path_core.specs.Breaking.{break_ask, reset_of}
-use Rattle.path_core.specs.Duties.{ask_for}
-use Rattle.path_core.specs.Emission.{first_unsent, data_ask}
-use Rattle.path_core.specs.Events.{next_event, step_for}
-use Rattle.path_agenda.specs.Items.{key_heard, keys_heard}
-use Rattle.path_core.specs.Fallback.{fell_ask, is_fall, breaks_by_ack, plain_ack_ask}
-use Rattle.path_core.specs.MpCapable.{peer_key_ask, opened_ask}
-use Rattle.path_core.specs.Deliver.{piece_of, piece_ask}
-use Rattle.path_core.specs.DataFin.{data_fin_of, fin_ask, plain_fin}
-use Rattle.path_core.specs.Rate.{rate_ask}
-use Rattle.path_store.specs.Passing.{Piece}
-use Rattle.path_core.specs.Handover.{sends}
-use Rattle.path_core.specs.Start.{first_turn, waiting_path}
-use Rattle.path_core.specs.MpJoin.{asked_at, join_heard_ask, keys_begun, is_joined}
-use Rattle.path_core.specs.Turns.{IsSettled}
-use Rattle.path_agenda.specs.Agenda.{start_of_turn}
-use Rattle.subflow_tcp.specs.State.{EndState}
-use Rattle.subflow_tcp.specs.States.{is_waiting}
-use Rattle.path_core.specs.State.{PathState, end_at, with_agenda}
-use Rattle.path_core.specs.Steps.{answers, asks_first, asks_of, next_round, takes}
-use Rattle.path_core.specs.FastClose.{is_stopped_by}
-use Rattle.path_core.specs.DssIn.{is_clash, mapping_ask}
-use Rattle.path_core.specs.Treating.{item_ask, item_of}
-use Rattle.path_core.specs.Values.{Carried, values}
-use Rattle.world_laws.specs.declared.member.Member.TheVariants.{App, Path}
-use Rattle.world_laws.specs.Actors.{Actor, ActorCrew, member_asks, member_takes, member_next}
-use Rattle.world_laws.specs.Laws.{Always}
-use Rattle.world_laws.specs.Openings.{PathPlan, Start, path_begins, opened_world}
-use Rattle.world_laws.specs.Promises.{tells_other_key, tells_wrong_join, tells_bad_address, KeysNeverDiffer}
-use Rattle.world_laws.specs.Worlds.{WorldState, Turn, crew_after, asked, stepped, world_step, all_over, greatest, begins, end_round, after_turn, world_run}
 use Rattle.world_laws.proofs.Weaving.Journals.{books_after}
 use Rattle.world_laws.proofs.Falls.FailedChecks.{fail_asks_so, subflow_acks_so}
 use Rattle.world_laws.proofs.Falls.WhereASideStands.{is_plain, plain_stays, row_falls}

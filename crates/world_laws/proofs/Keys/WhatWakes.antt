@@ -1,46 +1,18 @@
 -- Which steps wake an end, and which duties say what an end that began says.
-use Rattle.std.proofs.Common.{◌≡◌, refl, sym, ◌∙◌, ap, subst, ℕ, zero, suc, ◌+◌, not, ◌||◌, ◌&&◌, nat_lt, nat_le, is_some, IsSome, Bool, true, false, if◌then◌else◌, Option, Some, None, List, [], ◌∷◌}
-use Rattle.std.proofs.lemmas.Bool.{false≢true}
-use Rattle.std.specs.List.{list_any}
-use Rattle.std.specs.Option.{IfSome, option_and_then}
-use Rattle.sides.specs.declared.side.Side.{Side}
-use Rattle.sides.specs.declared.side.Side.TheVariants.{A, B}
-use Rattle.link_script.specs.Places.{same_side}
+use Rattle.world_laws.proofs.Words.{◌≡◌, refl, sym, ◌∙◌, ap, subst, ℕ, zero, suc, ◌+◌, ◌&&◌, ◌||◌, not, nat_lt, nat_le, Bool, true, false, if◌then◌else◌}
+use Rattle.world_laws.proofs.Words.{Option, Some, None, List, [], ◌∷◌, is_some, false≢true, list_any, IfSome, option_and_then, Side, A, B, same_side, AckKind}
+use Rattle.world_laws.proofs.Words.{after_acknowledge, ack_kind, sample_of, is_closed_to_segments, is_waiting, Meaning, after_sending, EndState, EndPhase}
+use Rattle.world_laws.proofs.Words.{Occasion, is_fin_acked, after_ack_kind, after_acknowledgement, is_duplicate, after_duplicate, after_interruption, told_by}
+use Rattle.world_laws.proofs.Words.{after_payload, after_hearing, after_established, after_taken, after_syn_ack, after_arrival, is_fin_next, after_passing_fin}
+use Rattle.world_laws.proofs.Words.{after_finishing, is_syn_alone, meaning_at, meaning_of, Copy, Hint, next_due, Due, LineLeft, heard_and, payload_came}
+use Rattle.world_laws.proofs.Words.{copy_came, Duty, SendDuty, StepDuty, AskDuty, Heard, replaced, tail_of, PathEnd, PathState, end_at, owing_if, with_payload}
+use Rattle.world_laws.proofs.Words.{Judged, tick_of, next_join, next_line, next_copy, earlier, next_event, earliest, join_answer, join_asked, after_timer}
+use Rattle.world_laws.proofs.Words.{next_fire, is_forged, is_passed_over, join_judged, taken_as, judged_of}
+use Rattle.std.proofs.Common.{IsSome}
 use Rattle.loss_recovery.specs.Timers.{timer_settled}
-use Rattle.subflow_send.specs.declared.record.AckKind.{AckKind}
-use Rattle.subflow_send.specs.Rules.{ack_kind, after_acknowledge, sample_of}
-use Rattle.subflow_tcp.specs.declared.handshake.State.{State as EndPhase}
-use Rattle.subflow_tcp.specs.declared.segments.Hint.{Hint}
-use Rattle.subflow_tcp.specs.declared.segments.Occasion.{Occasion}
-use Rattle.subflow_tcp.specs.declared.verdicts.Meaning.{Meaning}
-use Rattle.subflow_tcp.specs.Closing.{is_fin_next, after_passing_fin, after_finishing}
-use Rattle.subflow_tcp.specs.Emitting.{after_sending}
-use Rattle.subflow_tcp.specs.Judging.{is_syn_alone, meaning_at, meaning_of}
-use Rattle.subflow_tcp.specs.Segments.{Copy}
-use Rattle.subflow_tcp.specs.State.{EndState}
 use Rattle.subflow_tcp.specs.States as states
-use Rattle.subflow_tcp.specs.States.{is_closed_to_segments, is_waiting}
-use Rattle.subflow_tcp.specs.Taking.{after_arrival, is_fin_acked, after_acknowledgement, after_ack_kind, after_hearing, after_payload, after_established, after_duplicate, after_interruption, is_duplicate, told_by, after_taken, after_syn_ack}
-use Rattle.actor_desk.specs.Words.{tail_of}
-use Rattle.path_agenda.specs.Agenda.{heard_and, payload_came, copy_came}
-use Rattle.path_agenda.specs.Words.{replaced}
-use Rattle.path_agenda.specs.declared.duty.Duty.{Duty}
-use Rattle.path_agenda.specs.declared.duty.AskDuty.{AskDuty}
-use Rattle.path_agenda.specs.declared.duty.SendDuty.{SendDuty}
-use Rattle.path_agenda.specs.declared.duty.StepDuty.{StepDuty}
-use Rattle.path_agenda.specs.declared.heard.Heard.{Heard}
-use Rattle.path_core.specs.Judged.{join_judged, judged_of, taken_as, is_passed_over, is_forged}
-use Rattle.path_core.specs.Arrival.{owing_if, with_payload}
-use Rattle.path_core.specs.Timer.{after_timer, next_fire}
-use Rattle.path_core.specs.End.{PathEnd}
-use Rattle.path_core.specs.Events.{tick_of, next_join, next_line, next_copy, earlier, earliest, before, next_event}
-use Rattle.path_store.specs.declared.lines.LineLeft.{LineLeft}
-use Rattle.link_model.specs.declared.flight.Due.{Due}
-use Rattle.link_model.specs.Steps.{next_due}
+use Rattle.path_core.specs.Events.{before}
 use Rattle.path_core.specs.declared.events.Event.{Event}
-use Rattle.path_core.specs.State.{PathState, end_at}
-use Rattle.path_core.specs.MpJoin.{join_asked, join_answer}
-use Rattle.path_core.specs.declared.judged.Judged.{Judged}
 use Rattle.world_laws.proofs.Keys.AreDrawn.{is_past}
 
 -- ---- an end

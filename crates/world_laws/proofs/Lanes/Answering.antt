@@ -1,55 +1,20 @@
 -- What each duty's reply makes of the path and of its lanes: the duties that ask no event.
-use Rattle.std.proofs.Common.{◌≡◌, refl, sym, ◌∙◌, ℕ, suc, ◌-◌, ◌≤◌, inl, Bool, true, false, if◌then◌else◌, Option, Some, None, List, [], ◌∷◌, length, arith}
-use Rattle.std.proofs.lemmas.Bool.{both_ways, false≢true}
-use Rattle.std.proofs.lemmas.List.{append-nil}
-use Rattle.std.specs.Option.{IfSome}
-use Rattle.sides.specs.declared.side.Side.{Side}
-use Rattle.sides.specs.declared.side.Side.TheVariants.{A, B}
-use Rattle.loss_recovery.specs.declared.windows.Pending.{Pending}
-use Rattle.path_segments.specs.Spelled.{PlainSegment}
-use Rattle.reassembly_book.specs.Steps.{next_wanted, window}
-use Rattle.subflow_send.specs.declared.record.RecordKind.{RecordKind}
-use Rattle.subflow_send.specs.declared.record.RecordKind.TheVariants.{Syn, Data, Fin}
-use Rattle.subflow_send.specs.Records.{Record}
-use Rattle.subflow_send.specs.Rules.{is_unsent}
-use Rattle.subflow_tcp.specs.declared.segments.Occasion.{Occasion}
-use Rattle.subflow_tcp.specs.declared.segments.Outgoing.{Outgoing}
-use Rattle.subflow_tcp.specs.Emitting.{is_syn, reset_segment, fin_position}
-use Rattle.subflow_tcp.specs.Closing.{after_finishing}
-use Rattle.subflow_tcp.specs.State.{has_records}
+use Rattle.world_laws.proofs.Words.{◌≡◌, refl, sym, ◌∙◌, ℕ, suc, ◌-◌, ◌≤◌, inl, Bool, true, false, if◌then◌else◌, Option, Some, None, List, [], ◌∷◌, length}
+use Rattle.world_laws.proofs.Words.{arith, both_ways, false≢true, append-nil, IfSome, Side, A, B, JoinSyn, next_wanted, window, Record, RecordKind, Syn, Data}
+use Rattle.world_laws.proofs.Words.{Fin, is_unsent, Pending, reset_segment, fin_position, is_syn, has_records, Occasion, Outgoing, after_finishing}
+use Rattle.world_laws.proofs.Words.{PlainSegment, leaves, resets, Duty, SendDuty, StepDuty, OwnNotice, Heard, KeyPair, replaced, first_of, Ask, Reply, SixBooks}
+use Rattle.world_laws.proofs.Words.{reassembly_of, reply_of, pick, PathEnd, died, answered_ack_out, after_ack_out, ack_out_ask, ack_segment, PathState, end_at}
+use Rattle.world_laws.proofs.Words.{goes_on, with_agenda, left, Carried, values, reset_of, reset_on, answered_break, refusal_of, break_ask, answered_refusal}
+use Rattle.world_laws.proofs.Words.{first_unsent, having_sent_unsent, unsent_segment, answer_occasion, answer_of, answered_again, answered_answer}
+use Rattle.world_laws.proofs.Words.{answered_resend, dead_answer, first_segment, outgoing_or, resend_occasion, resend_of, first_record, ack_resent}
+use Rattle.world_laws.proofs.Words.{answered_dead, asked_at, join_taken, joined_by, keys_begun, with_mode_refused, join_heard_ask, answered_join_heard}
+use Rattle.world_laws.proofs.Words.{is_data_fin_owed, data_fin_segment, having_sent_data_fin, answered_data_fin_sent, fin_segment_of, having_sent_fin}
+use Rattle.world_laws.proofs.Words.{answered_fin, with_data_fin_sent, syn_ack_of, answered_fast_close, having_fast_closed, with_fast_closed, having_noted}
+use Rattle.world_laws.proofs.Words.{answered_note, with_noted, reset_options, segment_of, ack_said, carried_said, syn_ack_said, record_or_ack, noted_said}
+use Rattle.world_laws.proofs.Words.{Profile, sends, having_sent, sent_on, rate_ask, is_side_a, item_at, IfSome-map, Every, Lane}
 use Rattle.subflow_tcp.specs.States as states
-use Rattle.stream_lanes.specs.Lane.{Lane}
-use Rattle.stream_lanes.specs.Words.{Every}
-use Rattle.stream_lanes.proofs.Lists.{IfSome-map}
-use Rattle.actor_desk.specs.declared.ask.Ask.{Ask}
-use Rattle.actor_desk.specs.declared.ask.Reply.{Reply}
-use Rattle.actor_desk.specs.Desk.{SixBooks, reassembly_of, reply_of}
-use Rattle.actor_desk.specs.Words.{pick}
-use Rattle.join_handshake.specs.declared.hearing.JoinSyn.{JoinSyn}
-use Rattle.path_agenda.specs.declared.duty.Duty.{Duty}
-use Rattle.path_agenda.specs.declared.duty.SendDuty.{SendDuty}
-use Rattle.path_agenda.specs.declared.duty.StepDuty.{StepDuty}
-use Rattle.path_agenda.specs.declared.heard.Heard.{Heard}
-use Rattle.path_agenda.specs.Words.{replaced, first_of}
-use Rattle.path_agenda.specs.declared.keys.KeyPair.{KeyPair}
-use Rattle.path_core.specs.Breaking.{reset_of, reset_on, break_ask, answered_break, refusal_of, answered_refusal}
-use Rattle.path_core.specs.DataFin.{is_data_fin_owed, with_data_fin_sent, data_fin_segment, having_sent_data_fin, fin_segment_of, having_sent_fin, answered_data_fin_sent, answered_fin}
-use Rattle.path_agenda.specs.Agenda.{leaves, resets}
-use Rattle.path_core.specs.Emission.{first_unsent, unsent_segment, having_sent_unsent, ack_resent, first_record, first_segment, answer_of, answer_occasion, answered_answer, answered_again, outgoing_or, dead_answer, answered_dead, resend_occasion, resend_of, answered_resend}
-use Rattle.path_core.specs.End.{PathEnd, died}
-use Rattle.path_core.specs.MpCapable.{syn_ack_of}
-use Rattle.path_core.specs.MpJoin.{keys_begun, asked_at, join_heard_ask, joined_by, join_taken, answered_join_heard, with_mode_refused}
-use Rattle.path_core.specs.Rate.{rate_ask}
-use Rattle.path_core.specs.OptionsOut.{ack_said, carried_said, syn_ack_said, record_or_ack, reset_options, segment_of, noted_said}
-use Rattle.path_core.specs.Handover.{sends, having_sent, sent_on}
-use Rattle.path_core.specs.Standing.{ack_out_ask, after_ack_out, answered_ack_out, ack_segment}
-use Rattle.path_core.specs.State.{PathState, end_at, goes_on, left, with_agenda}
-use Rattle.path_core.specs.Profile.{Profile}
-use Rattle.path_core.specs.Values.{Carried, values}
-use Rattle.path_core.specs.Choices.{is_side_a, item_at}
-use Rattle.path_core.specs.FastClose.{answered_fast_close, fast_close_of, having_fast_closed, with_fast_closed}
-use Rattle.path_core.specs.Addresses.{note_of, with_noted, having_noted, answered_note}
-use Rattle.path_agenda.specs.declared.notice.OwnNotice.{OwnNotice}
+use Rattle.path_core.specs.FastClose.{fast_close_of}
+use Rattle.path_core.specs.Addresses.{note_of}
 use Rattle.world_laws.proofs.Lanes.Doing.{has_last, with_fin_sent, fin_goes, wants_ack_out, with_plain_pair, sends_plain_pair, plain_pair_goes, plain_pair_told}
 use Rattle.world_laws.proofs.Lanes.Growing.{receiver_stays, sender_pairs}
 use Rattle.world_laws.proofs.Lanes.Ending.{Did, did_nothing, told_end, finished_shows, unfinished_if}

@@ -1,23 +1,9 @@
 -- What the steps of an application make of the two directions: it writes into the one, and reads from the other.
-use Rattle.std.proofs.Common.{◌≡◌, refl, sym, ◌∙◌, ap, ℕ, zero, suc, ◌≤◌, ◌||◌, not, Bool, true, false, if◌then◌else◌, List, [], ◌∷◌, ◌++◌, length, take, drop, replicate, arith}
-use Rattle.std.proofs.lemmas.Bool.{or_parts, both_ways, false≢true}
-use Rattle.std.proofs.lemmas.List.{append-nil, append_assoc}
-use Rattle.std.specs.List.{list_any}
-use Rattle.send_book.specs.declared.call.SendReply.{SendReply}
-use Rattle.send_book.specs.declared.mark.ByteMark.TheVariants.{Free}
-use Rattle.send_book.specs.Tried.{no_paths}
-use Rattle.send_book.specs.State.{Sending}
+use Rattle.world_laws.proofs.Words.{◌≡◌, refl, sym, ◌∙◌, ap, ℕ, zero, suc, ◌≤◌, ◌||◌, not, Bool, true, false, if◌then◌else◌, List, [], ◌∷◌, ◌++◌, length, take}
+use Rattle.world_laws.proofs.Words.{drop, replicate, arith, or_parts, both_ways, false≢true, append-nil, append_assoc, list_any, ReassemblyReply, Sending, Free}
+use Rattle.world_laws.proofs.Words.{no_paths, SendReply, Note, Reply, is_nil, AppDuty, AppState, app_stands, bytes_in, ends_in, app_settled, taken_in}
+use Rattle.world_laws.proofs.Words.{IsAppSettled, is_done, Reader, takes_read, read_by, was_told, tells_end, note_tells, bytes_noted, tells_stop}
 use Rattle.send_book.specs.Steps as send
-use Rattle.reassembly_book.specs.declared.call.ReassemblyReply.{ReassemblyReply}
-use Rattle.stream_lanes.specs.Streams.{Reader, takes_read, is_done}
-use Rattle.actor_desk.specs.declared.ask.Note.{Note}
-use Rattle.actor_desk.specs.declared.ask.Reply.{Reply}
-use Rattle.stream_apps.specs.declared.duty.AppDuty.{AppDuty}
-use Rattle.stream_apps.specs.Apps.{AppState}
-use Rattle.stream_apps.specs.AppSteps.{app_stands, app_settled, taken_in, bytes_in, ends_in}
-use Rattle.stream_apps.specs.Turns.{IsAppSettled}
-use Rattle.actor_desk.specs.Words.{is_nil}
-use Rattle.world_laws.specs.Outcomes.{note_tells, was_told, tells_end, tells_stop, bytes_noted, read_by}
 
 -- ---- lists that grow
 

@@ -1,38 +1,15 @@
 -- A copy that arrives at an end: its payload is heard on the lane, and what the subflow makes of it shows there.
-use Rattle.std.proofs.Common.{◌≡◌, refl, sym, ap, subst, ℕ, ◌+◌, ◌-◌, inl, inr, ⊎_elim, Bool, true, false, if◌then◌else◌, Option, Some, None, List, [], ◌∷◌, length, arith, ◌∙◌}
-use Rattle.std.proofs.lemmas.Bool.{false≢true}
-use Rattle.std.proofs.lemmas.Option.{same_Some}
-use Rattle.std.specs.Option.{IfSome, option_map}
+use Rattle.world_laws.proofs.Words.{◌≡◌, refl, sym, ◌∙◌, ap, subst, ℕ, ◌+◌, ◌-◌, inl, inr, ⊎_elim, Bool, true, false, if◌then◌else◌, Option, Some, None, List}
+use Rattle.world_laws.proofs.Words.{[], ◌∷◌, length, arith, false≢true, same_Some, IfSome, Side, peer, JoinAnswer, KeptMapping, Receiving, after_accept}
+use Rattle.world_laws.proofs.Words.{AckKind, after_acknowledge, ack_kind, sample_of, Meaning, EndState, EndPhase, meaning_of, Copy, Hint, PlainSegment, meant}
+use Rattle.world_laws.proofs.Words.{window_told, At, Heard, is_nil, PathEnd, hint_of, items_of, owes_by, after_judged, asked_in, copy_of, judged_in, with_held}
+use Rattle.world_laws.proofs.Words.{owing_if, with_payload, acknowledged_in, is_joined, join_answer, join_asked, held_of, HeardOption, Profile, answered_in}
+use Rattle.world_laws.proofs.Words.{cleared_in, taken_as, with_answer, Modes, Every-map, Every-nil, AckCopy, Lane}
+use Rattle.std.specs.Option.{option_map}
 use Rattle.std.specs.Prelude.{unwrap_or}
-use Rattle.sides.specs.declared.side.Side.{Side}
-use Rattle.sides.specs.Side.{peer}
-use Rattle.dss_mapping.specs.declared.kept.KeptMapping.{KeptMapping}
-use Rattle.path_segments.specs.Laws.{meant, window_told}
-use Rattle.path_segments.specs.Spelled.{PlainSegment}
-use Rattle.subflow_recv.specs.Receiving.{after_accept, Receiving}
-use Rattle.subflow_send.specs.Rules.{ack_kind, after_acknowledge, sample_of}
-use Rattle.subflow_send.specs.declared.record.AckKind.{AckKind}
-use Rattle.join_handshake.specs.declared.hearing.JoinAnswer.{JoinAnswer}
-use Rattle.subflow_tcp.specs.declared.segments.Hint.{Hint}
-use Rattle.subflow_tcp.specs.declared.verdicts.Meaning.{Meaning}
-use Rattle.subflow_tcp.specs.Segments.{Copy}
-use Rattle.subflow_tcp.specs.Judging.{meaning_of}
-use Rattle.subflow_tcp.specs.State.{EndState}
 use Rattle.subflow_tcp.specs.Taking as taking
-use Rattle.subflow_tcp.specs.declared.handshake.State.{State as EndPhase}
-use Rattle.stream_lanes.specs.Lane.{Lane, AckCopy}
-use Rattle.stream_lanes.proofs.Lists.{Every-nil, Every-map}
-use Rattle.actor_desk.specs.Words.{is_nil}
-use Rattle.path_agenda.specs.declared.heard.Heard.{Heard}
-use Rattle.path_core.specs.Arrival.{asked_in, copy_of, owing_if, with_payload, judged_in, after_judged, acknowledged_in, with_held}
-use Rattle.path_core.specs.Judged.{is_taken, taken_as, after_join, answered_in, cleared_in, with_answer}
-use Rattle.path_core.specs.OptionsIn.{items_of, hint_of, owes_by}
-use Rattle.path_core.specs.DssIn.{HeardOption, held_of}
-use Rattle.path_core.specs.End.{PathEnd}
-use Rattle.path_core.specs.MpJoin.{is_joined, join_asked, join_answer}
-use Rattle.path_core.specs.Profile.{Profile}
+use Rattle.path_core.specs.Judged.{is_taken, after_join}
 use Rattle.path_core.proofs.Judgements.{judged_taken}
-use Rattle.path_core.specs.declared.modes.Modes.{Modes}
 use Rattle.world_laws.proofs.Lanes.Arriving.{Halves, options_say, options_hold, taken_both, syn_both, syn_ack_both}
 use Rattle.world_laws.proofs.Lanes.Ending.{Did, Alike, then_alike, alike_pairs}
 use Rattle.world_laws.proofs.Lanes.Growing.{SenderGoes, ReceiverGoes, Longer, sender_stays, receiver_stays, heard_longer, segment_longer, kept_longer}
@@ -41,7 +18,6 @@ use Rattle.world_laws.proofs.Lanes.Records.{acknowledged_shows}
 use Rattle.world_laws.proofs.Lanes.Roads.{Strolls, stays}
 use Rattle.world_laws.proofs.Lanes.Showing.{HasSub, HasNone, HasData, HasFin, Knowledge, knowledge_of, is_unfinished, AcksShow, SegmentShows, EndShows, PairsShow}
 use Rattle.world_laws.proofs.Lanes.RulesLeaveAlone.{sub_of_none}
-use Rattle.path_segments.specs.declared.position.HeardPosition.TheVariants.{At}
 
 -- the octets of a payload are on the lane, where they are held
 pub record Holding (c : Profile) (s : Side) (k : Knowledge) (live : List KeptMapping) (out back : Lane) (tcp : EndState) : Type 0 where

@@ -1,39 +1,17 @@
 -- A copy that arrives: what the end makes of it at once, and what the lanes do then.
-use Rattle.std.proofs.Common.{◌≡◌, refl, sym, ap, subst, ℕ, suc, ◌+◌, ◌^◌, nat_le, nat_lt, inl, ⊎_elim, Bool, true, false, if◌then◌else◌, option_map, Option, Some, None, List, [], ◌∷◌, length, map, flat_map}
-use Rattle.std.proofs.lemmas.Bool.{both_ways}
-use Rattle.std.specs.Option.{IfSome}
-use Rattle.sides.specs.declared.side.Side.{Side}
-use Rattle.sides.specs.declared.side.Side.TheVariants.{A, B}
-use Rattle.sides.specs.Side.{peer}
-use Rattle.dss_mapping.specs.declared.kept.KeptMapping.{KeptMapping}
+use Rattle.world_laws.proofs.Words.{◌≡◌, refl, sym, ap, subst, ℕ, suc, ◌+◌, nat_lt, nat_le, inl, ⊎_elim, Bool, true, false, if◌then◌else◌, Option, Some, None}
+use Rattle.world_laws.proofs.Words.{List, [], ◌∷◌, length, map, ◌^◌, option_map, both_ways, IfSome, Side, A, B, peer, JoinForm, CapableKeys, NoKey, Sender}
+use Rattle.world_laws.proofs.Words.{Both, WithData, KeptMapping, after_accept, AckKind, after_acknowledge, ack_kind, sample_of, EndState, State, Copy, Hint}
+use Rattle.world_laws.proofs.Words.{PlainOption, Capable, Join, Dss, AddAddr, Remove, Prio, Fail, Reset, meant_option, meant_mapping, PathMapping, Bytes}
+use Rattle.world_laws.proofs.Words.{Infinite, Heard, PeerNotice, items_in, is_joined, join_items, ack_items, is_mapping, mapping_items, map_items, first_items}
+use Rattle.world_laws.proofs.Words.{held_if, map_held, key_held, held_in, checksum_heard, kept_of, key_items, Profile, Every-nil, Every-append, Every, AckCopy}
+use Rattle.world_laws.proofs.Words.{Lane}
+use Rattle.std.proofs.Common.{flat_map}
 use Rattle.loss_recovery.specs.declared.windows.Told.{Told}
-use Rattle.mptcp_options.specs.declared.capable.CapableKeys.{CapableKeys}
-use Rattle.mptcp_options.specs.declared.capable.CapableKeys.TheVariants.{NoKey, Sender, Both, WithData}
-use Rattle.mptcp_options.specs.declared.join.JoinForm.{JoinForm}
-use Rattle.path_segments.specs.declared.segment.PathMapping.{PathMapping}
-use Rattle.path_segments.specs.declared.segment.PathMapping.TheVariants.{Bytes, End, Infinite}
-use Rattle.path_segments.specs.declared.segment.PathOption.TheVariants.{Capable, Join, Dss, AddAddr, Remove, Prio, Fail, FastClose, Reset}
-use Rattle.path_segments.specs.Laws.{meant_option, meant_mapping}
-use Rattle.path_segments.specs.Options.{PlainOption}
-use Rattle.subflow_recv.specs.Receiving.{after_accept}
-use Rattle.subflow_send.specs.declared.record.AckKind.{AckKind}
-use Rattle.subflow_send.specs.Rules.{after_acknowledge, ack_kind, sample_of}
-use Rattle.subflow_tcp.specs.declared.handshake.State.{State}
-use Rattle.subflow_tcp.specs.declared.segments.Hint.{Hint}
-use Rattle.subflow_tcp.specs.Segments.{Copy}
-use Rattle.subflow_tcp.specs.State.{EndState}
+use Rattle.path_segments.specs.declared.segment.PathMapping.TheVariants.{End}
+use Rattle.path_segments.specs.declared.segment.PathOption.TheVariants.{FastClose}
 use Rattle.subflow_tcp.specs.States as states
 use Rattle.subflow_tcp.specs.Taking as taking
-use Rattle.stream_lanes.specs.Lane.{AckCopy, Lane}
-use Rattle.stream_lanes.specs.Words.{Every}
-use Rattle.stream_lanes.proofs.Lists.{Every-nil, Every-append}
-use Rattle.path_agenda.specs.declared.heard.Heard.{Heard}
-use Rattle.path_agenda.specs.declared.notice.PeerNotice.{PeerNotice}
-use Rattle.path_core.specs.DssIn.{ack_items, is_mapping, mapping_items, map_items, first_items, held_if, map_held, key_held, held_in, checksum_heard, kept_of}
-use Rattle.path_core.specs.MpCapable.{key_items}
-use Rattle.path_core.specs.MpJoin.{join_items, is_joined}
-use Rattle.path_core.specs.OptionsIn.{items_in}
-use Rattle.path_core.specs.Profile.{Profile}
 use Rattle.world_laws.proofs.Lanes.Hearing.{state_shows, handshake_back, fin_acked_back}
 use Rattle.world_laws.proofs.Announcements.NothingKnown.{noted, removed_noted, address_noted}
 use Rattle.world_laws.proofs.Lanes.Records.{acknowledged_shows, every_cons}

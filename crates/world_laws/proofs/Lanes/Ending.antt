@@ -1,45 +1,20 @@
 -- What each rule of an end makes of the lanes.
-use Rattle.std.proofs.Common.{◌≡◌, refl, sym, ap, subst, ℕ, suc, ◌^◌, ◌<◌, max, ◌||◌, inl, inr, ⊎_elim, true, false, Option, Some, None, List, [], ◌++◌, length, arith, ◌-◌, ◌+◌, ◌∙◌, ◌≤◌, ◌⊎◌, ◌∷◌, if◌then◌else◌, Bool, is_some}
-use Rattle.std.proofs.lemmas.Bool.{or_cases, or_left, or_right, both_ways, false≢true}
-use Rattle.std.proofs.lemmas.List.{append-nil}
-use Rattle.std.specs.Option.{IfSome}
+use Rattle.world_laws.proofs.Words.{◌≡◌, refl, sym, ◌∙◌, ap, subst, ℕ, suc, ◌+◌, ◌-◌, ◌≤◌, ◌||◌, max, inl, inr, ◌⊎◌, ⊎_elim, Bool, true, false, if◌then◌else◌}
+use Rattle.world_laws.proofs.Words.{Option, Some, None, List, [], ◌∷◌, ◌++◌, length, arith, is_some, ◌<◌, ◌^◌, or_cases, both_ways, false≢true, or_right}
+use Rattle.world_laws.proofs.Words.{or_left, append-nil, IfSome, Side, with_turned_bit, ReassemblyReply, Span, Why, SendReply, Receiving, Record, SendState}
+use Rattle.world_laws.proofs.Words.{RecordKind, Syn, Data, Fin, EndPhase, after_finishing, InfiniteMapping, is_open, Reply, PathEnd, after_ack_out, granted}
+use Rattle.world_laws.proofs.Words.{refused, granted_at, acked_in, Profile, Modes, told_last, Every-map, Every-push, IfSome-map, Has-more, Every, HasPlace}
+use Rattle.world_laws.proofs.Words.{Cell, Lane, takes_ack, sub_next, cells_from, known, later_end, Nothing}
 use Rattle.std.specs.Prelude.{filter}
-use Rattle.sides.specs.declared.side.Side.{Side}
-use Rattle.send_book.specs.declared.call.Span.{Span}
-use Rattle.send_book.specs.declared.call.Why.{Why}
-use Rattle.reassembly_book.specs.declared.call.ReassemblyReply.{ReassemblyReply}
 use Rattle.loss_recovery.specs.Windows as windows
-use Rattle.subflow_recv.specs.Receiving.{Receiving}
-use Rattle.subflow_send.specs.Records.{Record, SendState}
-use Rattle.subflow_send.specs.declared.record.RecordKind.{RecordKind}
-use Rattle.subflow_send.specs.declared.record.RecordKind.TheVariants.{Syn, Data, Fin}
-use Rattle.subflow_tcp.specs.declared.handshake.State.{State as EndPhase}
-use Rattle.subflow_tcp.specs.Closing.{after_finishing}
 use Rattle.subflow_tcp.specs.States as states
-use Rattle.stream_lanes.specs.Lane.{Lane, Cell}
-use Rattle.stream_lanes.specs.Lane.Ask.{Nothing}
-use Rattle.send_book.specs.declared.call.SendReply.{SendReply}
-use Rattle.stream_lanes.specs.Moves.{later_end, known, takes_ack, cells_from, sub_next}
-use Rattle.stream_lanes.specs.Words.{Every, Has}
-use Rattle.stream_lanes.proofs.Lists.{Every-map, Every-push, Has-more, IfSome-map}
-use Rattle.stream_lanes.specs.Holding.{HasPlace}
-use Rattle.actor_desk.specs.declared.ask.Reply.{Reply}
-use Rattle.path_store.specs.declared.infinite_mapping.InfiniteMapping.{InfiniteMapping}
-use Rattle.path_core.specs.declared.modes.Modes.{Modes}
-use Rattle.path_core.specs.End.{PathEnd}
-use Rattle.path_core.specs.Emission.{granted, granted_at, refused}
-use Rattle.path_core.specs.Standing.{after_ack_out}
-use Rattle.path_core.specs.Profile.{Profile}
-use Rattle.path_core.specs.DataFin.{acked_in}
-use Rattle.path_core.specs.Choices.{told_last}
-use Rattle.path_store.specs.Granted.{is_open}
+use Rattle.stream_lanes.specs.Words.{Has}
 use Rattle.world_laws.proofs.Lanes.Doing.{copy_granted, altered_granted, turned_granted, place_is, told_lane, ack_moves, told_goes, told_windows, with_piece, granted_lane, sends_the_piece, piece_goes, refused_lane, with_end, sends_the_end, end_goes, with_fin_sent, fin_goes, length-granted, has_last, told_sub, granted_summed}
 use Rattle.world_laws.proofs.Lanes.Growing.{SenderGoes, ReceiverGoes, sender_stays, receiver_stays, Longer, sent_longer, data_longer, mapping_longer, fin_longer, same_edge, summed_longer, sender_pairs}
 use Rattle.world_laws.proofs.Lanes.Roads.{moves, Strolls, stays}
 use Rattle.world_laws.proofs.Lanes.SentRecords.{granted_sent, heard_sent, finished_sent}
 use Rattle.world_laws.proofs.Lanes.Showing.{HasNumber, HasFin, KindShows, RecordShows, is_unfinished, TreatedShows, EndShows, HasNone, IsAtEdge, IsGrantedTo, IsPastFin, OwnIs, PeerIs, PairsShow}
 use Rattle.world_laws.proofs.Lanes.Records.{every_cons, every_first, every_rest}
-use Rattle.segment_wire.specs.Changes.{with_turned_bit}
 
 -- an end that may finish hasn't finished
 pub unfinished_if : (state : EndPhase) → states.may_finish state ≡ true → is_unfinished state ≡ true

@@ -1,44 +1,15 @@
 -- What the two directions of a connection show of its world, and what a step of the world is there: moves of the lanes, at most
 -- one call of a book, and moves again.
-use Rattle.std.proofs.Common.{◌≡◌, refl, sym, ◌∙◌, ap, ℕ, zero, suc, ◌-◌, ◌^◌, ◌<◌, ◌≤◌, Bool, true, false, not, ◌&&◌, Option, Some, None, List, [], ◌∷◌, ◌++◌, length, set}
-use Rattle.std.specs.List.{slice_get, list_all}
-use Rattle.std.proofs.lemmas.Bool.{and_parts, and_from, both_ways, true≢false, false≢true}
-use Rattle.sides.specs.declared.side.Side.TheVariants.{A, B}
-use Rattle.sides.specs.declared.side.Side.{Side}
-use Rattle.send_book.specs.declared.call.SendCall.{SendCall}
-use Rattle.reassembly_book.specs.declared.call.ReassemblyCall.{ReassemblyCall}
-use Rattle.subflow_tcp.specs.States.{may_finish}
-use Rattle.stream_lanes.specs.Lane.{Ask as LaneAsk, Lane}
-use Rattle.stream_lanes.specs.Lane.Ask.{AskGrant, AskAckIn, AskPlace, AskFin, AskAckOut}
-use Rattle.stream_lanes.specs.Moves.{Flags, Move}
-use Rattle.stream_lanes.specs.Streams.{Reader, Direction, StreamEvent, is_done}
-use Rattle.stream_lanes.specs.Streams.StreamEvent.{Write, Close, Return, GoIdentity, GoInfinite, AbortSend, Read, AbortRead, Moves, Asks}
-use Rattle.stream_lanes.specs.Duo.{Modes, Duo, Event, flags_ab, flags_ba, after_event, after_events, opening_over}
-use Rattle.stream_lanes.specs.Duo.Event.{ToB, ToA, FallA, FallB, LoosenA, LoosenB, BeginJoin, SendJoin, HearJoin}
-use Rattle.stream_lanes.specs.Holding.{Holds}
-use Rattle.stream_lanes.specs.Words.{Every, From}
-use Rattle.actor_desk.specs.declared.ask.Ask.{Ask}
-use Rattle.actor_desk.specs.Books.{books_in}
-use Rattle.actor_desk.specs.Desk.{SixBooks, after_ask, control_of, send_of}
-use Rattle.path_agenda.specs.declared.duty.Duty.{Duty}
-use Rattle.path_agenda.specs.declared.duty.AskDuty.{AskDuty}
-use Rattle.path_agenda.specs.declared.duty.StepDuty.{StepDuty}
-use Rattle.path_agenda.specs.declared.heard.Heard.{Heard}
-use Rattle.path_core.specs.Choices.{item_at}
-use Rattle.path_core.specs.State.{PathState, end_at}
-use Rattle.path_core.specs.Shown.{AltersNothing}
-use Rattle.path_core.specs.Treating.{item_ask, item_of}
-use Rattle.path_core.specs.Turns.{IsSettled}
-use Rattle.link_model.specs.Steps.{lines_of}
-use Rattle.path_core.specs.Values.{Carried, values}
-use Rattle.control_book.specs.Replies.{is_sure}
-use Rattle.control_book.specs.declared.call.ControlCall.{ControlCall}
-use Rattle.world_laws.specs.declared.member.Member.TheVariants.{App, Path}
-use Rattle.world_laws.specs.Actors.{Actor, ActorCrew, member_asks}
-use Rattle.world_laws.specs.Altered.{is_fallback}
-use Rattle.world_laws.specs.Openings.{PathPlan, Start, path_begins, opened_world}
-use Rattle.world_laws.specs.Promises.{IsPlain}
-use Rattle.world_laws.specs.Worlds.{WorldState, Turn, after_turn, world_run}
+use Rattle.world_laws.proofs.Words.{◌≡◌, refl, sym, ◌∙◌, ap, ℕ, zero, suc, ◌-◌, ◌≤◌, ◌&&◌, not, Bool, true, false, Option, Some, None, List, [], ◌∷◌, ◌++◌}
+use Rattle.world_laws.proofs.Words.{length, ◌<◌, ◌^◌, set, and_parts, and_from, both_ways, false≢true, true≢false, slice_get, list_all, Side, A, B, ControlCall}
+use Rattle.world_laws.proofs.Words.{is_sure, ReassemblyCall, SendCall, may_finish, lines_of, Duty, StepDuty, AskDuty, Heard, Ask, books_in, SixBooks, send_of}
+use Rattle.world_laws.proofs.Words.{control_of, after_ask, PathState, end_at, IsSettled, Carried, values, item_ask, item_of, AltersNothing, item_at, Every}
+use Rattle.world_laws.proofs.Words.{From, Duo, after_events, after_event, flags_ab, flags_ba, opening_over, Holds, Lane, LaneAsk, Direction, StreamEvent}
+use Rattle.world_laws.proofs.Words.{is_done, Reader, ToB, ToA, FallA, FallB, LoosenA, LoosenB, BeginJoin, SendJoin, HearJoin, Flags, Move, AskGrant, AskAckIn}
+use Rattle.world_laws.proofs.Words.{AskPlace, AskFin, AskAckOut, Return, GoIdentity, AbortRead, Moves, Asks, App, Path, Actor, ActorCrew, member_asks, PathPlan}
+use Rattle.world_laws.proofs.Words.{Start, path_begins, opened_world, WorldState, Turn, after_turn, world_run, IsPlain, is_fallback}
+use Rattle.stream_lanes.specs.Streams.StreamEvent.{Write, Close, GoInfinite, AbortSend, Read}
+use Rattle.stream_lanes.specs.Duo.{Modes, Event}
 use Rattle.world_laws.proofs.Lanes.Applying.{Reads}
 use Rattle.world_laws.proofs.Worlds.Casts.{Walker, Cast, world_of, Fare}
 use Rattle.world_laws.proofs.Falls.WhereASideStands.{is_plain, is_loose}

@@ -1,24 +1,13 @@
 -- What is sent, acknowledged or marked leaves the records with the octets and mappings that they were granted with.
-use Rattle.std.proofs.Common.{◌≡◌, refl, subst, ℕ, zero, suc, ◌==◌, ◌&&◌, nat_le, nat_lt, Bool, true, false, if◌then◌else◌, Option, Some, None, List, [], ◌∷◌, map}
-use Rattle.std.proofs.lemmas.Option.{same_Some}
-use Rattle.std.specs.List.{slice_get, find}
-use Rattle.std.specs.Option.{IfSome}
-use Rattle.sides.specs.declared.side.Side.{Side}
-use Rattle.subflow_send.specs.declared.record.RecordKind.{RecordKind}
-use Rattle.subflow_send.specs.declared.record.RecordKind.TheVariants.{Syn, Data, Fin}
+use Rattle.world_laws.proofs.Words.{◌≡◌, refl, subst, ℕ, zero, suc, ◌&&◌, ◌==◌, nat_lt, nat_le, Bool, true, false, if◌then◌else◌, Option, Some, None, List, []}
+use Rattle.world_laws.proofs.Words.{◌∷◌, map, same_Some, slice_get, IfSome, Side, Record, SendState, RecordKind, Syn, Data, Fin, is_unsent, uncovered}
+use Rattle.world_laws.proofs.Words.{first_unsent_sent, first_sent, unsent_again, expired_records, after_acknowledge, after_sent, after_resent, after_expired}
+use Rattle.world_laws.proofs.Words.{after_fin_sent, is_fin, syn_resent, EndPhase, Occasion, PlainSegment, PathEnd, Profile, having_sent, Every, Lane}
+use Rattle.std.specs.List.{find}
 use Rattle.subflow_send.specs.declared.record.Sending.{Sending}
-use Rattle.subflow_send.specs.Records.{Record, SendState, end_of}
-use Rattle.subflow_send.specs.Rules.{is_unsent, uncovered, first_unsent_sent, first_sent, unsent_again, expired_records, fin_sent, after_acknowledge, after_sent, after_resent, after_expired, after_fin_sent, is_fin}
+use Rattle.subflow_send.specs.Records.{end_of}
+use Rattle.subflow_send.specs.Rules.{fin_sent}
 use Rattle.subflow_send.specs.Sendings.{sent_again}
-use Rattle.subflow_tcp.specs.declared.handshake.State.{State as EndPhase}
-use Rattle.subflow_tcp.specs.declared.segments.Occasion.{Occasion}
-use Rattle.subflow_tcp.specs.Emitting.{syn_resent}
-use Rattle.stream_lanes.specs.Lane.{Lane}
-use Rattle.stream_lanes.specs.Words.{Every}
-use Rattle.path_core.specs.End.{PathEnd}
-use Rattle.path_core.specs.Handover.{having_sent}
-use Rattle.path_core.specs.Profile.{Profile}
-use Rattle.path_segments.specs.Spelled.{PlainSegment}
 use Rattle.world_laws.proofs.Lanes.Showing.{KindShows, RecordShows, Knowledge, SenderShows, EndShows}
 
 module _ {X : Type 0} {P : X → Type 0} where

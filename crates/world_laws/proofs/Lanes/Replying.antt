@@ -1,63 +1,27 @@
 -- What the replies of the books make of the path and of its lanes: what a copy said, grants, bytes that are placed, ends of the streams.
-use Rattle.std.proofs.Common.{◌≡◌, refl, sym, ap, subst, ℕ, zero, suc, ◌^◌, ◌<◌, ◌≤◌, nat_lt, is_some, Bool, true, false, if◌then◌else◌, Option, Some, None, Result, Ok, Err, List, [], ◌∷◌, ◌++◌, length, arith, ◌∙◌, ◌-◌, drop}
-use Rattle.std.proofs.lemmas.Bool.{false≢true, and_parts}
-use Rattle.std.specs.Option.{IfSome}
-use Rattle.std.proofs.lemmas.Option.{same_Some}
-use Rattle.std.proofs.lemmas.List.{length-drop, length-take}
-use Rattle.sides.specs.declared.side.Side.{Side}
-use Rattle.sides.specs.declared.side.Side.TheVariants.{A, B}
-use Rattle.sides.specs.Side.{peer}
-use Rattle.send_book.specs.declared.call.SendCall.TheVariants.{Grant, AckIn, GoIdentity as GoIdentityBook, GoInfinite as GoInfiniteBook}
-use Rattle.send_book.specs.declared.call.SendReply.{SendReply}
-use Rattle.send_book.specs.declared.call.Span.{Span}
-use Rattle.send_book.specs.declared.call.Why.{Why}
-use Rattle.send_book.specs.State.{Sending as SendBook}
-use Rattle.send_book.specs.Steps.{decision, reply_by, grant_reply, part_of}
-use Rattle.send_book.proofs.Decisions.{decision-MayTake}
-use Rattle.reassembly_book.specs.declared.call.ReassemblyReply.{ReassemblyReply}
-use Rattle.control_book.specs.declared.call.ControlCall.{ControlCall}
+use Rattle.world_laws.proofs.Words.{◌≡◌, refl, sym, ◌∙◌, ap, subst, ℕ, zero, suc, ◌-◌, ◌≤◌, nat_lt, Bool, true, false, if◌then◌else◌, Option, Some, None}
+use Rattle.world_laws.proofs.Words.{Result, Ok, Err, List, [], ◌∷◌, ◌++◌, length, drop, arith, is_some, ◌<◌, ◌^◌, and_parts, false≢true, length-take}
+use Rattle.world_laws.proofs.Words.{length-drop, same_Some, IfSome, Side, A, B, peer, ControlCall, ReassemblyReply, Span, Why, SendBook, decision, reply_by}
+use Rattle.world_laws.proofs.Words.{grant_reply, AckIn, GoInfiniteBook, GoIdentityBook, decision-MayTake, SendReply, KeptMapping, Piece, InfiniteMapping, stops}
+use Rattle.world_laws.proofs.Words.{Duty, Heard, KeyPair, PeerNotice, Ask, Reply, SixBooks, send_of, reply_of, after_ask, pick, LocalStep, PathEnd, PathState}
+use Rattle.world_laws.proofs.Words.{end_at, goes_on, with_agenda, left, path_of, Carried, values, answered_break, break_ask, answered_grant, grant_in, granted}
+use Rattle.world_laws.proofs.Words.{refused, having_asked, after_piece, failing_by, mapping_here, piece_of, is_placed, answered_piece, piece_ask}
+use Rattle.world_laws.proofs.Words.{with_peer_data_fin, plain_fin, with_fin_told, answered_plain_fin, data_fin_of, fin_ask, answered_fin_heard, is_fin_set}
+use Rattle.world_laws.proofs.Words.{acked_in, is_clash, with_learned, with_data_fin, with_acked, mapping_ask, answered_mapping, answered_ack, heard_ask}
+use Rattle.world_laws.proofs.Words.{item_ask, answered_heard, answered_item, item_of, item_stands, check_failed_ask, with_failure, after_check_failed}
+use Rattle.world_laws.proofs.Words.{answered_check_failed, is_infinite_receive, receiving_infinite, answered_infinite, fell_ask, subflow_ack_stands, after_fell}
+use Rattle.world_laws.proofs.Words.{fell_duties, plain_ack_ask, subflow_ack_ask, answered_plain_ack, answered_subflow_ack, with_plain_ack, plain_next}
+use Rattle.world_laws.proofs.Words.{plain_ack_in, plainly_acked, breaks_by_ack, may_go_infinite, fail_ask, answered_fail, book_answered, fail_heard_ask}
+use Rattle.world_laws.proofs.Words.{answered_fail_heard, after_fail_heard, is_infinite_send, identity_ask, answered_identity, answered_fell, syn_window_ask}
+use Rattle.world_laws.proofs.Words.{keys_ask, after_keys, peer_key_ask, opened_ask, answered_peer_key, answered_opened, with_peer_key, is_stopped_by}
+use Rattle.world_laws.proofs.Words.{fast_heard_ask, after_peer_notice, notice_ask, acknowledged_under, Profile, rate_ask, after_rate, answered_rate, item_at}
+use Rattle.world_laws.proofs.Words.{Every-push, IfSome-map, Every, after_events, LaneEvent, Holds, Lane, with_send, ToB, ToA, takes_grant, takes_placed}
+use Rattle.world_laws.proofs.Words.{takes_fin, AskAckIn, GoIdentity}
+use Rattle.send_book.specs.declared.call.SendCall.TheVariants.{Grant}
+use Rattle.send_book.specs.Steps.{part_of}
 use Rattle.subflow_tcp.specs.States as states
-use Rattle.stream_lanes.specs.Lane.{Lane}
-use Rattle.stream_lanes.specs.Lane.Ask.{AskAckIn}
-use Rattle.stream_lanes.specs.Holding.{Holds}
-use Rattle.stream_lanes.specs.Moves.{takes_grant, takes_placed, takes_fin}
-use Rattle.stream_lanes.specs.Words.{Every}
-use Rattle.stream_lanes.proofs.Lists.{Every-push, IfSome-map}
-use Rattle.stream_lanes.specs.Streams.{with_send}
-use Rattle.stream_lanes.specs.Streams.StreamEvent.{GoIdentity}
-use Rattle.stream_lanes.specs.Duo.{Event as LaneEvent, after_events}
-use Rattle.stream_lanes.specs.Duo.Event.{ToA, ToB}
-use Rattle.actor_desk.specs.declared.ask.Ask.{Ask}
-use Rattle.actor_desk.specs.declared.ask.LocalStep.{LocalStep}
-use Rattle.actor_desk.specs.declared.ask.Reply.{Reply}
-use Rattle.actor_desk.specs.Desk.{SixBooks, send_of, reply_of, after_ask}
-use Rattle.actor_desk.specs.Words.{pick}
 use Rattle.fallback_state.specs.declared.fall.Event.{Event}
-use Rattle.path_agenda.specs.declared.heard.Heard.{Heard}
-use Rattle.path_agenda.specs.Agenda.{breaks, stops}
-use Rattle.path_core.specs.Breaking.{break_ask, answered_break}
-use Rattle.path_core.specs.Emission.{granted, grant_in, refused, answered_grant}
-use Rattle.path_core.specs.End.{PathEnd}
-use Rattle.path_agenda.specs.declared.keys.KeyPair.{KeyPair}
-use Rattle.path_agenda.specs.declared.duty.Duty.{Duty}
-use Rattle.path_core.specs.MpCapable.{syn_window_ask, keys_ask, after_keys, peer_key_ask, opened_ask, answered_peer_key, answered_opened, with_peer_key}
-use Rattle.path_core.specs.Deliver.{having_asked, piece_ask, answered_piece, is_placed, piece_of, after_piece, failing_by, mapping_here}
-use Rattle.path_core.specs.DataFin.{with_peer_data_fin, data_fin_of, fin_ask, answered_fin_heard, is_fin_set, plain_fin, answered_plain_fin, with_fin_told, acked_in}
-use Rattle.path_core.specs.Rate.{rate_ask, after_rate, answered_rate}
-use Rattle.dss_mapping.specs.declared.kept.KeptMapping.{KeptMapping}
-use Rattle.path_store.specs.Passing.{Piece}
-use Rattle.path_core.specs.DssIn.{with_learned, is_clash, mapping_ask, answered_mapping, answered_ack, with_acked, with_data_fin}
-use Rattle.path_core.specs.Fallback.{check_failed_ask, with_failure, after_check_failed, answered_check_failed, is_infinite_receive, receiving_infinite, answered_infinite, fell_ask, subflow_ack_stands, after_fell, fell_duties, plain_ack_ask, subflow_ack_ask, answered_plain_ack, answered_subflow_ack, with_plain_ack, plain_next, plain_ack_in, plainly_acked, breaks_by_ack, may_go_infinite, fail_ask, answered_fail, book_answered, fail_heard_ask, answered_fail_heard, after_fail_heard, is_infinite_send, identity_ask, answered_identity, answered_fell}
-use Rattle.path_core.specs.State.{PathState, end_at, goes_on, left, path_of, with_agenda}
-use Rattle.path_core.specs.Profile.{Profile}
-use Rattle.path_core.specs.Treating.{heard_ask, answered_heard, item_ask, answered_item, item_stands, item_of}
-use Rattle.path_core.specs.Modes.{acknowledged_under}
-use Rattle.path_store.specs.declared.infinite_mapping.InfiniteMapping.{InfiniteMapping}
-use Rattle.path_core.specs.Values.{Carried, values}
-use Rattle.path_core.specs.Choices.{item_at}
-use Rattle.path_core.specs.FastClose.{is_stopped_by, fast_heard_ask}
-use Rattle.path_core.specs.Addresses.{notice_ask, after_peer_notice}
-use Rattle.path_agenda.specs.declared.notice.PeerNotice.{PeerNotice}
+use Rattle.path_agenda.specs.Agenda.{breaks}
 use Rattle.world_laws.proofs.Lanes.Answering.{IsReady, Steps, shows_at, agenda_step, agenda_side, end_step, did_step, did_then, break_step, rate_quiet}
 use Rattle.world_laws.proofs.Lanes.Doing.{granted_lane, refused_lane, wants_grant, hears_ack, wants_fin, hears_none, hears_sub}
 use Rattle.world_laws.proofs.Lanes.Ending.{granted_end, refused_end, idle_end, IsFit, heard_end, unheard_end}

@@ -1,44 +1,18 @@
 -- Rules of an end that leave the lanes alone.
-use Rattle.std.proofs.Common.{◌≡◌, refl, sym, ◌∙◌, ap, subst, ℕ, ◌-◌, ◌⊎◌, inl, inr, Bool, true, false, if◌then◌else◌, Option, Some, None, [], arith, List}
-use Rattle.std.proofs.lemmas.Bool.{both_ways, false≢true}
-use Rattle.std.specs.Option.{IfSome}
-use Rattle.sides.specs.declared.side.Side.{Side}
-use Rattle.dss_mapping.specs.declared.kept.KeptMapping.{KeptMapping}
+use Rattle.world_laws.proofs.Words.{◌≡◌, refl, sym, ◌∙◌, ap, subst, ℕ, ◌-◌, inl, inr, ◌⊎◌, Bool, true, false, if◌then◌else◌, Option, Some, None, List, []}
+use Rattle.world_laws.proofs.Words.{arith, both_ways, false≢true, IfSome, Verdict, Side, JoinSyn, ControlReply, KeptMapping, after_forget_from, without_held}
+use Rattle.world_laws.proofs.Words.{after_keep_held, Pending, is_behind, EndPhase, after_begin, KeyPair, Reply, PathEnd, died, Notices, no_notices, after_look}
+use Rattle.world_laws.proofs.Words.{modes_told, notices_told, died_unless_dead, is_listening, joined_by, opened_by, syn_alone, with_mode_refused, after_timer}
+use Rattle.world_laws.proofs.Words.{after_firing, having_asked, is_wrong, forgotten_by, after_keep, after_pieces, is_dropped, is_not_kept, with_peer_data_fin}
+use Rattle.world_laws.proofs.Words.{with_fin_told, after_dss, covered_by, with_failure, after_fell, with_plain_ack, fell_in, mode_in, after_keys, with_peer_key}
+use Rattle.world_laws.proofs.Words.{keys_in, Profile, after_rate, Modes, Treated, nothing_treated, Every-nil, Has-map, Every, AckCopy, Lane}
 use Rattle.loss_recovery.specs.declared.windows.Congestion.{Congestion}
-use Rattle.loss_recovery.specs.declared.windows.Pending.{Pending}
 use Rattle.loss_recovery.specs.Windows as windows
-use Rattle.fallback_state.specs.declared.fall.Verdict.{Verdict}
 use Rattle.fallback_state.specs.declared.fall.Event.{Event}
-use Rattle.control_book.specs.declared.call.ControlReply.{ControlReply}
 use Rattle.byte_pieces.specs.Places.{cut}
-use Rattle.stream_lanes.specs.Words.{Every}
-use Rattle.subflow_recv.specs.Receiving.{after_forget_from, without_held, after_keep_held}
-use Rattle.subflow_tcp.specs.declared.handshake.State.{State as EndPhase}
 use Rattle.subflow_tcp.specs.Expiring as expiring
-use Rattle.subflow_tcp.specs.Opening.{after_begin}
-use Rattle.subflow_tcp.specs.State.{is_behind}
 use Rattle.subflow_tcp.specs.States as states
 use Rattle.subflow_tcp.specs.Taking as taking
-use Rattle.stream_lanes.specs.Lane.{Lane, AckCopy}
-use Rattle.stream_lanes.proofs.Lists.{Every-nil, Has-map}
-use Rattle.actor_desk.specs.declared.ask.Reply.{Reply}
-use Rattle.path_core.specs.Timer.{after_timer, after_firing}
-use Rattle.path_core.specs.End.{PathEnd, died}
-use Rattle.path_core.specs.Treated.{Treated, nothing_treated}
-use Rattle.path_core.specs.Notices.{Notices, no_notices}
-use Rattle.path_core.specs.Breaking.{died_unless_dead}
-use Rattle.path_agenda.specs.declared.keys.KeyPair.{KeyPair}
-use Rattle.join_handshake.specs.declared.hearing.JoinSyn.{JoinSyn}
-use Rattle.path_core.specs.MpJoin.{opened_by, syn_alone, is_listening, joined_by, with_mode_refused}
-use Rattle.path_core.specs.MpCapable.{with_peer_key, after_keys, keys_in}
-use Rattle.path_core.specs.Deliver.{having_asked, is_wrong, forgotten_by, after_pieces, after_keep, is_dropped, is_not_kept}
-use Rattle.path_core.specs.DataFin.{with_peer_data_fin, with_fin_told}
-use Rattle.path_core.specs.Rate.{after_rate}
-use Rattle.path_core.specs.Fallback.{with_failure, with_plain_ack, after_fell, fell_in, mode_in}
-use Rattle.path_core.specs.Standing.{after_look, modes_told, notices_told}
-use Rattle.path_core.specs.Profile.{Profile}
-use Rattle.path_core.specs.DssIn.{after_dss, covered_by}
-use Rattle.path_core.specs.declared.modes.Modes.{Modes}
 use Rattle.world_laws.proofs.Lanes.Arriving.{syn_both}
 use Rattle.world_laws.proofs.Lanes.Hearing.{cut_shows, cut_there, under_cut, only_cut, dropped_shows, state_shows}
 use Rattle.world_laws.proofs.Lanes.Records.{acknowledged_shows, expired_shows}

@@ -1,38 +1,14 @@
 -- Each segment that an end sends shows what its lanes have, and so does each copy of it.
-use Rattle.std.proofs.Common.{◌≡◌, refl, subst, ℕ, zero, suc, ◌&&◌, ◌==◌, not, inl, inr, Bool, true, false, cond, if◌then◌else◌, Option, Some, None, List, [], ◌∷◌, sym, ◌-◌, unwrap_or, ap, ◌∙◌}
-use Rattle.std.proofs.lemmas.Bool.{and_parts, eqb-true, both_ways, false≢true, not-true}
-use Rattle.std.proofs.lemmas.Option.{same_Some}
-use Rattle.std.specs.List.{slice_get}
-use Rattle.std.specs.Option.{IfSome}
-use Rattle.sides.specs.declared.side.Side.{Side}
-use Rattle.sides.specs.declared.side.Side.TheVariants.{A, B}
-use Rattle.link_model.specs.declared.flight.Flight.{Flight}
-use Rattle.link_model.specs.Steps.{comes_before, with_flight, with_flights}
-use Rattle.mptcp_options.specs.declared.capable.CapableKeys.TheVariants.{Sender}
-use Rattle.path_segments.specs.declared.segment.PathOption.TheVariants.{Capable, Dss}
-use Rattle.path_segments.specs.Laws.{window_told}
-use Rattle.path_segments.specs.Spelled.{PlainSegment}
-use Rattle.path_segments.specs.declared.segment.PathMapping.TheVariants.{Infinite}
-use Rattle.subflow_send.specs.declared.record.RecordKind.{RecordKind}
-use Rattle.subflow_send.specs.declared.record.RecordKind.TheVariants.{Syn, Data, Fin}
-use Rattle.subflow_send.specs.Records.{Record}
-use Rattle.subflow_tcp.specs.declared.segments.Outgoing.{Outgoing}
-use Rattle.subflow_tcp.specs.Emitting.{is_syn, fin_position, record_segment}
-use Rattle.subflow_tcp.specs.States.{is_opening}
-use Rattle.subflow_send.specs.Rules.{is_fin}
-use Rattle.stream_lanes.specs.Lane.{AckCopy, Lane}
-use Rattle.stream_lanes.specs.Words.{Every}
-use Rattle.stream_lanes.proofs.Lists.{Every-nil, Every-push, Every-append}
-use Rattle.path_core.specs.End.{PathEnd}
-use Rattle.path_core.specs.MpJoin.{is_joined, join_options, third_options}
-use Rattle.path_core.specs.DssOut.{place_numbered, owes_mapping, plain_options, fin_options, data_fin_mapping, is_first_piece, first_piece_options, piece_options, piece_mapping, checksum_told, infinite_options, infinite_or, fail_options, fail_beside}
-use Rattle.path_core.specs.OptionsOut.{capable_options, syn_options, key_options, opening_options, ack_options, record_options, reset_options, segment_of, ack_said, carried_said, record_said, syn_ack_said, fin_said, reset_said, broken_options, noted_said, notice_option}
-use Rattle.path_core.specs.Modes.{receives_infinite}
-use Rattle.path_store.specs.declared.infinite_mapping.InfiniteMapping.{InfiniteMapping}
-use Rattle.path_core.specs.Profile.{Profile}
-use Rattle.path_core.specs.Choices.{is_side_a}
-use Rattle.path_core.specs.DssIn.{checksum_heard}
-use Rattle.path_agenda.specs.declared.notice.OwnNotice.{OwnNotice}
+use Rattle.world_laws.proofs.Words.{◌≡◌, refl, sym, ◌∙◌, ap, subst, ℕ, zero, suc, ◌-◌, ◌&&◌, ◌==◌, not, inl, inr, Bool, true, false, cond, if◌then◌else◌}
+use Rattle.world_laws.proofs.Words.{Option, Some, None, List, [], ◌∷◌, unwrap_or, eqb-true, and_parts, both_ways, false≢true, not-true, same_Some, slice_get}
+use Rattle.world_laws.proofs.Words.{IfSome, Side, A, B, Sender, Record, RecordKind, Syn, Data, Fin, is_fin, is_opening, fin_position, is_syn, record_segment}
+use Rattle.world_laws.proofs.Words.{Outgoing, with_flights, comes_before, with_flight, Flight, PlainSegment, Capable, Dss, window_told, Infinite}
+use Rattle.world_laws.proofs.Words.{InfiniteMapping, OwnNotice, PathEnd, is_joined, join_options, third_options, checksum_heard, receives_infinite}
+use Rattle.world_laws.proofs.Words.{place_numbered, checksum_told, owes_mapping, plain_options, data_fin_mapping, piece_mapping, is_first_piece}
+use Rattle.world_laws.proofs.Words.{first_piece_options, piece_options, fin_options, fail_options, fail_beside, infinite_options, infinite_or, capable_options}
+use Rattle.world_laws.proofs.Words.{syn_options, key_options, opening_options, ack_options, record_options, reset_options, segment_of, ack_said, carried_said}
+use Rattle.world_laws.proofs.Words.{record_said, syn_ack_said, fin_said, reset_said, broken_options, noted_said, notice_option, Profile, is_side_a, Every-push}
+use Rattle.world_laws.proofs.Words.{Every-nil, Every-append, Every, AckCopy, Lane}
 use Rattle.world_laws.proofs.Lanes.Records.{every_cons}
 use Rattle.world_laws.proofs.Lanes.Showing.{PairTold, HasSub, HasNone, HasMapping, HasNumber, HasFin, KindShows, RecordShows, WindowShows, OptionShows, SegmentShows, IsSummed}
 

@@ -1,33 +1,13 @@
 -- A step of the path that one side's end makes: moves of the lanes, the call of a book, moves again, and what the path shows then.
-use Rattle.std.proofs.Common.{◌≡◌, refl, sym, ◌∙◌, ap, ℕ, Bool, true, Option, Some, None, List, [], ◌∷◌, length, set}
-use Rattle.sides.specs.declared.side.Side.{Side}
-use Rattle.sides.specs.declared.side.Side.TheVariants.{A, B}
-use Rattle.sides.specs.Side.{peer}
-use Rattle.path_segments.specs.Spelled.{PlainSegment}
-use Rattle.send_book.specs.declared.call.SendCall.TheVariants.{Grant, AckIn, Return as ReturnBytes}
-use Rattle.send_book.specs.declared.call.SendReply.{SendReply}
-use Rattle.send_book.specs.Steps.{reply_to as send_reply}
-use Rattle.send_book.specs.declared.call.SendCall.{SendCall}
-use Rattle.reassembly_book.specs.declared.call.ReassemblyCall.TheVariants.{Place, Fin, AckOut}
-use Rattle.reassembly_book.specs.declared.call.ReassemblyReply.{ReassemblyReply}
-use Rattle.reassembly_book.specs.Steps.{reply_to as arrival_reply}
-use Rattle.reassembly_book.specs.declared.call.ReassemblyCall.{ReassemblyCall}
-use Rattle.stream_lanes.specs.Lane.{Ask as LaneAsk, Lane}
-use Rattle.stream_lanes.specs.Lane.Ask.{AskGrant, AskAckIn, AskPlace, AskFin, AskAckOut}
-use Rattle.stream_lanes.specs.Moves.{takes_grant, takes_ack, takes_placed, takes_fin, takes_ack_out}
-use Rattle.stream_lanes.specs.Streams.{Direction}
-use Rattle.stream_lanes.specs.Streams.StreamEvent.{Asks, Return, AbortSend, AbortRead}
-use Rattle.stream_lanes.specs.Duo.{Duo, Event, after_events}
-use Rattle.stream_lanes.specs.Duo.Event.{ToB, ToA}
-use Rattle.actor_desk.specs.declared.ask.Ask.{Ask}
-use Rattle.actor_desk.specs.Desk.{SixBooks, send_of, reassembly_of, after_ask}
-use Rattle.actor_desk.specs.Words.{pick}
-use Rattle.path_agenda.specs.declared.duty.Duty.{Duty}
-use Rattle.path_core.specs.End.{PathEnd}
-use Rattle.path_core.specs.Handover.{sent_on}
-use Rattle.path_core.specs.State.{PathState, end_at, goes_on}
-use Rattle.path_core.specs.Profile.{Profile}
-use Rattle.path_core.specs.Values.{Carried, values}
+use Rattle.world_laws.proofs.Words.{◌≡◌, refl, sym, ◌∙◌, ap, ℕ, Bool, true, Option, Some, None, List, [], ◌∷◌, length, set, Side, A, B, peer, ReassemblyCall}
+use Rattle.world_laws.proofs.Words.{ReassemblyReply, arrival_reply, Place, AckOut, SendCall, send_reply, AckIn, ReturnBytes, SendReply, PlainSegment, Duty, Ask}
+use Rattle.world_laws.proofs.Words.{SixBooks, send_of, reassembly_of, after_ask, pick, PathEnd, PathState, end_at, goes_on, Carried, values, Profile, sent_on}
+use Rattle.world_laws.proofs.Words.{Duo, after_events, Lane, LaneAsk, Direction, ToB, ToA, takes_grant, takes_ack, takes_placed, takes_fin, takes_ack_out}
+use Rattle.world_laws.proofs.Words.{AskGrant, AskAckIn, AskPlace, AskFin, AskAckOut, Return, AbortRead, Asks}
+use Rattle.send_book.specs.declared.call.SendCall.TheVariants.{Grant}
+use Rattle.reassembly_book.specs.declared.call.ReassemblyCall.TheVariants.{Fin}
+use Rattle.stream_lanes.specs.Streams.StreamEvent.{AbortSend}
+use Rattle.stream_lanes.specs.Duo.{Event}
 use Rattle.world_laws.proofs.Lanes.Ending.{Did}
 use Rattle.world_laws.proofs.Lanes.OfAWorld.{flags_of, Others, duo_at, IsAsking, LaneAsks, MayCall, CallIs, call_events, Moved, unmoved}
 use Rattle.world_laws.proofs.Lanes.Roads.{Strolls, put_there, with_asked, asked_there}

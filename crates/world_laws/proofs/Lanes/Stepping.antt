@@ -1,40 +1,12 @@
 -- A step of the path: the duty that stands first asks, its reply is taken, and the lanes show the path then.
-use Rattle.std.proofs.Common.{◌≡◌, refl, sym, subst, ℕ, ◌^◌, ◌<◌, ◌≤◌, ◌&&◌, ◌||◌, is_some, true, Option, Some, None, List, [], length, arith, false, Bool, if◌then◌else◌, ap, ◌∙◌}
-use Rattle.std.proofs.lemmas.Bool.{and_parts}
-use Rattle.sides.specs.declared.side.Side.{Side}
-use Rattle.sides.specs.declared.side.Side.TheVariants.{A, B}
-use Rattle.send_book.specs.declared.call.SendCall.TheVariants.{Return as ReturnBytes}
+use Rattle.world_laws.proofs.Words.{◌≡◌, refl, sym, ◌∙◌, ap, subst, ℕ, ◌≤◌, ◌&&◌, ◌||◌, Bool, true, false, if◌then◌else◌, Option, Some, None, List, [], length}
+use Rattle.world_laws.proofs.Words.{arith, is_some, ◌<◌, ◌^◌, and_parts, IfSome, Side, A, B, ReturnBytes, Record, InfiniteMapping, leaves, resets, Duty}
+use Rattle.world_laws.proofs.Words.{SendDuty, StepDuty, AskDuty, SilentDuty, replaced, key_heard, keys_heard, Ask, Reply, SixBooks, send_of, reply_of, pick}
+use Rattle.world_laws.proofs.Words.{stands, ask_for, answered, PathEnd, died, after_look, look_ask, PathState, end_at, with_agenda, left, path_of, Carried}
+use Rattle.world_laws.proofs.Words.{values, answered_data, data_stands, first_unsent, data_ask, payload_size, next_event, step_for, asked_at, join_heard_ask}
+use Rattle.world_laws.proofs.Words.{join_begin_ask, piece_of, plain_fin, is_all_granted, answered_leave_noted, Holds, Lane, is_whole}
 use Rattle.fallback_state.specs.declared.fall.Event.{Event}
-use Rattle.subflow_send.specs.Records.{Record}
 use Rattle.subflow_tcp.specs.States as states
-use Rattle.stream_lanes.specs.Holding.{Holds}
-use Rattle.stream_lanes.specs.Lane.{Lane}
-use Rattle.stream_lanes.specs.Moves.{is_whole}
-use Rattle.actor_desk.specs.declared.ask.Ask.{Ask}
-use Rattle.actor_desk.specs.declared.ask.Reply.{Reply}
-use Rattle.actor_desk.specs.Desk.{SixBooks, send_of, reply_of}
-use Rattle.actor_desk.specs.Words.{pick}
-use Rattle.path_agenda.specs.declared.duty.Duty.{Duty}
-use Rattle.path_agenda.specs.declared.duty.AskDuty.{AskDuty}
-use Rattle.path_agenda.specs.declared.duty.SendDuty.{SendDuty}
-use Rattle.path_agenda.specs.declared.duty.SilentDuty.{SilentDuty}
-use Rattle.path_agenda.specs.declared.duty.StepDuty.{StepDuty}
-use Rattle.path_agenda.specs.Agenda.{leaves, resets}
-use Rattle.path_core.specs.Duties.{stands, ask_for, answered}
-use Rattle.path_core.specs.Emission.{first_unsent, data_stands, data_ask, answered_data, payload_size}
-use Rattle.path_store.specs.declared.infinite_mapping.InfiniteMapping.{InfiniteMapping}
-use Rattle.path_core.specs.End.{PathEnd, died}
-use Rattle.std.specs.Option.{IfSome}
-use Rattle.path_core.specs.Events.{next_event, step_for}
-use Rattle.path_core.specs.MpJoin.{join_begin_ask, asked_at, join_heard_ask}
-use Rattle.path_agenda.specs.Items.{key_heard, keys_heard}
-use Rattle.path_core.specs.Deliver.{piece_of}
-use Rattle.path_core.specs.DataFin.{plain_fin, is_all_granted}
-use Rattle.path_core.specs.Standing.{look_ask, after_look}
-use Rattle.path_core.specs.State.{PathState, end_at, left, path_of, with_agenda}
-use Rattle.path_core.specs.Values.{Carried, values}
-use Rattle.path_core.specs.FastClose.{answered_leave_noted}
-use Rattle.path_agenda.specs.Words.{replaced}
 use Rattle.world_laws.proofs.Lanes.Answering as answering
 use Rattle.world_laws.proofs.Lanes.Answering.{IsReady, FailOpens, Steps}
 use Rattle.world_laws.proofs.Lanes.Doing.{with_fin_sent, sends_the_fin, sends_own_fin}

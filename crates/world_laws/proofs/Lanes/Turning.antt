@@ -1,30 +1,11 @@
 -- A turn of the path and of the applications, in the two directions.
-use Rattle.std.proofs.Common.{◌≡◌, refl, sym, ◌∙◌, ap, subst, ℕ, not, Bool, true, false, if◌then◌else◌, Option, Some, None, List, [], ◌∷◌, ◌++◌}
-use Rattle.std.proofs.lemmas.Bool.{not-true}
-use Rattle.sides.specs.declared.side.Side.{Side}
-use Rattle.sides.specs.declared.side.Side.TheVariants.{A, B}
-use Rattle.reassembly_book.specs.declared.call.ReassemblyCall.{ReassemblyCall}
-use Rattle.reassembly_book.specs.declared.call.ReassemblyReply.{ReassemblyReply}
+use Rattle.world_laws.proofs.Words.{◌≡◌, refl, sym, ◌∙◌, ap, subst, ℕ, not, Bool, true, false, if◌then◌else◌, Option, Some, None, List, [], ◌∷◌, ◌++◌, not-true}
+use Rattle.world_laws.proofs.Words.{Side, A, B, ControlCall, ReassemblyCall, ReassemblyReply, Duty, Ask, Note, Reply, SixBooks, reply_of, after_ask, AppDuty}
+use Rattle.world_laws.proofs.Words.{AppState, app_stands, app_ask, app_answered, app_answers, app_settles_down, app_takes, offered, PathState, settled, Carried}
+use Rattle.world_laws.proofs.Words.{Profile, Duo, after_events, Holds, Lane, Direction, reads, is_done, Reader, takes_read, ToB, ToA, AbortRead}
 use Rattle.reassembly_book.specs.Steps as arriving
-use Rattle.control_book.specs.declared.call.ControlCall.{ControlCall}
-use Rattle.stream_lanes.specs.Holding.{Holds}
-use Rattle.stream_lanes.specs.Lane.{Lane}
-use Rattle.stream_lanes.specs.Streams.{Reader, Direction, is_done, reads, takes_read}
-use Rattle.stream_lanes.specs.Streams.StreamEvent.{Write, Close, AbortSend, Read, AbortRead}
-use Rattle.stream_lanes.specs.Duo.{Duo, Event, after_events}
-use Rattle.stream_lanes.specs.Duo.Event.{ToB, ToA}
-use Rattle.actor_desk.specs.declared.ask.Ask.{Ask}
-use Rattle.actor_desk.specs.declared.ask.Note.{Note}
-use Rattle.actor_desk.specs.declared.ask.Reply.{Reply}
-use Rattle.actor_desk.specs.Desk.{SixBooks, reply_of, after_ask}
-use Rattle.stream_apps.specs.declared.duty.AppDuty.{AppDuty}
-use Rattle.stream_apps.specs.Apps.{AppState}
-use Rattle.stream_apps.specs.AppSteps.{app_stands, app_ask, app_answered, app_answers, app_settles_down, app_takes, offered}
-use Rattle.path_agenda.specs.declared.duty.Duty.{Duty}
-use Rattle.path_core.specs.State.{PathState}
-use Rattle.path_core.specs.Profile.{Profile}
-use Rattle.path_core.specs.Steps.{settled}
-use Rattle.path_core.specs.Values.{Carried}
+use Rattle.stream_lanes.specs.Streams.StreamEvent.{Write, Close, AbortSend, Read}
+use Rattle.stream_lanes.specs.Duo.{Event}
 use Rattle.world_laws.proofs.Lanes.Applying.{Reads, settled_app, reads_more, reads_on}
 use Rattle.world_laws.proofs.Falls.CallsAndModes.{control_moves}
 use Rattle.world_laws.proofs.Lanes.OfAWorld.{Links, duo_of, Others, duo_at, CallIs, silent_append, call_events, TurnShows, events_append, Moved, then_moved}

@@ -1,54 +1,24 @@
 -- What a copy that arrives tells, and what it leaves of the numbers that its end tells.
-use Rattle.std.proofs.Common.{◌≡◌, refl, ℕ, ◌+◌, ◌^◌, ◌<◌, nat_le, nat_lt, Bool, true, false, if◌then◌else◌, option_map, Option, Some, None, List, [], ◌∷◌, map, flat_map, arith}
-use Rattle.std.specs.Prelude.{All}
-use Rattle.std.specs.Option.{IfSome, unwrap_or}
-use Rattle.std.proofs.lemmas.List.Elements.{All-head, All-tail}
-use Rattle.sides.specs.declared.side.Side.{Side}
-use Rattle.sides.specs.declared.side.Side.TheVariants.{A, B}
-use Rattle.sides.specs.Side.{peer}
-use Rattle.mptcp_options.specs.declared.capable.CapableKeys.{CapableKeys}
-use Rattle.mptcp_options.specs.declared.capable.CapableKeys.TheVariants.{NoKey, Sender, Both, WithData}
+use Rattle.world_laws.proofs.Words.{◌≡◌, refl, ℕ, ◌+◌, nat_lt, nat_le, Bool, true, false, if◌then◌else◌, Option, Some, None, List, [], ◌∷◌, map, arith, ◌<◌}
+use Rattle.world_laws.proofs.Words.{◌^◌, option_map, IfSome, All, All-head, All-tail, Side, A, B, peer, JoinForm, CapableKeys, NoKey, Sender, Both, WithData}
+use Rattle.world_laws.proofs.Words.{FormFits, JoinSyn, JoinAnswer, octets_in, AckKind, after_acknowledge, ack_kind, sample_of, Meaning, EndState, EndPhase}
+use Rattle.world_laws.proofs.Words.{Copy, occupied, Hint, PlainOption, PlainSegment, Capable, Join, Dss, AddAddr, Remove, Prio, Fail, Reset, meant}
+use Rattle.world_laws.proofs.Words.{meant_option, meant_mapping, PathMapping, Bytes, Infinite, At, Heard, KeyPair, PeerNotice, is_nil, PathEnd, hint_of}
+use Rattle.world_laws.proofs.Words.{items_in, items_of, owes_by, after_judged, asked_in, copy_of, judged_in, owing_if, with_payload, reset_by}
+use Rattle.world_laws.proofs.Words.{position_numbered, is_listening, joined_by, syn_alone, is_joined, join_answer, join_items, with_keys, ack_items, is_mapping}
+use Rattle.world_laws.proofs.Words.{mapping_items, map_items, first_items, HeardOption, key_items, item_removed, Profile, answered_in, cleared_in, taken_as}
+use Rattle.world_laws.proofs.Words.{with_answer, Modes, Every-nil, Every-append, Every}
+use Rattle.std.proofs.Common.{flat_map}
+use Rattle.std.specs.Option.{unwrap_or}
 use Rattle.mptcp_options.specs.Capable.{KeysFit}
-use Rattle.mptcp_options.specs.declared.join.JoinForm.{JoinForm}
-use Rattle.mptcp_options.specs.Join.{FormFits}
-use Rattle.join_handshake.specs.declared.hearing.JoinAnswer.{JoinAnswer}
-use Rattle.join_handshake.specs.declared.hearing.JoinSyn.{JoinSyn}
-use Rattle.path_segments.specs.declared.segment.PathMapping.{PathMapping}
-use Rattle.path_segments.specs.declared.segment.PathMapping.TheVariants.{Bytes, End, Infinite}
-use Rattle.path_segments.specs.declared.segment.PathOption.TheVariants.{Capable, Join, Dss, AddAddr, Remove, Prio, Fail, FastClose, Reset}
-use Rattle.path_segments.specs.Laws.{meant, meant_option, meant_mapping}
-use Rattle.path_segments.specs.Options.{PlainOption}
-use Rattle.path_segments.specs.Spelled.{PlainSegment}
-use Rattle.subflow_send.specs.declared.record.AckKind.{AckKind}
-use Rattle.subflow_send.specs.Rules.{after_acknowledge, ack_kind, sample_of}
-use Rattle.subflow_tcp.specs.declared.segments.Hint.{Hint}
-use Rattle.subflow_tcp.specs.declared.verdicts.Meaning.{Meaning}
-use Rattle.subflow_tcp.specs.declared.handshake.State.{State as EndPhase}
-use Rattle.subflow_tcp.specs.Segments.{Copy, occupied}
-use Rattle.subflow_tcp.specs.State.{EndState}
+use Rattle.path_segments.specs.declared.segment.PathMapping.TheVariants.{End}
+use Rattle.path_segments.specs.declared.segment.PathOption.TheVariants.{FastClose}
 use Rattle.subflow_tcp.specs.Taking as taking
 use Rattle.loss_recovery.specs.declared.windows.Told.{Told}
-use Rattle.stream_lanes.specs.Words.{Every}
-use Rattle.stream_lanes.proofs.Lists.{Every-nil, Every-append}
-use Rattle.actor_desk.specs.Words.{is_nil}
-use Rattle.path_agenda.specs.declared.heard.Heard.{Heard}
-use Rattle.path_agenda.specs.declared.keys.KeyPair.{KeyPair}
-use Rattle.path_core.specs.Arrival.{copy_of, reset_by, owing_if, asked_in, with_payload, judged_in, after_judged, position_numbered}
-use Rattle.path_core.specs.DssIn.{ack_items, is_mapping, mapping_items, map_items, first_items, HeardOption}
-use Rattle.path_core.specs.MpCapable.{key_items}
-use Rattle.path_core.specs.MpJoin.{join_items, with_keys, syn_alone, is_listening, joined_by, is_joined, join_answer}
-use Rattle.path_core.specs.OptionsIn.{items_in, items_of, hint_of, owes_by}
-use Rattle.path_core.specs.Judged.{is_taken, with_answer, answered_in, cleared_in, taken_as}
-use Rattle.path_core.specs.Addresses.{item_removed}
-use Rattle.path_core.specs.declared.modes.Modes.{Modes}
-use Rattle.path_core.specs.End.{PathEnd}
-use Rattle.path_core.specs.Profile.{Profile}
+use Rattle.path_core.specs.Judged.{is_taken}
 use Rattle.world_laws.proofs.Lanes.Records.{every_cons}
-use Rattle.path_agenda.specs.declared.notice.PeerNotice.{PeerNotice}
 use Rattle.world_laws.proofs.Numbers.TellSmall.{IsShort, MappingIsShort, OptionTells, SegmentTells, IsNonce, ItemTells, AnswerTells, SenderTells, ModesTell, EndTells}
 use Rattle.world_laws.proofs.Numbers.EndRules.{acknowledged_tells, AreKeys, answer_nonce}
-use Rattle.dss_mapping.specs.Mappings.{octets_in}
-use Rattle.path_segments.specs.declared.position.HeardPosition.TheVariants.{At}
 
 -- ---- what it says
 

@@ -1,80 +1,42 @@
 -- What each duty's reply leaves of the numbers that a path's ends and copies tell.
-use Rattle.std.proofs.Common.{◌≡◌, refl, ap, subst, is_none, ℕ, suc, ◌+◌, ◌-◌, ◌^◌, ◌<◌, ◌≤◌, min, ◌&&◌, nat_lt, not, Bool, true, false, if◌then◌else◌, Option, Some, None, Result, Ok, Err, List, [], ◌∷◌, length, take, drop, arith, ⊎_elim, find, is_some}
-use Rattle.std.proofs.lemmas.Bool.{and_parts, and_from, ltb-true}
-use Rattle.std.proofs.lemmas.List.{length-take, length-drop}
-use Rattle.std.specs.Option.{IfSome}
-use Rattle.sides.specs.declared.side.Side.{Side}
-use Rattle.sides.specs.declared.side.Side.TheVariants.{A, B}
-use Rattle.sides.specs.Side.{peer}
-use Rattle.path_segments.specs.Spelled.{PlainSegment}
-use Rattle.reassembly_book.specs.Steps.{next_wanted, window}
+use Rattle.world_laws.proofs.Words.{◌≡◌, refl, ap, subst, ℕ, suc, ◌+◌, ◌-◌, ◌≤◌, ◌&&◌, not, min, nat_lt, ⊎_elim, Bool, true, false, if◌then◌else◌, Option, Some}
+use Rattle.world_laws.proofs.Words.{None, Result, Ok, Err, List, [], ◌∷◌, length, take, drop, arith, is_none, is_some, ◌<◌, ◌^◌, find, ltb-true, and_parts}
+use Rattle.world_laws.proofs.Words.{and_from, length-take, length-drop, IfSome, Verdict, is_identity, is_starting, reads_mappings, receiving, sending}
+use Rattle.world_laws.proofs.Words.{writes_mappings, Fall, after_sure_sign, after_plain, after_failed_check, after_fail, is_failed_path, goes, fall_step, Side}
+use Rattle.world_laws.proofs.Words.{A, B, peer, JoinSyn, ControlReply, sole, next_wanted, window, Span, Why, SendBook, decision, reply_by, given_by}
+use Rattle.world_laws.proofs.Words.{grant_reply, ack_reply, decision-MayTake, SendReply, KeptMapping, run_of, mapping_at, covers, Record, is_unsent}
+use Rattle.world_laws.proofs.Words.{has_records, Occasion, after_finishing, PlainSegment, Piece, InfiniteMapping, leaves, resets, stops, Duty, SendDuty}
+use Rattle.world_laws.proofs.Words.{StepDuty, OwnNotice, AskDuty, SilentDuty, Heard, KeyPair, replaced, first_of, key_heard, keys_heard, Ask, Reply, SixBooks}
+use Rattle.world_laws.proofs.Words.{send_of, reassembly_of, control_of, reply_of, after_ask, pick, stands, ask_for, answered, PathEnd, died, answered_ack_out}
+use Rattle.world_laws.proofs.Words.{after_look, after_ack_out, ack_out_ask, ack_segment, look_ask, PathState, end_at, goes_on, with_agenda, left, path_of}
+use Rattle.world_laws.proofs.Words.{Carried, values, reset_of, reset_on, answered_break, refusal_of, break_ask, answered_refusal, answered_data, answered_grant}
+use Rattle.world_laws.proofs.Words.{data_stands, first_unsent, grant_in, granted, unsent_segment, answer_occasion, answer_of, dead_answer, first_segment}
+use Rattle.world_laws.proofs.Words.{resend_occasion, resend_of, data_ask, first_record, payload_size, refused, answered_dead, next_event, step_for, asked_at}
+use Rattle.world_laws.proofs.Words.{join_taken, joined_by, keys_begun, with_mode_refused, join_heard_ask, answered_join_heard, having_asked, after_piece}
+use Rattle.world_laws.proofs.Words.{is_wrong, failing_by, mapping_here, piece_of, is_placed, answered_piece, piece_ask, is_data_fin_owed, data_fin_segment}
+use Rattle.world_laws.proofs.Words.{having_sent_data_fin, answered_data_fin_sent, fin_segment_of, having_sent_fin, answered_fin, with_peer_data_fin, plain_fin}
+use Rattle.world_laws.proofs.Words.{with_fin_told, answered_plain_fin, data_fin_of, fin_ask, answered_fin_heard, is_fin_set, is_clash, with_learned}
+use Rattle.world_laws.proofs.Words.{with_data_fin, with_acked, told_next, mapping_ask, answered_mapping, heard_ask, item_ask, answered_heard, answered_item}
+use Rattle.world_laws.proofs.Words.{item_of, check_failed_ask, after_check_failed, answered_check_failed, answered_infinite, fell_ask, after_fell, fell_duties}
+use Rattle.world_laws.proofs.Words.{plain_ack_ask, subflow_ack_ask, answered_plain_ack, answered_subflow_ack, with_plain_ack, plain_next, plain_ack_in}
+use Rattle.world_laws.proofs.Words.{plainly_acked, breaks_by_ack, may_go_infinite, fail_ask, answered_fail, book_answered, fail_heard_ask, answered_fail_heard}
+use Rattle.world_laws.proofs.Words.{after_fail_heard, answered_fell, with_infinite, in_identity, breaks_by, after_infinite_heard, keys_ask, after_keys}
+use Rattle.world_laws.proofs.Words.{peer_key_ask, opened_ask, answered_peer_key, answered_opened, with_peer_key, syn_ack_of, is_stopped_by, answered_fast_close}
+use Rattle.world_laws.proofs.Words.{fast_heard_ask, having_fast_closed, having_noted, after_peer_notice, notice_ask, answered_note, receives_plainly, ack_said}
+use Rattle.world_laws.proofs.Words.{carried_said, syn_ack_said, record_or_ack, Profile, sends, having_sent, sent_on, with_told, rate_ask, after_rate, Every}
+use Rattle.world_laws.proofs.Words.{Holds, IsEndless, LaneHolds, Lane, View, view_of, AskPlace, LaneIsShort}
 use Rattle.send_book.specs.declared.call.SendCall.TheVariants.{Grant, GoInfinite}
-use Rattle.send_book.specs.declared.call.SendReply.{SendReply}
-use Rattle.send_book.specs.declared.call.Span.{Span}
-use Rattle.send_book.specs.declared.call.Why.{Why}
-use Rattle.send_book.specs.State.{Sending as SendBook}
-use Rattle.send_book.specs.Steps.{decision, reply_by, given_by, grant_reply, end_of, part_of, ack_reply}
-use Rattle.send_book.proofs.Decisions.{decision-MayTake}
-use Rattle.control_book.specs.declared.call.ControlReply.{ControlReply}
-use Rattle.control_book.specs.Registry.{sole}
+use Rattle.send_book.specs.Steps.{end_of, part_of}
 use Rattle.fallback_state.specs.declared.fall.Event.{Event}
-use Rattle.fallback_state.specs.declared.fall.Fall.{Fall}
 use Rattle.fallback_state.specs.declared.fall.Mode.TheVariants.{Starting, Sure, Identity, InfiniteSend, InfiniteReceive, InfiniteBoth, Aborted}
-use Rattle.fallback_state.specs.declared.fall.Verdict.{Verdict}
-use Rattle.fallback_state.specs.Modes.{is_starting, is_identity, reads_mappings, writes_mappings, receiving, sending}
 use Rattle.fallback_state.specs.Table as falling
-use Rattle.fallback_state.specs.Table.{goes, is_failed_path, after_plain, after_sure_sign, after_infinite, after_failed_check, after_fail, fall_step}
+use Rattle.fallback_state.specs.Table.{after_infinite}
 use Rattle.byte_pieces.proofs.Ordered.{lt_true}
-use Rattle.subflow_send.specs.Records.{Record}
-use Rattle.subflow_send.specs.Rules.{is_unsent}
-use Rattle.subflow_tcp.specs.declared.segments.Occasion.{Occasion}
-use Rattle.subflow_tcp.specs.Closing.{after_finishing}
-use Rattle.subflow_tcp.specs.State.{has_records}
 use Rattle.subflow_tcp.specs.States as states
-use Rattle.stream_lanes.specs.Holding.{Holds, LaneHolds, IsEndless}
-use Rattle.stream_lanes.specs.Lane.{Lane}
-use Rattle.stream_lanes.specs.Lane.Ask.{AskPlace}
-use Rattle.stream_lanes.specs.Laws.{LaneIsShort}
-use Rattle.stream_lanes.specs.View.{view_of, View}
-use Rattle.actor_desk.specs.declared.ask.Ask.{Ask}
-use Rattle.actor_desk.specs.declared.ask.Reply.{Reply}
-use Rattle.actor_desk.specs.Desk.{SixBooks, send_of, reassembly_of, control_of, reply_of, after_ask}
-use Rattle.actor_desk.specs.Words.{pick}
-use Rattle.stream_lanes.specs.Words.{Every}
-use Rattle.path_agenda.specs.declared.duty.Duty.{Duty}
-use Rattle.path_agenda.specs.declared.duty.AskDuty.{AskDuty}
-use Rattle.path_agenda.specs.declared.duty.SendDuty.{SendDuty}
-use Rattle.path_agenda.specs.declared.duty.SilentDuty.{SilentDuty}
-use Rattle.path_agenda.specs.declared.duty.StepDuty.{StepDuty}
-use Rattle.path_agenda.specs.declared.heard.Heard.{Heard}
-use Rattle.join_handshake.specs.declared.hearing.JoinSyn.{JoinSyn}
-use Rattle.path_agenda.specs.declared.keys.KeyPair.{KeyPair}
-use Rattle.path_agenda.specs.Agenda.{leaves, resets, breaks, stops}
-use Rattle.path_agenda.specs.Items.{key_heard, keys_heard}
-use Rattle.path_agenda.specs.Words.{replaced, first_of}
-use Rattle.path_core.specs.Breaking.{reset_of, reset_on, break_ask, answered_break, refusal_of, answered_refusal}
-use Rattle.path_core.specs.DataFin.{is_data_fin_owed, data_fin_segment, having_sent_data_fin, answered_data_fin_sent, fin_segment_of, having_sent_fin, answered_fin, with_peer_data_fin, plain_fin, with_fin_told, answered_plain_fin, data_fin_of, fin_ask, answered_fin_heard, is_fin_set}
-use Rattle.path_core.specs.Duties.{stands, ask_for, answered}
-use Rattle.path_core.specs.Emission.{payload_size, first_unsent, unsent_segment, data_stands, data_ask, answered_data, grant_in, granted, refused, answered_grant, first_record, first_segment, answer_of, answer_occasion, dead_answer, answered_dead, resend_occasion, resend_of}
-use Rattle.path_core.specs.End.{PathEnd, died}
-use Rattle.path_core.specs.Events.{next_event, step_for}
-use Rattle.path_core.specs.MpJoin.{keys_begun, asked_at, join_heard_ask, joined_by, join_taken, answered_join_heard, with_mode_refused}
-use Rattle.path_core.specs.MpCapable.{with_peer_key, peer_key_ask, answered_peer_key, keys_ask, after_keys, opened_ask, answered_opened, syn_ack_of}
-use Rattle.path_core.specs.Deliver.{having_asked, piece_ask, answered_piece, is_placed, piece_of, after_piece, failing_by, mapping_here, is_wrong}
-use Rattle.path_core.specs.Rate.{rate_ask, after_rate}
-use Rattle.path_store.specs.Passing.{Piece}
-use Rattle.path_core.specs.DssIn.{with_learned, is_clash, told_next, is_acked, mapping_ask, answered_mapping, with_acked, with_data_fin}
-use Rattle.path_core.specs.OptionsOut.{ack_said, carried_said, syn_ack_said, record_or_ack}
-use Rattle.path_core.specs.Handover.{sends, having_sent, sent_on, with_told}
-use Rattle.path_core.specs.Standing.{look_ask, after_look, ack_out_ask, after_ack_out, answered_ack_out, ack_segment}
-use Rattle.path_core.specs.State.{PathState, end_at, goes_on, left, path_of, with_agenda}
-use Rattle.path_core.specs.Profile.{Profile}
-use Rattle.path_core.specs.Fallback.{fell_ask, after_fell, breaks_by, fell_duties, answered_fell, in_identity, breaks_by_ack, plain_ack_ask, answered_plain_ack, with_plain_ack, plain_next, subflow_ack_ask, answered_subflow_ack, plain_ack_in, plainly_acked, after_infinite as after_infinite_heard, answered_infinite, may_go_infinite, fail_ask, with_infinite, book_answered, answered_fail, fail_heard_ask, after_fail_heard, answered_fail_heard, check_failed_ask, after_check_failed, answered_check_failed}
-use Rattle.path_core.specs.Treating.{heard_ask, answered_heard, item_ask, answered_item, item_of}
-use Rattle.path_core.specs.Values.{Carried, values}
-use Rattle.path_core.specs.FastClose.{is_stopped_by, answered_fast_close, fast_close_of, fast_heard_ask, having_fast_closed}
-use Rattle.path_core.specs.Addresses.{notice_ask, note_of, having_noted, answered_note, after_peer_notice}
-use Rattle.path_agenda.specs.declared.notice.OwnNotice.{OwnNotice}
+use Rattle.path_agenda.specs.Agenda.{breaks}
+use Rattle.path_core.specs.DssIn.{is_acked}
+use Rattle.path_core.specs.FastClose.{fast_close_of}
+use Rattle.path_core.specs.Addresses.{note_of}
 use Rattle.world_laws.proofs.Lanes.Answering.{IsReady}
 use Rattle.world_laws.proofs.Lanes.Ending.{unfinished_if}
 use Rattle.world_laws.proofs.Lanes.OfAWorld.{flags_of, Others, duo_at}
@@ -93,11 +55,6 @@ use Rattle.world_laws.proofs.Numbers.Events.{join_tells, events_tell}
 use Rattle.world_laws.proofs.Numbers.EndRules as rules
 use Rattle.world_laws.proofs.Numbers.EndRules.{AreKeys, heard_key, heard_keys, asked_nonce}
 use Rattle.world_laws.proofs.Numbers.PathSteps.{is_fair, AreFair, PathTells, BooksAreShort, tail_fair, replaced_fair, sent_short, next_short, window_short, out_short, back_short, tells_at, tells_on, tells_agenda, tells_sent}
-use Rattle.path_core.specs.Modes.{receives_plainly}
-use Rattle.path_store.specs.declared.infinite_mapping.InfiniteMapping.{InfiniteMapping}
-use Rattle.dss_mapping.specs.declared.kept.KeptMapping.{KeptMapping}
-use Rattle.dss_mapping.specs.Mappings.{mapping_at, run_of}
-use Rattle.dss_mapping.specs.Runs.{covers}
 
 -- ---- grants
 

@@ -1,80 +1,31 @@
 -- What each rule of an end leaves of the numbers that it tells.
-use Rattle.std.proofs.Common.{◌≡◌, refl, sym, subst, ℕ, ◌+◌, ◌^◌, ◌<◌, ◌≤◌, ◌==◌, ◌&&◌, nat_lt, nat_le, Bool, true, false, if◌then◌else◌, Option, Some, None, Ok, Err, List, [], ◌∷◌, ◌++◌, length, arith, ap, ⊎_elim, ◌-◌, min}
-use Rattle.std.proofs.lemmas.Bool.{and_parts, leb-true, ltb-false}
-use Rattle.std.specs.Option.{IfSome, option_or}
-use Rattle.std.specs.Result.{result_ok}
-use Rattle.sides.specs.declared.side.Side.{Side}
-use Rattle.control_book.specs.declared.call.ControlReply.{ControlReply}
-use Rattle.control_book.specs.declared.call.Notice.{Notice}
-use Rattle.dss_mapping.specs.declared.kept.KeptMapping.{KeptMapping}
+use Rattle.world_laws.proofs.Words.{◌≡◌, refl, sym, ap, subst, ℕ, ◌+◌, ◌-◌, ◌≤◌, ◌&&◌, ◌==◌, min, nat_lt, nat_le, ⊎_elim, Bool, true, false, if◌then◌else◌}
+use Rattle.world_laws.proofs.Words.{Option, Some, None, Ok, Err, List, [], ◌∷◌, ◌++◌, length, arith, ◌<◌, ◌^◌, and_parts, ltb-false, leb-true, IfSome}
+use Rattle.world_laws.proofs.Words.{option_or, result_ok, Verdict, Mode, Address, join_b64_of, Side, JoinForm, FormFits, JoinAnswer, BadHmac, answer_heard}
+use Rattle.world_laws.proofs.Words.{answer_taken, syn_heard, ControlReply, Notice, ReassemblyReply, Span, Why, acked_len, SendBook, is_future, fin_after}
+use Rattle.world_laws.proofs.Words.{ack_reply, SendReply, KeptMapping, after_forget_from, without_held, after_keep_held, Receiving, Record, SendState}
+use Rattle.world_laws.proofs.Words.{RecordKind, Syn, Data, Fin, uncovered, after_acknowledge, after_sent, after_resent, after_expired, after_fin_sent}
+use Rattle.world_laws.proofs.Words.{RecordSending, after_sending, syn_resent, EndState, is_fin_passed, Occasion, after_begin, is_fin_next, after_passing_fin}
+use Rattle.world_laws.proofs.Words.{after_finishing, PlainSegment, Piece, OwnNotice, Heard, KeyPair, key_in, key_heard, pair_in, keys_heard, is_of_step}
+use Rattle.world_laws.proofs.Words.{join_in, join_heard, PeerNotice, JoinStep, Reply, tail_of, PathEnd, died, Notices, without_first, after_notice, after_look}
+use Rattle.world_laws.proofs.Words.{may_note, modes_told, notices_told, after_ack_out, died_unless_dead, granted, refused, opened_by, with_mode_refused}
+use Rattle.world_laws.proofs.Words.{join_answer, join_asked, peer_key_of, join_value, with_keys, after_timer, after_firing, having_asked, after_piece, is_wrong}
+use Rattle.world_laws.proofs.Words.{failing_by, mapping_here, forgotten_by, after_keep, after_pieces, is_dropped, with_peer_data_fin, with_fin_told}
+use Rattle.world_laws.proofs.Words.{after_pass_fin, acked_in, with_data_fin_sent, with_learned, with_data_fin, with_skipped, with_acked, with_data_ack}
+use Rattle.world_laws.proofs.Words.{after_dss, covered_by, after_check_failed, after_fell, with_plain_ack, plainly_acked, after_fail_heard, with_infinite}
+use Rattle.world_laws.proofs.Words.{fell_in, in_identity, mode_in, after_keys, with_peer_key, keys_in, with_fast_closed, with_priority, after_peer_notice}
+use Rattle.world_laws.proofs.Words.{with_echo, is_kept, with_noted, bare_mapping, Profile, having_sent, with_told, after_rate, Modes, told_last, Treated}
+use Rattle.world_laws.proofs.Words.{nothing_treated, Every-push, Every-nil, Every}
 use Rattle.fallback_state.specs.declared.fall.Event.{Event}
-use Rattle.fallback_state.specs.declared.fall.Verdict.{Verdict}
-use Rattle.fallback_state.specs.declared.fall.Mode.{Mode}
-use Rattle.join_handshake.specs.Heard.{syn_heard, answer_heard, answer_taken}
-use Rattle.join_handshake.specs.declared.fault.JoinFault.TheVariants.{BadHmac}
-use Rattle.join_handshake.specs.declared.hearing.JoinAnswer.{JoinAnswer}
-use Rattle.key_material.specs.JoinHmac.{join_b64_of}
-use Rattle.mptcp_options.specs.declared.join.JoinForm.{JoinForm}
-use Rattle.mptcp_options.specs.Join.{FormFits}
-use Rattle.reassembly_book.specs.declared.call.ReassemblyReply.{ReassemblyReply}
-use Rattle.send_book.specs.declared.call.SendReply.{SendReply}
-use Rattle.send_book.specs.declared.call.Span.{Span}
-use Rattle.send_book.specs.declared.call.Why.{Why}
-use Rattle.subflow_send.specs.declared.record.RecordKind.{RecordKind}
-use Rattle.subflow_send.specs.declared.record.RecordKind.TheVariants.{Syn, Data, Fin}
-use Rattle.subflow_send.specs.declared.record.Sending.{Sending as RecordSending}
-use Rattle.subflow_send.specs.Records.{Record, SendState}
-use Rattle.subflow_send.specs.Rules.{after_acknowledge, after_sent, after_resent, after_expired, after_fin_sent, uncovered}
-use Rattle.subflow_tcp.specs.declared.segments.Occasion.{Occasion}
-use Rattle.subflow_tcp.specs.Closing.{is_fin_next, after_finishing, after_passing_fin}
-use Rattle.subflow_tcp.specs.Emitting.{syn_resent, after_sending}
 use Rattle.subflow_tcp.specs.Expiring as expiring
-use Rattle.subflow_tcp.specs.Opening.{after_begin}
-use Rattle.subflow_recv.specs.Receiving.{after_forget_from, without_held, after_keep_held, Receiving}
-use Rattle.subflow_tcp.specs.State.{EndState, is_fin_passed}
 use Rattle.subflow_tcp.specs.States as states
 use Rattle.subflow_tcp.specs.Taking as taking
-use Rattle.stream_lanes.specs.Words.{Every}
-use Rattle.stream_lanes.proofs.Lists.{Every-nil, Every-push}
-use Rattle.actor_desk.specs.declared.ask.Reply.{Reply}
-use Rattle.path_agenda.specs.declared.heard.Heard.{Heard}
-use Rattle.path_agenda.specs.declared.heard.JoinStep.{JoinStep}
-use Rattle.path_agenda.specs.declared.keys.KeyPair.{KeyPair}
-use Rattle.path_core.specs.declared.modes.Modes.{Modes}
-use Rattle.path_core.specs.DataFin.{with_data_fin_sent, with_peer_data_fin, with_fin_told, after_pass_fin, acked_in}
-use Rattle.path_core.specs.Emission.{granted, refused}
-use Rattle.path_core.specs.Timer.{after_timer, after_firing}
-use Rattle.path_core.specs.End.{PathEnd, died}
-use Rattle.path_core.specs.Treated.{Treated, nothing_treated}
-use Rattle.path_core.specs.Notices.{Notices, without_first, after_notice}
 use Rattle.path_core.specs.Sending.{Sending}
-use Rattle.path_core.specs.Breaking.{died_unless_dead}
-use Rattle.path_core.specs.Addresses.{with_priority, with_noted, is_kept, with_echo, after_peer_notice}
-use Rattle.path_agenda.specs.Items.{key_in, key_heard, pair_in, keys_heard, is_of_step, join_in, join_heard}
-use Rattle.path_core.specs.MpJoin.{with_keys, opened_by, with_mode_refused, peer_key_of, join_value, join_asked, join_answer}
-use Rattle.path_core.specs.MpCapable.{with_peer_key, keys_in, after_keys}
-use Rattle.path_core.specs.Fallback.{mode_in, fell_in, after_fell, in_identity, with_plain_ack, plainly_acked, after_check_failed, after_fail_heard, with_infinite, after_infinite}
-use Rattle.path_core.specs.Deliver.{having_asked, is_wrong, forgotten_by, after_piece, after_pieces, failing_by, mapping_here, is_dropped, after_keep}
-use Rattle.path_core.specs.Rate.{after_rate}
-use Rattle.path_store.specs.Passing.{Piece}
-use Rattle.path_core.specs.DssIn.{with_learned, with_skipped, with_acked, with_data_fin, after_dss, with_data_ack, covered_by}
-use Rattle.path_core.specs.DssOut.{bare_mapping}
-use Rattle.path_core.specs.Handover.{with_told, having_sent}
-use Rattle.path_core.specs.Standing.{modes_told, after_look, after_ack_out, may_note, notices_told}
-use Rattle.path_core.specs.Profile.{Profile}
-use Rattle.path_core.specs.Choices.{told_last}
-use Rattle.path_agenda.specs.declared.notice.OwnNotice.{OwnNotice}
-use Rattle.path_agenda.specs.declared.notice.PeerNotice.{PeerNotice}
-use Rattle.key_material.specs.declared.address.Address.{Address}
-use Rattle.actor_desk.specs.Words.{tail_of}
-use Rattle.path_core.specs.FastClose.{with_fast_closed}
-use Rattle.path_segments.specs.Spelled.{PlainSegment}
+use Rattle.path_core.specs.Fallback.{after_infinite}
 use Rattle.world_laws.proofs.Lanes.Doing.{place_is}
 use Rattle.world_laws.proofs.Lanes.Records.{unsent_sent_kept, first_sent_kept, fin_sent_kept, expired_kept, uncovered_kept, every_first, every_rest}
 use Rattle.world_laws.proofs.Numbers.TellSmall.{IsShort, RecordKindTells, RecordTells, IsKey, IsNonce, ItemTells, AddressTells, NoteTells, PeerTells, SenderTells, ModesTell, TreatedTells, NoticesTell, EndTells, sum_small, StreamTells}
-use Rattle.send_book.specs.Steps.{ack_reply, is_future, fin_after}
 use Rattle.world_laws.proofs.Falls.FailedChecks.{Forgets, IsMarked, check_failed_marked, fail_heard_so, infinite_came_so}
-use Rattle.send_book.specs.State.{Sending as SendBook, acked_len}
 
 -- ---- records
 

@@ -1,38 +1,12 @@
 -- What happens on a path by itself leaves the numbers that its ends and its copies tell small.
-use Rattle.std.proofs.Common.{◌≡◌, refl, ℕ, zero, suc, ◌+◌, Bool, true, false, if◌then◌else◌, Option, Some, None, List, [], ◌∷◌, ◌++◌, length, find, position}
-use Rattle.std.specs.Option.{IfSome}
-use Rattle.std.proofs.lemmas.Bool.{false≢true}
-use Rattle.sides.specs.declared.side.Side.{Side}
-use Rattle.sides.specs.declared.side.Side.TheVariants.{A, B}
-use Rattle.sides.specs.Side.{peer}
-use Rattle.link_model.specs.declared.flight.Due.{Due}
-use Rattle.link_model.specs.declared.flight.Flight.{Flight}
-use Rattle.link_model.specs.Steps.{is_due, arriving, after_delivery}
-use Rattle.link_script.specs.Places.{same_side}
-use Rattle.path_segments.specs.Laws.{meant}
-use Rattle.path_segments.specs.Spelled.{PlainSegment}
-use Rattle.subflow_tcp.specs.declared.verdicts.Meaning.{Meaning}
-use Rattle.subflow_tcp.specs.Expiring.{is_sixth}
-use Rattle.subflow_tcp.specs.States.{is_dead}
-use Rattle.stream_lanes.proofs.Lists.{Every-nil}
-use Rattle.actor_desk.specs.declared.ask.Reply.{Reply}
-use Rattle.actor_desk.specs.Words.{tail_of}
-use Rattle.path_agenda.specs.declared.duty.Duty.{Duty}
-use Rattle.path_agenda.specs.declared.duty.AskDuty.{AskDuty}
-use Rattle.path_agenda.specs.Agenda.{rest_of_turn, emission, leaves, heard_and, payload_came, announces, withdraws}
+use Rattle.world_laws.proofs.Words.{◌≡◌, refl, ℕ, zero, suc, ◌+◌, Bool, true, false, if◌then◌else◌, Option, Some, None, List, [], ◌∷◌, ◌++◌, length, find}
+use Rattle.world_laws.proofs.Words.{position, false≢true, IfSome, Side, A, B, peer, same_side, is_dead, Meaning, is_sixth, is_due, arriving, after_delivery}
+use Rattle.world_laws.proofs.Words.{Due, Flight, PlainSegment, meant, LineAction, rest_of_turn, emission, heard_and, payload_came, leaves, announces, withdraws}
+use Rattle.world_laws.proofs.Words.{Duty, AskDuty, Reply, tail_of, PathEnd, died, at_tick, PathState, end_at, goes_on, Carried, as_arrived, values, items_of}
+use Rattle.world_laws.proofs.Words.{after_judged, judged_in, template_by, template_judged, template_of, heard_in, copy_heard, told_at, copy_taken, Judged}
+use Rattle.world_laws.proofs.Words.{after_line, happens, happens_if, join_begun, never_joined, is_never, keys_begun, opened_by, is_joined, template_fired}
+use Rattle.world_laws.proofs.Words.{after_firing, timer_fired, with_priority, Profile, Every-nil}
 use Rattle.path_core.specs.declared.events.Event.{Event}
-use Rattle.path_core.specs.OptionsIn.{items_of}
-use Rattle.path_core.specs.Arrival.{judged_in, after_judged, template_by, template_judged, template_of, told_at, heard_in, copy_heard, copy_taken}
-use Rattle.path_core.specs.declared.judged.Judged.{Judged}
-use Rattle.path_core.specs.MpJoin.{is_never, keys_begun, opened_by, is_joined, join_begun, never_joined}
-use Rattle.path_core.specs.End.{PathEnd, died}
-use Rattle.path_core.specs.State.{at_tick, PathState, end_at, goes_on}
-use Rattle.path_core.specs.Events.{after_line, happens, happens_if}
-use Rattle.path_core.specs.Timer.{after_firing, template_fired, timer_fired}
-use Rattle.path_core.specs.Addresses.{with_priority}
-use Rattle.path_store.specs.declared.lines.LineAction.{LineAction}
-use Rattle.path_core.specs.Profile.{Profile}
-use Rattle.path_core.specs.Values.{Carried, as_arrived, values}
 use Rattle.world_laws.proofs.Lanes.Happening.{without_kept, found_due, side_is}
 use Rattle.world_laws.proofs.Lanes.Records.{every_find}
 use Rattle.world_laws.proofs.Numbers.TellSmall.{SegmentTells, bare_tells}

@@ -1,59 +1,19 @@
 -- Every turn of the world leaves the numbers that its path tells small, and so each copy that arrives is fresh.
-use Rattle.std.proofs.Common.{◌≡◌, refl, sym, ◌∙◌, ap, subst, ℕ, zero, suc, ◌+◌, ◌-◌, ◌^◌, ◌<◌, ◌≤◌, ◌++◌, ⊎_elim, Bool, true, false, if◌then◌else◌, is_some, Option, Some, None, List, [], ◌∷◌, length, map, arith}
-use Rattle.std.proofs.lemmas.List.{length-append}
-use Rattle.std.proofs.lemmas.Option.{same_Some, slice_get_within}
-use Rattle.std.specs.List.{slice_get, list_all}
-use Rattle.std.specs.Option.{IfSome, option_map}
-use Rattle.sides.specs.declared.side.Side.{Side}
-use Rattle.sides.specs.declared.side.Side.TheVariants.{A, B}
-use Rattle.link_model.specs.declared.flight.Flight.{Flight}
-use Rattle.link_model.specs.Steps.{arriving}
-use Rattle.reassembly_book.specs.declared.call.ReassemblyCall.{ReassemblyCall}
-use Rattle.reassembly_book.specs.State.{Arriving}
-use Rattle.reassembly_book.specs.Steps.{is_taken, fin_clash, places_after, after_reading, after_call}
-use Rattle.send_book.specs.State.{Sending}
-use Rattle.subflow_tcp.specs.declared.handshake.State.{State as EndPhase}
+use Rattle.world_laws.proofs.Words.{◌≡◌, refl, sym, ◌∙◌, ap, subst, ℕ, zero, suc, ◌+◌, ◌-◌, ◌≤◌, ⊎_elim, Bool, true, false, if◌then◌else◌, Option, Some, None}
+use Rattle.world_laws.proofs.Words.{List, [], ◌∷◌, ◌++◌, length, map, arith, is_some, ◌<◌, ◌^◌, and_parts, length-append, same_Some, slice_get_within}
+use Rattle.world_laws.proofs.Words.{slice_get, list_all, IfSome, Side, A, B, ReassemblyCall, Arriving, places_after, fin_clash, after_reading, Sending, Record}
+use Rattle.world_laws.proofs.Words.{is_unsent, EndPhase, new_end, arriving, Flight, start_of_turn, Duty, OwnNotice, first_of, Ask, books_in, SixBooks, send_of}
+use Rattle.world_laws.proofs.Words.{reassembly_of, control_of, reply_of, after_ask, AppDuty, AppState, app_ask, app_asks_first, stands, ask_for, answered}
+use Rattle.world_laws.proofs.Words.{opening_end, first_sends, first_state, first_turn, PathState, end_at, with_agenda, settles_down, answers, asks_first, takes}
+use Rattle.world_laws.proofs.Words.{next_round, FirstStands, IsSettled, Carried, values, expected_by, first_unsent, first_record, HasAddress, Profile}
+use Rattle.world_laws.proofs.Words.{IsFreshCopy, NextIsFresh, CanBeAltered, SentCanBeAltered, in_map, Every-nil, in_set, Every, From, Duo, after_events, Holds}
+use Rattle.world_laws.proofs.Words.{Lane, any_held, Reader, App, Path, Actor, ActorCrew, PathPlan, Start, path_begins, opened_world, WorldState, Turn, asked}
+use Rattle.world_laws.proofs.Words.{all_over, greatest, begins, end_round, after_turn, world_run, HasRoom, NumbersFit, EveryListIsFresh, IsFreshCrew}
+use Rattle.world_laws.proofs.Words.{IsFreshTurn, AreFresh, IsFreshPath}
+use Rattle.std.specs.Option.{option_map}
+use Rattle.reassembly_book.specs.Steps.{is_taken, after_call}
 use Rattle.subflow_tcp.specs.declared.handshake.State.TheVariants.{Listen}
-use Rattle.subflow_tcp.specs.Opening.{new_end}
-use Rattle.subflow_send.specs.Records.{Record}
-use Rattle.subflow_send.specs.Rules.{is_unsent}
-use Rattle.stream_lanes.specs.Duo.{Duo, after_events}
-use Rattle.stream_lanes.specs.Holding.{Holds}
-use Rattle.stream_lanes.specs.Lane.{Lane}
-use Rattle.stream_lanes.specs.Streams.{Reader}
-use Rattle.stream_lanes.specs.Words.{Every, From}
-use Rattle.stream_lanes.proofs.Duos.{any_held}
-use Rattle.stream_lanes.proofs.Lists.{Every-nil, in_map, in_set}
-use Rattle.actor_desk.specs.declared.ask.Ask.{Ask}
-use Rattle.actor_desk.specs.Books.{books_in}
-use Rattle.actor_desk.specs.Desk.{SixBooks, send_of, reassembly_of, control_of, reply_of, after_ask}
-use Rattle.stream_apps.specs.declared.duty.AppDuty.{AppDuty}
-use Rattle.stream_apps.specs.Apps.{AppState}
-use Rattle.stream_apps.specs.AppSteps.{app_ask, app_asks_first}
-use Rattle.path_agenda.specs.declared.duty.Duty.{Duty}
-use Rattle.path_agenda.specs.Agenda.{start_of_turn}
-use Rattle.path_agenda.specs.declared.notice.OwnNotice.{OwnNotice}
-use Rattle.path_agenda.specs.Words.{first_of}
-use Rattle.path_core.specs.Arrival.{expected_by}
-use Rattle.path_core.specs.Duties.{stands, ask_for, answered}
-use Rattle.path_core.specs.Emission.{first_unsent, first_record}
-use Rattle.path_core.specs.End.{opening_end}
-use Rattle.path_core.specs.Looking.{first_sends}
-use Rattle.path_core.specs.OptionsOut.{HasAddress}
 use Rattle.path_core.proofs.Sayable.{said_can}
-use Rattle.path_core.specs.Shown.{CanBeAltered, IsFreshCopy, NextIsFresh, SentCanBeAltered}
-use Rattle.path_core.specs.Start.{first_state, first_turn}
-use Rattle.path_core.specs.State.{PathState, end_at, with_agenda}
-use Rattle.path_core.specs.Profile.{Profile}
-use Rattle.path_core.specs.Steps.{asks_first, answers, takes, settles_down, next_round}
-use Rattle.path_core.specs.Turns.{FirstStands, IsSettled}
-use Rattle.path_core.specs.Values.{Carried, values}
-use Rattle.world_laws.specs.declared.member.Member.TheVariants.{App, Path}
-use Rattle.world_laws.specs.Actors.{Actor, ActorCrew}
-use Rattle.world_laws.specs.Fresh.{IsFreshPath, IsFreshCrew, IsFreshTurn, AreFresh}
-use Rattle.world_laws.specs.Openings.{PathPlan, Start, path_begins, opened_world}
-use Rattle.world_laws.specs.Promises.{HasRoom, NumbersFit, EveryListIsFresh}
-use Rattle.world_laws.specs.Worlds.{WorldState, Turn, asked, all_over, greatest, begins, end_round, after_turn, world_run}
 use Rattle.world_laws.proofs.Worlds.Steady.{always_steady}
 use Rattle.world_laws.proofs.Lanes.Applying.{Reads, Writes}
 use Rattle.world_laws.proofs.Lanes.Beginning.{first_lane, waiting, six, waiting_shows, alone, alone_holds, turn_reached, opened_reached}
@@ -74,7 +34,6 @@ use Rattle.world_laws.proofs.Numbers.IdsFit.{opening_fits}
 use Rattle.world_laws.proofs.Numbers.KeysFit.{AskTells, BooksKeepShort, kept_at, ask_short, asks_tell}
 use Rattle.world_laws.proofs.Worlds.CastLifting.{each_actor, path_actor}
 use Rattle.world_laws.proofs.Worlds.Casts.{Walker, Cast, Fare, world_of, walking, seated, walked, map_there, after_a, after_b, after_path, path_asked, path_stepped, path_step_is, fare_after_path, walks_on, next_cast, next_is}
-use Rattle.std.proofs.lemmas.Bool.{and_parts}
 use Rattle.world_laws.proofs.Lanes.Saying.{every_one}
 
 -- ---- the room of a reassembly book never changes

@@ -1,24 +1,14 @@
 -- The sets of ids that a control book keeps have 256 members each: so each id that it tells is below 256.
-use Rattle.std.proofs.Common.{◌≡◌, refl, ◌∙◌, ap, ℕ, zero, suc, ◌<◌, Bool, true, false, if◌then◌else◌, List, [], ◌∷◌, length, Option, Some, None, arith}
-use Rattle.std.specs.Prelude.{not, ◌&&◌, ◌||◌, ◌==◌, fold, replicate, slice_set}
-use Rattle.std.specs.Option.{IfSome}
-use Rattle.std.proofs.lemmas.List.{length-set, length-replicate}
+use Rattle.world_laws.proofs.Words.{◌≡◌, refl, ◌∙◌, ap, ℕ, zero, suc, Bool, true, false, if◌then◌else◌, Option, Some, None, List, [], ◌∷◌, length, arith, ◌<◌}
+use Rattle.world_laws.proofs.Words.{length-replicate, length-set, IfSome, slice_set, lowest, no_ids, Addresses, addresses_heard, addresses_removed, Address}
+use Rattle.world_laws.proofs.Words.{token_of, Side, ControlCall, Notice, with_removed, with_phase, every_path, lives, Control, no_withdrawals, new_control}
+use Rattle.world_laws.proofs.Words.{withdrawals_on, with_withdrawal, notice_on, is_sure, may_join, is_known, withdrawn, withdrawn_on, Opening}
+use Rattle.std.specs.Prelude.{not, ◌&&◌, ◌||◌, ◌==◌, fold, replicate}
 use Rattle.std.proofs.lemmas.List.Quantifiers.{position-Some}
-use Rattle.sides.specs.declared.side.Side.{Side}
-use Rattle.address_manager.specs.IdSet.{no_ids, lowest}
-use Rattle.address_manager.specs.Addresses.{Addresses}
-use Rattle.address_manager.specs.Steps.{after_heard as addresses_heard, after_removed as addresses_removed}
 use Rattle.fallback_state.specs.declared.fall.Event.{Event}
-use Rattle.key_material.specs.KeyDigest.{token_of}
-use Rattle.key_material.specs.declared.address.Address.{Address}
-use Rattle.control_book.specs.declared.registry.Phase.TheVariants.{Opening}
 use Rattle.control_book.specs.declared.registry.PathState.{PathState}
-use Rattle.control_book.specs.declared.call.ControlCall.{ControlCall}
-use Rattle.control_book.specs.declared.call.Notice.{Notice}
-use Rattle.control_book.specs.Registry.{every_path, lives, with_phase, with_removed}
-use Rattle.control_book.specs.Control.{Control, no_withdrawals, new_control, withdrawals_on, with_withdrawal}
-use Rattle.control_book.specs.Replies.{notice_on, is_right, is_starting, is_sure, may_join}
-use Rattle.control_book.specs.Steps.{after, after_event, after_join, after_notice, is_known, withdrawn, withdrawn_on}
+use Rattle.control_book.specs.Replies.{is_right, is_starting}
+use Rattle.control_book.specs.Steps.{after, after_event, after_join, after_notice}
 
 abbrev pub AreIds : List Bool → Type 0
 AreIds ids = length ids ≡ 256

@@ -1,54 +1,21 @@
 -- The keys that control books have, and those that they answer, have 64 bits: each key that a path tells one was heard or drawn.
-use Rattle.std.proofs.Common.{◌≡◌, refl, sym, ◌∙◌, ℕ, ◌<◌, ◌==◌, ◌||◌, not, Bool, true, false, if◌then◌else◌, Option, Some, None, List, arith}
-use Rattle.std.specs.Option.{IfSome}
-use Rattle.sides.specs.declared.side.Side.{Side}
-use Rattle.sides.specs.declared.side.Side.TheVariants.{A, B}
-use Rattle.key_material.specs.KeyDigest.{token_of}
-use Rattle.reassembly_book.specs.declared.call.ReassemblyCall.{ReassemblyCall}
+use Rattle.world_laws.proofs.Words.{◌≡◌, refl, sym, ◌∙◌, ℕ, ◌||◌, ◌==◌, not, Bool, true, false, if◌then◌else◌, Option, Some, None, List, arith, ◌<◌, false≢true}
+use Rattle.world_laws.proofs.Words.{IfSome, lowest, token_of, Side, A, B, JoinSyn, ControlCall, ControlReply, Notice, standby, sole, Control, withdrawals_on}
+use Rattle.world_laws.proofs.Words.{peer_or_zero, carries, address_notice, look_reply, ReassemblyCall, Duty, StepDuty, AskDuty, Heard, KeyPair, key_heard}
+use Rattle.world_laws.proofs.Words.{keys_heard, PeerNotice, Ask, Reply, SixBooks, control_of, reply_of, after_ask, ask_for, look_ask, PathState, end_at}
+use Rattle.world_laws.proofs.Words.{path_of, Carried, values, reset_of, break_ask, step_for, keys_begun, join_heard_ask, join_begin_ask, is_clash, mapping_ask}
+use Rattle.world_laws.proofs.Words.{item_ask, item_of, fell_ask, peer_key_ask, opened_ask, Profile, sends, Every, May, may, asking, may_tell}
 use Rattle.fallback_state.specs.declared.fall.Event.TheVariants as events
-use Rattle.control_book.specs.declared.call.ControlCall.{ControlCall}
-use Rattle.control_book.specs.declared.call.ControlReply.{ControlReply}
-use Rattle.control_book.specs.declared.call.Notice.{Notice}
-use Rattle.control_book.specs.Control.{Control, peer_or_zero, withdrawals_on}
-use Rattle.control_book.specs.Registry.{sole, standby}
 use Rattle.control_book.specs.Replies as control
 use Rattle.control_book.specs.Steps as controlling
-use Rattle.control_book.specs.Replies.{address_notice, announcement, carries, look_reply, resets}
-use Rattle.stream_lanes.specs.Words.{Every}
-use Rattle.actor_desk.specs.declared.ask.Ask.{Ask}
-use Rattle.actor_desk.specs.declared.ask.Reply.{Reply}
-use Rattle.actor_desk.specs.Desk.{SixBooks, control_of, reply_of, after_ask}
-use Rattle.join_handshake.specs.declared.hearing.JoinSyn.{JoinSyn}
-use Rattle.path_agenda.specs.declared.duty.Duty.{Duty}
-use Rattle.path_agenda.specs.declared.duty.AskDuty.{AskDuty}
-use Rattle.path_agenda.specs.declared.duty.StepDuty.{StepDuty}
-use Rattle.path_agenda.specs.declared.heard.Heard.{Heard}
-use Rattle.path_agenda.specs.declared.keys.KeyPair.{KeyPair}
-use Rattle.path_agenda.specs.Items.{key_heard, keys_heard}
+use Rattle.control_book.specs.Replies.{announcement, resets}
 use Rattle.path_core.specs.declared.events.Event.{Event}
-use Rattle.path_core.specs.Breaking.{break_ask, reset_of}
-use Rattle.path_core.specs.Duties.{ask_for}
-use Rattle.path_core.specs.Events.{step_for}
-use Rattle.path_core.specs.MpJoin.{keys_begun, join_begin_ask, join_heard_ask}
-use Rattle.path_core.specs.MpCapable.{peer_key_ask, opened_ask}
-use Rattle.path_core.specs.Handover.{sends}
-use Rattle.path_core.specs.State.{PathState, end_at, path_of}
-use Rattle.path_core.specs.Profile.{Profile}
-use Rattle.path_core.specs.DssIn.{is_clash, mapping_ask}
-use Rattle.path_core.specs.Fallback.{fell_ask}
-use Rattle.path_core.specs.Treating.{item_ask, item_of}
-use Rattle.path_core.specs.Values.{Carried, values}
-use Rattle.path_core.specs.Standing.{look_ask}
-use Rattle.path_agenda.specs.declared.notice.PeerNotice.{PeerNotice}
 use Rattle.world_laws.proofs.Lanes.Replying.{every_item}
 use Rattle.world_laws.proofs.Numbers.TellSmall.{IsKey, ItemTells, known_item}
 use Rattle.world_laws.proofs.Numbers.EndRules.{AreKeys, heard_key, heard_keys, NoticeTells}
 use Rattle.world_laws.proofs.Numbers.PathSteps.{KeysAreShort, ControlIsShort, PathTells, tells_at}
 use Rattle.world_laws.proofs.Numbers.IdsFit.{AreIds, lowest_fits, on_fits, call_fits}
-use Rattle.address_manager.specs.IdSet.{lowest}
 use Rattle.world_laws.proofs.Falls.FailedChecks.{fail_asks_so}
-use Rattle.std.proofs.lemmas.Bool.{false≢true}
-use Rattle.world_laws.specs.Asking.{May, may, may_tell, asking}
 use Rattle.world_laws.proofs.Writes.Asks.{asks_no_more}
 
 -- ---- what a control book answers

@@ -1,35 +1,11 @@
 -- What a step of the path leaves of the numbers that its ends and its copies tell.
-use Rattle.std.proofs.Common.{◌≡◌, refl, ℕ, ◌+◌, ◌^◌, ◌≤◌, nat_lt, Bool, true, false, if◌then◌else◌, List, [], ◌∷◌, length, arith}
-use Rattle.std.specs.List.{list_all}
-use Rattle.std.specs.Option.{IfSome}
-use Rattle.std.proofs.lemmas.Bool.{and_parts, and_from}
-use Rattle.sides.specs.declared.side.Side.{Side}
-use Rattle.sides.specs.declared.side.Side.TheVariants.{A, B}
-use Rattle.sides.specs.Side.{peer}
-use Rattle.link_model.specs.Fate.{is_stripped, is_altered, fate_of}
-use Rattle.link_model.specs.Steps.{changed, arrivals, next_number, with_flights, one_more}
-use Rattle.path_segments.specs.Spelled.{PlainSegment}
-use Rattle.reassembly_book.specs.State.{received}
-use Rattle.reassembly_book.specs.Steps.{next_wanted, window, is_end}
-use Rattle.stream_lanes.specs.Holding.{Holds}
-use Rattle.stream_lanes.specs.Lane.{Lane}
-use Rattle.stream_lanes.specs.Laws.{LaneIsShort}
-use Rattle.stream_lanes.specs.Words.{Every}
-use Rattle.stream_lanes.proofs.Promises.{paths_short}
+use Rattle.world_laws.proofs.Words.{◌≡◌, refl, ℕ, ◌+◌, ◌≤◌, nat_lt, Bool, true, false, if◌then◌else◌, List, [], ◌∷◌, length, arith, ◌^◌, and_parts, and_from}
+use Rattle.world_laws.proofs.Words.{list_all, IfSome, Side, A, B, peer, Control, received, is_end, next_wanted, window, arrivals, changed, next_number}
+use Rattle.world_laws.proofs.Words.{with_flights, one_more, is_stripped, is_altered, fate_of, PlainSegment, Duty, SendDuty, AskDuty, replaced, SixBooks}
+use Rattle.world_laws.proofs.Words.{send_of, reassembly_of, control_of, tail_of, pick, PathEnd, PathState, end_at, goes_on, with_agenda, Carried, carried_by}
+use Rattle.world_laws.proofs.Words.{stripped, altered, values, Profile, sent_on, handed, Every, Holds, Lane, LaneIsShort, paths_short}
 use Rattle.stream_lanes.proofs.Views.{received_written}
 use Rattle.control_book.specs.declared.book.Keys.{Keys}
-use Rattle.actor_desk.specs.Desk.{SixBooks, send_of, reassembly_of, control_of}
-use Rattle.actor_desk.specs.Words.{pick, tail_of}
-use Rattle.path_agenda.specs.declared.duty.Duty.{Duty}
-use Rattle.path_agenda.specs.declared.duty.AskDuty.{AskDuty}
-use Rattle.path_agenda.specs.declared.duty.SendDuty.{SendDuty}
-use Rattle.path_core.specs.End.{PathEnd}
-use Rattle.path_core.specs.Handover.{handed, sent_on}
-use Rattle.path_core.specs.State.{PathState, end_at, goes_on, with_agenda}
-use Rattle.path_core.specs.Profile.{Profile}
-use Rattle.path_core.specs.Values.{Carried, carried_by, stripped, altered, values}
-use Rattle.path_agenda.specs.Words.{replaced}
-use Rattle.control_book.specs.Control.{Control}
 use Rattle.world_laws.proofs.Numbers.IdsFit.{IdsFit}
 use Rattle.world_laws.proofs.Lanes.OfAWorld.{flags_of, Others, duo_at}
 use Rattle.world_laws.proofs.Lanes.Roads.{put_there}

@@ -1,34 +1,9 @@
 -- The duties that come to nothing leave the numbers that a path tells small, and so does a turn of the path.
-use Rattle.std.proofs.Common.{◌≡◌, refl, ℕ, ◌+◌, ◌^◌, ◌≤◌, Bool, true, false, if◌then◌else◌, Option, Some, None, List, [], ◌∷◌, length, arith}
-use Rattle.std.proofs.lemmas.Bool.{and_parts, eqb-true, false≢true}
-use Rattle.std.specs.List.{list_all}
-use Rattle.std.specs.Option.{IfSome}
-use Rattle.sides.specs.declared.side.Side.{Side}
-use Rattle.sides.specs.Side.{peer}
-use Rattle.subflow_tcp.specs.Judging.{is_at}
-use Rattle.stream_lanes.specs.Holding.{Holds}
-use Rattle.stream_lanes.specs.Lane.{Lane}
-use Rattle.stream_lanes.specs.Laws.{LaneIsShort}
-use Rattle.actor_desk.specs.Desk.{SixBooks, send_of}
-use Rattle.actor_desk.specs.Words.{pick}
-use Rattle.path_agenda.specs.declared.duty.Duty.{Duty}
-use Rattle.path_agenda.specs.declared.duty.AskDuty.{AskDuty}
-use Rattle.path_agenda.specs.declared.duty.SendDuty.{SendDuty}
-use Rattle.path_agenda.specs.declared.duty.SilentDuty.{SilentDuty}
-use Rattle.path_agenda.specs.declared.duty.StepDuty.{StepDuty}
-use Rattle.path_agenda.specs.declared.heard.Heard.{Heard}
-use Rattle.path_core.specs.Duties.{stands, passed}
-use Rattle.path_core.specs.Timer.{after_timer}
-use Rattle.path_core.specs.End.{PathEnd}
-use Rattle.path_core.specs.DataFin.{after_pass_fin}
-use Rattle.path_core.specs.Deliver.{mapping_here, after_check, after_pieces, after_keep}
-use Rattle.path_core.specs.DssIn.{with_learned, with_skipped, counts, with_data_fin}
-use Rattle.path_core.specs.State.{PathState, end_at, with_end, with_agenda}
-use Rattle.path_core.specs.Profile.{Profile}
-use Rattle.path_core.specs.Steps.{settled}
-use Rattle.path_core.specs.Fallback.{with_plain_ack}
-use Rattle.path_core.specs.Treating.{heard_passed, item_passed, item_of}
-use Rattle.path_core.specs.Values.{Carried}
+use Rattle.world_laws.proofs.Words.{◌≡◌, refl, ℕ, ◌+◌, ◌≤◌, Bool, true, false, if◌then◌else◌, Option, Some, None, List, [], ◌∷◌, length, arith, ◌^◌, eqb-true}
+use Rattle.world_laws.proofs.Words.{and_parts, false≢true, list_all, IfSome, Side, peer, is_at, Duty, SendDuty, StepDuty, AskDuty, SilentDuty, Heard, SixBooks}
+use Rattle.world_laws.proofs.Words.{send_of, pick, stands, passed, PathEnd, PathState, end_at, with_end, with_agenda, settled, Carried, after_timer}
+use Rattle.world_laws.proofs.Words.{mapping_here, after_keep, after_pieces, after_check, after_pass_fin, with_learned, with_data_fin, counts, with_skipped}
+use Rattle.world_laws.proofs.Words.{item_of, item_passed, heard_passed, with_plain_ack, Profile, Holds, Lane, LaneIsShort}
 use Rattle.world_laws.proofs.Lanes.OfAWorld.{Others, duo_at}
 use Rattle.world_laws.proofs.Lanes.Settling.{passes}
 use Rattle.world_laws.proofs.Lanes.Showing.{HasFin, PathShows}

@@ -1,71 +1,37 @@
 -- The numbers that a path tells: each is below 2^31, so that each is near every one that may be expected.
-use Rattle.std.proofs.Common.{◌≡◌, refl, ap, ℕ, ◌+◌, ◌-◌, ◌%◌, ◌^◌, ◌<◌, ◌≤◌, ◌⊎◌, inl, inr, ⊎_elim, ◌&&◌, not, Bool, true, false, if◌then◌else◌, is_some, Option, Some, None, List, [], ◌∷◌, ◌++◌, length, arith, sym, subst}
-use Rattle.std.proofs.lemmas.Bool.{ne_eqb, cases_lt}
+use Rattle.world_laws.proofs.Words.{◌≡◌, refl, sym, ap, subst, ℕ, ◌+◌, ◌-◌, ◌≤◌, ◌&&◌, not, inl, inr, ◌⊎◌, ⊎_elim, Bool, true, false, if◌then◌else◌, Option}
+use Rattle.world_laws.proofs.Words.{Some, None, List, [], ◌∷◌, ◌++◌, length, arith, is_some, ◌<◌, ◌^◌, ◌%◌, cases_lt, ne_eqb, length-append, append-nil, IfSome}
+use Rattle.world_laws.proofs.Words.{All, All-nil, All-cons, All-weaker, Address, token_of, join_a160_of, join_b64_of, Side, A, B, peer, with_turned_bit}
+use Rattle.world_laws.proofs.Words.{JoinForm, CapableKeys, NoKey, Sender, Both, WithData, FormFits, path_address, Record, SendState, RecordKind, Syn, Data, Fin}
+use Rattle.world_laws.proofs.Words.{is_fin, is_opening, ack_at, syn_ack_segment, reset_segment, fin_position, fin_segment, is_syn, record_segment, Outgoing}
+use Rattle.world_laws.proofs.Words.{occupied, one_if, PlainOption, said_option, relative_number, syn_text, options_text, PlainSegment, CanSayOption, CanSay}
+use Rattle.world_laws.proofs.Words.{Capable, Dss, Fail, meant, IsPositionFresh, IsPlaceFresh, IsBytes, IsMappingFresh, IsOptionFresh, IsHearable, IsFresh}
+use Rattle.world_laws.proofs.Words.{Expected, whole_number, data_number, PathMapping, Bytes, Infinite, InfiniteMapping, OwnNotice, Heard, PeerNotice, PathEnd}
+use Rattle.world_laws.proofs.Words.{Notices, copy_of, expected_by, outgoing_or, is_joined, join_options, third_options, peer_key_of, receives_infinite}
+use Rattle.world_laws.proofs.Words.{bare_mapping, checksum_in, place_numbered, checksum_told, owes_mapping, plain_options, data_fin_mapping, piece_mapping}
+use Rattle.world_laws.proofs.Words.{is_first_piece, first_piece_options, piece_options, fin_options, fail_options, fail_beside, infinite_options, infinite_or}
+use Rattle.world_laws.proofs.Words.{mapped_options, is_syn_unsent, own_reset, capable_options, syn_options, key_options, opening_options, ack_options}
+use Rattle.world_laws.proofs.Words.{record_options, reset_options, segment_of, ack_said, carried_said, record_said, syn_ack_said, fin_said, reset_said}
+use Rattle.world_laws.proofs.Words.{record_or_ack, broken_options, noted_said, notice_option, HasAddress, Profile, IsFarReset, Modes, Treated, Every}
 use Rattle.std.proofs.lemmas.Int.{ints}
-use Rattle.std.proofs.lemmas.List.{append-nil, length-append}
-use Rattle.std.proofs.lemmas.List.Elements.{All-nil, All-cons, All-weaker}
-use Rattle.std.specs.Prelude.{All}
-use Rattle.std.specs.Option.{IfSome, IsSome}
-use Rattle.sides.specs.declared.side.Side.{Side}
-use Rattle.sides.specs.declared.side.Side.TheVariants.{A, B}
-use Rattle.sides.specs.Side.{peer}
+use Rattle.std.specs.Option.{IsSome}
 use Rattle.seq_units.specs.declared.mapping.Mapping.{Mapping}
-use Rattle.key_material.specs.JoinHmac.{join_a160_of, join_b64_of}
-use Rattle.key_material.specs.KeyDigest.{token_of}
 use Rattle.key_material.proofs.Bounds.{token_of_below, join_b64_of_below, AreOctets-join_a160_of, length-join_a160_of, add_addr64_of_below}
-use Rattle.mptcp_options.specs.declared.capable.CapableKeys.{CapableKeys}
-use Rattle.mptcp_options.specs.declared.capable.CapableKeys.TheVariants.{NoKey, Sender, Both, WithData}
-use Rattle.mptcp_options.specs.declared.join.JoinForm.{JoinForm}
 use Rattle.mptcp_options.specs.declared.dss.DataNumber.{DataNumber}
 use Rattle.mptcp_options.specs.declared.dss.DataNumber.TheVariants.{Whole, Low}
 use Rattle.mptcp_options.specs.Dss.{DataNumberFits}
-use Rattle.mptcp_options.specs.Join.{FormFits}
 use Rattle.mptcp_options.specs.Octets.{IsBelow}
 use Rattle.mptcp_options.specs.Text.{option_text, Fits}
 use Rattle.mptcp_options.specs.Value as wire
-use Rattle.path_segments.specs.declared.expected.Expected.{Expected}
-use Rattle.path_segments.specs.declared.segment.PathMapping.{PathMapping}
-use Rattle.path_segments.specs.declared.segment.PathMapping.TheVariants.{Bytes, End, Infinite}
-use Rattle.path_segments.specs.declared.segment.PathOption.TheVariants.{Capable, Dss, Fail, FastClose}
+use Rattle.path_segments.specs.declared.segment.PathMapping.TheVariants.{End}
+use Rattle.path_segments.specs.declared.segment.PathOption.TheVariants.{FastClose}
 use Rattle.path_segments.specs.declared.spelling.Spelling.{Spelling}
 use Rattle.path_segments.specs.HeardLent.{IsExpected}
-use Rattle.path_segments.specs.Laws.{meant, IsPositionFresh, IsPlaceFresh, IsBytes, IsMappingFresh, IsOptionFresh, IsHearable, IsFresh}
-use Rattle.path_segments.specs.Options.{PlainOption, said_option, relative_number}
-use Rattle.path_segments.specs.Spelled.{syn_text, options_text, PlainSegment, CanSayOption, CanSay}
-use Rattle.path_segments.specs.Spelling.{whole_number, data_number}
-use Rattle.subflow_send.specs.declared.record.RecordKind.{RecordKind}
-use Rattle.subflow_send.specs.declared.record.RecordKind.TheVariants.{Syn, Data, Fin}
-use Rattle.subflow_send.specs.Records.{Record, SendState}
-use Rattle.subflow_tcp.specs.declared.segments.Outgoing.{Outgoing}
-use Rattle.subflow_tcp.specs.Emitting.{ack_at, syn_ack_segment, reset_segment, fin_position, fin_segment, is_syn, record_segment}
-use Rattle.subflow_send.specs.Rules.{is_fin}
-use Rattle.subflow_tcp.specs.Segments.{one_if, occupied}
-use Rattle.subflow_tcp.specs.States.{is_opening}
-use Rattle.stream_lanes.specs.Words.{Every}
-use Rattle.path_agenda.specs.declared.heard.Heard.{Heard}
-use Rattle.path_core.specs.Arrival.{copy_of, expected_by}
-use Rattle.path_core.specs.declared.modes.Modes.{Modes}
-use Rattle.path_core.specs.End.{PathEnd}
 use Rattle.path_core.specs.Sending.{Sending}
-use Rattle.path_core.specs.Treated.{Treated}
-use Rattle.path_core.specs.Notices.{Notices}
 use Rattle.path_store.specs.Receiving.{Receiving}
-use Rattle.path_core.specs.MpJoin.{is_joined, peer_key_of, join_options, third_options}
-use Rattle.path_core.specs.Emission.{outgoing_or}
-use Rattle.path_core.specs.DssOut.{bare_mapping, checksum_in, place_numbered, checksum_told, owes_mapping, plain_options, data_fin_mapping, piece_mapping, is_first_piece, first_piece_options, piece_options, fin_options, fail_options, fail_beside, infinite_options, infinite_or, mapped_options}
-use Rattle.path_core.specs.OptionsOut.{is_syn_unsent, own_reset, capable_options, syn_options, key_options, opening_options, ack_options, record_options, reset_options, segment_of, ack_said, carried_said, record_said, syn_ack_said, fin_said, reset_said, record_or_ack, broken_options, noted_said, notice_option, HasAddress}
-use Rattle.path_core.specs.Shown.{IsFarReset}
-use Rattle.path_core.specs.Profile.{Profile}
-use Rattle.key_material.specs.declared.address.Address.{Address}
 use Rattle.key_material.specs.declared.address.Address.TheVariants.{V4, V6}
 use Rattle.mptcp_options.specs.Address.{AddressFits}
-use Rattle.control_book.specs.Steps.{path_address}
-use Rattle.path_agenda.specs.declared.notice.OwnNotice.{OwnNotice}
-use Rattle.path_agenda.specs.declared.notice.PeerNotice.{PeerNotice}
 use Rattle.path_core.proofs.Sayable.{noted_can, carried_can}
-use Rattle.segment_wire.specs.Changes.{with_turned_bit}
-use Rattle.path_store.specs.declared.infinite_mapping.InfiniteMapping.{InfiniteMapping}
-use Rattle.path_core.specs.Modes.{receives_infinite}
 
 abbrev pub IsShort : ℕ → Type 0
 IsShort n = n < 2 ^ 31

@@ -1,22 +1,10 @@
 -- A send book never has more than 2^62 - 3 bytes, whatever it is asked.
-use Rattle.std.proofs.Common.{sym, subst, ◌-◌, ◌^◌, ◌≤◌, ◌||◌, Bool, true, false, if◌then◌else◌, Option, Some, None, Result, Ok, Err, List, [], ◌∷◌, length, take, map, arith}
-use Rattle.std.proofs.lemmas.List.{length-append, length-take}
-use Rattle.std.specs.List.{slice_get}
-use Rattle.sides.specs.declared.side.Side.{Side}
-use Rattle.sides.specs.declared.side.Side.TheVariants.{A, B}
-use Rattle.send_book.specs.declared.call.SendCall.{SendCall}
-use Rattle.send_book.specs.declared.call.SendCall.TheVariants.{Write, Close, Grant, AckIn, GoInfinite}
-use Rattle.send_book.specs.declared.call.Span.{Span}
-use Rattle.send_book.specs.declared.call.Why.{Why}
-use Rattle.send_book.specs.State.{Sending}
-use Rattle.send_book.specs.Steps.{bytes_taken, decision, given_by, is_future, is_gathered, after_call}
-use Rattle.actor_desk.specs.declared.ask.Ask.{Ask}
-use Rattle.actor_desk.specs.Books.{books_in}
-use Rattle.actor_desk.specs.Desk.{SixBooks, send_of, after_ask}
-use Rattle.path_core.specs.Codec.{Codec}
-use Rattle.world_laws.specs.Actors.{ActorCrew, member_asks}
-use Rattle.world_laws.specs.Openings.{Start, opened_world}
-use Rattle.world_laws.specs.Worlds.{WorldState, Turn, asked, stepped, all_over, greatest, begins, after_turn, world_run}
+use Rattle.world_laws.proofs.Words.{sym, subst, ◌-◌, ◌≤◌, ◌||◌, Bool, true, false, if◌then◌else◌, Option, Some, None, Result, Ok, Err, List, [], ◌∷◌, length}
+use Rattle.world_laws.proofs.Words.{take, map, arith, ◌^◌, length-append, length-take, slice_get, Side, A, B, Span, Why, SendCall, Sending, bytes_taken}
+use Rattle.world_laws.proofs.Words.{decision, given_by, is_future, is_gathered, AckIn, Ask, books_in, SixBooks, send_of, after_ask, Codec, ActorCrew}
+use Rattle.world_laws.proofs.Words.{member_asks, Start, opened_world, WorldState, Turn, asked, stepped, all_over, greatest, begins, after_turn, world_run}
+use Rattle.send_book.specs.declared.call.SendCall.TheVariants.{Write, Close, Grant, GoInfinite}
+use Rattle.send_book.specs.Steps.{after_call}
 use Rattle.world_laws.proofs.Weaving.Journals.{books_after}
 
 abbrev IsBounded : Sending → Type 0

@@ -1,31 +1,14 @@
 -- A byte is granted to a path once at most: what the actors noted of grants stands in the journals of the send books.
-use Rattle.std.proofs.Common.{◌≡◌, refl, sym, ◌∙◌, ap, ℕ, zero, suc, ◌+◌, Bool, true, false, ◌&&◌, if◌then◌else◌, Option, Some, None, List, [], ◌∷◌, ◌++◌, map, set, fold, get_or, arith}
-use Rattle.std.specs.List.{slice_get, count_by}
-use Rattle.std.proofs.lemmas.List.{map-append}
-use Rattle.std.proofs.lemmas.List.Sums.{sum_by-set, sum_by_push}
-use Rattle.std.proofs.lemmas.Option.{same_Some, slice_get_within}
-use Rattle.sides.specs.declared.side.Side.{Side}
-use Rattle.sides.specs.declared.side.Side.TheVariants.{A, B}
-use Rattle.stamped_book.specs.declared.stamped.Entry.{Entry}
-use Rattle.stamped_book.specs.declared.stamped.Pass.{Pass}
-use Rattle.stamped_book.specs.Journal.{replay, book_of}
-use Rattle.stamped_book.specs.Entering.{entry_of, after_entering}
-use Rattle.send_book.specs.declared.call.SendCall.{SendCall}
-use Rattle.send_book.specs.declared.call.SendReply.{SendReply}
-use Rattle.send_book.specs.State.{Sending}
+use Rattle.world_laws.proofs.Words.{◌≡◌, refl, sym, ◌∙◌, ap, ℕ, zero, suc, ◌+◌, ◌&&◌, Bool, true, false, if◌then◌else◌, Option, Some, None, List, [], ◌∷◌, ◌++◌}
+use Rattle.world_laws.proofs.Words.{map, arith, set, get_or, map-append, same_Some, slice_get_within, count_by, slice_get, sum_by-set, sum_by_push, Entry, Pass}
+use Rattle.world_laws.proofs.Words.{entry_of, after_entering, book_of, replay, Side, A, B, SendCall, Sending, SendReply, Ask, Note, StampedBooks, after_entry}
+use Rattle.world_laws.proofs.Words.{SendJournal, pick, Codec, ActorCrew, member_asks, Always, PathPlan, Start, paths_from, opened_world, WorldState, Turn}
+use Rattle.world_laws.proofs.Words.{crew_after, asked, stepped, all_over, greatest, begins, after_turn, world_run, note_of}
+use Rattle.std.proofs.Common.{fold}
 use Rattle.send_book.specs.Steps.{reply_to, after_call}
 use Rattle.send_book.specs.Laws.{after_calls, is_asked_by, covers, times_granted as times_called}
 use Rattle.send_book.proofs.Grants.{granted_at_most_once}
-use Rattle.actor_desk.specs.declared.ask.Ask.{Ask}
-use Rattle.actor_desk.specs.declared.ask.Note.{Note}
-use Rattle.actor_desk.specs.Books.{SendJournal, StampedBooks, after_entry}
-use Rattle.actor_desk.specs.Words.{pick}
-use Rattle.path_core.specs.Codec.{Codec}
-use Rattle.world_laws.specs.Actors.{ActorCrew, member_asks}
 use Rattle.world_laws.specs.Granted.{grants_byte, times_granted, GrantedOnce}
-use Rattle.world_laws.specs.Laws.{Always}
-use Rattle.world_laws.specs.Openings.{PathPlan, Start, paths_from, opened_world}
-use Rattle.world_laws.specs.Worlds.{WorldState, Turn, note_of, crew_after, asked, stepped, all_over, greatest, begins, after_turn, world_run}
 
 abbrev bit : Bool → ℕ
 bit b = if b then 1 else 0

@@ -1,60 +1,25 @@
 -- The places that the ends of a path learned are those of a record, and so are those of the mappings that they heard: every step
 -- of the path keeps it, where the mappings of the copies under way tell the record's places.
-use Rattle.std.proofs.Common.{◌≡◌, refl, sym, subst, ap, ℕ, suc, ◌<◌, ◌≤◌, ◌&&◌, ◌==◌, nat_le, nat_lt, Bool, true, false, cond, if◌then◌else◌, Option, Some, None, List, [], ◌∷◌}
-use Rattle.std.proofs.lemmas.Bool.{and_parts, leb-true, ltb-true}
-use Rattle.std.specs.Option.{IfSome}
-use Rattle.sides.specs.declared.side.Side.{Side}
-use Rattle.sides.specs.declared.side.Side.TheVariants.{A, B}
-use Rattle.dss_mapping.specs.declared.kept.KeptMapping.{KeptMapping}
+use Rattle.world_laws.proofs.Words.{◌≡◌, refl, sym, ap, subst, ℕ, suc, ◌≤◌, ◌&&◌, ◌==◌, nat_lt, nat_le, Bool, true, false, cond, if◌then◌else◌, Option, Some}
+use Rattle.world_laws.proofs.Words.{None, List, [], ◌∷◌, ◌<◌, ltb-true, and_parts, leb-true, IfSome, Side, A, B, same_side, ReassemblyReply, KeptMapping}
+use Rattle.world_laws.proofs.Words.{Mappings, run_of, after_learn, place_at, after_forget, others_of, learn_of, learned_if, after_skip_held, after_learn_held}
+use Rattle.world_laws.proofs.Words.{covers, place_in, is_dead, is_due, arriving, after_delivery, Flight, PlainSegment, meant, LineAction, Piece, emission}
+use Rattle.world_laws.proofs.Words.{leaves, resets, Duty, SendDuty, StepDuty, AskDuty, SilentDuty, Heard, KeyPair, Reply, tail_of, passed, answered, PathEnd}
+use Rattle.world_laws.proofs.Words.{died, answered_ack_out, window_in, at_tick, PathState, end_at, goes_on, with_end, with_agenda, takes, begins_turn, Carried}
+use Rattle.world_laws.proofs.Words.{values, heard_in, copy_heard, told_at, reset_of, reset_on, answered_break, died_unless_dead, next_event, after_line}
+use Rattle.world_laws.proofs.Words.{happens_if, join_begun, never_joined, is_never, keys_begun, opened_by, piece_of, is_placed, answered_piece, is_clash}
+use Rattle.world_laws.proofs.Words.{with_learned, with_data_fin, counts, with_skipped, held_of, answered_heard, answered_item, item_of, item_passed, after_fell}
+use Rattle.world_laws.proofs.Words.{fell_duties, sent_on, Every-nil, Every, Writes, OnlyAt, EndView, writes, side_of}
 use Rattle.dss_mapping.specs.declared.learn.Learn.{Learn}
 use Rattle.dss_mapping.specs.declared.learn.Learn.TheVariants.{New, Same, Clash}
 use Rattle.dss_mapping.specs.declared.run.Run.{Run}
-use Rattle.dss_mapping.specs.Learning.{first_of, others_of, learn_of, learned_if, after_skip_held, after_learn_held}
-use Rattle.dss_mapping.specs.Mappings.{Mappings, run_of, place_at, after_learn, after_forget}
-use Rattle.dss_mapping.specs.Runs.{covers, place_in}
+use Rattle.dss_mapping.specs.Learning.{first_of}
 use Rattle.dss_mapping.proofs.LawsProved.{learned_places}
-use Rattle.link_script.specs.Places.{same_side}
-use Rattle.link_model.specs.declared.flight.Flight.{Flight}
-use Rattle.link_model.specs.Steps.{is_due, arriving, after_delivery}
-use Rattle.path_segments.specs.Laws.{meant}
-use Rattle.path_segments.specs.Spelled.{PlainSegment}
 use Rattle.fallback_state.specs.declared.fall.Event.TheVariants as events
-use Rattle.reassembly_book.specs.declared.call.ReassemblyReply.{ReassemblyReply}
-use Rattle.subflow_tcp.specs.States.{is_dead}
-use Rattle.stream_lanes.specs.Words.{Every}
-use Rattle.stream_lanes.proofs.Lists.{Every-nil}
-use Rattle.actor_desk.specs.declared.ask.Reply.{Reply}
-use Rattle.actor_desk.specs.Words.{tail_of}
-use Rattle.path_agenda.specs.declared.duty.Duty.{Duty}
-use Rattle.path_agenda.specs.declared.duty.AskDuty.{AskDuty}
-use Rattle.path_agenda.specs.declared.duty.SendDuty.{SendDuty}
-use Rattle.path_agenda.specs.declared.duty.SilentDuty.{SilentDuty}
-use Rattle.path_agenda.specs.declared.duty.StepDuty.{StepDuty}
-use Rattle.path_agenda.specs.declared.heard.Heard.{Heard}
-use Rattle.path_agenda.specs.Agenda.{emission, leaves, resets}
-use Rattle.path_agenda.specs.declared.keys.KeyPair.{KeyPair}
 use Rattle.path_core.specs.declared.events.Event.{Event}
-use Rattle.path_core.specs.DssIn.{held_of, with_learned, with_skipped, counts, is_clash, with_data_fin}
-use Rattle.path_core.specs.Breaking.{reset_of, reset_on, answered_break, died_unless_dead}
-use Rattle.path_core.specs.Duties.{passed, answered}
-use Rattle.path_core.specs.End.{PathEnd, died}
 use Rattle.path_store.specs.Receiving.{Receiving}
-use Rattle.path_core.specs.Events.{next_event, after_line, happens_if}
-use Rattle.path_core.specs.Arrival.{heard_in, copy_heard, told_at}
-use Rattle.path_core.specs.State.{at_tick, PathState, end_at, with_end, with_agenda, goes_on}
-use Rattle.path_core.specs.MpJoin.{join_begun, never_joined, is_never, keys_begun, opened_by}
-use Rattle.path_store.specs.declared.lines.LineAction.{LineAction}
-use Rattle.path_core.specs.Deliver.{is_placed, piece_of, answered_piece}
-use Rattle.path_store.specs.Passing.{Piece}
-use Rattle.path_core.specs.Handover.{sent_on}
-use Rattle.path_core.specs.Standing.{window_in, answered_ack_out}
-use Rattle.path_core.specs.Steps.{takes, begins_turn}
-use Rattle.path_core.specs.Treating.{answered_heard, answered_item, item_of, item_passed}
-use Rattle.path_core.specs.Values.{Carried, values}
-use Rattle.path_core.specs.Fallback.{after_fell, fell_duties}
 use Rattle.world_laws.proofs.Worlds.Finding.{find_every, one_side}
 use Rattle.world_laws.proofs.Falls.FailedChecks.{infinite_came_so, fail_answered_so}
-use Rattle.world_laws.specs.Writes.{EndView, Writes, OnlyAt, writes, side_of}
 use Rattle.world_laws.proofs.Writes.Paths.{writes_no_more, passes_no_more}
 use Rattle.world_laws.proofs.Writes.Steps.{both_ends, Lasts, unwritten, takes_lasts, begins_lasts}
 

@@ -1,25 +1,14 @@
 -- What a lane from A to B was granted stays as it is, unless A asks for bytes.
-use Rattle.std.proofs.Common.{◌≡◌, refl, sym, ◌∙◌, ap, subst, ℕ, ⊎_elim, Bool, true, false, if◌then◌else◌, Option, Some, None, List, [], ◌∷◌, set}
-use Rattle.std.proofs.lemmas.Bool.{and_parts, cases_eq, false≢true}
-use Rattle.std.proofs.lemmas.Option.{same_Some}
-use Rattle.std.specs.List.{slice_get, list_all}
-use Rattle.sides.specs.declared.side.Side.TheVariants.{A, B}
-use Rattle.send_book.specs.declared.call.SendCall.{SendCall}
-use Rattle.send_book.specs.State.{acked_len}
-use Rattle.send_book.specs.Steps.{reply_to as send_reply, after_call as after_send}
-use Rattle.reassembly_book.specs.declared.call.ReassemblyCall.{ReassemblyCall}
-use Rattle.reassembly_book.specs.Steps.{reply_to as arrival_reply}
-use Rattle.stream_lanes.specs.Lane.{Cell, Ask as LaneAsk, Lane}
-use Rattle.stream_lanes.specs.Lane.Ask.{AskAckIn, AskPlace, AskFin, AskAckOut}
-use Rattle.stream_lanes.specs.Moves.{Flags, Move}
-use Rattle.stream_lanes.specs.Streams.{goes_infinite, may_go, with_send, Direction, StreamEvent, moves, reads, asks, asks_at, after, is_done}
-use Rattle.stream_lanes.specs.Streams.StreamEvent.{Write, Close, Return, AbortSend, Read, AbortRead, Moves, GoIdentity, GoInfinite}
-use Rattle.stream_lanes.specs.Duo.{Duo, Event, flags_ab, after_event, after_events}
-use Rattle.stream_lanes.specs.Duo.Event.{ToB, ToA, BeginJoin, SendJoin, HearJoin, FallA, FallB, LoosenA, LoosenB}
+use Rattle.world_laws.proofs.Words.{◌≡◌, refl, sym, ◌∙◌, ap, subst, ℕ, ⊎_elim, Bool, true, false, if◌then◌else◌, Option, Some, None, List, [], ◌∷◌, set}
+use Rattle.world_laws.proofs.Words.{cases_eq, and_parts, false≢true, same_Some, slice_get, list_all, A, B, ReassemblyCall, arrival_reply, SendCall, acked_len}
+use Rattle.world_laws.proofs.Words.{after_send, send_reply, Ask, set_same, set_other, Duo, after_events, after_event, flags_ab, Cell, Lane, LaneAsk, Direction}
+use Rattle.world_laws.proofs.Words.{StreamEvent, reads, asks, asks_at, is_done, with_send, goes_infinite, may_go, ToB, ToA, FallA, FallB, LoosenA, LoosenB}
+use Rattle.world_laws.proofs.Words.{BeginJoin, SendJoin, HearJoin, Flags, Move, AskAckIn, AskPlace, AskFin, AskAckOut, Return, GoIdentity, AbortRead, Moves}
+use Rattle.world_laws.proofs.Words.{asks_grant}
+use Rattle.stream_lanes.specs.Streams.{moves, after}
+use Rattle.stream_lanes.specs.Streams.StreamEvent.{Write, Close, AbortSend, Read, GoInfinite}
+use Rattle.stream_lanes.specs.Duo.{Event}
 use Rattle.stream_lanes.proofs.Directions.{moved_sent, acked_sent, placed_sent, fin_sent}
-use Rattle.stream_lanes.proofs.Lists.{set_same, set_other}
-use Rattle.actor_desk.specs.declared.ask.Ask.{Ask}
-use Rattle.world_laws.specs.RoundEnd.{asks_grant}
 use Rattle.world_laws.proofs.Lanes.OfAWorld.{LaneAsks, SendCallIs, ReassemblyCallIs, CallIs, is_silent, AreSilent, call_events, TurnShows}
 use Rattle.world_laws.proofs.Places.Sent.{ack_out_sent}
 

@@ -1,31 +1,13 @@
 -- Once the reassembly book of a side is aborted, its reader is told that alone.
-use Rattle.std.proofs.Common.{◌≡◌, refl, sym, ◌∙◌, ap, subst, Bool, true, false, is_some, if◌then◌else◌, Option, Some, List, [], ◌∷◌, ◌++◌, All}
-use Rattle.std.proofs.lemmas.List.{append-nil, append_assoc}
-use Rattle.std.proofs.lemmas.List.Elements.{All-nil, All-head, All-tail, All-push}
-use Rattle.sides.specs.declared.side.Side.{Side}
-use Rattle.sides.specs.declared.side.Side.TheVariants.{A, B}
-use Rattle.reassembly_book.specs.declared.call.ReassemblyCall.{ReassemblyCall}
-use Rattle.reassembly_book.specs.declared.call.ReassemblyReply.{ReassemblyReply}
-use Rattle.reassembly_book.specs.State.{Arriving}
-use Rattle.reassembly_book.specs.Steps.{is_taken, places_after, fin_clash, first_abort, reading, after_reading, after_call}
-use Rattle.actor_desk.specs.declared.ask.Ask.{Ask}
-use Rattle.actor_desk.specs.declared.ask.Note.{Note}
-use Rattle.actor_desk.specs.declared.ask.Reply.{Reply}
-use Rattle.actor_desk.specs.Books.{books_in}
-use Rattle.actor_desk.specs.Desk.{SixBooks, reassembly_of, reply_of, after_ask}
-use Rattle.actor_desk.specs.Words.{pick}
-use Rattle.stream_apps.specs.declared.duty.AppDuty.{AppDuty}
-use Rattle.stream_apps.specs.declared.duty.AppDuty.TheVariants.{FastClose, AbortSend, AbortReceive, Write, Close, Read, End}
-use Rattle.stream_apps.specs.Apps.{AppState}
-use Rattle.stream_apps.specs.AppSteps.{app_ask, bytes_in}
-use Rattle.path_core.specs.Codec.{Codec}
-use Rattle.path_core.specs.Duties.{ask_for}
-use Rattle.world_laws.specs.Laws.{Always}
-use Rattle.world_laws.specs.Openings.{Start, opened_world}
-use Rattle.world_laws.specs.Outcomes.{bytes_noted, notes_of, read_by}
-use Rattle.world_laws.specs.Promises.{arrived_at}
+use Rattle.world_laws.proofs.Words.{◌≡◌, refl, sym, ◌∙◌, ap, subst, Bool, true, false, if◌then◌else◌, Option, Some, List, [], ◌∷◌, ◌++◌, is_some, append-nil}
+use Rattle.world_laws.proofs.Words.{append_assoc, All-nil, All-head, All-tail, All-push, Side, A, B, ReassemblyCall, Arriving, ReassemblyReply, places_after}
+use Rattle.world_laws.proofs.Words.{fin_clash, reading, after_reading, first_abort, Ask, Note, Reply, books_in, SixBooks, reassembly_of, reply_of, after_ask}
+use Rattle.world_laws.proofs.Words.{pick, AppDuty, AppState, app_ask, bytes_in, AbortReceive, Codec, ask_for, Always, Start, opened_world, WorldState}
+use Rattle.world_laws.proofs.Words.{world_run, note_of, arrived_at, notes_of, read_by, bytes_noted}
+use Rattle.std.proofs.Common.{All}
+use Rattle.reassembly_book.specs.Steps.{is_taken, after_call}
+use Rattle.stream_apps.specs.declared.duty.AppDuty.TheVariants.{FastClose, AbortSend, Write, Close, Read, End}
 use Rattle.world_laws.specs.Stopping.{TellsAbortAlone, AbortIsLast}
-use Rattle.world_laws.specs.Worlds.{WorldState, note_of, world_run}
 use Rattle.world_laws.proofs.Worlds.CastLifting.{Has, Stepwise, always_cast, turns_have}
 use Rattle.world_laws.proofs.Worlds.Casts.{Cast, Fare, Seat, world_of, seat_after, next_cast}
 use Rattle.world_laws.proofs.Weaving.Journals.{books_after}

@@ -1,37 +1,10 @@
 -- Checksums that are told are those of written octets: so they are of the octets of lanes, which have their places.
-use Rattle.std.proofs.Common.{◌≡◌, refl, sym, ◌∙◌, ap, subst, ℕ, zero, suc, ◌+◌, ◌-◌, ◌<◌, ◌≤◌, true, false, Option, Some, None, option_map, List, [], ◌∷◌, length, take, drop, arith}
-use Rattle.std.proofs.lemmas.Option.{same_Some, slice_get_within}
-use Rattle.std.specs.List.{slice_get}
-use Rattle.std.specs.Option.{IfSome}
-use Rattle.sides.specs.declared.side.Side.{Side}
-use Rattle.sides.specs.declared.side.Side.TheVariants.{A, B}
-use Rattle.sides.specs.Side.{peer}
-use Rattle.dss_checksum.specs.Checksum.{dss_checksum}
-use Rattle.mptcp_options.specs.declared.capable.CapableKeys.{CapableKeys}
-use Rattle.mptcp_options.specs.declared.capable.CapableKeys.TheVariants.{WithData}
-use Rattle.path_segments.specs.declared.segment.PathMapping.{PathMapping}
-use Rattle.path_segments.specs.declared.segment.PathMapping.TheVariants.{Bytes}
-use Rattle.path_segments.specs.declared.segment.PathOption.TheVariants.{Capable, Dss}
-use Rattle.path_segments.specs.Options.{PlainOption}
-use Rattle.path_segments.specs.Spelled.{PlainSegment}
-use Rattle.stream_lanes.specs.Duo.{Duo, after_events}
-use Rattle.stream_lanes.specs.Holding.{CellFits, Holds, IsHonest, IsRight, LaneHolds}
-use Rattle.stream_lanes.specs.Lane.{AckCopy, Cell, Lane}
-use Rattle.stream_lanes.specs.Moves.{bytes_of}
-use Rattle.stream_lanes.specs.View.{View}
-use Rattle.stream_lanes.specs.Words.{Every}
-use Rattle.stream_lanes.proofs.Duos.{any_held}
-use Rattle.stream_lanes.proofs.Lists.{Every-map, in_map}
-use Rattle.actor_desk.specs.Books.{books_in}
-use Rattle.path_core.specs.DssIn.{checksum_heard}
-use Rattle.path_core.specs.DssOut.{bare_mapping}
-use Rattle.path_core.specs.State.{PathState}
-use Rattle.path_core.specs.Profile.{Profile}
-use Rattle.path_core.specs.Values.{Carried, values}
+use Rattle.world_laws.proofs.Words.{◌≡◌, refl, sym, ◌∙◌, ap, subst, ℕ, zero, suc, ◌+◌, ◌-◌, ◌≤◌, true, false, Option, Some, None, List, [], ◌∷◌, length, take}
+use Rattle.world_laws.proofs.Words.{drop, arith, ◌<◌, option_map, same_Some, slice_get_within, slice_get, IfSome, Side, A, B, peer, dss_checksum, CapableKeys}
+use Rattle.world_laws.proofs.Words.{WithData, PlainOption, PlainSegment, Capable, Dss, PathMapping, Bytes, books_in, PathState, Carried, values, checksum_heard}
+use Rattle.world_laws.proofs.Words.{bare_mapping, Profile, Every-map, in_map, Every, Duo, after_events, Holds, IsHonest, IsRight, LaneHolds, CellFits, Cell}
+use Rattle.world_laws.proofs.Words.{AckCopy, Lane, View, any_held, bytes_of, Start, opened_world, WorldState, world_run, HoldsAnyway, written_by}
 use Rattle.world_laws.specs.ChecksPass.{IsSummedUp, MappingIsSummed, KeysAreSummed, OptionIsSummed, FlightIsSummed, PathIsSummed, ChecksumsAreRight}
-use Rattle.world_laws.specs.Openings.{Start, opened_world}
-use Rattle.world_laws.specs.Promises.{HoldsAnyway, written_by}
-use Rattle.world_laws.specs.Worlds.{WorldState, world_run}
 use Rattle.world_laws.proofs.Lanes.Beginning.{each_run_shows}
 use Rattle.world_laws.proofs.Worlds.CastLifting.{each_actor}
 use Rattle.world_laws.proofs.Worlds.Casts.{map_there, world_of}

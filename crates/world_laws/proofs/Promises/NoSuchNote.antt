@@ -1,17 +1,8 @@
 -- An answer that no step is given is in no note.
-use Rattle.std.proofs.Common.{◌≡◌, refl, sym, ◌∙◌, ap, subst, ℕ, Bool, true, false, if◌then◌else◌, ⊎_elim, Option, Some, None, List, [], ◌∷◌, ◌++◌, map}
-use Rattle.std.proofs.lemmas.Bool.{or_from, or_parts}
-use Rattle.std.specs.List.{slice_get}
-use Rattle.stream_lanes.proofs.Lists.{in_set, in_map}
-use Rattle.actor_desk.specs.declared.ask.Ask.{Ask}
-use Rattle.actor_desk.specs.declared.ask.Note.{Note}
-use Rattle.actor_desk.specs.declared.ask.Reply.{Reply}
-use Rattle.path_core.specs.Codec.{Codec}
-use Rattle.world_laws.specs.Actors.{ActorCrew, member_asks}
-use Rattle.world_laws.specs.Openings.{Start, opened_world}
-use Rattle.world_laws.specs.Outcomes.{was_told, notes_or, notes_at}
-use Rattle.world_laws.specs.StampedBooks.{answer_to}
-use Rattle.world_laws.specs.Worlds.{WorldState, Turn, note_of, crew_after, asked, stepped, all_over, greatest, begins, after_turn}
+use Rattle.world_laws.proofs.Words.{◌≡◌, refl, sym, ◌∙◌, ap, subst, ℕ, ⊎_elim, Bool, true, false, if◌then◌else◌, Option, Some, None, List, [], ◌∷◌, ◌++◌, map}
+use Rattle.world_laws.proofs.Words.{or_parts, or_from, slice_get, Ask, Note, Reply, Codec, in_map, in_set, ActorCrew, member_asks, Start, opened_world}
+use Rattle.world_laws.proofs.Words.{WorldState, Turn, crew_after, asked, stepped, all_over, greatest, begins, after_turn, note_of, answer_to, notes_at}
+use Rattle.world_laws.proofs.Words.{was_told, notes_or}
 use Rattle.world_laws.proofs.Worlds.Opened.{opened_actors}
 
 module _ (test : Reply → Bool) where

@@ -1,41 +1,17 @@
 -- What a connection promises follows from what its world shows of the two directions.
-use Rattle.std.proofs.Common.{◌≡◌, refl, sym, ◌∙◌, ap, subst, ℕ, Bool, true, false, ◌||◌, if◌then◌else◌, Option, Some, None, Result, Ok, Err, List, [], ◌∷◌, take, not, length, ◌&&◌, ◌-◌, nat_lt}
-use Rattle.std.specs.List.{slice_get, list_all}
-use Rattle.std.proofs.lemmas.Bool.{and_parts, false≢true}
-use Rattle.sides.specs.declared.side.Side.TheVariants.{A, B}
-use Rattle.octet_text.specs.Prefix.{IsPrefix}
-use Rattle.send_book.specs.declared.call.Span.{Span}
-use Rattle.send_book.specs.declared.call.Why.{Why}
-use Rattle.send_book.specs.declared.call.SendCall.{SendCall}
-use Rattle.send_book.specs.declared.call.SendReply.{SendReply}
-use Rattle.send_book.specs.State.{Sending, acked_len}
+use Rattle.world_laws.proofs.Words.{◌≡◌, refl, sym, ◌∙◌, ap, subst, ℕ, ◌-◌, ◌&&◌, ◌||◌, not, nat_lt, Bool, true, false, if◌then◌else◌, Option, Some, None}
+use Rattle.world_laws.proofs.Words.{Result, Ok, Err, List, [], ◌∷◌, length, take, and_parts, false≢true, slice_get, list_all, IsPrefix, A, B, ReassemblyCall}
+use Rattle.world_laws.proofs.Words.{Arriving, filled, received, ReassemblyReply, Span, Why, SendCall, Sending, acked_len, SendReply, Ask, Note, Reply, books_in}
+use Rattle.world_laws.proofs.Words.{SixBooks, reply_of, Carried, Duo, after_events, after_event, flags_ab, flags_ba, Holds, DirectionHolds, Lane, LaneAsk}
+use Rattle.world_laws.proofs.Words.{is_exact, Direction, StreamEvent, Reader, lane_moves, ToB, ToA, FallA, FallB, LoosenA, LoosenB, BeginJoin, SendJoin}
+use Rattle.world_laws.proofs.Words.{HearJoin, Flags, Move, AskAckIn, AskPlace, AskFin, Moves, Asks, lane_pipe, StepsOrStays, EachEventIsOneStep}
+use Rattle.world_laws.proofs.Words.{NothingIsRefused, BothWays, is_ack_future, is_beyond_or_clash, ask_refused, lane_refused, content, flattened, never_fell_a}
+use Rattle.world_laws.proofs.Words.{never_fell_b, reads_prefix, ends_whole, ends_at_all, Start, WorldState, was_told_end, BothKeepTheirWord, arrived_at}
+use Rattle.world_laws.proofs.Words.{tells_refusal, output_of, read_by, was_told, tells_end, pipe_ab, pipe_ba, BothKeepCount, octet_at}
 use Rattle.send_book.specs.Steps as sending
-use Rattle.reassembly_book.specs.declared.call.ReassemblyCall.{ReassemblyCall}
-use Rattle.reassembly_book.specs.declared.call.ReassemblyReply.{ReassemblyReply}
-use Rattle.reassembly_book.specs.State.{Arriving, received, filled}
 use Rattle.reassembly_book.specs.Steps as arriving
-use Rattle.stream_lanes.specs.Lane.{Ask as LaneAsk, Lane}
-use Rattle.stream_lanes.specs.Lane.Ask.{AskAckIn, AskPlace, AskFin}
-use Rattle.stream_lanes.specs.Moves.{Flags, Move}
-use Rattle.stream_lanes.specs.Streams.{Reader, Direction, StreamEvent, moves as lane_moves}
-use Rattle.stream_lanes.specs.Streams.StreamEvent.{Moves, Asks}
-use Rattle.stream_lanes.specs.Duo.{Duo, Event, after_event, after_events, flags_ab, flags_ba}
-use Rattle.stream_lanes.specs.Duo.Event.{ToB, ToA, FallA, FallB, LoosenA, LoosenB, BeginJoin, SendJoin, HearJoin}
-use Rattle.stream_lanes.specs.View.{is_exact}
-use Rattle.stream_lanes.specs.Holding.{DirectionHolds, Holds}
-use Rattle.stream_lanes.specs.Laws.{pipe_of as lane_pipe, StepsOrStays, EachEventIsOneStep, NothingIsRefused, BothWays, is_ack_future, is_beyond_or_clash, ask_refused, lane_refused, content, flattened, never_fell_a, never_fell_b}
-use Rattle.stream_lanes.proofs.Promises.{reads_prefix, acknowledges, ends_whole, ends_at_all}
-use Rattle.actor_desk.specs.declared.ask.Ask.{Ask}
-use Rattle.actor_desk.specs.declared.ask.Note.{Note}
-use Rattle.actor_desk.specs.declared.ask.Reply.{Reply}
-use Rattle.actor_desk.specs.Books.{books_in}
-use Rattle.actor_desk.specs.Desk.{SixBooks, reply_of}
-use Rattle.path_core.specs.Values.{Carried}
-use Rattle.world_laws.specs.Openings.{Start}
-use Rattle.world_laws.specs.Outcomes.{tells_end, was_told, read_by, output_of, pipe_ab, pipe_ba}
-use Rattle.world_laws.specs.Altered.{BothKeepCount, octet_at}
-use Rattle.world_laws.specs.Promises.{tells_refusal, was_told_end, BothKeepTheirWord, arrived_at}
-use Rattle.world_laws.specs.Worlds.{WorldState}
+use Rattle.stream_lanes.specs.Duo.{Event}
+use Rattle.stream_lanes.proofs.Promises.{acknowledges}
 use Rattle.world_laws.proofs.Lanes.Applying.{Reads}
 use Rattle.world_laws.proofs.Lanes.OfAWorld.{Links, plain_at, loose_at, duo_of, WorldShows, IsAsking, SendCallIs, ReassemblyCallIs, CallIs, is_silent, AreSilent, call_events, TurnShows}
 use Rattle.world_laws.proofs.Lanes.Roads.{direction}

@@ -1,41 +1,15 @@
 -- At every moment an end of a path whose turn is over would ask for nothing, or was refused its last grant.
-use Rattle.std.proofs.Common.{◌≡◌, refl, sym, ◌∙◌, ap, subst, ℕ, ◌+◌, inl, inr, ⊎_elim, Bool, true, false, if◌then◌else◌, Option, Some, None, Result, Ok, Err, List, [], ◌∷◌, ◌++◌, length, drop, map}
-use Rattle.std.proofs.lemmas.List.{append-nil, append_assoc}
-use Rattle.std.proofs.lemmas.Option.{same_Some}
-use Rattle.std.specs.List.{slice_get}
-use Rattle.sides.specs.declared.side.Side.{Side}
-use Rattle.sides.specs.declared.side.Side.TheVariants.{A, B}
-use Rattle.send_book.specs.declared.call.Span.{Span}
-use Rattle.send_book.specs.declared.call.Why.{Why}
-use Rattle.send_book.specs.State.{Sending}
+use Rattle.world_laws.proofs.Words.{◌≡◌, refl, sym, ◌∙◌, ap, subst, ℕ, ◌+◌, inl, inr, ⊎_elim, Bool, true, false, if◌then◌else◌, Option, Some, None, Result, Ok}
+use Rattle.world_laws.proofs.Words.{Err, List, [], ◌∷◌, ◌++◌, length, drop, map, append-nil, append_assoc, same_Some, slice_get, Side, A, B, Span, Why, Sending}
+use Rattle.world_laws.proofs.Words.{Record, start_of_turn, Duty, SendDuty, StepDuty, AskDuty, SilentDuty, Ask, Note, Reply, StampedBooks, books_in, Codec}
+use Rattle.world_laws.proofs.Words.{ask_for, answered, waiting_path, PathState, end_at, with_agenda, asks_first, takes, begins_turn, answered_data}
+use Rattle.world_laws.proofs.Words.{answered_grant, first_unsent, grant_in, data_ask, grant_ask, in_map, in_set, Every, App, Path, Actor, ActorCrew}
+use Rattle.world_laws.proofs.Words.{member_asks, member_takes, member_next, Start, path_begins, opened_world, WorldState, crew_after, asked, stepped}
+use Rattle.world_laws.proofs.Words.{world_step, all_over, greatest, begins, world_run, note_of, answer_to, asks_grant, is_no_grant, refused_after, last_refused}
+use Rattle.world_laws.proofs.Words.{BeginsRound, InEachRound, steps_since, GrantsAreDone, AreDoneAsking, notes_at, notes_or}
 use Rattle.send_book.specs.Steps as sending
-use Rattle.stream_lanes.specs.Words.{Every}
-use Rattle.stream_lanes.proofs.Lists.{in_map, in_set}
-use Rattle.subflow_send.specs.Records.{Record}
-use Rattle.actor_desk.specs.declared.ask.Ask.{Ask}
-use Rattle.actor_desk.specs.declared.ask.Note.{Note}
-use Rattle.actor_desk.specs.declared.ask.Reply.{Reply}
-use Rattle.actor_desk.specs.Books.{StampedBooks, books_in}
-use Rattle.path_agenda.specs.declared.duty.Duty.{Duty}
-use Rattle.path_agenda.specs.declared.duty.AskDuty.{AskDuty}
-use Rattle.path_agenda.specs.declared.duty.SendDuty.{SendDuty}
-use Rattle.path_agenda.specs.declared.duty.SilentDuty.{SilentDuty}
-use Rattle.path_agenda.specs.declared.duty.StepDuty.{StepDuty}
-use Rattle.path_agenda.specs.Agenda.{start_of_turn}
-use Rattle.path_core.specs.Codec.{Codec}
-use Rattle.path_core.specs.Duties.{ask_for, answered}
-use Rattle.path_core.specs.Emission.{first_unsent, Grant, grant_in, grant_ask, answered_grant, answered_data, data_ask}
-use Rattle.path_core.specs.Start.{waiting_path}
-use Rattle.path_core.specs.State.{PathState, end_at, with_agenda}
-use Rattle.path_core.specs.Steps.{asks_first, takes, begins_turn}
-use Rattle.world_laws.specs.declared.member.Member.TheVariants.{App, Path}
-use Rattle.world_laws.specs.Actors.{Actor, ActorCrew, member_asks, member_takes, member_next}
-use Rattle.world_laws.specs.Openings.{Start, path_begins, opened_world}
-use Rattle.world_laws.specs.Outcomes.{notes_or, notes_at}
-use Rattle.world_laws.specs.RoundEnd.{asks_grant, is_no_grant, refused_after, last_refused}
-use Rattle.world_laws.specs.RoundNumbers.{BeginsRound, InEachRound, AreDoneAsking, GrantsAreDone, after_steps, steps_since}
-use Rattle.world_laws.specs.StampedBooks.{answer_to}
-use Rattle.world_laws.specs.Worlds.{WorldState, note_of, crew_after, asked, stepped, world_step, all_over, greatest, begins, world_run}
+use Rattle.path_core.specs.Emission.{Grant}
+use Rattle.world_laws.specs.RoundNumbers.{after_steps}
 use Rattle.world_laws.proofs.Rounds.GrantAtOneDuty.{MayNotAsk, asks_none, ask_isn't}
 use Rattle.world_laws.proofs.Rounds.PiecesFit.{CrewFits, MemberFits, fits_at, paid_or_refused, round_fits}
 use Rattle.world_laws.proofs.Rounds.EndsRefused.{Pays, Granting, is_followed, is_owed, is_paid, settled_done, data_sent, granted_done, refused_done, answered_done}

@@ -1,18 +1,7 @@
 -- What an actor asks: a grant for some bytes at least.
-use Rattle.std.proofs.Common.{◌≤◌, subst, sym}
-use Rattle.stream_apps.specs.declared.duty.AppDuty.{AppDuty}
-use Rattle.stream_apps.specs.Apps.{AppState}
-use Rattle.stream_apps.specs.AppSteps.{app_ask}
-use Rattle.path_agenda.specs.declared.duty.Duty.{Duty}
-use Rattle.path_core.specs.Codec.{Codec}
-use Rattle.path_core.specs.Duties.{ask_for}
-use Rattle.path_core.specs.Emission.{payload_size}
-use Rattle.path_core.specs.State.{PathState}
+use Rattle.world_laws.proofs.Words.{sym, subst, ◌≤◌, SendCall, Duty, Ask, AppDuty, AppState, app_ask, Codec, ask_for, PathState, payload_size, IsOwn}
 use Rattle.world_laws.proofs.Rounds.ReplyKinds.{AsksSome}
-use Rattle.world_laws.specs.Asking.{IsOwn}
 use Rattle.world_laws.proofs.Writes.Asks.{asks_no_more}
-use Rattle.send_book.specs.declared.call.SendCall.{SendCall}
-use Rattle.actor_desk.specs.declared.ask.Ask.{Ask}
 
 pub app_asks_some : (d : AppDuty) (a : AppState) → AsksSome (app_ask d a)
 app_asks_some AppDuty.FastClose a = tt

@@ -1,24 +1,16 @@
 -- An application ends its turn only where it has read all that had arrived as the round began: the book of its side at each step.
-use Rattle.std.proofs.Common.{◌≡◌, refl, sym, ◌∙◌, ap, subst, ℕ, ◌+◌, ◌≤◌, ◌||◌, not, nat_lt, min, ⊎_elim, ◌⊎◌, inl, inr, Bool, true, false, is_some, if◌then◌else◌, Option, Some, None, List, [], ◌∷◌, ◌++◌, length, take, drop, arith}
-use Rattle.std.proofs.lemmas.Bool.{and_cases, ltb-false, not-false, eqb-true}
-use Rattle.std.proofs.lemmas.List.{append-nil, length-append, length-take}
-use Rattle.std.specs.Option.{IfSome}
-use Rattle.reassembly_book.specs.declared.call.ReassemblyCall.{ReassemblyCall}
-use Rattle.reassembly_book.specs.declared.call.ReassemblyReply.{ReassemblyReply}
+use Rattle.world_laws.proofs.Words.{◌≡◌, refl, sym, ◌∙◌, ap, subst, ℕ, ◌+◌, ◌≤◌, ◌||◌, not, min, nat_lt, inl, inr, ◌⊎◌, ⊎_elim, Bool, true, false}
+use Rattle.world_laws.proofs.Words.{if◌then◌else◌, Option, Some, None, List, [], ◌∷◌, ◌++◌, length, take, drop, arith, is_some, eqb-true, ltb-false, and_cases}
+use Rattle.world_laws.proofs.Words.{not-false, length-append, length-take, append-nil, IfSome, ReassemblyCall, Arriving, IsSound, filled, received}
+use Rattle.world_laws.proofs.Words.{ReassemblyReply, places_after, fin_clash, is_end, bytes_reply, reading, after_reading, Note, Reply, is_nil, AppDuty}
+use Rattle.world_laws.proofs.Words.{AppState, app_stands, bytes_in, ends_in, app_reads_on, app_settled, AbortReceive, read_by, was_told, note_tells}
+use Rattle.world_laws.proofs.Words.{bytes_noted, tells_stop}
 use Rattle.reassembly_book.specs.declared.call.ReassemblyReply.TheVariants.{End as TheEnd, NoneYet}
-use Rattle.reassembly_book.specs.State.{Arriving, IsSound, filled, received}
-use Rattle.reassembly_book.specs.Steps.{merged, by_place, places_after, is_taken, fin_clash, is_end, bytes_reply, reading, after_reading, after_call, reply_to}
+use Rattle.reassembly_book.specs.Steps.{merged, by_place, is_taken, after_call, reply_to}
 use Rattle.reassembly_book.proofs.Bounds.{known_end_stays}
 use Rattle.reassembly_book.proofs.Merging.{filled-le}
 use Rattle.stream_lanes.proofs.Arrivals.{filled_left}
-use Rattle.actor_desk.specs.declared.ask.Note.{Note}
-use Rattle.actor_desk.specs.declared.ask.Reply.{Reply}
-use Rattle.actor_desk.specs.Words.{is_nil}
-use Rattle.stream_apps.specs.declared.duty.AppDuty.{AppDuty}
-use Rattle.stream_apps.specs.declared.duty.AppDuty.TheVariants.{FastClose, AbortSend, AbortReceive, Write, Close, Read, End}
-use Rattle.stream_apps.specs.Apps.{AppState}
-use Rattle.stream_apps.specs.AppSteps.{app_stands, bytes_in, ends_in, app_reads_on, app_settled}
-use Rattle.world_laws.specs.Outcomes.{note_tells, was_told, tells_stop, bytes_noted, read_by}
+use Rattle.stream_apps.specs.declared.duty.AppDuty.TheVariants.{FastClose, AbortSend, Write, Close, Read, End}
 use Rattle.world_laws.proofs.Lanes.Applying.{Settles, any_more, or_true, settled_app}
 use Rattle.world_laws.proofs.Asks.OfPaths.{IsArrival}
 

@@ -1,61 +1,23 @@
 -- An end of a path ends its turn only where it may ask for nothing more, or was refused: after each thing that could let it ask
 -- the duty that asks is ahead, or the end is to die.
-use Rattle.std.proofs.Common.{◌≡◌, refl, sym, ◌∙◌, ap, ℕ, zero, suc, ◌+◌, ◌&&◌, ◌||◌, not, inl, inr, ◌⊎◌, ⊎_elim, Bool, true, false, if◌then◌else◌, Option, Some, None, List, [], ◌∷◌, ◌++◌, length}
-use Rattle.std.proofs.lemmas.Bool.{and_parts, not-true, both_ways, true≢false, false≢true}
-use Rattle.std.proofs.lemmas.Option.{same_Some}
-use Rattle.sides.specs.declared.side.Side.{Side}
-use Rattle.sides.specs.declared.side.Side.TheVariants.{A, B}
-use Rattle.sides.specs.Side.{peer}
-use Rattle.link_script.specs.Places.{same_side}
-use Rattle.link_model.specs.Steps.{arriving, after_delivery}
-use Rattle.path_segments.specs.Spelled.{PlainSegment}
-use Rattle.path_segments.specs.Heard.{HeardSegment}
-use Rattle.fallback_state.specs.declared.fall.Event.{Event as FallEvent}
-use Rattle.subflow_send.specs.Records.{Record}
-use Rattle.subflow_tcp.specs.declared.handshake.State.{State as EndPhase}
-use Rattle.subflow_tcp.specs.declared.verdicts.Meaning.{Meaning}
-use Rattle.subflow_tcp.specs.Expiring.{is_sixth}
+use Rattle.world_laws.proofs.Words.{◌≡◌, refl, sym, ◌∙◌, ap, ℕ, zero, suc, ◌+◌, ◌&&◌, ◌||◌, not, inl, inr, ◌⊎◌, ⊎_elim, Bool, true, false, if◌then◌else◌}
+use Rattle.world_laws.proofs.Words.{Option, Some, None, List, [], ◌∷◌, ◌++◌, length, and_parts, both_ways, false≢true, true≢false, not-true, same_Some}
+use Rattle.world_laws.proofs.Words.{FallEvent, Side, A, B, peer, same_side, JoinSyn, Record, Meaning, is_sixth, EndPhase, arriving, after_delivery}
+use Rattle.world_laws.proofs.Words.{HeardSegment, PlainSegment, LineAction, Piece, rest_of_turn, emission, syn_came, syn_ack_came, join_came, refuses}
+use Rattle.world_laws.proofs.Words.{join_answered, heard_and, payload_came, copy_came, syn_again, answers_dead, expired, expired_for_ever, leaves, resets}
+use Rattle.world_laws.proofs.Words.{stops, announces, withdraws, Duty, SendDuty, StepDuty, AskDuty, SilentDuty, Heard, KeyPair, key_heard, keys_heard, Reply}
+use Rattle.world_laws.proofs.Words.{tail_of, Codec, stands, passed, answered, PathEnd, died, answered_ack_out, at_tick, PathState, end_at, goes_on, with_end}
+use Rattle.world_laws.proofs.Words.{with_agenda, left, settled, items_of, options_heard, copy_judged, judged_in, reset_for, template_by, template_judged}
+use Rattle.world_laws.proofs.Words.{heard_in, copy_heard, reset_of, reset_on, answered_break, path_died, died_unless_dead, answered_data, answered_grant}
+use Rattle.world_laws.proofs.Words.{data_stands, first_unsent, may_ask, fits, Judged, next_event, after_line, happens_if, join_begun, never_joined, asked_at}
+use Rattle.world_laws.proofs.Words.{is_never, join_taken, keys_begun, opened_by, is_joined, template_fired, piece_of, is_placed, answered_piece}
+use Rattle.world_laws.proofs.Words.{answered_plain_fin, answered_fin_heard, is_fin_set, is_clash, with_learned, held_of, told_next, answered_item, item_of}
+use Rattle.world_laws.proofs.Words.{after_check_failed, after_fell, fell_duties, with_plain_ack, breaks_by_ack, after_fail_heard, answered_fell}
+use Rattle.world_laws.proofs.Words.{answered_peer_key, answered_opened, is_stopped_by, with_priority, after_peer_notice, Profile, sent_on, taken_as}
 use Rattle.subflow_tcp.specs.States as states
-use Rattle.actor_desk.specs.declared.ask.Reply.{Reply}
-use Rattle.actor_desk.specs.Words.{tail_of}
-use Rattle.path_agenda.specs.declared.duty.Duty.{Duty}
-use Rattle.path_agenda.specs.declared.duty.AskDuty.{AskDuty}
-use Rattle.path_agenda.specs.declared.duty.SendDuty.{SendDuty}
-use Rattle.path_agenda.specs.declared.duty.SilentDuty.{SilentDuty}
-use Rattle.path_agenda.specs.declared.duty.StepDuty.{StepDuty}
 use Rattle.path_core.specs.declared.events.Event.{Event}
-use Rattle.path_agenda.specs.declared.heard.Heard.{Heard}
-use Rattle.path_agenda.specs.declared.keys.KeyPair.{KeyPair}
-use Rattle.path_agenda.specs.Agenda.{rest_of_turn, emission, syn_came, syn_ack_came, join_came, refuses, join_answered, heard_and, payload_came, copy_came, syn_again, answers, answers_dead, expired, expired_for_ever, leaves, breaks, resets, stops, announces, withdraws}
-use Rattle.path_agenda.specs.Items.{key_heard, keys_heard}
-use Rattle.path_core.specs.OptionsIn.{items_of, options_heard}
-use Rattle.path_core.specs.Arrival.{reset_for, copy_judged, judged_in, template_by, template_judged, heard_in, copy_heard}
-use Rattle.path_core.specs.DssIn.{held_of, with_learned, is_clash, told_next}
-use Rattle.path_core.specs.Judged.{taken_as}
-use Rattle.path_core.specs.Breaking.{reset_of, reset_on, answered_break, died_unless_dead, path_died}
-use Rattle.path_core.specs.Codec.{Codec}
-use Rattle.path_core.specs.Duties.{stands, passed, answered}
-use Rattle.path_core.specs.Emission.{first_unsent, fits, may_ask, Grant, answered_grant, answered_data, data_stands}
-use Rattle.path_core.specs.End.{PathEnd, died}
-use Rattle.join_handshake.specs.declared.hearing.JoinSyn.{JoinSyn}
-use Rattle.path_core.specs.declared.judged.Judged.{Judged}
-use Rattle.path_core.specs.MpJoin.{is_never, keys_begun, opened_by, asked_at, join_taken, is_joined, join_begun, never_joined}
-use Rattle.path_core.specs.Events.{next_event, after_line, happens_if}
-use Rattle.path_core.specs.State.{at_tick, PathState, end_at, with_end, with_agenda, goes_on, left}
-use Rattle.path_core.specs.Timer.{template_fired}
-use Rattle.path_core.specs.Addresses.{with_priority, after_peer_notice}
-use Rattle.path_store.specs.declared.lines.LineAction.{LineAction}
-use Rattle.path_core.specs.Deliver.{piece_of, is_placed, answered_piece}
-use Rattle.path_core.specs.DataFin.{is_fin_set, answered_fin_heard, answered_plain_fin}
-use Rattle.path_store.specs.Passing.{Piece}
-use Rattle.path_core.specs.Handover.{sent_on}
-use Rattle.path_core.specs.Standing.{answered_ack_out}
-use Rattle.path_core.specs.Profile.{Profile}
-use Rattle.path_core.specs.Steps.{settled}
-use Rattle.path_core.specs.Treating.{answered_item, item_of}
-use Rattle.path_core.specs.Fallback.{after_fell, fell_duties, answered_fell, with_plain_ack, breaks_by_ack, after_check_failed, after_fail_heard}
-use Rattle.path_core.specs.MpCapable.{answered_peer_key, answered_opened}
-use Rattle.path_core.specs.FastClose.{is_stopped_by}
+use Rattle.path_agenda.specs.Agenda.{answers, breaks}
+use Rattle.path_core.specs.Emission.{Grant}
 use Rattle.world_laws.proofs.Rounds.GrantAtOneDuty.{MayNotAsk}
 use Rattle.world_laws.proofs.Falls.Verdicts.{fell_cases}
 use Rattle.world_laws.proofs.Falls.FailedChecks.{fail_answered_so}

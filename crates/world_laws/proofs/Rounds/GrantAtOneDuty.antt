@@ -1,19 +1,7 @@
 -- What a path asks is a grant at one duty alone.
-use Rattle.std.proofs.Common.{◌≡◌, refl, sym, ◌∙◌, true, false}
-use Rattle.sides.specs.declared.side.Side.{Side}
-use Rattle.sides.specs.declared.side.Side.TheVariants.{A, B}
-use Rattle.send_book.specs.declared.call.SendCall.{SendCall}
-use Rattle.actor_desk.specs.declared.ask.Ask.{Ask}
-use Rattle.path_agenda.specs.declared.duty.Duty.{Duty}
-use Rattle.path_agenda.specs.declared.duty.AskDuty.{AskDuty}
-use Rattle.path_agenda.specs.declared.duty.StepDuty.{StepDuty}
-use Rattle.path_core.specs.Codec.{Codec}
-use Rattle.path_core.specs.Duties.{ask_for}
-use Rattle.path_core.specs.State.{PathState}
-use Rattle.world_laws.specs.RoundEnd.{asks_grant}
-use Rattle.world_laws.specs.Asking.{May, may, may_send, asking}
+use Rattle.world_laws.proofs.Words.{◌≡◌, refl, sym, ◌∙◌, true, false, false≢true, Side, A, B, SendCall, Duty, StepDuty, AskDuty, Ask, Codec, ask_for, PathState}
+use Rattle.world_laws.proofs.Words.{May, may, asking, may_send, asks_grant}
 use Rattle.world_laws.proofs.Writes.Asks.{asks_no_more}
-use Rattle.std.proofs.lemmas.Bool.{false≢true}
 
 -- no grant
 abbrev pub CallsNone : SendCall → Type 0

@@ -1,54 +1,19 @@
 -- A turn of a path is over only where nothing is due before the round's end.
-use Rattle.std.proofs.Common.{◌≡◌, refl, sym, subst, ℕ, zero, suc, ◌+◌, ◌⊎◌, inl, inr, Bool, true, false, if◌then◌else◌, is_some, Option, Some, None, List, [], ◌∷◌, ◌++◌, length}
-use Rattle.std.proofs.lemmas.Bool.{true≢false}
-use Rattle.path_segments.specs.Heard.{HeardSegment}
-use Rattle.sides.specs.declared.side.Side.{Side}
-use Rattle.sides.specs.declared.side.Side.TheVariants.{A, B}
-use Rattle.fallback_state.specs.declared.fall.Verdict.{Verdict}
-use Rattle.fallback_state.specs.declared.fall.Mode.{Mode}
+use Rattle.world_laws.proofs.Words.{◌≡◌, refl, sym, subst, ℕ, zero, suc, ◌+◌, inl, inr, ◌⊎◌, Bool, true, false, if◌then◌else◌, Option, Some, None, List, []}
+use Rattle.world_laws.proofs.Words.{◌∷◌, ◌++◌, length, is_some, true≢false, Verdict, Mode, Side, A, B, JoinSyn, ControlReply, Record, is_dead, Meaning}
+use Rattle.world_laws.proofs.Words.{is_sixth, arriving, after_delivery, HeardSegment, LineAction, Piece, rest_of_turn, emission, heard_and, payload_came}
+use Rattle.world_laws.proofs.Words.{leaves, resets, stops, start_of_turn, Duty, SendDuty, StepDuty, AskDuty, SilentDuty, Heard, KeyPair, replaced, key_heard}
+use Rattle.world_laws.proofs.Words.{keys_heard, Reply, tail_of, Codec, stands, passed, answered, answered_ack_out, at_tick, PathState, end_at, goes_on}
+use Rattle.world_laws.proofs.Words.{with_agenda, left, settled, takes, items_of, options_heard, judged_in, template_by, template_judged, heard_in, copy_heard}
+use Rattle.world_laws.proofs.Words.{reset_on, answered_break, answered_data, answered_grant, first_unsent, grant_in, Judged, next_event, after_line, happens_if}
+use Rattle.world_laws.proofs.Words.{join_begun, never_joined, asked_at, is_never, join_taken, keys_begun, opened_by, is_joined, template_fired, piece_of}
+use Rattle.world_laws.proofs.Words.{is_placed, answered_piece, answered_plain_fin, answered_fin_heard, is_fin_set, is_clash, with_learned, told_next}
+use Rattle.world_laws.proofs.Words.{answered_mapping, answered_item, item_of, after_fell, fell_duties, answered_plain_ack, with_plain_ack, breaks_by_ack}
+use Rattle.world_laws.proofs.Words.{answered_peer_key, answered_opened, is_stopped_by}
 use Rattle.fallback_state.specs.declared.fall.Event.TheVariants as events
-use Rattle.control_book.specs.declared.call.ControlReply.{ControlReply}
-use Rattle.subflow_tcp.specs.declared.verdicts.Meaning.{Meaning}
-use Rattle.subflow_tcp.specs.Expiring.{is_sixth}
-use Rattle.subflow_tcp.specs.States.{is_dead}
-use Rattle.subflow_send.specs.Records.{Record}
-use Rattle.link_model.specs.Steps.{arriving, after_delivery}
-use Rattle.actor_desk.specs.Words.{tail_of}
-use Rattle.actor_desk.specs.declared.ask.Reply.{Reply}
-use Rattle.path_agenda.specs.declared.duty.Duty.{Duty}
-use Rattle.path_agenda.specs.declared.duty.AskDuty.{AskDuty}
-use Rattle.path_agenda.specs.declared.duty.SendDuty.{SendDuty}
-use Rattle.path_agenda.specs.declared.duty.SilentDuty.{SilentDuty}
-use Rattle.path_agenda.specs.declared.duty.StepDuty.{StepDuty}
 use Rattle.path_core.specs.declared.events.Event.{Event}
-use Rattle.path_agenda.specs.declared.heard.Heard.{Heard}
-use Rattle.path_agenda.specs.declared.keys.KeyPair.{KeyPair}
-use Rattle.path_agenda.specs.Agenda.{start_of_turn, heard_and, payload_came, rest_of_turn, emission, resets, leaves, breaks, stops}
-use Rattle.path_core.specs.OptionsIn.{items_of, options_heard}
-use Rattle.path_core.specs.Arrival.{judged_in, template_by, template_judged, heard_in, copy_heard}
-use Rattle.path_core.specs.Breaking.{answered_break, reset_on}
-use Rattle.path_core.specs.Codec.{Codec}
-use Rattle.path_core.specs.Duties.{stands, passed, answered}
-use Rattle.path_core.specs.Emission.{first_unsent, Grant, grant_in, answered_grant, answered_data}
-use Rattle.path_core.specs.declared.judged.Judged.{Judged}
-use Rattle.path_core.specs.Events.{next_event, after_line, happens_if}
-use Rattle.path_core.specs.State.{at_tick, PathState, end_at, with_agenda, goes_on, left}
-use Rattle.path_core.specs.MpJoin.{join_begun, never_joined, is_never, keys_begun, opened_by, asked_at, join_taken, is_joined}
-use Rattle.path_core.specs.Timer.{template_fired}
-use Rattle.path_store.specs.declared.lines.LineAction.{LineAction}
-use Rattle.join_handshake.specs.declared.hearing.JoinSyn.{JoinSyn}
-use Rattle.path_core.specs.Deliver.{piece_of, is_placed, answered_piece}
-use Rattle.path_core.specs.DataFin.{is_fin_set, answered_fin_heard, answered_plain_fin}
-use Rattle.path_store.specs.Passing.{Piece}
-use Rattle.path_core.specs.DssIn.{with_learned, is_clash, told_next, answered_mapping}
-use Rattle.path_core.specs.Standing.{answered_ack_out}
-use Rattle.path_agenda.specs.Words.{replaced}
-use Rattle.path_agenda.specs.Items.{key_heard, keys_heard}
-use Rattle.path_core.specs.Steps.{settled, takes}
-use Rattle.path_core.specs.Treating.{answered_item, item_of}
-use Rattle.path_core.specs.Fallback.{answered_plain_ack, breaks_by_ack, with_plain_ack, after_fell, fell_duties}
-use Rattle.path_core.specs.MpCapable.{answered_opened, answered_peer_key}
-use Rattle.path_core.specs.FastClose.{is_stopped_by}
+use Rattle.path_agenda.specs.Agenda.{breaks}
+use Rattle.path_core.specs.Emission.{Grant}
 use Rattle.world_laws.proofs.Falls.FailedChecks.{fail_answered_so}
 
 -- the events of the turn, and its end, are ahead

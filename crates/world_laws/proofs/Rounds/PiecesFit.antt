@@ -1,88 +1,41 @@
 -- An end that may ask for bytes, with room for a full segment, has room for each record that is to be sent: no piece is longer than the
 -- payload of a full segment, and its SYN is acknowledged.
-use Rattle.std.proofs.Common.{◌≡◌, refl, sym, subst, ap, ℕ, zero, suc, ◌+◌, ◌-◌, ◌≤◌, ◌&&◌, ◌==◌, min, not, nat_lt, nat_le, Bool, true, false, if◌then◌else◌, Option, Some, None, List, [], ◌∷◌, length, drop, Result, Ok, Err, arith}
-use Rattle.std.proofs.lemmas.Bool.{and_parts, and_from, both_ways, false≢true, true≢false, leb-true, le-leb, ltb-true, ltb-false}
-use Rattle.std.proofs.lemmas.List.{length-take, length-drop}
-use Rattle.std.proofs.lemmas.Option.{same_Some}
-use Rattle.sides.specs.declared.side.Side.{Side}
-use Rattle.sides.specs.declared.side.Side.TheVariants.{A, B}
-use Rattle.send_book.specs.declared.call.Span.{Span}
-use Rattle.send_book.specs.declared.call.Why.{Why}
-use Rattle.send_book.specs.State.{Sending as SendBook}
+use Rattle.world_laws.proofs.Words.{◌≡◌, refl, sym, ap, subst, ℕ, zero, suc, ◌+◌, ◌-◌, ◌≤◌, ◌&&◌, ◌==◌, not, min, nat_lt, nat_le, Bool, true, false}
+use Rattle.world_laws.proofs.Words.{if◌then◌else◌, Option, Some, None, Result, Ok, Err, List, [], ◌∷◌, length, drop, arith, ltb-true, and_parts, and_from}
+use Rattle.world_laws.proofs.Words.{both_ways, false≢true, true≢false, ltb-false, leb-true, le-leb, length-take, length-drop, same_Some, Side, A, B, ScriptLine}
+use Rattle.world_laws.proofs.Words.{JoinSyn, Span, Why, SendBook, decision-MayTake, KeptMapping, Record, SendState, AckKind, is_unsent, uncovered}
+use Rattle.world_laws.proofs.Words.{after_acknowledge, after_resent, ack_kind, sample_of, Meaning, is_sixth, after_expiry, after_fire, after_sending, EndState}
+use Rattle.world_laws.proofs.Words.{is_at_limit, EndPhase, Occasion, after_death, after_dropping_held, after_keeping_held, after_holding, is_fin_acked}
+use Rattle.world_laws.proofs.Words.{after_ack_kind, after_acknowledgement, is_duplicate, after_duplicate, after_interruption, told_by, after_payload}
+use Rattle.world_laws.proofs.Words.{after_hearing, after_established, after_taken, after_syn_ack, after_syn, after_arrival, unkept, after_begin, is_fin_next}
+use Rattle.world_laws.proofs.Words.{after_passing_fin, after_finishing, is_syn_alone, is_repeated_syn, is_acceptable, meaning_outside, meaning_acknowledging}
+use Rattle.world_laws.proofs.Words.{meaning_within, meaning_placed, meaning_connected, meaning_answer, meaning_answering, meaning_opening, meaning_at}
+use Rattle.world_laws.proofs.Words.{meaning_of, Copy, Hint, arriving, after_delivery, HeardSegment, LineAction, emission, leaves, start_of_turn, Duty, SendDuty}
+use Rattle.world_laws.proofs.Words.{StepDuty, AskDuty, SilentDuty, Heard, KeyPair, replaced, Ask, Reply, StampedBooks, books_in, tail_of, is_nil, Codec, stands}
+use Rattle.world_laws.proofs.Words.{ask_for, passed, answered, PathEnd, died, PathStart, first_state, waiting_path, at_tick, PathState, end_at, goes_on}
+use Rattle.world_laws.proofs.Words.{with_agenda, left, path_of, settled, answers, asks_first, takes, begins_turn, hint_of, items_of, owes_by, options_heard}
+use Rattle.world_laws.proofs.Words.{after_judged, copy_of, judged_in, heard_in, copy_heard, told_at, owing_if, with_payload, answered_break, died_unless_dead}
+use Rattle.world_laws.proofs.Words.{answered_data, answered_grant, first_unsent, grant_in, answer_occasion, resend_occasion, data_ask, payload_size, may_ask}
+use Rattle.world_laws.proofs.Words.{fits, grant_ask, may_send_data, next_event, after_line, happens_if, join_begun, never_joined, asked_at, is_listening}
+use Rattle.world_laws.proofs.Words.{is_never, join_taken, keys_begun, opened_by, syn_alone, is_joined, after_joining_syn, is_wrong, mapping_here, forgotten_by}
+use Rattle.world_laws.proofs.Words.{is_dropped, is_clash, with_learned, with_data_fin, counts, with_skipped, answered_heard, answered_item, item_of}
+use Rattle.world_laws.proofs.Words.{item_passed, heard_passed, breaks_by_ack, Profile, taken_as, Every-push, Every, App, Path, Actor, ActorCrew, member_asks}
+use Rattle.world_laws.proofs.Words.{member_takes, member_next, is_over, Start, path_begins, opened_world, WorldState, Turn, crew_after, world_step, begins}
+use Rattle.world_laws.proofs.Words.{world_run, EndWrites, Only, Writes, OnlyAt, EndView, PathView, writes, side_of, answer_to, BeginsRound}
 use Rattle.send_book.specs.Steps as booking
-use Rattle.send_book.proofs.Decisions.{decision-MayTake}
-use Rattle.dss_mapping.specs.declared.kept.KeptMapping.{KeptMapping}
-use Rattle.join_handshake.specs.declared.hearing.JoinSyn.{JoinSyn}
-use Rattle.link_script.specs.declared.script.ScriptLine.{ScriptLine}
-use Rattle.link_model.specs.Steps.{arriving, after_delivery}
-use Rattle.path_segments.specs.Heard.{HeardSegment}
-use Rattle.subflow_send.specs.Records.{Record, SendState}
-use Rattle.subflow_send.specs.Rules.{is_unsent, uncovered, after_acknowledge, ack_kind, sample_of, after_resent}
-use Rattle.subflow_send.specs.declared.record.AckKind.{AckKind}
 use Rattle.subflow_send.specs.declared.record.AckKind.TheVariants.{New}
-use Rattle.subflow_tcp.specs.declared.handshake.State.{State as EndPhase}
-use Rattle.subflow_tcp.specs.declared.segments.Occasion.{Occasion}
-use Rattle.subflow_tcp.specs.declared.segments.Hint.{Hint}
-use Rattle.subflow_tcp.specs.declared.verdicts.Meaning.{Meaning}
-use Rattle.subflow_tcp.specs.Closing.{is_fin_next, after_finishing, after_passing_fin}
-use Rattle.subflow_tcp.specs.Emitting.{after_sending}
-use Rattle.subflow_tcp.specs.Expiring.{is_sixth, after_expiry, after_fire}
-use Rattle.subflow_tcp.specs.Judging.{is_syn_alone, is_repeated_syn, is_acceptable, meaning_outside, meaning_acknowledging, meaning_within, meaning_placed, meaning_connected, meaning_answer, meaning_answering, meaning_opening, meaning_at, meaning_of}
-use Rattle.subflow_tcp.specs.Opening.{after_begin}
-use Rattle.subflow_tcp.specs.Segments.{Copy}
 use Rattle.subflow_tcp.specs.Sizes.{room}
-use Rattle.subflow_tcp.specs.State.{EndState, is_at_limit}
 use Rattle.subflow_tcp.specs.States as states
-use Rattle.subflow_tcp.specs.Taking.{after_death, after_dropping_held, after_keeping_held, after_holding, is_fin_acked, after_ack_kind, after_acknowledgement, is_duplicate, after_duplicate, after_interruption, told_by, after_payload, after_hearing, after_established, after_taken, after_syn_ack, after_syn, after_arrival, unkept}
-use Rattle.stream_lanes.specs.Words.{Every}
-use Rattle.stream_lanes.proofs.Lists.{Every-push}
-use Rattle.actor_desk.specs.declared.ask.Ask.{Ask}
-use Rattle.actor_desk.specs.declared.ask.Reply.{Reply}
-use Rattle.actor_desk.specs.Books.{StampedBooks, books_in}
-use Rattle.actor_desk.specs.Words.{is_nil, tail_of}
-use Rattle.path_agenda.specs.Agenda.{start_of_turn, leaves, emission}
-use Rattle.path_agenda.specs.Words.{replaced}
-use Rattle.path_agenda.specs.declared.duty.Duty.{Duty}
-use Rattle.path_agenda.specs.declared.duty.AskDuty.{AskDuty}
-use Rattle.path_agenda.specs.declared.duty.SendDuty.{SendDuty}
-use Rattle.path_agenda.specs.declared.duty.SilentDuty.{SilentDuty}
-use Rattle.path_agenda.specs.declared.duty.StepDuty.{StepDuty}
-use Rattle.path_agenda.specs.declared.heard.Heard.{Heard}
-use Rattle.path_agenda.specs.declared.keys.KeyPair.{KeyPair}
-use Rattle.path_core.specs.Arrival.{copy_of, judged_in, after_judged, owing_if, with_payload, copy_heard, heard_in, told_at}
-use Rattle.path_core.specs.OptionsIn.{hint_of, items_of, options_heard, owes_by}
-use Rattle.path_core.specs.Judged.{taken_as}
-use Rattle.path_core.specs.Breaking.{answered_break, died_unless_dead}
-use Rattle.path_core.specs.Codec.{Codec}
 use Rattle.path_core.specs.declared.events.Event.{Event}
-use Rattle.path_core.specs.Deliver.{is_wrong, forgotten_by, mapping_here, is_dropped}
-use Rattle.path_core.specs.DssIn.{with_learned, with_skipped, counts, is_clash, with_data_fin}
-use Rattle.path_core.specs.Duties.{stands, passed, answered, ask_for}
-use Rattle.path_core.specs.Emission.{Grant, grant_in, grant_ask, data_ask, answered_grant, answered_data, first_unsent, payload_size, may_ask, may_send_data, fits, answer_occasion, resend_occasion}
-use Rattle.path_core.specs.End.{PathEnd, died}
-use Rattle.path_core.specs.Events.{next_event, after_line, happens_if}
-use Rattle.path_core.specs.State.{at_tick, PathState, end_at, goes_on, left, path_of, with_agenda}
-use Rattle.path_core.specs.MpJoin.{join_begun, never_joined, keys_begun, is_never, opened_by, join_taken, asked_at, syn_alone, after_joining_syn, is_listening, is_joined}
-use Rattle.path_store.specs.declared.lines.LineAction.{LineAction}
-use Rattle.path_core.specs.Start.{PathStart, first_state, waiting_path}
-use Rattle.path_core.specs.Profile.{Profile}
-use Rattle.path_core.specs.Steps.{settled, answers, takes, begins_turn, asks_first}
-use Rattle.path_core.specs.Treating.{heard_passed, item_passed, answered_heard, answered_item, item_of}
-use Rattle.path_core.specs.Fallback.{breaks_by_ack}
+use Rattle.path_core.specs.Emission.{Grant}
 use Rattle.path_core.proofs.Judgements.{judged_taken}
-use Rattle.world_laws.specs.declared.member.Member.TheVariants.{App, Path}
-use Rattle.world_laws.specs.Actors.{Actor, ActorCrew, member_asks, member_takes, member_next, is_over}
-use Rattle.world_laws.specs.Openings.{Start, path_begins, opened_world}
-use Rattle.world_laws.specs.RoundNumbers.{BeginsRound, after_steps}
-use Rattle.world_laws.specs.StampedBooks.{answer_to}
-use Rattle.world_laws.specs.Worlds.{WorldState, Turn, crew_after, begins, world_step, world_run}
+use Rattle.world_laws.specs.RoundNumbers.{after_steps}
 use Rattle.world_laws.proofs.Falls.FailedChecks.{infinite_came_so, fail_answered_so}
 use Rattle.world_laws.proofs.Lanes.Records.{unsent_sent_kept, first_sent_kept, fin_sent_kept, expired_kept, uncovered_kept}
 use Rattle.world_laws.proofs.Lanes.Saying.{every_one}
 use Rattle.world_laws.proofs.Rounds.EndsRefused.{IsPaid}
 use Rattle.world_laws.proofs.Rounds.Lifting.{step_lifted, round_lifted, run_lifted, opened_lifted}
 use Rattle.world_laws.proofs.Worlds.Finding.{find_every}
-use Rattle.world_laws.specs.Writes.{EndWrites, EndView, Only, Writes, OnlyAt, PathView, writes, side_of}
 use Rattle.world_laws.proofs.Writes.Paths.{writes_no_more}
 use Rattle.world_laws.proofs.Writes.Steps.{both_ends, unwritten}
 

@@ -1,31 +1,16 @@
 -- Where the turn of an application is over, it has read all that had arrived without a gap as the round began, or was told of an abort.
-use Rattle.std.proofs.Common.{◌≡◌, refl, sym, ◌∙◌, ap, subst, ℕ, ◌+◌, ◌≤◌, not, ⊎_elim, ◌⊎◌, inl, inr, Bool, true, false, if◌then◌else◌, Option, Some, List, [], ◌∷◌, ◌++◌, length, map, arith}
-use Rattle.std.specs.List.{slice_get}
-use Rattle.sides.specs.declared.side.Side.{Side}
-use Rattle.sides.specs.declared.side.Side.TheVariants.{A, B}
-use Rattle.reassembly_book.specs.declared.call.ReassemblyCall.{ReassemblyCall}
-use Rattle.reassembly_book.specs.State.{Arriving, received, new_arriving}
+use Rattle.world_laws.proofs.Words.{◌≡◌, refl, sym, ◌∙◌, ap, subst, ℕ, ◌+◌, ◌≤◌, not, inl, inr, ◌⊎◌, ⊎_elim, Bool, true, false, if◌then◌else◌, Option, Some}
+use Rattle.world_laws.proofs.Words.{List, [], ◌∷◌, ◌++◌, length, map, arith, slice_get, Side, A, B, ReassemblyCall, Arriving, received, new_arriving, Duty, Ask}
+use Rattle.world_laws.proofs.Words.{Note, Reply, books_in, SixBooks, reassembly_of, reply_of, after_ask, after_reassembly_call, is_nil, pick, AppDuty, AppState}
+use Rattle.world_laws.proofs.Words.{fresh_turn, start_of_app, app_ask, bytes_in, app_reads_on, app_settled, app_takes, untouched, first_app_turn, AbortReceive}
+use Rattle.world_laws.proofs.Words.{Codec, ask_for, Start, opened_world, WorldState, Turn, all_over, greatest, begins, end_round, world_run, note_of, is_going}
+use Rattle.world_laws.proofs.Words.{BeginsRound, InEachRound, ReadersCaughtUp, notes_of, output_of, read_by}
 use Rattle.reassembly_book.specs.Steps.{after_call, reply_to}
 use Rattle.reassembly_book.proofs.Bounds.{sound-after_call, sound-opened}
 use Rattle.reassembly_book.proofs.Merging.{filled-le}
-use Rattle.actor_desk.specs.declared.ask.Ask.{Ask}
-use Rattle.actor_desk.specs.declared.ask.Note.{Note}
-use Rattle.actor_desk.specs.declared.ask.Reply.{Reply}
-use Rattle.actor_desk.specs.Books.{books_in}
-use Rattle.actor_desk.specs.Desk.{SixBooks, reassembly_of, reply_of, after_ask, after_reassembly_call}
-use Rattle.actor_desk.specs.Words.{is_nil, pick}
-use Rattle.stream_apps.specs.declared.duty.AppDuty.{AppDuty}
-use Rattle.stream_apps.specs.declared.duty.AppDuty.TheVariants.{FastClose, AbortSend, AbortReceive, Write, Close, Read, End}
-use Rattle.stream_apps.specs.Apps.{AppState}
-use Rattle.stream_apps.specs.AppSteps.{fresh_turn, start_of_app, app_ask, app_reads_on, app_settled, app_takes, bytes_in}
-use Rattle.stream_apps.specs.Starts.{fast_close_of, untouched, first_app_turn}
-use Rattle.path_agenda.specs.declared.duty.Duty.{Duty}
-use Rattle.path_core.specs.Codec.{Codec}
-use Rattle.path_core.specs.Duties.{ask_for}
-use Rattle.world_laws.specs.Openings.{Start, opened_world}
-use Rattle.world_laws.specs.Outcomes.{notes_of, output_of, read_by}
-use Rattle.world_laws.specs.RoundNumbers.{after_steps, BeginsRound, InEachRound, ReadersCaughtUp}
-use Rattle.world_laws.specs.Worlds.{WorldState, Turn, note_of, is_going, all_over, greatest, begins, end_round, world_run}
+use Rattle.stream_apps.specs.declared.duty.AppDuty.TheVariants.{FastClose, AbortSend, Write, Close, Read, End}
+use Rattle.stream_apps.specs.Starts.{fast_close_of}
+use Rattle.world_laws.specs.RoundNumbers.{after_steps}
 use Rattle.world_laws.proofs.Rounds.CatchingUp.{is_read, arrives, aborts, Reading, Ahead, IsThrough, WasStopped, through_more, Caught, settled_caught, grown_caught, noted_reading, read_caught}
 use Rattle.world_laws.proofs.Weaving.Journals.{books_after}
 use Rattle.world_laws.proofs.Asks.OfPaths.{IsPathAsk, path_asks}

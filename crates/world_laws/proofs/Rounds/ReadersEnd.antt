@@ -1,32 +1,12 @@
 -- A reader ends its turn only where it was told the end, has read enough, or was answered that there is nothing.
-use Rattle.std.proofs.Common.{◌≡◌, refl, sym, ◌∙◌, ap, subst, ℕ, ◌+◌, ◌≤◌, ◌||◌, not, nat_lt, ⊎_elim, Bool, true, false, if◌then◌else◌, Some, Option, List, [], ◌∷◌, ◌++◌, length, arith}
-use Rattle.std.proofs.lemmas.Bool.{and_cases, ltb-false, not-false}
-use Rattle.std.proofs.lemmas.List.{append_assoc}
-use Rattle.std.proofs.lemmas.Option.{same_Some}
-use Rattle.sides.specs.declared.side.Side.{Side}
-use Rattle.sides.specs.declared.side.Side.TheVariants.{A, B}
-use Rattle.reassembly_book.specs.declared.call.ReassemblyCall.{ReassemblyCall}
-use Rattle.reassembly_book.specs.declared.call.ReassemblyReply.{ReassemblyReply}
-use Rattle.stream_lanes.specs.Words.{Every}
-use Rattle.actor_desk.specs.declared.ask.Ask.{Ask}
-use Rattle.actor_desk.specs.declared.ask.Note.{Note}
-use Rattle.actor_desk.specs.declared.ask.Reply.{Reply}
-use Rattle.actor_desk.specs.Books.{StampedBooks, books_in}
-use Rattle.actor_desk.specs.Kinds.{IsReassemblyKind}
-use Rattle.actor_desk.specs.Words.{is_nil}
-use Rattle.stream_apps.specs.declared.duty.AppDuty.{AppDuty}
-use Rattle.stream_apps.specs.declared.duty.AppDuty.TheVariants.{FastClose, AbortSend, AbortReceive, Write, Close, Read, End}
-use Rattle.stream_apps.specs.Apps.{AppState}
-use Rattle.stream_apps.specs.AppSteps.{fresh_turn, start_of_app, app_stands, app_ask, app_asks_first, bytes_in, ends_in, app_reads_on, app_answered, app_answers, app_settled, app_settles_down}
-use Rattle.stream_apps.specs.Starts.{fast_close_of, untouched, first_app_turn}
-use Rattle.path_core.specs.Codec.{Codec}
-use Rattle.world_laws.specs.declared.member.Member.TheVariants.{App, Path}
-use Rattle.world_laws.specs.Actors.{Actor, ActorCrew, member_asks, member_takes, member_next}
-use Rattle.world_laws.specs.Laws.{Always}
-use Rattle.world_laws.specs.Openings.{opened_world}
-use Rattle.world_laws.specs.RoundEnd.{IsReaderDone, IsDoneReading, ReadersAreDone}
-use Rattle.world_laws.specs.StampedBooks.{answer_to}
-use Rattle.world_laws.specs.Worlds.{note_of, world_run}
+use Rattle.world_laws.proofs.Words.{◌≡◌, refl, sym, ◌∙◌, ap, subst, ℕ, ◌+◌, ◌≤◌, ◌||◌, not, nat_lt, ⊎_elim, Bool, true, false, if◌then◌else◌, Option, Some}
+use Rattle.world_laws.proofs.Words.{List, [], ◌∷◌, ◌++◌, length, arith, ltb-false, and_cases, not-false, append_assoc, same_Some, Side, A, B, ReassemblyCall}
+use Rattle.world_laws.proofs.Words.{ReassemblyReply, Ask, Note, Reply, StampedBooks, books_in, is_nil, IsReassemblyKind, AppDuty, AppState, fresh_turn}
+use Rattle.world_laws.proofs.Words.{start_of_app, app_stands, app_ask, app_asks_first, bytes_in, ends_in, app_reads_on, app_answered, app_answers, app_settled}
+use Rattle.world_laws.proofs.Words.{app_settles_down, untouched, first_app_turn, AbortReceive, Codec, Every, App, Path, Actor, ActorCrew, member_asks}
+use Rattle.world_laws.proofs.Words.{member_takes, member_next, Always, opened_world, world_run, note_of, answer_to, IsReaderDone, IsDoneReading, ReadersAreDone}
+use Rattle.stream_apps.specs.declared.duty.AppDuty.TheVariants.{FastClose, AbortSend, Write, Close, Read, End}
+use Rattle.stream_apps.specs.Starts.{fast_close_of}
 use Rattle.world_laws.proofs.Rounds.Lifting.{run_lifted, opened_lifted}
 use Rattle.world_laws.proofs.Rounds.ReplyKinds.{reassembly_kind}
 

@@ -1,40 +1,16 @@
 -- Where the turn of a path is over, an end that may ask for bytes was refused over all that was written as the round began.
-use Rattle.std.proofs.Common.{◌≡◌, refl, sym, ◌∙◌, ap, subst, ℕ, ◌+◌, ◌≤◌, not, nat_lt, ◌||◌, inl, Bool, true, false, if◌then◌else◌, Option, Some, None, List, [], ◌∷◌, ◌++◌, arith}
-use Rattle.std.proofs.lemmas.Bool.{and_parts, false≢true, ltb-false}
-use Rattle.std.specs.List.{count_by}
-use Rattle.sides.specs.declared.side.Side.{Side}
-use Rattle.sides.specs.declared.side.Side.TheVariants.{A, B}
-use Rattle.sides.specs.Side.{peer}
-use Rattle.send_book.specs.declared.call.SendCall.{SendCall}
-use Rattle.send_book.specs.State.{Sending}
-use Rattle.send_book.specs.Marks.{is_held_by}
+use Rattle.world_laws.proofs.Words.{◌≡◌, refl, sym, ◌∙◌, ap, subst, ℕ, ◌+◌, ◌≤◌, ◌||◌, not, nat_lt, inl, Bool, true, false, if◌then◌else◌, Option, Some, None}
+use Rattle.world_laws.proofs.Words.{List, [], ◌∷◌, ◌++◌, arith, and_parts, false≢true, ltb-false, count_by, Side, A, B, peer, SendCall, Sending, is_held_by}
+use Rattle.world_laws.proofs.Words.{Record, Duty, SendDuty, StepDuty, AskDuty, SilentDuty, Ask, Note, Reply, SixBooks, send_of, reply_of, after_ask}
+use Rattle.world_laws.proofs.Words.{after_send_call, AppDuty, AppState, app_ask, offered, Codec, ask_for, answered, PathState, end_at, with_agenda, path_of}
+use Rattle.world_laws.proofs.Words.{takes, answered_data, answered_grant, first_unsent, grant_in, data_ask, grant_ask, item_of, identity_ask, asks_grant}
+use Rattle.world_laws.proofs.Words.{frees_bytes, AskedForAll, is_standby}
 use Rattle.send_book.specs.Steps.{reply_to, after_call}
-use Rattle.subflow_send.specs.Records.{Record}
-use Rattle.actor_desk.specs.declared.ask.Ask.{Ask}
-use Rattle.actor_desk.specs.declared.ask.Note.{Note}
-use Rattle.actor_desk.specs.declared.ask.Reply.{Reply}
-use Rattle.actor_desk.specs.Desk.{SixBooks, send_of, reply_of, after_ask, after_send_call}
-use Rattle.stream_apps.specs.declared.duty.AppDuty.{AppDuty}
-use Rattle.stream_apps.specs.Apps.{AppState}
-use Rattle.stream_apps.specs.AppSteps.{app_ask, offered}
-use Rattle.path_agenda.specs.declared.duty.Duty.{Duty}
-use Rattle.path_agenda.specs.declared.duty.AskDuty.{AskDuty}
-use Rattle.path_agenda.specs.declared.duty.SendDuty.{SendDuty}
-use Rattle.path_agenda.specs.declared.duty.SilentDuty.{SilentDuty}
-use Rattle.path_agenda.specs.declared.duty.StepDuty.{StepDuty}
-use Rattle.path_core.specs.Codec.{Codec}
-use Rattle.path_core.specs.Duties.{ask_for, answered}
-use Rattle.path_core.specs.Emission.{first_unsent, Grant, grant_in, grant_ask, answered_grant, answered_data, data_ask}
-use Rattle.path_core.specs.State.{PathState, end_at, with_agenda, path_of}
-use Rattle.path_core.specs.Steps.{takes}
-use Rattle.path_core.specs.Treating.{item_of}
-use Rattle.world_laws.specs.RoundEnd.{asks_grant}
-use Rattle.world_laws.specs.RoundNumbers.{is_standby, frees_bytes, AskedForAll}
+use Rattle.path_core.specs.Emission.{Grant}
 use Rattle.world_laws.proofs.Asks.SendBooks.{IsOnes, IsQuiet, ones_after, all_after, all_acknowledged, all_returned, ones_other, all_other, grant_refused, asked_more, FallsSo, all_gone}
 use Rattle.world_laws.proofs.Asks.OfPaths.{IsCallOf, IsQuietAsk, IsHeardAsk, IsQuietDuty, quiet_asks, heard_asks, subflow_asks}
 use Rattle.world_laws.proofs.Rounds.GrantAtOneDuty.{MayNotAsk, ask_isn't, asks_none}
 use Rattle.world_laws.proofs.Rounds.EndsRefused.{Pays, Granting, needs, is_followed, is_owed, settled_done, data_sent, granted_done, refused_done, answered_done}
-use Rattle.path_core.specs.Fallback.{identity_ask}
 
 -- an acknowledgement by which the window reaches past this edge, or a return of some bytes
 abbrev is_freeing : ℕ → Sending → SendCall → Bool

@@ -1,30 +1,14 @@
 -- What a book answers is of the asked kind, whatever the numbers in the call.
-use Rattle.std.proofs.Common.{◌≡◌, refl, ◌∙◌, ap, ℕ, ◌-◌, ◌≤◌, min, Bool, true, false, if◌then◌else◌, ◌||◌, not, List, [], ◌∷◌, ◌++◌, length, length-append, take, drop, map, replicate, Option, Some, None, Result, Ok, Err, arith}
-use Rattle.std.proofs.lemmas.List.{length-take, length-drop, length-map, length-replicate}
-use Rattle.sides.specs.declared.side.Side.TheVariants.{A, B}
-use Rattle.send_book.specs.declared.call.Span.{Span}
-use Rattle.send_book.specs.declared.call.Why.{Why}
-use Rattle.send_book.specs.declared.call.SendCall.{SendCall}
-use Rattle.send_book.specs.declared.call.SendReply.{SendReply}
-use Rattle.send_book.specs.declared.mark.ByteMark.TheVariants.{Acked, Free}
-use Rattle.send_book.specs.Marks.{given, returned}
-use Rattle.send_book.specs.Tried.{no_paths}
-use Rattle.send_book.specs.State.{Sending, Tile, acked_len, new_sending}
+use Rattle.world_laws.proofs.Words.{◌≡◌, refl, ◌∙◌, ap, ℕ, ◌-◌, ◌≤◌, ◌||◌, not, min, Bool, true, false, if◌then◌else◌, Option, Some, None, Result, Ok, Err}
+use Rattle.world_laws.proofs.Words.{List, [], ◌∷◌, ◌++◌, length, take, drop, map, replicate, arith, length-take, length-drop, length-map, length-replicate, A}
+use Rattle.world_laws.proofs.Words.{B, ControlCall, ControlReply, Control, ReassemblyCall, Arriving, filled, none, ReassemblyReply, Span, Why, SendCall}
+use Rattle.world_laws.proofs.Words.{Sending, Tile, acked_len, new_sending, Acked, Free, given, returned, no_paths, decision-MayTake, SendReply, Ask, SixBooks}
+use Rattle.world_laws.proofs.Words.{reply_of, after_ask, IsSendKind, IsReassemblyKind, IsControlKind, IsOfKind}
+use Rattle.std.proofs.Common.{length-append}
 use Rattle.send_book.specs.Steps as send
-use Rattle.send_book.proofs.Decisions.{decision-MayTake}
-use Rattle.reassembly_book.specs.declared.call.ReassemblyCall.{ReassemblyCall}
-use Rattle.reassembly_book.specs.declared.call.ReassemblyReply.{ReassemblyReply}
-use Rattle.reassembly_book.specs.State.{Arriving, filled}
-use Rattle.reassembly_book.specs.State.{new_arriving as none}
 use Rattle.reassembly_book.specs.Steps as reassembly
-use Rattle.control_book.specs.declared.call.ControlCall.{ControlCall}
-use Rattle.control_book.specs.declared.call.ControlReply.{ControlReply}
 use Rattle.control_book.specs.Calls.{can_ask}
-use Rattle.control_book.specs.Control.{Control}
 use Rattle.control_book.specs.Replies as control
-use Rattle.actor_desk.specs.declared.ask.Ask.{Ask}
-use Rattle.actor_desk.specs.Desk.{SixBooks, reply_of, after_ask}
-use Rattle.actor_desk.specs.Kinds.{IsSendKind, IsReassemblyKind, IsControlKind, IsOfKind}
 use Rattle.actor_desk.proofs.InKind.{books_answer}
 
 -- ---- one mark a byte

@@ -1,39 +1,14 @@
 -- A path that stands by is granted nothing, whatever the order of the steps.
-use Rattle.std.proofs.Common.{◌≡◌, refl, sym, ◌∙◌, ap, subst, ⊎_elim, ℕ, ◌&&◌, ◌||◌, ◌==◌, Bool, true, false, if◌then◌else◌, Option, Some, None, Err, List, [], ◌∷◌, ◌++◌, length, map}
-use Rattle.std.proofs.lemmas.Bool.{and_parts, both_ways, false≢true}
-use Rattle.std.proofs.lemmas.Option.{same_Some}
-use Rattle.std.specs.List.{slice_get}
-use Rattle.sides.specs.declared.side.Side.{Side}
-use Rattle.sides.specs.declared.side.Side.TheVariants.{A, B}
-use Rattle.subflow_send.specs.Records.{Record}
+use Rattle.world_laws.proofs.Words.{◌≡◌, refl, sym, ◌∙◌, ap, subst, ℕ, ◌&&◌, ◌||◌, ◌==◌, ⊎_elim, Bool, true, false, if◌then◌else◌, Option, Some, None, Err}
+use Rattle.world_laws.proofs.Words.{List, [], ◌∷◌, ◌++◌, length, map, and_parts, both_ways, false≢true, same_Some, slice_get, Side, A, B, Sending, acked_len}
+use Rattle.world_laws.proofs.Words.{decision, reply_by, Record, Duty, StepDuty, Ask, Note, Reply, books_in, SixBooks, reply_of, AppDuty, AppState, app_ask}
+use Rattle.world_laws.proofs.Words.{app_asks_first, Codec, ask_for, waiting_path, first_turn, PathState, end_at, path_of, asks_of, asks_first, first_unsent}
+use Rattle.world_laws.proofs.Words.{data_ask, payload_size, in_map, in_set, App, Path, Actor, ActorCrew, member_asks, member_takes, member_next, Always}
+use Rattle.world_laws.proofs.Words.{PathPlan, Start, path_begins, opened_world, looks, standby_told, standby_last, is_grant, grants_bytes, GrantsAreFree}
+use Rattle.world_laws.proofs.Words.{BackupsGetNothing, WorldState, Turn, crew_after, asked, stepped, all_over, greatest, begins, after_turn, world_run, note_of}
+use Rattle.world_laws.proofs.Words.{asks_grant, notes_or}
 use Rattle.send_book.specs.declared.call.Why.TheVariants.{Ended, Backup}
-use Rattle.send_book.specs.State.{Sending, acked_len}
-use Rattle.send_book.specs.Steps.{decision, reply_by}
-use Rattle.stream_lanes.proofs.Lists.{in_set, in_map}
-use Rattle.actor_desk.specs.declared.ask.Ask.{Ask}
-use Rattle.actor_desk.specs.declared.ask.Note.{Note}
-use Rattle.actor_desk.specs.declared.ask.Reply.{Reply}
-use Rattle.actor_desk.specs.Desk.{SixBooks, reply_of}
-use Rattle.actor_desk.specs.Books.{books_in}
-use Rattle.stream_apps.specs.declared.duty.AppDuty.{AppDuty}
-use Rattle.stream_apps.specs.Apps.{AppState}
-use Rattle.stream_apps.specs.AppSteps.{app_ask, app_asks_first}
-use Rattle.path_agenda.specs.declared.duty.Duty.{Duty}
-use Rattle.path_agenda.specs.declared.duty.StepDuty.{StepDuty}
-use Rattle.path_core.specs.Codec.{Codec}
-use Rattle.path_core.specs.Duties.{ask_for}
-use Rattle.path_core.specs.Emission.{first_unsent, data_ask, payload_size}
-use Rattle.path_core.specs.Start.{first_turn, waiting_path}
-use Rattle.path_core.specs.State.{PathState, end_at, path_of}
-use Rattle.path_core.specs.Steps.{asks_of, asks_first}
-use Rattle.world_laws.specs.declared.member.Member.TheVariants.{App, Path}
-use Rattle.world_laws.specs.Actors.{Actor, ActorCrew, member_asks, member_takes, member_next}
-use Rattle.world_laws.specs.Laws.{Always}
-use Rattle.world_laws.specs.Openings.{PathPlan, Start, path_begins, opened_world}
-use Rattle.world_laws.specs.Outcomes.{notes_or}
-use Rattle.world_laws.specs.RoundEnd.{asks_grant}
-use Rattle.world_laws.specs.Standbys.{looks, standby_told, standby_after, standby_last, is_grant, grants_bytes, GrantsAreFree, BackupsGetNothing}
-use Rattle.world_laws.specs.Worlds.{WorldState, Turn, note_of, crew_after, asked, stepped, all_over, greatest, begins, after_turn, world_run}
+use Rattle.world_laws.specs.Standbys.{standby_after}
 use Rattle.world_laws.proofs.Worlds.Opened.{opened_actors}
 use Rattle.world_laws.proofs.Rounds.GrantAtOneDuty.{MayNotAsk, ask_isn't, asks_none}
 use Rattle.world_laws.proofs.Standby.LooksAlone.{takes_stands, begins_kept, next_kept}

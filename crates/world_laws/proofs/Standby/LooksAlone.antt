@@ -1,26 +1,8 @@
 -- How a path stands, as its ends were told in their last Look, nothing changes but a Look.
-use Rattle.std.proofs.Common.{◌≡◌, refl, sym, ◌∙◌, ap, ℕ, ◌+◌, Bool, true, false, if◌then◌else◌, Some, None, List, [], ◌∷◌}
-use Rattle.std.proofs.lemmas.Bool.{false≢true}
-use Rattle.std.proofs.lemmas.Option.{same_Some}
-use Rattle.sides.specs.declared.side.Side.{Side}
-use Rattle.sides.specs.declared.side.Side.TheVariants.{A, B}
-use Rattle.control_book.specs.declared.call.ControlCall.{ControlCall}
-use Rattle.control_book.specs.declared.call.ControlReply.{ControlReply}
-use Rattle.actor_desk.specs.declared.ask.Ask.{Ask}
-use Rattle.actor_desk.specs.declared.ask.Reply.{Reply}
-use Rattle.path_agenda.specs.declared.duty.Duty.{Duty}
-use Rattle.path_agenda.specs.declared.duty.AskDuty.{AskDuty}
-use Rattle.path_agenda.specs.declared.duty.SendDuty.{SendDuty}
-use Rattle.path_agenda.specs.declared.duty.SilentDuty.{SilentDuty}
-use Rattle.path_agenda.specs.declared.duty.StepDuty.{StepDuty}
-use Rattle.path_core.specs.Codec.{Codec}
-use Rattle.path_core.specs.Duties.{passed, answered, ask_for}
-use Rattle.path_core.specs.Standing.{modes_told, after_look}
-use Rattle.path_core.specs.State.{PathState, end_at, goes_on, left, path_of}
-use Rattle.path_core.specs.Steps.{settled, settles_down, answers, asks_of, asks_first, takes, begins_turn, next_round}
-use Rattle.path_core.specs.declared.modes.Modes.{Modes}
-use Rattle.world_laws.specs.Standbys.{looks, standby_told}
-use Rattle.world_laws.specs.Writes.{EndView, Writes, OnlyAt, writes, side_of}
+use Rattle.world_laws.proofs.Words.{◌≡◌, refl, sym, ◌∙◌, ap, ℕ, ◌+◌, Bool, true, false, if◌then◌else◌, Some, None, List, [], ◌∷◌, false≢true, same_Some, Side}
+use Rattle.world_laws.proofs.Words.{A, B, ControlCall, ControlReply, Duty, SendDuty, StepDuty, AskDuty, SilentDuty, Ask, Reply, Codec, ask_for, passed}
+use Rattle.world_laws.proofs.Words.{answered, after_look, modes_told, PathState, end_at, goes_on, left, path_of, settled, settles_down, answers, asks_of}
+use Rattle.world_laws.proofs.Words.{asks_first, takes, begins_turn, next_round, Modes, looks, standby_told, Writes, OnlyAt, EndView, writes, side_of}
 use Rattle.world_laws.proofs.Standby.OneDutyLooks.{MayNotLook, look_isn't, looks_none}
 use Rattle.world_laws.proofs.Writes.Paths.{writes_no_more, passes_no_more}
 use Rattle.world_laws.proofs.Writes.Steps.{both_ends, Lasts, unwritten, settled_lasts, begins_lasts}

@@ -1,19 +1,7 @@
 -- A path looks how it stands at one duty alone.
-use Rattle.std.proofs.Common.{◌≡◌, refl, sym, ◌∙◌, true, false}
-use Rattle.sides.specs.declared.side.Side.{Side}
-use Rattle.sides.specs.declared.side.Side.TheVariants.{A, B}
-use Rattle.control_book.specs.declared.call.ControlCall.{ControlCall}
-use Rattle.actor_desk.specs.declared.ask.Ask.{Ask}
-use Rattle.path_agenda.specs.declared.duty.Duty.{Duty}
-use Rattle.path_agenda.specs.declared.duty.AskDuty.{AskDuty}
-use Rattle.path_agenda.specs.declared.duty.StepDuty.{StepDuty}
-use Rattle.path_core.specs.Codec.{Codec}
-use Rattle.path_core.specs.Duties.{ask_for}
-use Rattle.path_core.specs.State.{PathState}
-use Rattle.world_laws.specs.Standbys.{looks}
-use Rattle.world_laws.specs.Asking.{May, may, may_tell, asking}
+use Rattle.world_laws.proofs.Words.{◌≡◌, refl, sym, ◌∙◌, true, false, false≢true, Side, A, B, ControlCall, Duty, StepDuty, AskDuty, Ask, Codec, ask_for}
+use Rattle.world_laws.proofs.Words.{PathState, looks, May, may, asking, may_tell}
 use Rattle.world_laws.proofs.Writes.Asks.{asks_no_more}
-use Rattle.std.proofs.lemmas.Bool.{false≢true}
 
 -- no look
 abbrev pub CallsNoLook : ControlCall → Type 0

@@ -1,25 +1,10 @@
 -- The edges of send books, and the stamps of their journals, as asks are entered.
-use Rattle.std.proofs.Common.{◌≡◌, refl, ◌∙◌, ap, ℕ, ◌<◌, ◌≤◌, ◌&&◌, ◌||◌, nat_lt, Bool, true, false, if◌then◌else◌, Result, Ok, Err, [], ◌∷◌, arith}
-use Rattle.std.proofs.lemmas.Bool.{false≢true, ltb-false}
-use Rattle.sides.specs.declared.side.Side.{Side}
-use Rattle.sides.specs.declared.side.Side.TheVariants.{A, B}
-use Rattle.stamped_book.specs.declared.stamped.Pass.{Pass}
-use Rattle.stamped_book.specs.Entering.{entry_of, after_entering, next_stamp}
-use Rattle.stamped_book.specs.Journal.{last_stamp}
-use Rattle.stamped_book.proofs.Journals.{last_stamp-append}
-use Rattle.send_book.specs.declared.call.SendCall.{SendCall}
-use Rattle.send_book.specs.declared.call.SendCall.TheVariants.{Write, Close, Grant, AckIn, GoInfinite}
-use Rattle.send_book.specs.declared.call.Span.{Span}
-use Rattle.send_book.specs.declared.call.Why.{Why}
-use Rattle.send_book.specs.State.{Sending}
-use Rattle.send_book.specs.Steps.{decision, given_by, is_future, is_gathered, reply_to, after_call}
-use Rattle.actor_desk.specs.declared.ask.Ask.{Ask}
-use Rattle.actor_desk.specs.declared.ask.Reply.{Reply}
-use Rattle.actor_desk.specs.Books.{SendJournal, StampedBooks, stamp_of, after_entry}
-use Rattle.actor_desk.specs.Desk.{SixBooks, send_of, after_ask}
-use Rattle.actor_desk.specs.Words.{pick}
-use Rattle.world_laws.specs.RoundEnd.{asks_grant}
-use Rattle.world_laws.specs.RoundNumbers.{frees_bytes}
+use Rattle.world_laws.proofs.Words.{◌≡◌, refl, ◌∙◌, ap, ℕ, ◌≤◌, ◌&&◌, ◌||◌, nat_lt, Bool, true, false, if◌then◌else◌, Result, Ok, Err, [], ◌∷◌, arith, ◌<◌}
+use Rattle.world_laws.proofs.Words.{false≢true, ltb-false, Pass, entry_of, after_entering, next_stamp, last_stamp, last_stamp-append, Side, A, B, Span, Why}
+use Rattle.world_laws.proofs.Words.{SendCall, Sending, decision, given_by, is_future, is_gathered, AckIn, Ask, Reply, StampedBooks, stamp_of, after_entry}
+use Rattle.world_laws.proofs.Words.{SendJournal, SixBooks, send_of, after_ask, pick, asks_grant, frees_bytes}
+use Rattle.send_book.specs.declared.call.SendCall.TheVariants.{Write, Close, Grant, GoInfinite}
+use Rattle.send_book.specs.Steps.{reply_to, after_call}
 
 -- ---- edges
 

@@ -1,23 +1,11 @@
 -- What the books make of the first step of an order, where the order's calls at each book are what its journal gained.
-use Rattle.std.proofs.Common.{◌≡◌, refl, sym, ◌∙◌, ap, subst, ℕ, ◌+◌, ◌==◌, max, true, List, [], ◌∷◌, ◌++◌, map, filter}
-use Rattle.std.proofs.lemmas.List.{append_assoc, append-nil}
-use Rattle.sides.specs.declared.side.Side.TheVariants.{A, B}
-use Rattle.stamped_book.specs.declared.stamped.Entry.{Entry}
-use Rattle.stamped_book.specs.declared.stamped.Pass.{Pass}
-use Rattle.stamped_book.specs.Entering.{next_stamp, entry_of, after_entering}
-use Rattle.stamped_book.specs.Journal.{Journaled, book_of, last_stamp}
-use Rattle.stamped_book.proofs.Journals.{replay-append, last_stamp-append}
+use Rattle.world_laws.proofs.Words.{◌≡◌, refl, sym, ◌∙◌, ap, subst, ℕ, ◌+◌, ◌==◌, max, true, List, [], ◌∷◌, ◌++◌, map, filter, append-nil, append_assoc, Entry}
+use Rattle.world_laws.proofs.Words.{Pass, entry_of, after_entering, next_stamp, Journaled, book_of, last_stamp, replay-append, last_stamp-append, A, B, Ask}
+use Rattle.world_laws.proofs.Words.{Note, Reply, StampedBooks, after_entry, is_local, send_note, reassembly_note, control_note, note_of, AreEntries}
 use Rattle.send_book.specs.Steps as sending
 use Rattle.reassembly_book.specs.Steps as arriving
 use Rattle.control_book.specs.Replies as controlling
 use Rattle.control_book.specs.Steps as control
-use Rattle.actor_desk.specs.declared.ask.Ask.{Ask}
-use Rattle.actor_desk.specs.declared.ask.Note.{Note}
-use Rattle.actor_desk.specs.declared.ask.Reply.{Reply}
-use Rattle.actor_desk.specs.Books.{StampedBooks, after_entry}
-use Rattle.actor_desk.specs.Journals.{is_local, send_note, reassembly_note, control_note}
-use Rattle.world_laws.specs.Weaving.{AreEntries}
-use Rattle.world_laws.specs.Worlds.{note_of}
 
 -- the number of the book that is asked
 abbrev pub book_of_ask : Ask → ℕ

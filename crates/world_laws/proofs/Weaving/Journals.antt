@@ -1,17 +1,10 @@
 -- An ask that is entered at the stamped books is that call at the books that their journals make.
-use Rattle.std.proofs.Common.{◌≡◌, refl, ap, [], ◌∷◌}
-use Rattle.sides.specs.declared.side.Side.TheVariants.{A, B}
-use Rattle.stamped_book.specs.declared.stamped.Pass.{Pass}
-use Rattle.stamped_book.specs.Journal.{Journaled, book_of}
-use Rattle.stamped_book.specs.Entering.{entry_of, after_entering}
-use Rattle.stamped_book.proofs.Journals.{replay-append}
+use Rattle.world_laws.proofs.Words.{◌≡◌, refl, ap, [], ◌∷◌, Pass, entry_of, after_entering, Journaled, book_of, replay-append, A, B, Ask, StampedBooks}
+use Rattle.world_laws.proofs.Words.{books_in, after_entry, after_ask}
 use Rattle.send_book.specs.Steps as sending
 use Rattle.reassembly_book.specs.Steps as arriving
 use Rattle.control_book.specs.Replies as controlling
 use Rattle.control_book.specs.Steps as control
-use Rattle.actor_desk.specs.declared.ask.Ask.{Ask}
-use Rattle.actor_desk.specs.Books.{StampedBooks, books_in, after_entry}
-use Rattle.actor_desk.specs.Desk.{after_ask}
 
 entered : {O C R : Type 0} (reply_to : O → C → R) (after : O → C → O) (stamped : Journaled O C R) (pass : Pass) (call : C)
     → book_of reply_to after (after_entering reply_to after stamped pass call) ≡ after (book_of reply_to after stamped) call

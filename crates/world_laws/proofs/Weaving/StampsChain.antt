@@ -1,17 +1,7 @@
 -- Stamps: each step has one above all that its actor knew, in lists and in journals.
-use Rattle.std.proofs.Common.{◌≡◌, refl, sym, ◌∙◌, ap, subst, ℕ, zero, suc, ◌+◌, ◌<◌, ◌≤◌, max, true, inl, inr, List, [], ◌∷◌, ◌++◌, map, Some, arith}
-use Rattle.std.proofs.lemmas.List.{append-nil, append_assoc}
-use Rattle.std.specs.List.{slice_get}
-use Rattle.sides.specs.declared.side.Side.TheVariants.{A, B}
-use Rattle.stamped_book.specs.declared.stamped.Entry.{Entry}
-use Rattle.stamped_book.specs.declared.stamped.Pass.{Pass}
-use Rattle.stamped_book.specs.Journal.{last_stamp}
-use Rattle.stream_lanes.specs.Words.{Every}
-use Rattle.actor_desk.specs.declared.ask.Ask.{Ask}
-use Rattle.actor_desk.specs.declared.ask.Note.{Note}
-use Rattle.actor_desk.specs.Journals.{is_local, AreChained}
-use Rattle.world_laws.specs.Fine.{NotesRise, last_noted, AreStamped, BooksAreStamped, IsChainedAbove}
-use Rattle.actor_desk.specs.Books.{StampedBooks, stamp_of, after_entry}
+use Rattle.world_laws.proofs.Words.{◌≡◌, refl, sym, ◌∙◌, ap, subst, ℕ, zero, suc, ◌+◌, ◌≤◌, max, inl, inr, true, Some, List, [], ◌∷◌, ◌++◌, map, arith, ◌<◌}
+use Rattle.world_laws.proofs.Words.{append-nil, append_assoc, slice_get, Entry, Pass, last_stamp, A, B, Ask, Note, StampedBooks, stamp_of, after_entry}
+use Rattle.world_laws.proofs.Words.{is_local, AreChained, Every, NotesRise, last_noted, AreStamped, BooksAreStamped, IsChainedAbove}
 use Rattle.world_laws.proofs.Weaving.Occurring.{In}
 
 -- ---- the stamp of a step

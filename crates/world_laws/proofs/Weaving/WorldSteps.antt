@@ -1,32 +1,15 @@
 -- The steps that a world makes one after the other are such as weaving takes: actors and books go on, and stay paired.
-use Rattle.std.proofs.Common.{◌≡◌, refl, sym, ◌∙◌, ap, subst, ℕ, zero, suc, ◌+◌, ◌<◌, ◌≤◌, max, ⊎_elim, true, Option, Some, None, List, [], ◌∷◌, ◌++◌, set, arith}
-use Rattle.std.proofs.lemmas.List.{append-nil, append_assoc}
-use Rattle.std.proofs.lemmas.Option.{same_Some}
-use Rattle.std.specs.List.{slice_get}
-use Rattle.sides.specs.declared.side.Side.TheVariants.{A, B}
-use Rattle.stamped_book.specs.declared.stamped.Entry.{Entry}
-use Rattle.stamped_book.specs.declared.stamped.Pass.{Pass}
-use Rattle.stamped_book.specs.Entering.{entry_of, after_entering}
-use Rattle.stamped_book.specs.Journal.{Journaled, book_of, replay, last_stamp}
-use Rattle.stamped_book.proofs.Journals.{replay-append, last_stamp-append}
+use Rattle.world_laws.proofs.Words.{◌≡◌, refl, sym, ◌∙◌, ap, subst, ℕ, zero, suc, ◌+◌, ◌≤◌, max, ⊎_elim, true, Option, Some, None, List, [], ◌∷◌, ◌++◌, arith}
+use Rattle.world_laws.proofs.Words.{◌<◌, set, append-nil, append_assoc, same_Some, slice_get, Entry, Pass, entry_of, after_entering, Journaled, book_of, replay}
+use Rattle.world_laws.proofs.Words.{last_stamp, replay-append, last_stamp-append, A, B, Ask, Note, Reply, StampedBooks, after_entry, is_local, Codec}
+use Rattle.world_laws.proofs.Words.{Every-push, Every-nil, in_set, Every, ActorCrew, member_asks, WorldState, crew_after, asked, stepped, world_step, world_run}
+use Rattle.world_laws.proofs.Words.{note_of, answer_to, IsFine, after_turns, AreEntries, JournalGrew, BooksGrew, after_note, after_notes, IsStepOf, AreStepsOf}
+use Rattle.world_laws.proofs.Words.{Stepped, AllStepped, Begins, Worked, steps_by}
 use Rattle.send_book.specs.Steps as sending
 use Rattle.reassembly_book.specs.Steps as arriving
 use Rattle.control_book.specs.Replies as controlling
 use Rattle.control_book.specs.Steps as control
-use Rattle.stream_lanes.specs.Words.{Every}
-use Rattle.stream_lanes.proofs.Lists.{Every-nil, Every-push, in_set}
-use Rattle.actor_desk.specs.declared.ask.Ask.{Ask}
-use Rattle.actor_desk.specs.declared.ask.Note.{Note}
-use Rattle.actor_desk.specs.declared.ask.Reply.{Reply}
-use Rattle.actor_desk.specs.Books.{StampedBooks, after_entry}
-use Rattle.actor_desk.specs.Journals.{is_local}
-use Rattle.path_core.specs.Codec.{Codec}
-use Rattle.world_laws.specs.Actors.{ActorCrew, member_asks}
-use Rattle.world_laws.specs.Fine.{IsFine}
-use Rattle.world_laws.specs.Serial.{after_steps, after_turns}
-use Rattle.world_laws.specs.StampedBooks.{answer_to}
-use Rattle.world_laws.specs.Weaving.{AreEntries, JournalGrew, BooksGrew, after_note, after_notes, IsStepOf, AreStepsOf, Stepped, AllStepped, Begins, Worked, steps_by}
-use Rattle.world_laws.specs.Worlds.{WorldState, note_of, crew_after, asked, stepped, world_step, world_run}
+use Rattle.world_laws.specs.Serial.{after_steps}
 use Rattle.world_laws.proofs.Weaving.StampsChain.{stamp_rises, local_stamp}
 use Rattle.world_laws.proofs.Weaving.Paired.{step_fine}
 

@@ -1,65 +1,28 @@
 -- What the replies make of path 0 as long as no options are taken away, and what it asks: nothing by which its side can fall back.
-use Rattle.std.proofs.Common.{◌≡◌, refl, sym, ◌∙◌, ap, subst, ℕ, zero, suc, ◌⊎◌, inl, inr, ⊎_elim, ◌+◌, ◌&&◌, ◌||◌, not, nat_lt, is_some, is_none, map, Bool, true, false, if◌then◌else◌, Option, Some, None, List, [], ◌∷◌}
-use Rattle.std.proofs.lemmas.Bool.{and_parts, both_ways, false≢true, or_cases, or_parts}
-use Rattle.std.proofs.lemmas.Option.{same_Some}
-use Rattle.std.specs.List.{list_any}
-use Rattle.std.specs.Option.{IfSome}
-use Rattle.sides.specs.declared.side.Side.{Side}
-use Rattle.sides.specs.declared.side.Side.TheVariants.{A, B}
-use Rattle.sides.specs.Side.{peer}
-use Rattle.control_book.specs.declared.call.ControlCall.{ControlCall}
-use Rattle.control_book.specs.declared.call.ControlReply.{ControlReply}
-use Rattle.dss_mapping.specs.Mappings.{Mappings, mapping_at}
-use Rattle.dss_mapping.specs.declared.kept.KeptMapping.{KeptMapping}
-use Rattle.fallback_state.specs.declared.fall.Event.{Event as FallEvent}
-use Rattle.fallback_state.specs.Modes.{is_starting}
-use Rattle.path_segments.specs.Laws.{meant, meant_option}
-use Rattle.path_segments.specs.Options.{PlainOption}
-use Rattle.path_segments.specs.Spelled.{PlainSegment}
-use Rattle.subflow_recv.specs.Receiving.{Receiving}
-use Rattle.subflow_send.specs.declared.record.RecordKind.TheVariants.{Syn}
-use Rattle.subflow_send.specs.Records.{Record, SendState}
-use Rattle.subflow_tcp.specs.Emitting.{reset_segment}
-use Rattle.subflow_tcp.specs.States.{is_closed_to_segments, is_opening, is_waiting, may_finish}
-use Rattle.subflow_tcp.specs.declared.segments.Occasion.{Occasion}
-use Rattle.subflow_tcp.specs.declared.segments.Outgoing.{Outgoing}
-use Rattle.actor_desk.specs.declared.ask.Ask.{Ask}
-use Rattle.actor_desk.specs.declared.ask.Reply.{Reply}
-use Rattle.actor_desk.specs.Words.{is_nil}
-use Rattle.path_agenda.specs.Agenda.{breaks, leaves, resets, start_of_turn, stops}
-use Rattle.path_agenda.specs.Items.{keys_heard}
-use Rattle.path_agenda.specs.declared.duty.Duty.{Duty}
-use Rattle.path_agenda.specs.declared.duty.AskDuty.{AskDuty}
-use Rattle.path_agenda.specs.declared.duty.SendDuty.{SendDuty}
-use Rattle.path_agenda.specs.declared.duty.StepDuty.{StepDuty}
-use Rattle.path_agenda.specs.declared.heard.Heard.{Heard}
-use Rattle.path_agenda.specs.declared.keys.KeyPair.{KeyPair}
-use Rattle.path_agenda.specs.declared.notice.PeerNotice.{PeerNotice}
-use Rattle.path_core.specs.Addresses.{answered_note, having_noted, note_of}
-use Rattle.path_core.specs.Breaking.{answered_break, break_ask, reset_on, reset_of, refusal_of}
-use Rattle.path_store.specs.Passing.{Piece}
-use Rattle.path_core.specs.Deliver.{next_piece, answered_piece, is_placed, piece_of}
-use Rattle.path_core.specs.DssIn.{with_learned, counts, is_clash, told_next, with_data_fin}
-use Rattle.path_core.specs.Duties.{answered, ask_for, passed, stands}
-use Rattle.path_core.specs.Emission.{Grant, answered_data, answered_grant, answered_syn, data_stands, first_unsent, grant_in, granted, having_sent_unsent, is_syn_due, unsent_segment, answer_occasion, answer_of, answered_again, answered_answer, answered_resend, dead_answer, first_segment, outgoing_or, resend_occasion, resend_of}
-use Rattle.path_core.specs.DataFin.{answered_data_fin_sent, answered_fin, data_fin_segment, fin_segment_of, having_sent_data_fin, having_sent_fin, answered_fin_heard, answered_plain_fin, is_fin_set}
-use Rattle.path_core.specs.End.{PathEnd, died}
-use Rattle.path_core.specs.Events.{next_event}
-use Rattle.path_core.specs.Fallback.{after_check_failed, after_fell, answered_fell, fell_duties, breaks_by_ack, lacks_data_ack, plain_ack_stands, plain_data_stands}
-use Rattle.path_core.specs.FastClose.{answered_fast_close, fast_close_of, having_fast_closed, is_stopped_by}
-use Rattle.path_core.specs.Handover.{having_sent, sent_on}
-use Rattle.path_core.specs.MpCapable.{answered_opened, answered_syn_ack, is_opened_by_keys, is_opened_plainly, is_plain_syn, keys_in, opened_ask, syn_ack_of}
-use Rattle.path_core.specs.OptionsOut.{ack_said, reset_options, segment_of}
-use Rattle.path_core.specs.Standing.{ack_out_ask, ack_segment, acknowledges, answered_ack_out, is_connected, may_note}
-use Rattle.path_core.specs.State.{PathState, end_at, goes_on, with_agenda}
-use Rattle.path_core.specs.Profile.{Profile}
-use Rattle.path_core.specs.Steps.{answers, asks_first, asks_of, begins_turn, next_round, settled, takes}
-use Rattle.path_core.specs.Treating.{answered_heard, answered_item, heard_stands, item_ask, item_of, item_stands}
-use Rattle.path_core.specs.Turns.{FirstStands, IsSettled}
-use Rattle.path_core.specs.Values.{Carried, values}
-use Rattle.path_core.specs.Choices.{item_at}
-use Rattle.world_laws.specs.Asking.{May, asking, may}
-use Rattle.world_laws.specs.Writes.{EndWrites, OnlyAt, ask_writes, at_end, copy_said, looking, side_of, writes}
+use Rattle.world_laws.proofs.Words.{◌≡◌, refl, sym, ◌∙◌, ap, subst, ℕ, zero, suc, ◌+◌, ◌&&◌, ◌||◌, not, nat_lt, inl, inr, ◌⊎◌, ⊎_elim, Bool, true, false}
+use Rattle.world_laws.proofs.Words.{if◌then◌else◌, Option, Some, None, List, [], ◌∷◌, map, is_none, is_some, or_cases, or_parts, and_parts, both_ways}
+use Rattle.world_laws.proofs.Words.{false≢true, same_Some, list_any, IfSome, FallEvent, is_starting, Side, A, B, peer, ControlCall, ControlReply, KeptMapping}
+use Rattle.world_laws.proofs.Words.{Mappings, mapping_at, Receiving, Record, SendState, Syn, is_closed_to_segments, is_opening, may_finish, is_waiting}
+use Rattle.world_laws.proofs.Words.{reset_segment, Occasion, Outgoing, PlainOption, PlainSegment, meant, meant_option, Piece, leaves, resets, stops}
+use Rattle.world_laws.proofs.Words.{start_of_turn, Duty, SendDuty, StepDuty, AskDuty, Heard, KeyPair, keys_heard, PeerNotice, Ask, Reply, is_nil, stands}
+use Rattle.world_laws.proofs.Words.{ask_for, passed, answered, PathEnd, died, answered_ack_out, is_connected, may_note, ack_out_ask, ack_segment, PathState}
+use Rattle.world_laws.proofs.Words.{end_at, goes_on, with_agenda, settled, answers, asks_of, asks_first, takes, begins_turn, next_round, FirstStands, IsSettled}
+use Rattle.world_laws.proofs.Words.{Carried, values, reset_of, reset_on, answered_break, refusal_of, break_ask, answered_data, answered_grant, answered_syn}
+use Rattle.world_laws.proofs.Words.{data_stands, first_unsent, grant_in, granted, having_sent_unsent, is_syn_due, unsent_segment, answer_occasion, answer_of}
+use Rattle.world_laws.proofs.Words.{answered_again, answered_answer, answered_resend, dead_answer, first_segment, outgoing_or, resend_occasion, resend_of}
+use Rattle.world_laws.proofs.Words.{next_event, next_piece, piece_of, is_placed, answered_piece, data_fin_segment, having_sent_data_fin, answered_data_fin_sent}
+use Rattle.world_laws.proofs.Words.{fin_segment_of, having_sent_fin, answered_fin, answered_plain_fin, answered_fin_heard, is_fin_set, is_clash, with_learned}
+use Rattle.world_laws.proofs.Words.{with_data_fin, counts, told_next, item_ask, answered_heard, answered_item, item_of, item_stands, heard_stands}
+use Rattle.world_laws.proofs.Words.{after_check_failed, after_fell, fell_duties, breaks_by_ack, answered_fell, lacks_data_ack, plain_ack_stands}
+use Rattle.world_laws.proofs.Words.{plain_data_stands, opened_ask, answered_opened, keys_in, syn_ack_of, answered_syn_ack, is_opened_by_keys, is_opened_plainly}
+use Rattle.world_laws.proofs.Words.{is_plain_syn, is_stopped_by, answered_fast_close, having_fast_closed, having_noted, answered_note, reset_options}
+use Rattle.world_laws.proofs.Words.{segment_of, ack_said, Profile, having_sent, sent_on, item_at, EndWrites, OnlyAt, writes, side_of, ask_writes, copy_said}
+use Rattle.world_laws.proofs.Words.{at_end, looking, May, may, asking}
+use Rattle.path_agenda.specs.Agenda.{breaks}
+use Rattle.path_core.specs.Addresses.{note_of}
+use Rattle.path_core.specs.Emission.{Grant}
+use Rattle.path_core.specs.FastClose.{fast_close_of}
+use Rattle.path_core.specs.Standing.{acknowledges}
 use Rattle.world_laws.proofs.Falls.FailedChecks.{check_failed_so, fail_answered_so, fail_asks_so}
 use Rattle.world_laws.proofs.Falls.Verdicts.{fell_cases}
 use Rattle.world_laws.proofs.Keys.AreDrawn.{is_past}

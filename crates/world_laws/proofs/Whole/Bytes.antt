@@ -1,18 +1,10 @@
 -- The bytes of what an end has sent: none lies below a position, or at one. What it sends later lies behind, so that it stays so.
-use Rattle.std.proofs.Common.{◌≡◌, refl, ◌∙◌, ap, subst, sym, ℕ, suc, ◌+◌, ◌≤◌, ◌⊎◌, inl, inr, ⊎_elim, ◌&&◌, ◌==◌, nat_lt, nat_le, Bool, true, false, if◌then◌else◌, Some, List, [], ◌∷◌, length, arith}
-use Rattle.std.proofs.lemmas.Bool.{false≢true}
-use Rattle.std.specs.List.{slice_get}
-use Rattle.std.proofs.lemmas.List.Sums.{sum_by-cons}
-use Rattle.std.specs.Prelude.{sum_by}
+use Rattle.world_laws.proofs.Words.{◌≡◌, refl, sym, ◌∙◌, ap, subst, ℕ, suc, ◌+◌, ◌≤◌, ◌&&◌, ◌==◌, nat_lt, nat_le, inl, inr, ◌⊎◌, ⊎_elim, Bool, true, false}
+use Rattle.world_laws.proofs.Words.{if◌then◌else◌, Some, List, [], ◌∷◌, length, arith, false≢true, slice_get, sum_by-cons, sum_by, Record, SendState}
+use Rattle.world_laws.proofs.Words.{after_sending, EndState, Occasion, Every-push, Every}
 use Rattle.seq_units.specs.declared.mapping.Mapping.{Mapping}
 use Rattle.subflow_send.specs.declared.record.Sending.{Sending}
-use Rattle.subflow_send.specs.Records.{Record, SendState}
 use Rattle.subflow_send.specs.Rules as sending
-use Rattle.subflow_tcp.specs.Emitting.{after_sending}
-use Rattle.subflow_tcp.specs.State.{EndState}
-use Rattle.subflow_tcp.specs.declared.segments.Occasion.{Occasion}
-use Rattle.stream_lanes.specs.Words.{Every}
-use Rattle.stream_lanes.proofs.Lists.{Every-push}
 use Rattle.world_laws.proofs.Lanes.Records.{every_first, every_rest, unsent_sent_kept, first_sent_kept, fin_sent_kept, expired_kept, uncovered_kept}
 
 -- ---- where bytes lie

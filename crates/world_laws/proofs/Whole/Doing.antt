@@ -1,33 +1,12 @@
 -- What path 0 sends, and what happens on it, as long as no options are taken away.
-use Rattle.std.proofs.Common.{◌≡◌, refl, sym, ◌∙◌, ap, subst, ℕ, ◌+◌, ◌-◌, ◌⊎◌, inl, inr, ⊎_elim, ◌&&◌, ◌||◌, ◌==◌, not, is_some, Bool, true, false, if◌then◌else◌, None, List, [], ◌∷◌, map, length}
-use Rattle.std.proofs.lemmas.Bool.{both_ways, false≢true}
-use Rattle.std.specs.List.{slice_get}
-use Rattle.sides.specs.declared.side.Side.{Side}
-use Rattle.sides.specs.declared.side.Side.TheVariants.{A, B}
-use Rattle.sides.specs.Side.{peer}
-use Rattle.path_segments.specs.Laws.{meant}
-use Rattle.path_segments.specs.Spelled.{PlainSegment}
-use Rattle.subflow_send.specs.declared.record.RecordKind.{RecordKind}
-use Rattle.subflow_send.specs.declared.record.RecordKind.TheVariants.{Syn, Data, Fin}
-use Rattle.subflow_send.specs.Records.{Record, SendState}
-use Rattle.subflow_send.specs.Rules.{after_finish, after_fin_sent, after_resent, expired_records, fin_sent, first_sent, first_unsent_sent, is_unsent}
+use Rattle.world_laws.proofs.Words.{◌≡◌, refl, sym, ◌∙◌, ap, subst, ℕ, ◌+◌, ◌-◌, ◌&&◌, ◌||◌, ◌==◌, not, inl, inr, ◌⊎◌, ⊎_elim, Bool, true, false, if◌then◌else◌}
+use Rattle.world_laws.proofs.Words.{None, List, [], ◌∷◌, length, map, is_some, both_ways, false≢true, slice_get, Side, A, B, peer, Record, SendState}
+use Rattle.world_laws.proofs.Words.{RecordKind, Syn, Data, Fin, is_unsent, first_unsent_sent, first_sent, expired_records, after_resent, after_fin_sent}
+use Rattle.world_laws.proofs.Words.{is_closed_to_segments, is_opening, may_finish, is_waiting, is_syn, after_sending, EndState, is_some_record, EndPhase}
+use Rattle.world_laws.proofs.Words.{Occasion, PlainSegment, meant, Duty, is_nil, PathEnd, died, is_connected, PathState, end_at, Carried, first_unsent}
+use Rattle.world_laws.proofs.Words.{first_record, resend_said, having_sent_fin, fin_said, record_or_ack, having_sent, Every}
+use Rattle.subflow_send.specs.Rules.{after_finish, fin_sent}
 use Rattle.subflow_send.specs.Sendings.{sent_again}
-use Rattle.subflow_tcp.specs.Emitting.{after_sending, is_syn}
-use Rattle.subflow_tcp.specs.State.{EndState, is_some_record}
-use Rattle.subflow_tcp.specs.States.{is_closed_to_segments, is_opening, is_waiting, may_finish}
-use Rattle.subflow_tcp.specs.declared.handshake.State.{State as EndPhase}
-use Rattle.subflow_tcp.specs.declared.segments.Occasion.{Occasion}
-use Rattle.stream_lanes.specs.Words.{Every}
-use Rattle.actor_desk.specs.Words.{is_nil}
-use Rattle.path_agenda.specs.declared.duty.Duty.{Duty}
-use Rattle.path_core.specs.End.{PathEnd, died}
-use Rattle.path_core.specs.Emission.{first_unsent, first_record, resend_said}
-use Rattle.path_core.specs.DataFin.{having_sent_fin}
-use Rattle.path_core.specs.Handover.{having_sent}
-use Rattle.path_core.specs.OptionsOut.{fin_said, record_or_ack}
-use Rattle.path_core.specs.Standing.{is_connected}
-use Rattle.path_core.specs.State.{PathState, end_at}
-use Rattle.path_core.specs.Values.{Carried}
 use Rattle.world_laws.proofs.Keys.AnswerHeardFirst.{finish_apart, is_apart}
 use Rattle.world_laws.proofs.Keys.AreDrawn.{is_past}
 use Rattle.world_laws.proofs.Lanes.Records.{every_at, every_find}

@@ -1,50 +1,21 @@
 -- What the ends of path 0 keep as long as no options are taken away: an end that may send no DSS learned no mapping, and no byte of the
 -- other side lies below its edge; no acknowledgement that it heard lacks a Data ACK, and no payload an option.
-use Rattle.std.proofs.Common.{◌≡◌, refl, sym, ◌∙◌, ap, subst, ℕ, ◌+◌, ◌^◌, ◌⊎◌, inl, inr, ⊎_elim, ◌&&◌, ◌||◌, ◌==◌, not, nat_lt, nat_le, is_some, is_none, Bool, true, false, if◌then◌else◌, Option, Some, None, List, [], ◌∷◌, ◌++◌, map, length, arith}
-use Rattle.std.proofs.lemmas.Bool.{and_parts, both_ways, false≢true, leb-true, ltb-true, or_from, or_parts}
-use Rattle.std.specs.List.{list_any, flat_map}
-use Rattle.std.specs.Option.{IfSome}
-use Rattle.sides.specs.declared.side.Side.{Side}
-use Rattle.sides.specs.declared.side.Side.TheVariants.{A, B}
-use Rattle.sides.specs.Side.{peer}
-use Rattle.dss_mapping.specs.Mappings.{Mappings}
-use Rattle.dss_mapping.specs.declared.kept.KeptMapping.{KeptMapping}
+use Rattle.world_laws.proofs.Words.{◌≡◌, refl, sym, ◌∙◌, ap, subst, ℕ, ◌+◌, ◌&&◌, ◌||◌, ◌==◌, not, nat_lt, nat_le, inl, inr, ◌⊎◌, ⊎_elim, Bool, true, false}
+use Rattle.world_laws.proofs.Words.{if◌then◌else◌, Option, Some, None, List, [], ◌∷◌, ◌++◌, length, map, arith, is_none, is_some, ◌^◌, ltb-true, or_parts}
+use Rattle.world_laws.proofs.Words.{and_parts, both_ways, false≢true, leb-true, or_from, list_any, flat_map, IfSome, Side, A, B, peer, JoinForm, CapableKeys}
+use Rattle.world_laws.proofs.Words.{NoKey, WithData, KeptMapping, Mappings, Receiving, SendState, AckKind, after_acknowledge, ack_kind, sample_of}
+use Rattle.world_laws.proofs.Words.{newly_acknowledged, is_closed_to_segments, is_opening, is_half_open, after_handshake, Meaning, is_syn, EndState}
+use Rattle.world_laws.proofs.Words.{is_at_limit, EndPhase, Outgoing, after_holding, after_ack_kind, after_acknowledgement, is_duplicate, after_duplicate}
+use Rattle.world_laws.proofs.Words.{after_interruption, told_by, after_payload, after_hearing, after_established, after_taken, after_arrival, arrival_of}
+use Rattle.world_laws.proofs.Words.{kept_new, first_fin, is_syn_alone, is_repeated_syn, is_acceptable, meaning_outside, meaning_acknowledging, meaning_within}
+use Rattle.world_laws.proofs.Words.{meaning_placed, meaning_connected, meaning_answer, meaning_answering, meaning_at, meaning_of, Copy, Hint, HeardSegment}
+use Rattle.world_laws.proofs.Words.{PathMapping, InfiniteMapping, Heard, key_heard, is_nil, PathEnd, hint_of, items_in, items_of, has_data_ack, octets_acked}
+use Rattle.world_laws.proofs.Words.{is_plain_ack, edge_held, owes_by, asks_capable, copy_judged, copy_of, owing_if, with_payload, join_items, ack_items}
+use Rattle.world_laws.proofs.Words.{map_items, HeardOption, key_items, item_removed, Treated, Every, EndWrites, Only, EndView, copy_said}
 use Rattle.loss_recovery.specs.declared.timers.Timing.{Timing}
-use Rattle.path_segments.specs.Heard.{HeardSegment}
 use Rattle.path_segments.specs.declared.segment.PathOption.{PathOption}
-use Rattle.path_segments.specs.declared.segment.PathMapping.{PathMapping}
-use Rattle.mptcp_options.specs.declared.capable.CapableKeys.{CapableKeys}
-use Rattle.mptcp_options.specs.declared.capable.CapableKeys.TheVariants.{NoKey, WithData}
-use Rattle.mptcp_options.specs.declared.join.JoinForm.{JoinForm}
-use Rattle.subflow_recv.specs.Receiving.{Receiving}
-use Rattle.subflow_send.specs.Records.{SendState}
-use Rattle.subflow_send.specs.Rules.{ack_kind, after_acknowledge, sample_of, newly_acknowledged}
-use Rattle.subflow_send.specs.declared.record.AckKind.{AckKind}
-use Rattle.subflow_tcp.specs.Emitting.{is_syn}
-use Rattle.subflow_tcp.specs.Judging.{is_syn_alone, is_repeated_syn, is_acceptable, meaning_outside, meaning_acknowledging, meaning_within, meaning_placed, meaning_connected, meaning_answer, meaning_answering, meaning_at, meaning_of}
-use Rattle.subflow_tcp.specs.Segments.{Copy}
-use Rattle.subflow_tcp.specs.State.{EndState, is_at_limit}
-use Rattle.subflow_tcp.specs.States.{after_handshake, is_closed_to_segments, is_half_open, is_opening}
-use Rattle.subflow_tcp.specs.Taking.{after_arrival, arrival_of, after_taken, after_acknowledgement, after_ack_kind, after_duplicate, after_interruption, after_established, after_hearing, after_payload, after_holding, is_duplicate, kept_new, told_by, first_fin}
-use Rattle.subflow_tcp.specs.declared.handshake.State.{State as EndPhase}
-use Rattle.subflow_tcp.specs.declared.segments.Hint.{Hint}
-use Rattle.subflow_tcp.specs.declared.segments.Outgoing.{Outgoing}
 use Rattle.subflow_tcp.specs.declared.verdicts.Arrival.TheVariants.{Opened, Took}
-use Rattle.subflow_tcp.specs.declared.verdicts.Meaning.{Meaning}
-use Rattle.stream_lanes.specs.Words.{Every}
-use Rattle.actor_desk.specs.Words.{is_nil}
-use Rattle.path_agenda.specs.Items.{key_heard}
-use Rattle.path_agenda.specs.declared.heard.Heard.{Heard}
-use Rattle.path_store.specs.declared.infinite_mapping.InfiniteMapping.{InfiniteMapping}
-use Rattle.path_core.specs.DssIn.{HeardOption, ack_items, map_items}
-use Rattle.path_core.specs.Arrival.{copy_of, owing_if, with_payload, copy_judged, position_in}
-use Rattle.path_core.specs.OptionsIn.{hint_of, items_in, items_of, has_data_ack, octets_acked, is_plain_ack, edge_held, owes_by, asks_capable}
-use Rattle.path_core.specs.MpCapable.{key_items}
-use Rattle.path_core.specs.MpJoin.{join_items}
-use Rattle.path_core.specs.Addresses.{item_removed}
-use Rattle.path_core.specs.End.{PathEnd}
-use Rattle.path_core.specs.Treated.{Treated}
-use Rattle.world_laws.specs.Writes.{EndWrites, EndView, Only, copy_said}
+use Rattle.path_core.specs.Arrival.{position_in}
 use Rattle.world_laws.proofs.Keys.AreDrawn.{is_past}
 use Rattle.world_laws.proofs.Keys.AnswerHeardFirst.{is_accepts, is_apart, ack_apart, handshake_apart}
 use Rattle.world_laws.proofs.Whole.Bytes.{EndsWell, Grows, NoneAt, NoneBelow, Remains, acknowledged_remains, at_later, below_later, none_acknowledged, remains_grows, remains_self, remains_well}

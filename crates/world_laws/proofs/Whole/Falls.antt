@@ -1,58 +1,19 @@
 -- Where no options are taken away and no payload is altered, no side falls back: no path asks anything by which its side can.
-use Rattle.std.proofs.Common.{◌≡◌, refl, sym, ◌∙◌, ap, subst, ℕ, zero, suc, ◌+◌, ◌⊎◌, inl, inr, ⊎_elim, ◌&&◌, ◌||◌, ◌==◌, not, nat_lt, is_none, Bool, true, false, if◌then◌else◌, Option, Some, None, List, [], ◌∷◌, map, arith}
-use Rattle.std.proofs.lemmas.Bool.{and_parts, both_ways, false≢true, lt-ltb, or_cases}
-use Rattle.std.proofs.lemmas.Option.{same_Some}
-use Rattle.std.specs.List.{slice_get}
-use Rattle.sides.specs.declared.side.Side.{Side}
-use Rattle.sides.specs.declared.side.Side.TheVariants.{A, B}
-use Rattle.control_book.specs.declared.call.ControlCall.{ControlCall}
-use Rattle.control_book.specs.Control.{Control}
-use Rattle.control_book.specs.Registry.{sole}
+use Rattle.world_laws.proofs.Words.{◌≡◌, refl, sym, ◌∙◌, ap, subst, ℕ, zero, suc, ◌+◌, ◌&&◌, ◌||◌, ◌==◌, not, nat_lt, inl, inr, ◌⊎◌, ⊎_elim, Bool, true, false}
+use Rattle.world_laws.proofs.Words.{if◌then◌else◌, Option, Some, None, List, [], ◌∷◌, map, arith, is_none, lt-ltb, or_cases, and_parts, both_ways, false≢true}
+use Rattle.world_laws.proofs.Words.{same_Some, slice_get, Verdict, Mode, FallEvent, is_identity, is_infinite, is_starting, reads_mappings, receiving, sending}
+use Rattle.world_laws.proofs.Words.{writes_mappings, Fall, is_failed_path, goes, fall_step, Stay, SendFail, Side, A, B, ScriptLine, ControlCall, sole, Control}
+use Rattle.world_laws.proofs.Words.{opening, is_waiting, is_stripped_by, start_of_turn, Duty, SendDuty, StepDuty, AskDuty, Ask, Reply, StampedBooks, books_in}
+use Rattle.world_laws.proofs.Words.{SixBooks, control_of, after_ask, is_nil, AppDuty, AppState, app_ask, app_asks_first, ask_for, waiting_path, PathState}
+use Rattle.world_laws.proofs.Words.{end_at, with_agenda, asks_first, takes, begins_turn, next_round, Carried, values, is_joined, nothing_treated, in_map}
+use Rattle.world_laws.proofs.Words.{Every-nil, in_set, Every, App, Path, Actor, ActorCrew, member_asks, member_takes, member_next, is_over, PathPlan, Start}
+use Rattle.world_laws.proofs.Words.{path_begins, opened_world, start_of, WorldState, Turn, crew_after, asked, stepped, all_over, greatest, begins, after_turn}
+use Rattle.world_laws.proofs.Words.{world_run, IsPlain, PathView, side_of, answer_to, may, asking, IsAt}
 use Rattle.control_book.specs.Steps as controlling
-use Rattle.fallback_state.specs.declared.fall.Event.{Event as FallEvent}
-use Rattle.fallback_state.specs.declared.fall.Fall.{Fall}
-use Rattle.fallback_state.specs.declared.fall.Mode.{Mode}
-use Rattle.fallback_state.specs.declared.fall.Verdict.{Verdict}
-use Rattle.fallback_state.specs.declared.fall.Verdict.TheVariants.{SendFail, Stay}
-use Rattle.fallback_state.specs.Modes.{is_identity, is_infinite, is_starting, reads_mappings, receiving, sending, writes_mappings}
-use Rattle.fallback_state.specs.Table.{breaks, fall_step, goes, is_failed_path, stays}
-use Rattle.link_model.specs.Fate.{is_stripped_by}
-use Rattle.link_script.specs.declared.script.ScriptLine.{ScriptLine}
+use Rattle.fallback_state.specs.Table.{breaks, stays}
 use Rattle.link_script.specs.declared.script.ScriptLine.TheVariants.{Strip, StripAll}
-use Rattle.subflow_send.specs.Rules.{opening}
-use Rattle.subflow_tcp.specs.States.{is_waiting}
-use Rattle.stream_lanes.specs.Words.{Every}
-use Rattle.stream_lanes.proofs.Lists.{Every-nil, in_map, in_set}
-use Rattle.stream_apps.specs.declared.duty.AppDuty.{AppDuty}
-use Rattle.stream_apps.specs.Apps.{AppState}
-use Rattle.stream_apps.specs.AppSteps.{app_ask, app_asks_first}
-use Rattle.actor_desk.specs.declared.ask.Ask.{Ask}
-use Rattle.actor_desk.specs.declared.ask.Reply.{Reply}
-use Rattle.actor_desk.specs.Words.{is_nil}
-use Rattle.actor_desk.specs.Books.{StampedBooks, books_in}
-use Rattle.actor_desk.specs.Desk.{SixBooks, after_ask, control_of}
-use Rattle.path_agenda.specs.Agenda.{start_of_turn}
-use Rattle.path_agenda.specs.declared.duty.Duty.{Duty}
-use Rattle.path_agenda.specs.declared.duty.AskDuty.{AskDuty}
-use Rattle.path_agenda.specs.declared.duty.SendDuty.{SendDuty}
-use Rattle.path_agenda.specs.declared.duty.StepDuty.{StepDuty}
-use Rattle.path_core.specs.Duties.{ask_for}
-use Rattle.path_core.specs.Treated.{nothing_treated}
-use Rattle.path_core.specs.MpJoin.{is_joined}
-use Rattle.path_core.specs.Start.{waiting_path}
-use Rattle.path_core.specs.State.{PathState, end_at, with_agenda}
-use Rattle.path_core.specs.Steps.{asks_first, begins_turn, next_round, takes}
-use Rattle.path_core.specs.Values.{Carried, values}
-use Rattle.world_laws.specs.declared.member.Member.TheVariants.{App, Path}
-use Rattle.world_laws.specs.Actors.{Actor, ActorCrew, is_over, member_asks, member_next, member_takes}
-use Rattle.world_laws.specs.Asking.{IsAt, asking, may}
 use Rattle.world_laws.specs.ModesSoFar.{was_ever}
 use Rattle.world_laws.specs.NeverFalls.{IsPromisedWhole, IsPromisedWholeOfOctets, IsWhole, NeverFalls, WholeScriptsNeverFall, is_fallen_back, strips_options}
-use Rattle.world_laws.specs.Openings.{PathPlan, Start, opened_world, path_begins, start_of}
-use Rattle.world_laws.specs.Promises.{IsPlain}
-use Rattle.world_laws.specs.StampedBooks.{answer_to}
-use Rattle.world_laws.specs.Worlds.{Turn, WorldState, after_turn, all_over, asked, begins, crew_after, greatest, stepped, world_run}
-use Rattle.world_laws.specs.Writes.{PathView, side_of}
 use Rattle.world_laws.proofs.Falls.ByTheJournal.{Was, was_more, was_now, was_wider}
 use Rattle.world_laws.proofs.Falls.ChecksPass.{MemberPasses, PathPasses, checks_pass, each_passes}
 use Rattle.world_laws.proofs.Keys.ByJournals.{Causes, Knows, run_causes}

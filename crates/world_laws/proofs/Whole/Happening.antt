@@ -1,56 +1,17 @@
 -- What an event makes of path 0 as long as no options are taken away. Where A's SYN is answered its end learns B's key next, and where
 -- a timer runs out before that the SYN goes out once more.
-use Rattle.std.proofs.Common.{◌≡◌, refl, sym, ◌∙◌, subst, ℕ, inl, inr, ⊎_elim, ◌&&◌, ◌||◌, ◌==◌, is_some, Bool, true, false, if◌then◌else◌, Option, Some, None, List, [], ◌∷◌, ◌++◌, length}
-use Rattle.std.proofs.lemmas.Bool.{and_parts, both_ways, false≢true, or_cases, or_parts}
-use Rattle.std.proofs.lemmas.Option.{same_Some}
+use Rattle.world_laws.proofs.Words.{◌≡◌, refl, sym, ◌∙◌, subst, ℕ, ◌&&◌, ◌||◌, ◌==◌, inl, inr, ⊎_elim, Bool, true, false, if◌then◌else◌, Option, Some, None}
+use Rattle.world_laws.proofs.Words.{List, [], ◌∷◌, ◌++◌, length, is_some, or_cases, or_parts, and_parts, both_ways, false≢true, same_Some, FallEvent, Side, A}
+use Rattle.world_laws.proofs.Words.{B, peer, same_side, ControlCall, KeptMapping, SendState, is_dead, Meaning, is_sixth, after_expiry, State, Outgoing}
+use Rattle.world_laws.proofs.Words.{after_death, meaning_of, is_due, arriving, without, after_delivery, Due, Flight, HeardSegment, meant, LineAction}
+use Rattle.world_laws.proofs.Words.{rest_of_turn, emission, payload_came, announces, withdraws, Duty, SendDuty, AskDuty, key_heard, Ask, Reply, tail_of, stands}
+use Rattle.world_laws.proofs.Words.{ask_for, passed, answered, PathEnd, died, at_tick, PathState, end_at, goes_on, with_end, with_agenda, settled, Carried}
+use Rattle.world_laws.proofs.Words.{as_arrived, values, items_of, options_heard, copy_judged, copy_of, judged_in, reset_for, template_by, template_of, heard_in}
+use Rattle.world_laws.proofs.Words.{copy_heard, told_at, path_died, died_unless_dead, resend_occasion, resend_of, next_event, after_line, happens_if}
+use Rattle.world_laws.proofs.Words.{template_fired, timer_fired, held_of, peer_key_ask, answered_peer_key, with_peer_key, with_priority, having_sent, taken_as}
+use Rattle.world_laws.proofs.Words.{Every}
 use Rattle.std.specs.List.{position}
-use Rattle.sides.specs.declared.side.Side.{Side}
-use Rattle.sides.specs.declared.side.Side.TheVariants.{A, B}
-use Rattle.sides.specs.Side.{peer}
-use Rattle.dss_mapping.specs.declared.kept.KeptMapping.{KeptMapping}
-use Rattle.link_model.specs.declared.flight.Flight.{Flight}
-use Rattle.link_model.specs.declared.flight.Due.{Due}
-use Rattle.link_script.specs.Places.{same_side}
-use Rattle.link_model.specs.Steps.{after_delivery, arriving, is_due, without}
-use Rattle.path_segments.specs.Heard.{HeardSegment}
-use Rattle.path_segments.specs.Laws.{meant}
-use Rattle.fallback_state.specs.declared.fall.Event.{Event as FallEvent}
-use Rattle.control_book.specs.declared.call.ControlCall.{ControlCall}
-use Rattle.subflow_send.specs.Records.{SendState}
-use Rattle.subflow_tcp.specs.Expiring.{after_expiry, is_sixth}
-use Rattle.subflow_tcp.specs.Judging.{meaning_of}
-use Rattle.subflow_tcp.specs.States.{is_dead}
-use Rattle.subflow_tcp.specs.Taking.{after_death}
-use Rattle.subflow_tcp.specs.declared.handshake.State.{State}
-use Rattle.subflow_tcp.specs.declared.segments.Outgoing.{Outgoing}
-use Rattle.subflow_tcp.specs.declared.verdicts.Meaning.{Meaning}
-use Rattle.stream_lanes.specs.Words.{Every}
-use Rattle.actor_desk.specs.declared.ask.Ask.{Ask}
-use Rattle.actor_desk.specs.declared.ask.Reply.{Reply}
-use Rattle.actor_desk.specs.Words.{tail_of}
-use Rattle.path_agenda.specs.Agenda.{announces, emission, payload_came, rest_of_turn, withdraws}
-use Rattle.path_agenda.specs.Items.{key_heard}
-use Rattle.path_agenda.specs.declared.duty.Duty.{Duty}
-use Rattle.path_agenda.specs.declared.duty.AskDuty.{AskDuty}
-use Rattle.path_agenda.specs.declared.duty.SendDuty.{SendDuty}
-use Rattle.path_store.specs.declared.lines.LineAction.{LineAction}
 use Rattle.path_core.specs.declared.events.Event.{Event}
-use Rattle.path_core.specs.Arrival.{copy_judged, copy_of, judged_in, reset_for, template_by, template_of, copy_heard, heard_in, told_at}
-use Rattle.path_core.specs.DssIn.{held_of}
-use Rattle.path_core.specs.OptionsIn.{items_of, options_heard}
-use Rattle.path_core.specs.Judged.{taken_as}
-use Rattle.path_core.specs.Duties.{answered, ask_for, passed, stands}
-use Rattle.path_core.specs.End.{PathEnd, died}
-use Rattle.path_core.specs.Events.{after_line, happens_if, next_event}
-use Rattle.path_core.specs.State.{at_tick, PathState, end_at, goes_on, with_agenda, with_end}
-use Rattle.path_core.specs.Breaking.{died_unless_dead, path_died}
-use Rattle.path_core.specs.Timer.{template_fired, timer_fired}
-use Rattle.path_core.specs.Addresses.{with_priority}
-use Rattle.path_core.specs.Handover.{having_sent}
-use Rattle.path_core.specs.MpCapable.{answered_peer_key, peer_key_ask, with_peer_key}
-use Rattle.path_core.specs.Emission.{resend_occasion, resend_of}
-use Rattle.path_core.specs.Steps.{settled}
-use Rattle.path_core.specs.Values.{Carried, as_arrived, values}
 use Rattle.world_laws.proofs.Keys.AnswerHeardFirst.{is_accepts, is_apart}
 use Rattle.world_laws.proofs.Keys.Held.{in_removed}
 use Rattle.world_laws.proofs.Keys.WhatWakes.{is_up, next_happens}

@@ -1,34 +1,11 @@
 -- What path 0 passes in silence, as long as no options are taken away.
-use Rattle.std.proofs.Common.{◌≡◌, refl, sym, ◌∙◌, ap, subst, ℕ, suc, ◌+◌, ◌^◌, ◌⊎◌, inl, inr, ⊎_elim, ◌||◌, not, nat_lt, is_some, Bool, true, false, if◌then◌else◌, Option, Some, None, List, [], ◌∷◌, arith}
-use Rattle.std.proofs.lemmas.Bool.{and_parts, both_ways, eqb-true, false≢true, or_right}
-use Rattle.std.specs.Option.{IfSome}
-use Rattle.sides.specs.declared.side.Side.{Side}
-use Rattle.sides.specs.declared.side.Side.TheVariants.{A, B}
-use Rattle.sides.specs.Side.{peer}
-use Rattle.subflow_send.specs.Records.{SendState}
-use Rattle.subflow_tcp.specs.Closing.{is_fin_next, after_passing_fin}
-use Rattle.subflow_tcp.specs.Judging.{is_at}
-use Rattle.subflow_tcp.specs.State.{EndState, is_fin_passed}
+use Rattle.world_laws.proofs.Words.{◌≡◌, refl, sym, ◌∙◌, ap, subst, ℕ, suc, ◌+◌, ◌||◌, not, nat_lt, inl, inr, ◌⊎◌, ⊎_elim, Bool, true, false, if◌then◌else◌}
+use Rattle.world_laws.proofs.Words.{Option, Some, None, List, [], ◌∷◌, arith, is_some, ◌^◌, eqb-true, and_parts, both_ways, false≢true, or_right, IfSome, Side}
+use Rattle.world_laws.proofs.Words.{A, B, peer, without_held, after_keep_held, Receiving, SendState, EndState, is_fin_passed, EndPhase, after_dropping_held}
+use Rattle.world_laws.proofs.Words.{is_fin_next, after_passing_fin, is_at, Duty, SendDuty, StepDuty, AskDuty, SilentDuty, Heard, stands, passed, PathEnd}
+use Rattle.world_laws.proofs.Words.{PathState, end_at, with_agenda, settled, Carried, after_timer, mapping_here, forgotten_by, after_keep, is_dropped}
+use Rattle.world_laws.proofs.Words.{after_check, is_not_kept, with_learned, with_data_fin, counts, with_skipped, item_of, item_passed, item_at}
 use Rattle.subflow_tcp.specs.States as states
-use Rattle.subflow_tcp.specs.Taking.{after_dropping_held}
-use Rattle.subflow_tcp.specs.declared.handshake.State.{State as EndPhase}
-use Rattle.subflow_recv.specs.Receiving.{Receiving, after_keep_held, without_held}
-use Rattle.path_agenda.specs.declared.duty.Duty.{Duty}
-use Rattle.path_agenda.specs.declared.duty.AskDuty.{AskDuty}
-use Rattle.path_agenda.specs.declared.duty.SilentDuty.{SilentDuty}
-use Rattle.path_agenda.specs.declared.duty.SendDuty.{SendDuty}
-use Rattle.path_agenda.specs.declared.duty.StepDuty.{StepDuty}
-use Rattle.path_agenda.specs.declared.heard.Heard.{Heard}
-use Rattle.path_core.specs.Deliver.{after_check, forgotten_by, mapping_here, after_keep, is_dropped, is_not_kept}
-use Rattle.path_core.specs.DssIn.{with_learned, with_skipped, counts, with_data_fin}
-use Rattle.path_core.specs.Duties.{passed, stands}
-use Rattle.path_core.specs.Timer.{after_timer}
-use Rattle.path_core.specs.End.{PathEnd}
-use Rattle.path_core.specs.State.{PathState, end_at, with_agenda}
-use Rattle.path_core.specs.Steps.{settled}
-use Rattle.path_core.specs.Treating.{item_of, item_passed}
-use Rattle.path_core.specs.Values.{Carried}
-use Rattle.path_core.specs.Choices.{item_at}
 use Rattle.world_laws.proofs.Falls.FailedChecks.{forgets_so}
 use Rattle.world_laws.proofs.Keys.AnswerHeardFirst.{passed_apart}
 use Rattle.world_laws.proofs.Keys.AreDrawn.{is_past}

@@ -1,43 +1,16 @@
 -- The world of two applications and the paths, and what is written in it.
-use Rattle.std.proofs.Common.{◌≡◌, refl, sym, ◌∙◌, ap, subst, ℕ, zero, suc, ◌+◌, not, true, false, Option, Some, None, List, [], ◌∷◌, ◌++◌, map, set, take, ⊎_elim, arith}
-use Rattle.std.proofs.lemmas.List.{append-nil}
-use Rattle.std.proofs.lemmas.Option.{same_Some}
-use Rattle.std.specs.List.{slice_get}
+use Rattle.world_laws.proofs.Words.{◌≡◌, refl, sym, ◌∙◌, ap, subst, ℕ, zero, suc, ◌+◌, not, ⊎_elim, true, false, Option, Some, None, List, [], ◌∷◌, ◌++◌, take}
+use Rattle.world_laws.proofs.Words.{map, arith, set, and_parts, both_ways, false≢true, append-nil, same_Some, slice_get, Pass, raised, Side, A, B, SendCall}
+use Rattle.world_laws.proofs.Words.{Sending, Duty, Ask, Note, Reply, StampedBooks, books_in, unasked, stamp_of, after_entry, SixBooks, send_of, reply_of}
+use Rattle.world_laws.proofs.Words.{after_ask, opened_books, after_send_call, is_nil, AppDuty, AppState, fresh_turn, start_of_app, app_stands, app_ask}
+use Rattle.world_laws.proofs.Words.{app_answered, app_answers, app_settled, app_settles_down, app_takes, app_next_round, IsAppSettled, FirstAppStands}
+use Rattle.world_laws.proofs.Words.{untouched, first_app_turn, Codec, ask_for, waiting_path, first_turn, PathState, asks_first, takes, next_round, in_map}
+use Rattle.world_laws.proofs.Words.{in_set, Every, App, Path, Actor, ActorCrew, WritesTheFile, PathPlan, Start, path_begins, new_crew, new_path, paths_from}
+use Rattle.world_laws.proofs.Words.{opened_world, WorldState, asked, stepped, world_step, greatest, begins, note_of, answer_to}
 use Rattle.std.specs.Option.{option_map}
-use Rattle.std.proofs.lemmas.Bool.{and_parts, both_ways, false≢true}
-use Rattle.sides.specs.declared.side.Side.{Side}
-use Rattle.sides.specs.declared.side.Side.TheVariants.{A, B}
-use Rattle.stamped_book.specs.declared.stamped.Pass.{Pass}
 use Rattle.stamped_book.specs.declared.stamped.Refusal.{Refusal}
-use Rattle.stamped_book.specs.Entering.{raised}
-use Rattle.stream_lanes.specs.Words.{Every}
-use Rattle.stream_lanes.proofs.Lists.{in_map, in_set}
-use Rattle.send_book.specs.declared.call.SendCall.{SendCall}
-use Rattle.send_book.specs.State.{Sending}
 use Rattle.send_book.specs.Steps.{after_call}
-use Rattle.actor_desk.specs.declared.ask.Ask.{Ask}
-use Rattle.actor_desk.specs.declared.ask.Note.{Note}
-use Rattle.actor_desk.specs.declared.ask.Reply.{Reply}
-use Rattle.actor_desk.specs.Books.{StampedBooks, books_in, unasked, stamp_of, after_entry}
-use Rattle.actor_desk.specs.Desk.{opened_books, SixBooks, send_of, reply_of, after_ask, after_send_call}
-use Rattle.actor_desk.specs.Words.{is_nil}
-use Rattle.stream_apps.specs.declared.duty.AppDuty.{AppDuty}
-use Rattle.stream_apps.specs.Apps.{AppState}
-use Rattle.stream_apps.specs.AppSteps.{app_stands, app_ask, app_answered, app_answers, app_settled, app_settles_down, app_takes, app_next_round, fresh_turn, start_of_app}
-use Rattle.stream_apps.specs.Starts.{fast_close_of, untouched, first_app_turn}
-use Rattle.stream_apps.specs.Turns.{FirstAppStands, IsAppSettled}
-use Rattle.path_agenda.specs.declared.duty.Duty.{Duty}
-use Rattle.path_core.specs.Codec.{Codec}
-use Rattle.path_core.specs.Duties.{ask_for}
-use Rattle.path_core.specs.Start.{first_turn, waiting_path}
-use Rattle.path_core.specs.State.{PathState}
-use Rattle.path_core.specs.Steps.{asks_first, takes, next_round}
-use Rattle.world_laws.specs.declared.member.Member.TheVariants.{App, Path}
-use Rattle.world_laws.specs.Actors.{Actor, ActorCrew}
-use Rattle.world_laws.specs.Laws.{WritesTheFile}
-use Rattle.world_laws.specs.Openings.{PathPlan, Start, path_begins, new_crew, new_path, paths_from, opened_world}
-use Rattle.world_laws.specs.StampedBooks.{answer_to}
-use Rattle.world_laws.specs.Worlds.{WorldState, note_of, asked, stepped, world_step, greatest, begins}
+use Rattle.stream_apps.specs.Starts.{fast_close_of}
 use Rattle.world_laws.proofs.Lanes.Applying.{Writes, Settles, settled_app, writes_more, closes}
 use Rattle.world_laws.proofs.Asks.NeitherWritesNorCloses.{AskLeavesFile, asks_leave, call_keeps}
 use Rattle.world_laws.proofs.Rounds.NothingDueIsLeft.{Shaped, takes_shaped, begun_shaped}

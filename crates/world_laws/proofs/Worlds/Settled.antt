@@ -1,14 +1,6 @@
 -- A path of which what comes to nothing is passed over: its first duty comes to something.
-use Rattle.std.proofs.Common.{◌≡◌, refl, Bool, true, false, if◌then◌else◌, List, [], ◌∷◌}
-use Rattle.path_agenda.specs.declared.duty.Duty.{Duty}
-use Rattle.path_agenda.specs.declared.duty.AskDuty.{AskDuty}
-use Rattle.path_agenda.specs.declared.duty.SendDuty.{SendDuty}
-use Rattle.path_agenda.specs.declared.duty.SilentDuty.{SilentDuty}
-use Rattle.path_agenda.specs.declared.duty.StepDuty.{StepDuty}
-use Rattle.path_core.specs.Duties.{stands, passed}
-use Rattle.path_core.specs.State.{PathState, with_agenda}
-use Rattle.path_core.specs.Steps.{settled}
-use Rattle.path_core.specs.Turns.{IsSettled}
+use Rattle.world_laws.proofs.Words.{◌≡◌, refl, Bool, true, false, if◌then◌else◌, List, [], ◌∷◌, Duty, SendDuty, StepDuty, AskDuty, SilentDuty, stands, passed}
+use Rattle.world_laws.proofs.Words.{PathState, with_agenda, settled, IsSettled}
 
 module _ {C : Type 0} where
   same_stands : (d : Duty) (ds : List Duty) (p : PathState C) → stands d p ≡ true → stands d (with_agenda ds p) ≡ true

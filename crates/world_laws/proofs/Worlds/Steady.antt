@@ -1,27 +1,10 @@
 -- At every moment the world is steady: each path may do what it does next, as the other side and the control books let it.
-use Rattle.std.proofs.Common.{◌≡◌, refl, sym, ◌∙◌, subst, ℕ, suc, ◌⊎◌, inl, inr, ⊎_elim, is_none, Bool, true, false, if◌then◌else◌, Option, Some, None, List, [], ◌∷◌, map}
-use Rattle.std.proofs.lemmas.Bool.{and_parts, false≢true}
-use Rattle.std.specs.List.{slice_get}
-use Rattle.sides.specs.declared.side.Side.TheVariants.{A, B}
-use Rattle.control_book.specs.declared.call.ControlCall.{ControlCall}
-use Rattle.control_book.specs.Control.{Control}
-use Rattle.control_book.specs.Replies.{is_sure, may_join}
+use Rattle.world_laws.proofs.Words.{◌≡◌, refl, sym, ◌∙◌, subst, ℕ, suc, inl, inr, ◌⊎◌, ⊎_elim, Bool, true, false, if◌then◌else◌, Option, Some, None, List, []}
+use Rattle.world_laws.proofs.Words.{◌∷◌, map, is_none, and_parts, false≢true, slice_get, A, B, ControlCall, Control, is_sure, may_join, Duty, AskDuty, Ask}
+use Rattle.world_laws.proofs.Words.{Reply, books_in, SixBooks, after_ask, Carried, values, in_map, in_set, Every, App, Path, Actor, ActorCrew, member_asks}
+use Rattle.world_laws.proofs.Words.{member_takes, member_next, Always, Start, opened_world, WorldState, Turn, crew_after, asked, stepped, all_over, greatest}
+use Rattle.world_laws.proofs.Words.{begins, after_turn, world_run, answer_to}
 use Rattle.control_book.specs.Steps as controlling
-use Rattle.stream_lanes.specs.Words.{Every}
-use Rattle.stream_lanes.proofs.Lists.{in_set, in_map}
-use Rattle.actor_desk.specs.declared.ask.Ask.{Ask}
-use Rattle.actor_desk.specs.declared.ask.Reply.{Reply}
-use Rattle.actor_desk.specs.Books.{books_in}
-use Rattle.actor_desk.specs.Desk.{SixBooks, after_ask}
-use Rattle.path_agenda.specs.declared.duty.Duty.{Duty}
-use Rattle.path_agenda.specs.declared.duty.AskDuty.{AskDuty}
-use Rattle.path_core.specs.Values.{Carried, values}
-use Rattle.world_laws.specs.declared.member.Member.TheVariants.{App, Path}
-use Rattle.world_laws.specs.Actors.{Actor, ActorCrew, member_asks, member_takes, member_next}
-use Rattle.world_laws.specs.Laws.{Always}
-use Rattle.world_laws.specs.Openings.{Start, opened_world}
-use Rattle.world_laws.specs.StampedBooks.{answer_to}
-use Rattle.world_laws.specs.Worlds.{WorldState, Turn, crew_after, asked, stepped, all_over, greatest, begins, after_turn, world_run}
 use Rattle.world_laws.proofs.Falls.ClearStays.{takes_clear, next_clear}
 use Rattle.world_laws.proofs.Falls.WhereASideStands.{IsNoJoin, same_joined}
 use Rattle.world_laws.proofs.Joins.AnsweredAfterBegun.{DutyJoined, MemberJoined, always_joined}

@@ -1,38 +1,10 @@
 -- No duty asks more than it may: its asks are of its kinds, at the books of its side, and of the path itself.
-use Rattle.std.proofs.Common.{◌≡◌, refl, ℕ, true, Option, Some, None}
-use Rattle.sides.specs.declared.side.Side.{Side}
-use Rattle.loss_recovery.specs.declared.windows.Pending.{Pending}
-use Rattle.subflow_send.specs.Records.{Record}
-use Rattle.join_handshake.specs.declared.hearing.JoinSyn.{JoinSyn}
-use Rattle.actor_desk.specs.declared.ask.Ask.{Ask}
-use Rattle.path_agenda.specs.declared.notice.PeerNotice.{PeerNotice}
-use Rattle.path_agenda.specs.declared.duty.Duty.{Duty}
-use Rattle.path_agenda.specs.declared.duty.AskDuty.{AskDuty}
-use Rattle.path_agenda.specs.declared.duty.SendDuty.{SendDuty}
-use Rattle.path_agenda.specs.declared.duty.SilentDuty.{SilentDuty}
-use Rattle.path_agenda.specs.declared.duty.StepDuty.{StepDuty}
-use Rattle.path_agenda.specs.declared.heard.Heard.{Heard}
-use Rattle.path_agenda.specs.declared.keys.KeyPair.{KeyPair}
-use Rattle.path_agenda.specs.Items.{key_heard, keys_heard}
-use Rattle.path_core.specs.Addresses.{notice_ask}
-use Rattle.path_core.specs.Breaking.{break_ask}
-use Rattle.path_core.specs.Codec.{Codec}
-use Rattle.path_store.specs.Passing.{Piece}
-use Rattle.path_core.specs.Duties.{ask_for}
-use Rattle.path_core.specs.Emission.{first_unsent, data_ask}
-use Rattle.path_core.specs.Events.{next_event, step_for}
-use Rattle.path_core.specs.MpJoin.{asked_at, join_heard_ask}
-use Rattle.path_core.specs.MpCapable.{peer_key_ask, opened_ask}
-use Rattle.path_core.specs.Deliver.{piece_of, piece_ask}
-use Rattle.path_core.specs.DataFin.{data_fin_of, fin_ask, plain_fin}
-use Rattle.path_core.specs.Rate.{rate_ask}
-use Rattle.path_core.specs.State.{PathState, end_at, path_of}
-use Rattle.path_core.specs.DssIn.{is_clash}
-use Rattle.path_core.specs.Treating.{item_ask, item_of}
-use Rattle.path_core.specs.Fallback.{breaks_by_ack}
+use Rattle.world_laws.proofs.Words.{◌≡◌, refl, ℕ, true, Option, Some, None, Side, JoinSyn, Record, Pending, Piece, Duty, SendDuty, StepDuty, AskDuty}
+use Rattle.world_laws.proofs.Words.{SilentDuty, Heard, KeyPair, key_heard, keys_heard, PeerNotice, Ask, Codec, ask_for, PathState, end_at, path_of, break_ask}
+use Rattle.world_laws.proofs.Words.{first_unsent, data_ask, next_event, step_for, asked_at, join_heard_ask, piece_of, piece_ask, plain_fin, data_fin_of}
+use Rattle.world_laws.proofs.Words.{fin_ask, is_clash, item_ask, item_of, breaks_by_ack, peer_key_ask, opened_ask, notice_ask, rate_ask, side_of, May, asking}
+use Rattle.world_laws.proofs.Words.{IsAsked, asks_of_steps, asks_of_books}
 use Rattle.path_core.specs.declared.events.Event.{Event}
-use Rattle.world_laws.specs.Asking.{May, IsAsked, asking, asks_of_books, asks_of_steps}
-use Rattle.world_laws.specs.Writes.{side_of}
 use Rattle.world_laws.proofs.Falls.FailedChecks.{fail_asks_so, subflow_acks_so}
 use Rattle.world_laws.proofs.Writes.Ends.{if_so}
 

@@ -1,42 +1,12 @@
 -- What the rules write of an end, where a reply or a choice decides. What holds of all that an end can become so holds of what it becomes.
-use Rattle.std.proofs.Common.{refl, ℕ, Bool, true, false, if◌then◌else◌, ◌||◌, Option, Some, None, List}
-use Rattle.sides.specs.declared.side.Side.{Side}
-use Rattle.send_book.specs.declared.call.SendReply.{SendReply}
-use Rattle.reassembly_book.specs.declared.call.ReassemblyReply.{ReassemblyReply}
-use Rattle.control_book.specs.declared.call.ControlReply.{ControlReply}
-use Rattle.control_book.specs.declared.call.Notice.{Notice}
-use Rattle.fallback_state.specs.declared.fall.Event.{Event as FallEvent}
-use Rattle.fallback_state.specs.declared.fall.Mode.{Mode}
-use Rattle.fallback_state.specs.declared.fall.Verdict.{Verdict}
-use Rattle.join_handshake.specs.declared.hearing.JoinAnswer.{JoinAnswer}
-use Rattle.subflow_send.specs.Records.{SendState}
-use Rattle.subflow_tcp.specs.Emitting.{after_sending}
-use Rattle.subflow_tcp.specs.State.{EndState}
-use Rattle.subflow_tcp.specs.States.{is_dead}
+use Rattle.world_laws.proofs.Words.{refl, ℕ, ◌||◌, Bool, true, false, if◌then◌else◌, Option, Some, None, List, Verdict, Mode, FallEvent, Side, JoinAnswer}
+use Rattle.world_laws.proofs.Words.{ControlReply, Notice, ReassemblyReply, SendReply, SendState, is_dead, Meaning, after_sending, EndState, EndPhase, Occasion}
+use Rattle.world_laws.proofs.Words.{Heard, KeyPair, Reply, PathEnd, died, Notices, after_notice, after_look, may_note, window_in, asked_in, died_unless_dead}
+use Rattle.world_laws.proofs.Words.{refused_in, opened_by, join_answer, acked_in, after_acked, counts, HeardOption, item_passed, heard_passed, fell_in, is_fall}
+use Rattle.world_laws.proofs.Words.{mode_in, keys_in, answered_in, cleared_in, with_answer, Modes, Only, happening, heard_writes, looking}
 use Rattle.subflow_tcp.specs.declared.dues.Due.{Due}
-use Rattle.subflow_tcp.specs.declared.handshake.State.{State as EndPhase}
-use Rattle.subflow_tcp.specs.declared.segments.Occasion.{Occasion}
-use Rattle.subflow_tcp.specs.declared.verdicts.Meaning.{Meaning}
-use Rattle.actor_desk.specs.declared.ask.Reply.{Reply}
-use Rattle.path_agenda.specs.declared.heard.Heard.{Heard}
-use Rattle.path_agenda.specs.declared.keys.KeyPair.{KeyPair}
 use Rattle.path_store.specs.Receiving.{Receiving}
-use Rattle.path_core.specs.DssIn.{HeardOption, counts}
-use Rattle.path_core.specs.Judged.{answered_in, cleared_in, with_answer}
-use Rattle.path_core.specs.Arrival.{asked_in}
-use Rattle.path_core.specs.Emission.{refused_in}
-use Rattle.path_core.specs.End.{PathEnd, died}
 use Rattle.path_core.specs.Sending.{Sending}
-use Rattle.path_core.specs.Notices.{Notices, after_notice}
-use Rattle.path_core.specs.Breaking.{died_unless_dead}
-use Rattle.path_core.specs.Fallback.{is_fall, fell_in, mode_in}
-use Rattle.path_core.specs.MpJoin.{opened_by, join_answer}
-use Rattle.path_core.specs.MpCapable.{keys_in}
-use Rattle.path_core.specs.Standing.{window_in, after_look, may_note}
-use Rattle.path_core.specs.DataFin.{after_acked, acked_in}
-use Rattle.path_core.specs.Treating.{item_passed, heard_passed}
-use Rattle.path_core.specs.declared.modes.Modes.{Modes}
-use Rattle.world_laws.specs.Writes.{Only, happening, heard_writes, looking}
 
 -- ---- choices and replies
 

@@ -1,57 +1,23 @@
 -- No duty writes more of a path than it may, whether it is answered or passed.
-use Rattle.std.proofs.Common.{◌≡◌, refl, ◌∙◌, ap, ℕ, Bool, true, false, if◌then◌else◌, Option, Some, None, List}
-use Rattle.path_segments.specs.Heard.{HeardSegment}
-use Rattle.path_segments.specs.Spelled.{PlainSegment}
-use Rattle.sides.specs.declared.side.Side.{Side}
-use Rattle.sides.specs.declared.side.Side.TheVariants.{A, B}
-use Rattle.fallback_state.specs.declared.fall.Event.{Event as FallEvent}
-use Rattle.fallback_state.specs.declared.fall.Mode.{Mode}
-use Rattle.join_handshake.specs.declared.hearing.JoinSyn.{JoinSyn}
-use Rattle.link_model.specs.Steps.{arriving, after_delivery, one_more}
-use Rattle.link_model.specs.State.{LinkState}
-use Rattle.subflow_send.specs.Records.{Record}
-use Rattle.subflow_tcp.specs.Closing.{is_fin_next, after_passing_fin}
-use Rattle.subflow_tcp.specs.State.{EndState}
-use Rattle.subflow_tcp.specs.States.{is_waiting}
-use Rattle.subflow_tcp.specs.declared.segments.Occasion.{Occasion}
-use Rattle.subflow_tcp.specs.declared.verdicts.Meaning.{Meaning}
-use Rattle.actor_desk.specs.declared.ask.Reply.{Reply}
-use Rattle.actor_desk.specs.Words.{tail_of}
-use Rattle.path_agenda.specs.Agenda.{leaves, emission, resets}
-use Rattle.path_agenda.specs.Items.{key_heard, keys_heard}
-use Rattle.path_agenda.specs.declared.duty.Duty.{Duty}
-use Rattle.path_agenda.specs.declared.duty.AskDuty.{AskDuty}
-use Rattle.path_agenda.specs.declared.duty.SendDuty.{SendDuty}
-use Rattle.path_agenda.specs.declared.duty.SilentDuty.{SilentDuty}
-use Rattle.path_agenda.specs.declared.duty.StepDuty.{StepDuty}
-use Rattle.path_agenda.specs.declared.heard.Heard.{Heard}
-use Rattle.path_agenda.specs.declared.keys.KeyPair.{KeyPair}
+use Rattle.world_laws.proofs.Words.{◌≡◌, refl, ◌∙◌, ap, ℕ, Bool, true, false, if◌then◌else◌, Option, Some, None, List, Mode, FallEvent, Side, A, B, JoinSyn}
+use Rattle.world_laws.proofs.Words.{Record, is_waiting, Meaning, EndState, Occasion, is_fin_next, after_passing_fin, arriving, after_delivery, one_more}
+use Rattle.world_laws.proofs.Words.{LinkState, HeardSegment, PlainSegment, LineAction, Piece, emission, leaves, resets, Duty, SendDuty, StepDuty, AskDuty}
+use Rattle.world_laws.proofs.Words.{SilentDuty, Heard, KeyPair, key_heard, keys_heard, Reply, tail_of, Codec, passed, answered, PathEnd, died, after_ack_out}
+use Rattle.world_laws.proofs.Words.{at_tick, PathState, end_at, goes_on, items_of, options_heard, after_judged, judged_in, with_held, heard_in, copy_heard}
+use Rattle.world_laws.proofs.Words.{told_at, answered_break, answered_data, answered_grant, first_unsent, grant_in, answer_occasion, answer_of, resend_occasion}
+use Rattle.world_laws.proofs.Words.{resend_of, refused, next_event, after_line, happens_if, join_begun, never_joined, asked_at, is_listening, is_never}
+use Rattle.world_laws.proofs.Words.{join_taken, joined_by, keys_begun, opened_by, is_joined, with_keys, mapping_here, piece_of, is_placed, answered_piece}
+use Rattle.world_laws.proofs.Words.{forgotten_by, after_keep, is_dropped, is_not_kept, is_fin_set, is_clash, held_of, with_acked, answered_heard, answered_item}
+use Rattle.world_laws.proofs.Words.{item_of, after_check_failed, after_fell, answered_plain_ack, plain_next, plainly_acked, breaks_by_ack, after_fail_heard}
+use Rattle.world_laws.proofs.Words.{with_plain_acked, after_keys, answered_peer_key, answered_opened, having_sent, sent_on, taken_as, Modes, EndWrites, Only}
+use Rattle.world_laws.proofs.Words.{Writes, OnlyAt, EndView, PathView, end_view, path_view, hide, writes, side_of, ask_writes, step_writes, silent_writes}
+use Rattle.world_laws.proofs.Words.{on_link, acking, acknowledged, happening, heard_writes}
 use Rattle.path_store.specs.Receiving.{Receiving}
-use Rattle.path_store.specs.declared.lines.LineAction.{LineAction}
-use Rattle.path_core.specs.OptionsIn.{items_of, options_heard}
-use Rattle.path_core.specs.Arrival.{judged_in, after_judged, with_held, copy_heard, heard_in, told_at}
-use Rattle.path_core.specs.Judged.{taken_as}
-use Rattle.path_core.specs.DssIn.{held_of, is_clash, with_acked}
-use Rattle.path_core.specs.Breaking.{answered_break}
-use Rattle.path_core.specs.Codec.{Codec}
-use Rattle.path_store.specs.Passing.{Piece}
-use Rattle.path_core.specs.Deliver.{mapping_here, forgotten_by, answered_piece, is_placed, piece_of, is_dropped, is_not_kept, after_keep}
-use Rattle.path_core.specs.Duties.{passed, answered}
-use Rattle.path_core.specs.Emission.{refused, Grant, grant_in, answered_grant, answered_data, first_unsent, answer_of, answer_occasion, resend_of, resend_occasion}
-use Rattle.path_core.specs.End.{PathEnd, died}
+use Rattle.path_core.specs.Emission.{Grant}
 use Rattle.path_core.specs.Sending.{Sending}
-use Rattle.path_core.specs.Events.{next_event, after_line, happens_if}
-use Rattle.path_core.specs.State.{at_tick, PathState, end_at, goes_on}
-use Rattle.path_core.specs.MpJoin.{join_begun, never_joined, keys_begun, is_never, opened_by, join_taken, asked_at, joined_by, is_listening, with_keys, is_joined}
-use Rattle.path_core.specs.Fallback.{after_fell, after_infinite, after_fail_heard, after_check_failed, answered_plain_ack, breaks_by_ack, plain_next, plainly_acked, with_plain_acked}
-use Rattle.path_core.specs.Handover.{having_sent, sent_on}
-use Rattle.path_core.specs.MpCapable.{answered_peer_key, answered_opened, after_keys}
-use Rattle.path_core.specs.DataFin.{is_fin_set}
-use Rattle.path_core.specs.Standing.{after_ack_out}
-use Rattle.path_core.specs.Treating.{answered_heard, answered_item, item_of}
+use Rattle.path_core.specs.Fallback.{after_infinite}
 use Rattle.path_core.specs.declared.events.Event.{Event}
-use Rattle.path_core.specs.declared.modes.Modes.{Modes}
-use Rattle.world_laws.specs.Writes.{EndWrites, Only, Writes, OnlyAt, EndView, PathView, end_view, path_view, hide, writes, side_of, ask_writes, step_writes, silent_writes, on_link, acking, sending, acknowledged, happening, heard_writes}
+use Rattle.world_laws.specs.Writes.{sending}
 use Rattle.world_laws.proofs.Falls.FailedChecks.{check_failed_so, fail_heard_so, infinite_came_so, fail_answered_so, forgets_so}
 use Rattle.world_laws.proofs.Writes.Ends.{if_so, mode_so, fell_so, keyed_so, window_so, acked_so, refused_so, sent_so, looked, copy_so, died_at, opened_at, item_at}
 
