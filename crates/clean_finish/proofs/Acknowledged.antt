@@ -188,41 +188,22 @@ module _ {s : Side} {keys : Keys} {k j : Setting} {c : Profile} {begun begun_bac
           };
           way_back = way_back_after;
           apps = record {
-            writes = record {
-              numbers = writes_after;
-              over = h.apps.writes.over;
-            };
-            reads = record {
-              numbers = h.apps.reads.numbers;
-              received = h.apps.reads.received;
-              over = h.apps.reads.over;
-            };
+            writes = record { numbers = writes_after; over = h.apps.writes.over };
+            reads = record { numbers = h.apps.reads.numbers; received = h.apps.reads.received; over = h.apps.reads.over };
             receives = record {
               read = h.apps.receives.read;
               received = h.apps.receives.received;
               known = h.apps.receives.known;
               capacity = h.apps.receives.capacity;
             };
-            book = record {
-              edge = book_after.edge;
-              owner = book_after.owner;
-              marks = book_after.marks;
-              taken = book_after.taken;
-            };
+            book = record { edge = book_after.edge; owner = book_after.owner; marks = book_after.marks; taken = book_after.taken };
             room = h.apps.room;
             whole = h.apps.whole;
             fin = fin_heard;
           };
           apps_back = record {
-            writes = record {
-              numbers = h.apps_back.writes.numbers;
-              over = h.apps_back.writes.over;
-            };
-            reads = record {
-              numbers = h.apps_back.reads.numbers;
-              received = h.apps_back.reads.received;
-              over = h.apps_back.reads.over;
-            };
+            writes = record { numbers = h.apps_back.writes.numbers; over = h.apps_back.writes.over };
+            reads = record { numbers = h.apps_back.reads.numbers; received = h.apps_back.reads.received; over = h.apps_back.reads.over };
             receives = record {
               read = h.apps_back.receives.read;
               received = h.apps_back.receives.received;

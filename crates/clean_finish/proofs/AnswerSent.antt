@@ -292,13 +292,7 @@ module _ {keys : Keys} {k j : Setting} {c : Profile} {begun begun_back : Lane} {
                   row = subst (λ (o : Option Hand). m.end.tcp.congestion.duplicates ≤ row_seen h.out.sender o) hand h.own.subflow.congestion.row;
                 };
                 come = record { edge = h.own.subflow.come.edge; window = h.own.subflow.come.window };
-                heard = record {
-                  told = heard.told;
-                  most = heard.most;
-                  end = heard.end;
-                  few = heard.few;
-                  some = heard.some;
-                };
+                heard = record { told = heard.told; most = heard.most; end = heard.end; few = heard.few; some = heard.some };
                 quiet = h.own.subflow.quiet;
                 begun = λ is. one_low h.out.control_sent came;
                 keyed = λ is one still. h.own.subflow.keyed is one (ap brings_still hand);
@@ -412,15 +406,8 @@ module _ {keys : Keys} {k j : Setting} {c : Profile} {begun begun_back : Lane} {
               way = way_after;
               way_back = way_back_after;
               apps = record {
-                writes = record {
-                  numbers = h.apps.writes.numbers;
-                  over = h.apps.writes.over;
-                };
-                reads = record {
-                  numbers = h.apps.reads.numbers;
-                  received = h.apps.reads.received;
-                  over = h.apps.reads.over;
-                };
+                writes = record { numbers = h.apps.writes.numbers; over = h.apps.writes.over };
+                reads = record { numbers = h.apps.reads.numbers; received = h.apps.reads.received; over = h.apps.reads.over };
                 receives = record {
                   read = h.apps.receives.read;
                   received = h.apps.receives.received;
@@ -438,10 +425,7 @@ module _ {keys : Keys} {k j : Setting} {c : Profile} {begun begun_back : Lane} {
                 fin = h.apps.fin;
               };
               apps_back = record {
-                writes = record {
-                  numbers = h.apps_back.writes.numbers;
-                  over = h.apps_back.writes.over;
-                };
+                writes = record { numbers = h.apps_back.writes.numbers; over = h.apps_back.writes.over };
                 reads = record {
                   numbers = h.apps_back.reads.numbers;
                   received = h.apps_back.reads.received;

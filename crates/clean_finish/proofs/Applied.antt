@@ -295,11 +295,7 @@ module _ (start : Start) (plan : PathPlan) (k j : Setting) (s v : Lane) (t0 u0 :
             };
             apps_back = record {
               writes = acts.writes.shows;
-              reads = record {
-                numbers = h.apps_back.reads.numbers;
-                received = h.apps_back.reads.received;
-                over = h.apps_back.reads.over;
-              };
+              reads = record { numbers = h.apps_back.reads.numbers; received = h.apps_back.reads.received; over = h.apps_back.reads.over };
               receives = record {
                 read = h.apps_back.receives.read;
                 received = h.apps_back.receives.received;

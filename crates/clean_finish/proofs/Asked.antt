@@ -77,10 +77,7 @@ module _ {s : Side} {keys : Keys} {k j : Setting} {c : Profile} {begun begun_bac
           records = h.own.subflow.records;
           ahead = h.own.subflow.ahead;
           congestion = h.own.subflow.congestion;
-          come = record {
-            edge = h.own.subflow.come.edge;
-            window = h.own.subflow.come.window;
-          };
+          come = record { edge = h.own.subflow.come.edge; window = h.own.subflow.come.window };
           heard = h.own.subflow.heard;
           quiet = h.own.subflow.quiet;
           begun = h.own.subflow.begun;
@@ -167,15 +164,8 @@ module _ {s : Side} {keys : Keys} {k j : Setting} {c : Profile} {begun begun_bac
         };
         apps = h.apps;
         apps_back = record {
-          writes = record {
-            numbers = h.apps_back.writes.numbers;
-            over = h.apps_back.writes.over;
-          };
-          reads = record {
-            numbers = h.apps_back.reads.numbers;
-            received = h.apps_back.reads.received;
-            over = h.apps_back.reads.over;
-          };
+          writes = record { numbers = h.apps_back.writes.numbers; over = h.apps_back.writes.over };
+          reads = record { numbers = h.apps_back.reads.numbers; received = h.apps_back.reads.received; over = h.apps_back.reads.over };
           receives = record {
             read = h.apps_back.receives.read;
             received = h.apps_back.receives.received;

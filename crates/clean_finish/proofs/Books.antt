@@ -20,10 +20,7 @@ one_at_end (suc c) total n few within = ⊎_elim
     below apart = omega (arith, apart, within)
 
 pub asks_as_lanes : AckOutAsksAsLanes
-asks_as_lanes k w b h is = record {
-  next = next;
-  edge = record { least = omega (arith, next, is, h); most = omega (arith, next, is, h) };
-}
+asks_as_lanes k w b h is = record { next = next; edge = record { least = omega (arith, next, is, h); most = omega (arith, next, is, h) } }
   where
     one : (if is_end b.known_end (received b) then 1 else 0) ≡ min w.data_fin_came ((w.received + 1) - k.total)
     one = subst (λ (n : ℕ). (if is_end b.known_end n then 1 else 0) ≡ min w.data_fin_came ((w.received + 1) - k.total))

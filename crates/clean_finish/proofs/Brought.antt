@@ -119,36 +119,21 @@ module _ {s : Side} {keys : Keys} {k j : Setting} {c : Profile} {begun begun_bac
               passed = h.way_back.passed;
             };
             apps = record {
-              writes = record {
-                numbers = h.apps.writes.numbers;
-                over = h.apps.writes.over;
-              };
-              reads = record {
-                numbers = h.apps.reads.numbers;
-                received = h.apps.reads.received;
-                over = h.apps.reads.over;
-              };
+              writes = record { numbers = h.apps.writes.numbers; over = h.apps.writes.over };
+              reads = record { numbers = h.apps.reads.numbers; received = h.apps.reads.received; over = h.apps.reads.over };
               receives = record {
                 read = h.apps.receives.read;
                 received = h.apps.receives.received;
                 known = h.apps.receives.known;
                 capacity = h.apps.receives.capacity;
               };
-              book = record {
-                edge = h.apps.book.edge;
-                owner = h.apps.book.owner;
-                marks = h.apps.book.marks;
-                taken = h.apps.book.taken;
-              };
+              book = record { edge = h.apps.book.edge; owner = h.apps.book.owner; marks = h.apps.book.marks; taken = h.apps.book.taken };
               room = h.apps.room;
               whole = h.apps.whole;
               fin = h.apps.fin;
             };
             apps_back = record {
-              writes = record {
-                numbers = h.apps_back.writes.numbers;
-                over = h.apps_back.writes.over;
-              };
+              writes = record { numbers = h.apps_back.writes.numbers; over = h.apps_back.writes.over };
               reads = reads;
               receives = receives;
               book = record {

@@ -102,10 +102,7 @@ module _ {keys : Keys} {k j : Setting} {c : Profile} {begun begun_back : Lane} {
           steady = h.own.subflow.congestion.steady;
           row = row_on h.hand h.own.subflow.congestion.row;
         };
-        come = record {
-          edge = h.own.subflow.come.edge;
-          window = h.own.subflow.come.window;
-        };
+        come = record { edge = h.own.subflow.come.edge; window = h.own.subflow.come.window };
         heard = heard_on h.hand h.own.subflow.heard;
         quiet = h.own.subflow.quiet;
         begun = h.own.subflow.begun;
@@ -204,41 +201,22 @@ module _ {keys : Keys} {k j : Setting} {c : Profile} {begun begun_back : Lane} {
         passed = h.way_back.passed;
       };
       apps = record {
-        writes = record {
-          numbers = h.apps.writes.numbers;
-          over = h.apps.writes.over;
-        };
-        reads = record {
-          numbers = h.apps.reads.numbers;
-          received = h.apps.reads.received;
-          over = h.apps.reads.over;
-        };
+        writes = record { numbers = h.apps.writes.numbers; over = h.apps.writes.over };
+        reads = record { numbers = h.apps.reads.numbers; received = h.apps.reads.received; over = h.apps.reads.over };
         receives = record {
           read = h.apps.receives.read;
           received = h.apps.receives.received;
           known = h.apps.receives.known;
           capacity = h.apps.receives.capacity;
         };
-        book = record {
-          edge = h.apps.book.edge;
-          owner = h.apps.book.owner;
-          marks = h.apps.book.marks;
-          taken = h.apps.book.taken;
-        };
+        book = record { edge = h.apps.book.edge; owner = h.apps.book.owner; marks = h.apps.book.marks; taken = h.apps.book.taken };
         room = h.apps.room;
         whole = h.apps.whole;
         fin = h.apps.fin;
       };
       apps_back = record {
-        writes = record {
-          numbers = h.apps_back.writes.numbers;
-          over = h.apps_back.writes.over;
-        };
-        reads = record {
-          numbers = h.apps_back.reads.numbers;
-          received = h.apps_back.reads.received;
-          over = h.apps_back.reads.over;
-        };
+        writes = record { numbers = h.apps_back.writes.numbers; over = h.apps_back.writes.over };
+        reads = record { numbers = h.apps_back.reads.numbers; received = h.apps_back.reads.received; over = h.apps_back.reads.over };
         receives = record {
           read = h.apps_back.receives.read;
           received = h.apps_back.receives.received;

@@ -341,10 +341,7 @@ module _ {s : Side} {keys : Keys} {k j : Setting} {c : Profile} {begun begun_bac
                 steady = h.own.subflow.congestion.steady;
                 row = subst (λ (o : Option Hand). m.end.tcp.congestion.duplicates ≤ row_seen h.out.sender o) hand h.own.subflow.congestion.row;
               };
-              come = record {
-                edge = h.own.subflow.come.edge;
-                window = h.own.subflow.come.window;
-              };
+              come = record { edge = h.own.subflow.come.edge; window = h.own.subflow.come.window };
               heard = subst (λ (o : Option Hand). HeardIs s k.total (last_told h.out.heard o) m.end.tcp) hand h.own.subflow.heard;
               quiet = h.own.subflow.quiet;
               begun = h.own.subflow.begun;

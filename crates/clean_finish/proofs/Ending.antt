@@ -78,13 +78,7 @@ module _ {s : Side} {keys : Keys} {k j : Setting} {c : Profile} {begun begun_bac
               row = row;
             };
             come = record { edge = h.own.subflow.come.edge; window = h.own.subflow.come.window };
-            heard = record {
-              told = heard.told;
-              most = heard.most;
-              end = heard.end;
-              few = heard.few;
-              some = heard.some;
-            };
+            heard = record { told = heard.told; most = heard.most; end = heard.end; few = heard.few; some = heard.some };
             quiet = h.own.subflow.quiet;
             begun = λ is. subst (λ (n : ℕ). min 1 n ≤ h.back.control_came) (sym control) (h.own.subflow.begun is);
             keyed = λ is one b. h.own.subflow.keyed is one still;

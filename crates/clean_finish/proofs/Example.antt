@@ -196,15 +196,7 @@ may_skip first turn bytes data_fin control keys = record {
 }
 
 goes_on : {p : Stage} → IsBefore (record p { emit = true }) p
-goes_on = record {
-  ask = λ e. e;
-  tell = refl;
-  window = λ e. e;
-  update = λ e. e;
-  emit = no;
-  finish = λ e. e;
-  wait = λ e. e;
-}
+goes_on = record { ask = λ e. e; tell = refl; window = λ e. e; update = λ e. e; emit = no; finish = λ e. e; wait = λ e. e }
 
 -- ---- the first round
 

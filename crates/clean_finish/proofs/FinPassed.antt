@@ -126,10 +126,7 @@ module _ {s : Side} {keys : Keys} {k j : Setting} {c : Profile} {begun begun_bac
             steady = h.own.subflow.congestion.steady;
             row = subst (λ (o : Option Hand). m.end.tcp.congestion.duplicates ≤ row_seen h.out.sender o) hand h.own.subflow.congestion.row;
           };
-          come = record {
-            edge = edge_is h.own.subflow.come.edge received counts.0 counts.1;
-            window = h.own.subflow.come.window;
-          };
+          come = record { edge = edge_is h.own.subflow.come.edge received counts.0 counts.1; window = h.own.subflow.come.window };
           heard = record { told = heard_on.told; most = heard_on.most; end = heard_on.end; few = heard_on.few; some = heard_on.some };
           quiet = λ off. absurd (both_ways _ off open_now.connected);
           begun = λ is. up (h.own.subflow.begun is) (less_max h.back.control_came x.control);

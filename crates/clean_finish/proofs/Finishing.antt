@@ -79,13 +79,7 @@ module _ {s : Side} {keys : Keys} {k j : Setting} {c : Profile} {begun begun_bac
               row = row;
             };
             come = record { edge = h.own.subflow.come.edge; window = h.own.subflow.come.window };
-            heard = record {
-              told = heard.told;
-              most = heard.most;
-              end = heard.end;
-              few = heard.few;
-              some = heard.some;
-            };
+            heard = record { told = heard.told; most = heard.most; end = heard.end; few = heard.few; some = heard.some };
             quiet = λ off. absurd (both_ways _ off is_open.connected);
             begun = λ is. one_low out_after.control_sent came;
             keyed = λ is some b. h.own.subflow.keyed is some still;

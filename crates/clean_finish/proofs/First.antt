@@ -227,14 +227,7 @@ module _ (start : Start) (plan : PathPlan) (k j : Setting) (a b t t' : ℕ)
       walker = new_walker one_path 0 plan;
       alone = refl;
       runs = record {
-        path = record {
-          profile = refl;
-          delay = refl;
-          number = refl;
-          unspoken = refl;
-          lines = refl;
-          joined = refl;
-        };
+        path = record { profile = refl; delay = refl; number = refl; unspoken = refl; lines = refl; joined = refl };
         link = record { order = tt; from_a = tt; from_b = tt };
         faces = record {
           out = with_apps a there.writes_by there.reads_by;

@@ -175,10 +175,7 @@ module _ {s : Side} {keys : Keys} {k j : Setting} {c : Profile} {begun begun_bac
               steady = h.own.subflow.congestion.steady;
               row = h.own.subflow.congestion.row;
             };
-            come = record {
-              edge = h.own.subflow.come.edge;
-              window = h.own.subflow.come.window;
-            };
+            come = record { edge = h.own.subflow.come.edge; window = h.own.subflow.come.window };
             heard = record {
               told = h.own.subflow.heard.told;
               most = h.own.subflow.heard.most;
@@ -299,11 +296,7 @@ module _ {s : Side} {keys : Keys} {k j : Setting} {c : Profile} {begun begun_bac
               };
               over = h.apps.writes.over;
             };
-            reads = record {
-              numbers = h.apps.reads.numbers;
-              received = h.apps.reads.received;
-              over = h.apps.reads.over;
-            };
+            reads = record { numbers = h.apps.reads.numbers; received = h.apps.reads.received; over = h.apps.reads.over };
             receives = record {
               read = h.apps.receives.read;
               received = h.apps.receives.received;

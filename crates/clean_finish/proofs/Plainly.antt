@@ -101,12 +101,7 @@ module _ (start : Start) (plan : PathPlan) (k j : Setting) (s v : Lane) (t0 u0 :
             → Relation (d ∷ ds) → Relation ds
         passes_free d free plain h =
             let t = plain (own_bench h.faces) (other_bench h.faces) h.treats in
-            record {
-              path = h.path;
-              link = h.link;
-              faces = free_drops d ds free h.faces;
-              treats = plain_on keys _ _ ds t.0 t.1 t.2 t.3;
-            }
+            record { path = h.path; link = h.link; faces = free_drops d ds free h.faces; treats = plain_on keys _ _ ds t.0 t.1 t.2 t.3 }
 
         pub passes_join : Relation ((Duty.Ask AskDuty.JoinAgain) ∷ ds) → Relation ds
         passes_join h = passes_free (Duty.Ask AskDuty.JoinAgain) refl (λ x y t. (t.0, t.1, t.2, t.5)) h
@@ -170,12 +165,7 @@ module _ (start : Start) (plan : PathPlan) (k j : Setting) (s v : Lane) (t0 u0 :
         passes_data_a none h =
             let t = h.treats in
             let is = has_emitted_all plan.delay t0 u0 k_is j_is going going_back h.faces none in
-            record {
-              path = h.path;
-              link = h.link;
-              faces = data_passes ds h.faces is.1;
-              treats = plain_on keys _ _ ds t.0 is.0 t.1 t.4;
-            }
+            record { path = h.path; link = h.link; faces = data_passes ds h.faces is.1; treats = plain_on keys _ _ ds t.0 is.0 t.1 t.4 }
 
         pub passes_data_b : data_stands p.profile B p.b (first_unsent p.b) ≡ false → Relation (Duty.Step (StepDuty.Data B) ∷ ds) → Relation ds
         passes_data_b none h =

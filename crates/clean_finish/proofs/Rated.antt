@@ -79,10 +79,7 @@ module _ {s : Side} {keys : Keys} {k j : Setting} {c : Profile} {begun begun_bac
             steady = grows.grows.calm;
             row = subst (λ (x : ℕ). x ≤ row_seen h.out.sender h.hand) (sym grows.duplicates) h.own.subflow.congestion.row;
           };
-          come = record {
-            edge = h.own.subflow.come.edge;
-            window = h.own.subflow.come.window;
-          };
+          come = record { edge = h.own.subflow.come.edge; window = h.own.subflow.come.window };
           heard = record {
             told = subst (λ (t : Told). IfSome t.place
                 (λ n. ((last_told h.out.heard h.hand).next ≡ n) × ((last_told h.out.heard h.hand).edge ≡ n + t.window) × (1 ≤ (last_told h.out.heard h.hand).seen)

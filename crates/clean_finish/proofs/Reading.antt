@@ -116,11 +116,7 @@ module _ (k : Setting) (s : Lane) (t : ℕ) (p : Stage) (w : Lane) where
     -- bytes came: it reads on as long as it got less than a buffer
     bytes : (y : ℕ) (ys : List ℕ) → length (y ∷ ys) ≡ n → (less : Bool) → nat_lt (a.count + length (y ∷ ys)) a.buffer ≡ less
         → ReaderGoes k s p w (app_settled (if less then Read ∷ End ∷ [] else End ∷ [])
-        (record a {
-          told = false;
-          count = a.count + length (y ∷ ys);
-          agenda = (if less then Read ∷ End ∷ [] else End ∷ []);
-        }))
+        (record a { told = false; count = a.count + length (y ∷ ys); agenda = (if less then Read ∷ End ∷ [] else End ∷ []) }))
         (after_reading max b)
     bytes y ys size true e =
         reads_on n _ _ (numbers _ w.told_end false (Read ∷ End ∷ []) size none_told

@@ -89,15 +89,8 @@ module _ {s : Side} {keys : Keys} {k j : Setting} {c : Profile} {begun begun_bac
           way = way_after;
           way_back = way_back_after;
           apps = record {
-            writes = record {
-              numbers = h.apps.writes.numbers;
-              over = h.apps.writes.over;
-            };
-            reads = record {
-              numbers = h.apps.reads.numbers;
-              received = h.apps.reads.received;
-              over = h.apps.reads.over;
-            };
+            writes = record { numbers = h.apps.writes.numbers; over = h.apps.writes.over };
+            reads = record { numbers = h.apps.reads.numbers; received = h.apps.reads.received; over = h.apps.reads.over };
             receives = record {
               read = h.apps.receives.read;
               received = h.apps.receives.received;
@@ -115,15 +108,8 @@ module _ {s : Side} {keys : Keys} {k j : Setting} {c : Profile} {begun begun_bac
             fin = h.apps.fin;
           };
           apps_back = record {
-            writes = record {
-              numbers = h.apps_back.writes.numbers;
-              over = h.apps_back.writes.over;
-            };
-            reads = record {
-              numbers = h.apps_back.reads.numbers;
-              received = h.apps_back.reads.received;
-              over = h.apps_back.reads.over;
-            };
+            writes = record { numbers = h.apps_back.writes.numbers; over = h.apps_back.writes.over };
+            reads = record { numbers = h.apps_back.reads.numbers; received = h.apps_back.reads.received; over = h.apps_back.reads.over };
             receives = record {
               read = h.apps_back.receives.read;
               received = h.apps_back.receives.received;

@@ -268,10 +268,7 @@ module _ {s : Side} {keys : Keys} {k j : Setting} {c : Profile} {begun begun_bac
               steady = h.own.subflow.congestion.steady;
               row = h.own.subflow.congestion.row;
             };
-            come = record {
-              edge = h.own.subflow.come.edge;
-              window = h.own.subflow.come.window;
-            };
+            come = record { edge = h.own.subflow.come.edge; window = h.own.subflow.come.window };
             heard = record {
               told = h.own.subflow.heard.told;
               most = h.own.subflow.heard.most;
@@ -364,27 +361,15 @@ module _ {s : Side} {keys : Keys} {k j : Setting} {c : Profile} {begun begun_bac
           };
           way_back = h.way_back;
           apps = record {
-            writes = record {
-              numbers = h.apps.writes.numbers;
-              over = h.apps.writes.over;
-            };
-            reads = record {
-              numbers = h.apps.reads.numbers;
-              received = h.apps.reads.received;
-              over = h.apps.reads.over;
-            };
+            writes = record { numbers = h.apps.writes.numbers; over = h.apps.writes.over };
+            reads = record { numbers = h.apps.reads.numbers; received = h.apps.reads.received; over = h.apps.reads.over };
             receives = record {
               read = h.apps.receives.read;
               received = h.apps.receives.received;
               known = h.apps.receives.known;
               capacity = h.apps.receives.capacity;
             };
-            book = record {
-              edge = h.apps.book.edge;
-              owner = h.apps.book.owner;
-              marks = h.apps.book.marks;
-              taken = h.apps.book.taken;
-            };
+            book = record { edge = h.apps.book.edge; owner = h.apps.book.owner; marks = h.apps.book.marks; taken = h.apps.book.taken };
             room = h.apps.room;
             whole = h.apps.whole;
             fin = h.apps.fin;

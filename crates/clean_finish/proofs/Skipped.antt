@@ -82,10 +82,7 @@ module _ {s : Side} {keys : Keys} {k j : Setting} {c : Profile} {begun begun_bac
           steady = h.own.subflow.congestion.steady;
           row = subst (λ (o : Option Hand). m.end.tcp.congestion.duplicates ≤ row_seen h.out.sender o) hand h.own.subflow.congestion.row;
         };
-        come = record {
-          edge = h.own.subflow.come.edge;
-          window = h.own.subflow.come.window;
-        };
+        come = record { edge = h.own.subflow.come.edge; window = h.own.subflow.come.window };
         heard = subst (λ (o : Option Hand). HeardIs s k.total (last_told h.out.heard o) m.end.tcp) hand h.own.subflow.heard;
         quiet = h.own.subflow.quiet;
         begun = h.own.subflow.begun;
@@ -183,41 +180,22 @@ module _ {s : Side} {keys : Keys} {k j : Setting} {c : Profile} {begun begun_bac
         passed = h.way_back.passed;
       };
       apps = record {
-        writes = record {
-          numbers = h.apps.writes.numbers;
-          over = h.apps.writes.over;
-        };
-        reads = record {
-          numbers = h.apps.reads.numbers;
-          received = h.apps.reads.received;
-          over = h.apps.reads.over;
-        };
+        writes = record { numbers = h.apps.writes.numbers; over = h.apps.writes.over };
+        reads = record { numbers = h.apps.reads.numbers; received = h.apps.reads.received; over = h.apps.reads.over };
         receives = record {
           read = h.apps.receives.read;
           received = h.apps.receives.received;
           known = h.apps.receives.known;
           capacity = h.apps.receives.capacity;
         };
-        book = record {
-          edge = h.apps.book.edge;
-          owner = h.apps.book.owner;
-          marks = h.apps.book.marks;
-          taken = h.apps.book.taken;
-        };
+        book = record { edge = h.apps.book.edge; owner = h.apps.book.owner; marks = h.apps.book.marks; taken = h.apps.book.taken };
         room = h.apps.room;
         whole = h.apps.whole;
         fin = h.apps.fin;
       };
       apps_back = record {
-        writes = record {
-          numbers = h.apps_back.writes.numbers;
-          over = h.apps_back.writes.over;
-        };
-        reads = record {
-          numbers = h.apps_back.reads.numbers;
-          received = h.apps_back.reads.received;
-          over = h.apps_back.reads.over;
-        };
+        writes = record { numbers = h.apps_back.writes.numbers; over = h.apps_back.writes.over };
+        reads = record { numbers = h.apps_back.reads.numbers; received = h.apps_back.reads.received; over = h.apps_back.reads.over };
         receives = record {
           read = h.apps_back.receives.read;
           received = h.apps_back.receives.received;

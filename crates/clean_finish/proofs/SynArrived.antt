@@ -190,10 +190,7 @@ module _ {keys : Keys} {k j : Setting} {c : Profile} {begun begun_back : Lane} {
       way_back = way_after;
       apps = h.apps;
       apps_back = record {
-        writes = record {
-          numbers = h.apps_back.writes.numbers;
-          over = h.apps_back.writes.over;
-        };
+        writes = record { numbers = h.apps_back.writes.numbers; over = h.apps_back.writes.over };
         reads = record {
           numbers = came_same h.apps_back.reads.numbers;
           received = plus_none h.back.received ∙ h.apps_back.reads.received;

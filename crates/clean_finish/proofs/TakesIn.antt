@@ -194,11 +194,7 @@ module _ {s : Side} {keys : Keys} {k j : Setting} {c : Profile} {begun begun_bac
             low a is = omega (arith, is)
 
         pub reads_on : ReaderShows j back_now m.app m.arrived
-        reads_on = record {
-          numbers = numbers_on;
-          received = received ∙ h.apps_back.reads.received;
-          over = h.apps_back.reads.over;
-        }
+        reads_on = record { numbers = numbers_on; received = received ∙ h.apps_back.reads.received; over = h.apps_back.reads.over }
 
         pub receives_on : ReceiverIs j back_now m.arrived
         receives_on = record {

@@ -48,10 +48,7 @@ module _ {s : Side} {keys : Keys} {k j : Setting} {c : Profile} {begun begun_bac
           steady = h.own.subflow.congestion.steady;
           row = h.own.subflow.congestion.row;
         };
-        come = record {
-          edge = same_edge ∙ h.own.subflow.come.edge;
-          window = same_window ∙ h.own.subflow.come.window;
-        };
+        come = record { edge = same_edge ∙ h.own.subflow.come.edge; window = same_window ∙ h.own.subflow.come.window };
         heard = record {
           told = h.own.subflow.heard.told;
           most = h.own.subflow.heard.most;

@@ -47,11 +47,7 @@ module _ (start : Start) (plan : PathPlan) (k j : Setting) (s v : Lane) (t0 u0 :
                   none = t.0.0.none;
                   mapped = t.0.0.mapped;
                   least = t.0.0.least;
-                  idle = record {
-                    places = t.0.0.idle.places;
-                    incoming = t.0.0.idle.incoming;
-                    fin = t.0.0.idle.fin;
-                  };
+                  idle = record { places = t.0.0.idle.places; incoming = t.0.0.idle.incoming; fin = t.0.0.idle.fin };
                   owes = t.0.0.owes;
                   answered = t.0.0.answered;
                   ready = t.0.0.ready;
@@ -84,11 +80,7 @@ module _ (start : Start) (plan : PathPlan) (k j : Setting) (s v : Lane) (t0 u0 :
                   none = t.0.1.none;
                   mapped = t.0.1.mapped;
                   least = t.0.1.least;
-                  idle = record {
-                    places = t.0.1.idle.places;
-                    incoming = t.0.1.idle.incoming;
-                    fin = t.0.1.idle.fin;
-                  };
+                  idle = record { places = t.0.1.idle.places; incoming = t.0.1.idle.incoming; fin = t.0.1.idle.fin };
                   owes = t.0.1.owes;
                   answered = t.0.1.answered;
                   ready = t.0.1.ready;
@@ -117,11 +109,7 @@ module _ (start : Start) (plan : PathPlan) (k j : Setting) (s v : Lane) (t0 u0 :
                   none = t.0.0.none;
                   mapped = t.0.0.mapped;
                   least = t.0.0.least;
-                  idle = record {
-                    places = t.0.0.idle.places;
-                    incoming = t.0.0.idle.incoming;
-                    fin = t.0.0.idle.fin;
-                  };
+                  idle = record { places = t.0.0.idle.places; incoming = t.0.0.idle.incoming; fin = t.0.0.idle.fin };
                   owes = t.0.0.owes;
                   answered = t.0.0.answered;
                   ready = t.0.0.ready;
@@ -152,11 +140,7 @@ module _ (start : Start) (plan : PathPlan) (k j : Setting) (s v : Lane) (t0 u0 :
                   none = t.0.1.none;
                   mapped = t.0.1.mapped;
                   least = t.0.1.least;
-                  idle = record {
-                    places = t.0.1.idle.places;
-                    incoming = t.0.1.idle.incoming;
-                    fin = t.0.1.idle.fin;
-                  };
+                  idle = record { places = t.0.1.idle.places; incoming = t.0.1.idle.incoming; fin = t.0.1.idle.fin };
                   owes = t.0.1.owes;
                   answered = t.0.1.answered;
                   ready = t.0.1.ready;

@@ -114,11 +114,7 @@ module _ (k : Setting) (s : Lane) (t : ℕ) (p : Stage) (w : Lane) where
       now : (r : List ℕ) → r ≡ drop n a.rest → (b' : Bool) (ds : List AppDuty)
           → WriterIs k (length b.written + n) w.closed w.acked
           (record a { rest = r; closed = false; told = b'; agenda = ds })
-          (record b {
-            closed = false;
-            written = b.written ++ take n (offered a);
-            marks = b.marks ++ replicate n (Free no_paths);
-          })
+          (record b { closed = false; written = b.written ++ take n (offered a); marks = b.marks ++ replicate n (Free no_paths) })
       now r e b' ds = record {
         file = let left = some_left r e in omega (arith, left, len);
         bytes = sym len;
@@ -154,11 +150,7 @@ module _ (k : Setting) (s : Lane) (t : ℕ) (p : Stage) (w : Lane) where
       by : (r : List ℕ) → r ≡ drop n a.rest → (b' : Bool)
           → WriterGoes k s p w (app_settled (Close ∷ Read ∷ End ∷ [])
           (record a { rest = r; closed = false; told = b'; agenda = Close ∷ Read ∷ End ∷ [] }))
-          (record b {
-            closed = false;
-            written = b.written ++ take n (offered a);
-            marks = b.marks ++ replicate n (Free no_paths);
-          })
+          (record b { closed = false; written = b.written ++ take n (offered a); marks = b.marks ++ replicate n (Free no_paths) })
       by [] e b' =
           goes_on (length b.written + n) w.closed 1 _ _ (now [] e b' (Close ∷ Read ∷ End ∷ [])) refl turn (moves [] e)
       by (x ∷ r) e false =

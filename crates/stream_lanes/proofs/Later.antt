@@ -157,10 +157,7 @@ module _ {Q : ℕ → Type 0} {v u : View} (l : Later Q v u) where
   }
 
   pub ends_later : (p : Lane) → EndsHold v.end p.known_end p.data_fins → EndsHold u.end p.known_end p.data_fins
-  ends_later p h = record {
-    told = IfSome-map p.known_end (λ e is. l.end e is) h.told;
-    named = Every-map (λ e is. l.end e is) h.named;
-  }
+  ends_later p h = record { told = IfSome-map p.known_end (λ e is. l.end e is) h.told; named = Every-map (λ e is. l.end e is) h.named }
 
   pub fin_later : (path : ℕ) (sent : List Cell) (pos : ℕ) → IsFin path v sent pos → IsFin path u sent pos
   fin_later path sent pos h = record {
@@ -170,10 +167,7 @@ module _ {Q : ℕ → Type 0} {v u : View} (l : Later Q v u) where
   }
 
   pub heard_later : (heard : ℕ) (fin_acked : Bool) → HeardHolds v heard fin_acked → HeardHolds u heard fin_acked
-  heard_later heard fin_acked h = record {
-    below = omega (arith, h.below, l.confirmed);
-    fin = λ is. all_later (h.fin is);
-  }
+  heard_later heard fin_acked h = record { below = omega (arith, h.below, l.confirmed); fin = λ is. all_later (h.fin is) }
 
   pub ack_later : (next window : ℕ) → IsAck v next window → IsAck u next window
   ack_later next window h = record { covers = omega (arith, h.covers, l.next); reaches = λ none. let old = h.reaches (sym l.alters ∙ none) in omega (arith, old, l.edge) }

@@ -457,11 +457,7 @@ answered_roles (Duty.Silent d) r p h = agenda_roles (left p) p h
 answered_roles d r p h = kept_by (side_of d) (writes d) p _ refl refl refl refl refl (writes_no_more values d r p) h
 
 roles_last : Lasts (λ (p q : PathState Carried). HasRoles p → HasRoles q)
-roles_last = record {
-  agenda = λ ds p h. agenda_roles ds p h;
-  chains = λ p q r x y h. y (x h);
-  passes = λ d p h. passed_roles d p h;
-}
+roles_last = record { agenda = λ ds p h. agenda_roles ds p h; chains = λ p q r x y h. y (x h); passes = λ d p h. passed_roles d p h }
 
 pub takes_roles : (r : Reply) (p : PathState Carried) → HasRoles p → HasRoles (takes values r p)
 takes_roles r p h = takes_lasts (λ p q. HasRoles p → HasRoles q) roles_last values r p (λ d h. answered_roles d r p h) h

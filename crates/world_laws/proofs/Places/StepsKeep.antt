@@ -262,11 +262,7 @@ module _ (R : Side → ℕ → ℕ → Type 0) where
   answered_knows d r p tell h = kept_by (side_of d) (writes d) p _ refl refl (writes_no_more values d r p) h
 
   knows_lasts : Lasts (λ (p q : PathState Carried). PathKnows p → PathKnows q)
-  knows_lasts = record {
-    agenda = λ ds p h. agenda ds p h;
-    chains = λ p q r x y h. y (x h);
-    passes = λ d p h. passed_knows d p h;
-  }
+  knows_lasts = record { agenda = λ ds p h. agenda ds p h; chains = λ p q r x y h. y (x h); passes = λ d p h. passed_knows d p h }
 
   pub takes_knows : (r : Reply) (p : PathState Carried) → CopiesTell p → PathKnows p → PathKnows (takes values r p)
   takes_knows r p tell h = takes_lasts (λ p q. PathKnows p → PathKnows q) knows_lasts values r p (λ d h. answered_knows d r p tell h) h
