@@ -1,9 +1,9 @@
 -- No copy that arrives on a path that joins is refused for what it says, unless its options were taken away.
 use Rattle.world_laws.proofs.Words.{◌≡◌, refl, sym, ◌∙◌, ap, subst, ℕ, zero, suc, ◌+◌, ◌&&◌, ◌==◌, not, ⊎_elim, Bool, true, false, if◌then◌else◌, Option, Some}
-use Rattle.world_laws.proofs.Words.{None, Ok, Err, List, [], ◌∷◌, map, is_none, is_some, unwrap_or, eq-eqb, and_parts, both_ways, false≢true, not-true}
+use Rattle.world_laws.proofs.Words.{None, Ok, Err, List, [], ◌∷◌, map, is_none, is_some, unwrap_or, eq-eqb, and_parts, both_ways, false≢true}
 use Rattle.world_laws.proofs.Words.{same_Some, slice_get, flat_map, IfSome, option_or, result_ok, join_a160_of, join_b64_of, Side, A, B, peer, same_side}
 use Rattle.world_laws.proofs.Words.{JoinForm, Answer, Third, JoinAnswer, BadHmac, answer_heard, answer_taken, syn_heard, third_heard, is_closed_to_segments}
-use Rattle.world_laws.proofs.Words.{is_half_open, Meaning, EndState, EndPhase, is_syn_alone, meaning_at, meaning_of, Copy, is_due, arriving, Flight}
+use Rattle.world_laws.proofs.Words.{is_half_open, Meaning, EndState, EndPhase, meaning_of, Copy, is_due, arriving, Flight}
 use Rattle.world_laws.proofs.Words.{HeardSegment, PlainOption, PlainSegment, Join, meant, meant_option, window_told, Heard, is_of_step, join_in, join_heard}
 use Rattle.world_laws.proofs.Words.{JoinStep, Ask, Reply, books_in, SixBooks, reply_of, is_nil, PathEnd, waiting_path, PathState, end_at, Carried, as_arrived}
 use Rattle.world_laws.proofs.Words.{values, items_in, items_of, copy_of, judged_in, heard_in, Judged, is_joined, join_answer, join_asked, peer_key_of}
@@ -21,7 +21,8 @@ use Rattle.world_laws.proofs.Keys.AreDrawn.{Deed, Secrets, drawn_key, drawn_nonc
 use Rattle.world_laws.proofs.Keys.WhatWakes.{is_opens, is_up, open_is_up}
 use Rattle.world_laws.proofs.Keys.Held.{PathIs, FlightIs, arrived_is, end_is, join_found}
 use Rattle.world_laws.proofs.Joins.Roles.{HasRoles, CopyTells, role_at, arrived_tells, takes_roles, begins_roles}
-use Rattle.world_laws.proofs.Keys.AnswerHeardFirst.{TellsKey, asks_first, connected_meaning, is_accepts, is_apart, is_taken, opening_meaning}
+use Rattle.world_laws.proofs.Keys.Meanings.{Means, means}
+use Rattle.world_laws.proofs.Keys.AnswerHeardFirst.{TellsKey, asks_first, is_accepts, is_apart}
 
 -- a list is the same as itself, octet by octet
 same_octets : (xs ys : List ℕ) → xs ≡ ys → pointwise ◌==◌ xs ys ≡ true
@@ -113,9 +114,6 @@ is_firm (Meaning.Accepts acknowledged) = true
 is_firm (Meaning.Taken pos acknowledged) = true
 is_firm _ = false
 
-not_reset : (c : Copy) → is_syn_alone c ≡ true → c.rst ≡ false
-not_reset c alone = not-true c.rst (and_parts (not c.rst) _ (and_parts (not c.fin) _ (and_parts c.syn _ alone).1).1).0
-
 -- a SYN comes to a listening end, and its answer to an opening one; no reset is taken
 record FitsState (state : EndPhase) (c : Copy) (m : Meaning) : Type 0 where
   pub opens : is_opens m ≡ true → (is_apart A state ≡ true) × (c.syn ≡ true)
@@ -123,43 +121,19 @@ record FitsState (state : EndPhase) (c : Copy) (m : Meaning) : Type 0 where
   pub alive : is_accepts m ≡ true → is_closed_to_segments state ≡ false
   pub firm : is_firm m ≡ true → c.rst ≡ false
 
-other_fits : (state : EndPhase) (c : Copy) (m : Meaning) → is_opens m ≡ false → is_accepts m ≡ false → (is_taken m ≡ true → c.rst ≡ false) → FitsState state c m
-other_fits state c m opens accepts taken = record {
-  opens = λ is. absurd (both_ways _ opens is);
-  accepts = λ is. absurd (both_ways _ accepts is);
-  alive = λ is. absurd (both_ways _ accepts is);
-  firm = firm m opens accepts taken;
-}
+state_fits : (c : Copy) (s : EndState) → FitsState s.state c (meaning_of c s)
+state_fits c s = by (meaning_of c s) (means c s)
   where
-    firm : (m : Meaning) → is_opens m ≡ false → is_accepts m ≡ false → (is_taken m ≡ true → c.rst ≡ false) → is_firm m ≡ true → c.rst ≡ false
-    firm Meaning.Opens opens accepts taken is = absurd (false≢true (sym opens))
-    firm (Meaning.Accepts acknowledged) opens accepts taken is = absurd (false≢true (sym accepts))
-    firm (Meaning.Taken pos acknowledged) opens accepts taken is = taken refl
-    firm _ opens accepts taken is = absurd (false≢true is)
-
-state_fits : (state : EndPhase) (c : Copy) (s : EndState) → FitsState state c (meaning_at state c s)
-state_fits EndPhase.Dead c s = by c.rst
-  where
-    by : (b : Bool) → FitsState EndPhase.Dead c (if b then Meaning.Ignored else Meaning.Unwanted)
-    by true = other_fits EndPhase.Dead c Meaning.Ignored refl refl (λ is. absurd (false≢true is))
-    by false = other_fits EndPhase.Dead c Meaning.Unwanted refl refl (λ is. absurd (false≢true is))
-state_fits EndPhase.Waiting c s = other_fits EndPhase.Waiting c Meaning.Ignored refl refl (λ is. absurd (false≢true is))
-state_fits EndPhase.Listen c s = by (is_syn_alone c) refl
-  where
-    by : (b : Bool) → is_syn_alone c ≡ b → FitsState EndPhase.Listen c (if b then Meaning.Opens else Meaning.Ignored)
-    by true alone = record { opens = λ is. (refl, (and_parts c.syn _ alone).0); accepts = λ is. absurd (false≢true is); alive = λ is. absurd (false≢true is); firm = λ is. not_reset c alone }
-    by false alone = other_fits EndPhase.Listen c Meaning.Ignored refl refl (λ is. absurd (false≢true is))
-state_fits EndPhase.SynSent c s =
-    opening_meaning c s (FitsState EndPhase.SynSent c) (other_fits EndPhase.SynSent c Meaning.Ignored refl refl (λ is. absurd (false≢true is))) (other_fits EndPhase.SynSent c Meaning.Kills refl refl (λ is. absurd (false≢true is)))
-    (λ acknowledged syn plain. record { opens = λ is. absurd (false≢true is); accepts = λ is. (refl, syn); alive = λ is. refl; firm = λ is. plain })
-state_fits EndPhase.SynReceived c s = connected_meaning c s (FitsState EndPhase.SynReceived c) (other_fits EndPhase.SynReceived c)
-state_fits EndPhase.Established c s = connected_meaning c s (FitsState EndPhase.Established c) (other_fits EndPhase.Established c)
-state_fits EndPhase.FinWait1 c s = connected_meaning c s (FitsState EndPhase.FinWait1 c) (other_fits EndPhase.FinWait1 c)
-state_fits EndPhase.FinWait2 c s = connected_meaning c s (FitsState EndPhase.FinWait2 c) (other_fits EndPhase.FinWait2 c)
-state_fits EndPhase.CloseWait c s = connected_meaning c s (FitsState EndPhase.CloseWait c) (other_fits EndPhase.CloseWait c)
-state_fits EndPhase.Closing c s = connected_meaning c s (FitsState EndPhase.Closing c) (other_fits EndPhase.Closing c)
-state_fits EndPhase.LastAck c s = connected_meaning c s (FitsState EndPhase.LastAck c) (other_fits EndPhase.LastAck c)
-state_fits EndPhase.TimeWait c s = connected_meaning c s (FitsState EndPhase.TimeWait c) (other_fits EndPhase.TimeWait c)
+    by : (m : Meaning) → Means c s m → FitsState s.state c m
+    by Meaning.Opens is = record { opens = λ x. (ap (is_apart A) is.0, is.1.0); accepts = λ x. absurd (false≢true x); alive = λ x. absurd (false≢true x); firm = λ x. is.1.1.0 }
+    by (Meaning.Accepts acknowledged) is = record {
+      opens = λ x. absurd (false≢true x);
+      accepts = λ x. (ap (is_apart B) is.0, is.1.0);
+      alive = λ x. ap is_closed_to_segments is.0;
+      firm = λ x. is.1.1.0;
+    }
+    by (Meaning.Taken pos acknowledged) is = record { opens = λ x. absurd (false≢true x); accepts = λ x. absurd (false≢true x); alive = λ x. absurd (false≢true x); firm = λ x. is.1.1.0 }
+    by _ is = record { opens = λ x. absurd (false≢true x); accepts = λ x. absurd (false≢true x); alive = λ x. absurd (false≢true x); firm = λ x. absurd (false≢true x) }
 
 half_open_is : (state : EndPhase) → is_half_open state ≡ true → (is_apart A state ≡ true) × (is_closed_to_segments state ≡ false)
 half_open_is EndPhase.SynReceived is = (refl, refl)
@@ -249,15 +223,10 @@ module _ (k : Secrets) (w : Side → Type 0) (did : Deed → Side → Type 0) (s
       by true is = tt
       by false is = subst (λ (b : Bool). IsWelcome (if b then Judged.Forged else Judged.As (Meaning.Taken pos acknowledged))) (sym (not_forged (fit.firm refl) is)) tt
   welcome Meaning.Ignored fit = silent_welcome (is_passed_over heard.rst items e) Meaning.Ignored
-  welcome Meaning.Unwanted fit = silent_welcome (is_passed_over heard.rst items e) Meaning.Unwanted
-  welcome Meaning.Outside fit = silent_welcome (is_passed_over heard.rst items e) Meaning.Outside
-  welcome Meaning.Kills fit = silent_welcome (is_passed_over heard.rst items e) Meaning.Kills
-  welcome Meaning.Challenged fit = silent_welcome (is_passed_over heard.rst items e) Meaning.Challenged
-  welcome Meaning.Unacknowledging fit = silent_welcome (is_passed_over heard.rst items e) Meaning.Unacknowledging
-  welcome Meaning.Ahead fit = silent_welcome (is_passed_over heard.rst items e) Meaning.Ahead
+  welcome m fit = silent_welcome (is_passed_over heard.rst items e) m
 
   pub end_welcomes : IsWelcome (judged_in true s heard e)
-  end_welcomes = welcome (meaning_of (copy_of heard) e.tcp) (state_fits e.tcp.state (copy_of heard) e.tcp)
+  end_welcomes = welcome (meaning_of (copy_of heard) e.tcp) (state_fits (copy_of heard) e.tcp)
 
 -- a reset is never refused
 module _ (s : Side) (e : PathEnd) (heard : HeardSegment) (reset : (copy_of heard).rst ≡ true) where
@@ -278,7 +247,7 @@ module _ (s : Side) (e : PathEnd) (heard : HeardSegment) (reset : (copy_of heard
 
   pub reset_welcome : (joined : Bool) → IsWelcome (judged_in joined s heard e)
   reset_welcome false = tt
-  reset_welcome true = reset_as (meaning_of (copy_of heard) e.tcp) (state_fits e.tcp.state (copy_of heard) e.tcp)
+  reset_welcome true = reset_as (meaning_of (copy_of heard) e.tcp) (state_fits (copy_of heard) e.tcp)
 
 -- ---- a path
 

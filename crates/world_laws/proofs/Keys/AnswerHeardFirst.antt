@@ -1,18 +1,20 @@
 -- The states of A's end of path 0: as soon as A hears a sign of B that may make its side sure, B's answer to the SYN was heard. And
 -- what the SYNs of a path that joins show.
-use Rattle.world_laws.proofs.Words.{◌≡◌, refl, sym, ◌∙◌, ap, subst, ℕ, zero, suc, ◌+◌, ◌&&◌, ◌||◌, ◌==◌, not, nat_lt, nat_le, Bool, true, false, if◌then◌else◌}
+use Rattle.world_laws.proofs.Words.{◌≡◌, refl, sym, ◌∙◌, ap, subst, ℕ, zero, suc, ◌+◌, ◌||◌, not, Bool, true, false, if◌then◌else◌}
 use Rattle.world_laws.proofs.Words.{Option, Some, None, List, [], ◌∷◌, is_some, and_parts, and_from, both_ways, false≢true, or_right, list_any, list_all}
-use Rattle.world_laws.proofs.Words.{IfSome, Side, A, B, peer, Record, RecordKind, AckKind, after_acknowledge, ack_kind, sample_of, is_half_open, Meaning}
-use Rattle.world_laws.proofs.Words.{syn_ack_segment, reset_segment, is_syn, record_segment, EndState, is_at_limit, EndPhase, Outgoing, is_fin_acked}
+use Rattle.world_laws.proofs.Words.{IfSome, Side, A, B, peer, Record, RecordKind, AckKind, after_acknowledge, ack_kind, sample_of, Meaning}
+use Rattle.world_laws.proofs.Words.{syn_ack_segment, reset_segment, is_syn, record_segment, EndState, EndPhase, Outgoing, is_fin_acked}
 use Rattle.world_laws.proofs.Words.{after_ack_kind, after_acknowledgement, is_duplicate, after_duplicate, after_interruption, told_by, after_payload}
-use Rattle.world_laws.proofs.Words.{after_hearing, after_established, after_taken, after_arrival, is_syn_alone, is_repeated_syn, is_acceptable, meaning_outside}
-use Rattle.world_laws.proofs.Words.{meaning_acknowledging, meaning_within, meaning_placed, meaning_connected, meaning_answer, meaning_answering}
-use Rattle.world_laws.proofs.Words.{meaning_opening, meaning_at, Copy, Hint, HeardSegment, PlainOption, PlainSegment, Join, meant, heard_and, payload_came}
+use Rattle.world_laws.proofs.Words.{after_hearing, after_established, after_taken, after_arrival}
+use Rattle.world_laws.proofs.Words.{Copy, Hint, HeardSegment, PlainOption, PlainSegment, Join, meant, heard_and, payload_came}
 use Rattle.world_laws.proofs.Words.{copy_came, Duty, StepDuty, AskDuty, replaced, join_heard, JoinStep, tail_of, is_nil, PathEnd, items_of, reset_for}
 use Rattle.world_laws.proofs.Words.{template_judged, owing_if, with_payload, outgoing_or, Judged, is_joined, join_options, capable_options, syn_options}
 use Rattle.world_laws.proofs.Words.{record_options, segment_of, ack_said, record_said, syn_ack_said, record_or_ack, Profile, taken_as, is_side_a}
 use Rattle.mptcp_options.specs.declared.join.JoinForm.TheVariants.{Syn as JoinSyn}
 use Rattle.subflow_tcp.specs.States as states
+use Rattle.world_laws.proofs.Keys.AreDrawn.{is_past}
+use Rattle.world_laws.proofs.Keys.Meanings.{Means, means}
+use Rattle.subflow_tcp.specs.Judging.{meaning_of}
 use Rattle.world_laws.proofs.Keys.WhatWakes.{is_opens, is_lively}
 
 -- ---- states
@@ -114,108 +116,24 @@ is_opens_or_taken Meaning.Opens = true
 is_opens_or_taken (Meaning.Taken pos acknowledged) = true
 is_opens_or_taken _ = false
 
-pub opening_meaning : (c : Copy) (s : EndState) (P : Meaning → Type 0) → P Meaning.Ignored → P Meaning.Kills → ((acknowledged : ℕ) → c.syn ≡ true → c.rst ≡ false → P (Meaning.Accepts acknowledged)) → P (meaning_opening c s)
-opening_meaning c s P ignored kills accepts = at_limit (is_at_limit s)
-  where
-    by_syn : (acknowledged : ℕ) → c.rst ≡ false → (b : Bool) → c.syn ≡ b → P (if b then Meaning.Accepts acknowledged else Meaning.Ignored)
-    by_syn acknowledged plain true syn = accepts acknowledged syn plain
-    by_syn acknowledged plain false syn = ignored
-
-    answers_to : (acknowledged : ℕ) (rst : Bool) → c.rst ≡ rst → P (if rst then Meaning.Kills else (if c.syn then Meaning.Accepts acknowledged else Meaning.Ignored))
-    answers_to acknowledged true is = kills
-    answers_to acknowledged false is = by_syn acknowledged is c.syn refl
-
-    within : (acknowledged : ℕ) (b : Bool) → P (if b then meaning_answer c acknowledged else Meaning.Ignored)
-    within acknowledged true = answers_to acknowledged c.rst refl
-    within acknowledged false = ignored
-
-    answering : (o : Option ℕ) → P (meaning_answering o c s)
-    answering None = ignored
-    answering (Some acknowledged) = within acknowledged (nat_lt 0 acknowledged && nat_le acknowledged s.send.nxt)
-
-    at_limit : (b : Bool) → P (if b then Meaning.Ignored else meaning_answering c.acknowledged c s)
-    at_limit true = ignored
-    at_limit false = answering c.acknowledged
-
--- what a copy is to an end that has the peer's SYN: neither that SYN nor its answer, and no reset is taken
-abbrev pub is_taken : Meaning → Bool
-is_taken (Meaning.Taken pos acknowledged) = true
-is_taken _ = false
-
-pub connected_meaning : (c : Copy) (s : EndState) (P : Meaning → Type 0) → ((m : Meaning) → is_opens m ≡ false → is_accepts m ≡ false → (is_taken m ≡ true → c.rst ≡ false) → P m)
-    → P (meaning_connected c s)
-connected_meaning c s P any = at_limit (is_at_limit s)
-  where
-    never : (m : Meaning) → is_taken m ≡ false → is_taken m ≡ true → c.rst ≡ false
-    never m none taken = absurd (both_ways _ none taken)
-
-    outside : (b : Bool) → P (if b then Meaning.Ignored else Meaning.Outside)
-    outside true = any Meaning.Ignored refl refl (never Meaning.Ignored refl)
-    outside false = any Meaning.Outside refl refl (never Meaning.Outside refl)
-
-    half : (pos acknowledged : ℕ) → c.rst ≡ false → (b : Bool) → P (if b then Meaning.Unacknowledging else Meaning.Taken pos acknowledged)
-    half pos acknowledged plain true = any Meaning.Unacknowledging refl refl (never Meaning.Unacknowledging refl)
-    half pos acknowledged plain false = any (Meaning.Taken pos acknowledged) refl refl (λ taken. plain)
-
-    ahead : (pos acknowledged : ℕ) → c.rst ≡ false → (b : Bool) → P (if b then Meaning.Ahead else (if is_half_open s.state && acknowledged == 0 then Meaning.Unacknowledging else Meaning.Taken pos acknowledged))
-    ahead pos acknowledged plain true = any Meaning.Ahead refl refl (never Meaning.Ahead refl)
-    ahead pos acknowledged plain false = half pos acknowledged plain (is_half_open s.state && acknowledged == 0)
-
-    acknowledging : (o : Option ℕ) (pos : ℕ) → c.rst ≡ false → P (meaning_acknowledging o pos s)
-    acknowledging None pos plain = any Meaning.Unacknowledging refl refl (never Meaning.Unacknowledging refl)
-    acknowledging (Some acknowledged) pos plain = ahead pos acknowledged plain (nat_lt s.send.nxt acknowledged)
-
-    syn : (pos : ℕ) → c.rst ≡ false → (b : Bool) → P (if b then Meaning.Challenged else meaning_acknowledging c.acknowledged pos s)
-    syn pos plain true = any Meaning.Challenged refl refl (never Meaning.Challenged refl)
-    syn pos plain false = acknowledging c.acknowledged pos plain
-
-    kills : (b : Bool) → P (if b then Meaning.Kills else Meaning.Challenged)
-    kills true = any Meaning.Kills refl refl (never Meaning.Kills refl)
-    kills false = any Meaning.Challenged refl refl (never Meaning.Challenged refl)
-
-    within : (pos : ℕ) (b : Bool) → c.rst ≡ b → P (if b then (if pos == s.recv.edge then Meaning.Kills else Meaning.Challenged) else (if c.syn then Meaning.Challenged else meaning_acknowledging c.acknowledged pos s))
-    within pos true is = kills (pos == s.recv.edge)
-    within pos false is = syn pos is c.syn
-
-    placed : (o : Option ℕ) → P (meaning_placed o c s)
-    placed None = outside c.rst
-    placed (Some pos) = acceptable (is_acceptable s.recv.edge pos c)
-      where
-        acceptable : (b : Bool) → P (if b then meaning_within pos c s else meaning_outside c)
-        acceptable true = within pos c.rst refl
-        acceptable false = outside c.rst
-
-    repeated : (b : Bool) → P (if b then Meaning.RepeatedSyn else meaning_placed c.position c s)
-    repeated true = any Meaning.RepeatedSyn refl refl (never Meaning.RepeatedSyn refl)
-    repeated false = placed c.position
-
-    at_limit : (b : Bool) → P (if b then Meaning.Ignored else (if is_repeated_syn c s then Meaning.RepeatedSyn else meaning_placed c.position c s))
-    at_limit true = any Meaning.Ignored refl refl (never Meaning.Ignored refl)
-    at_limit false = repeated (is_repeated_syn c s)
-
-never_accepts : (c : Copy) (s : EndState) → is_accepts (meaning_connected c s) ≡ true → c.syn ≡ true
-never_accepts c s = connected_meaning c s (λ m. is_accepts m ≡ true → c.syn ≡ true) (λ m opens none taken accepts. absurd (both_ways _ none accepts))
-
 -- it comes to an end that is met, or is the answer to the SYN
 abbrev pub Fits : EndPhase → Copy → Meaning → Type 0
 Fits state c m = (is_opens_or_taken m ≡ true → is_met state ≡ true) × (is_accepts m ≡ true → c.syn ≡ true)
 
-pub fits : (state : EndPhase) (c : Copy) (s : EndState) → Fits state c (meaning_at state c s)
-fits EndPhase.Dead c s = by c.rst
+past_met : (state : EndPhase) → is_past state ≡ true → is_met state ≡ true
+past_met EndPhase.Waiting is = absurd (false≢true is)
+past_met EndPhase.SynSent is = absurd (false≢true is)
+past_met EndPhase.Dead is = absurd (false≢true is)
+past_met _ is = refl
+
+pub fits : (c : Copy) (s : EndState) → Fits s.state c (meaning_of c s)
+fits c s = by (meaning_of c s) (means c s)
   where
-    by : (b : Bool) → Fits EndPhase.Dead c (if b then Meaning.Ignored else Meaning.Unwanted)
-    by true = (λ is. absurd (false≢true is), λ is. absurd (false≢true is))
-    by false = (λ is. absurd (false≢true is), λ is. absurd (false≢true is))
-fits EndPhase.Waiting c s = (λ is. absurd (false≢true is), λ is. absurd (false≢true is))
-fits EndPhase.Listen c s = (λ is. refl, by (is_syn_alone c))
-  where
-    by : (b : Bool) → is_accepts (if b then Meaning.Opens else Meaning.Ignored) ≡ true → c.syn ≡ true
-    by true is = absurd (false≢true is)
-    by false is = absurd (false≢true is)
-fits EndPhase.SynSent c s = opening_meaning c s (Fits EndPhase.SynSent c) (λ is. absurd (false≢true is), λ is. absurd (false≢true is)) (λ is. absurd (false≢true is), λ is. absurd (false≢true is))
-    (λ acknowledged syn plain. (λ is. absurd (false≢true is), λ is. syn))
-fits EndPhase.SynReceived c s = (λ is. refl, never_accepts c s)
-fits _ c s = (λ is. refl, never_accepts c s)
+    by : (m : Meaning) → Means c s m → Fits s.state c m
+    by Meaning.Opens is = (λ heeds. ap is_met is.0, λ accepts. is.1.0)
+    by (Meaning.Accepts acknowledged) is = (λ heeds. absurd (false≢true heeds), λ accepts. is.1.0)
+    by (Meaning.Taken pos acknowledged) is = (λ heeds. past_met s.state is.0, λ accepts. absurd (false≢true accepts))
+    by _ is = (λ heeds. absurd (false≢true heeds), λ accepts. absurd (false≢true accepts))
 
 -- ---- duties
 

@@ -309,7 +309,7 @@ module _ (T : Type 0) where
     -- at A
     a_heard : (told : List KeptMapping) (answer : Outgoing) → CalmMet p
         → PathMet (goes_on A (copy_judged false told answer A now heard (meaning_of (copy_of heard) p.a.tcp) p.a) (template_of false A (items_of false A heard) (Judged.As (meaning_of (copy_of heard) p.a.tcp))) p)
-    a_heard told answer h = by (meaning_of (copy_of heard) p.a.tcp) (fits p.a.tcp.state (copy_of heard) p.a.tcp)
+    a_heard told answer h = by (meaning_of (copy_of heard) p.a.tcp) (fits (copy_of heard) p.a.tcp)
       where
         items : List Heard
         items = items_of false A heard
@@ -340,15 +340,7 @@ module _ (T : Type 0) where
           mode = mode (Meaning.Accepts acknowledged);
         })
         by Meaning.Ignored fit = inl (calm Meaning.Ignored refl fit)
-        by Meaning.Unwanted fit = inl (calm Meaning.Unwanted refl fit)
-        by Meaning.Opens fit = inl (calm Meaning.Opens refl fit)
-        by Meaning.RepeatedSyn fit = inl (calm Meaning.RepeatedSyn refl fit)
-        by Meaning.Outside fit = inl (calm Meaning.Outside refl fit)
-        by Meaning.Kills fit = inl (calm Meaning.Kills refl fit)
-        by Meaning.Challenged fit = inl (calm Meaning.Challenged refl fit)
-        by Meaning.Unacknowledging fit = inl (calm Meaning.Unacknowledging refl fit)
-        by Meaning.Ahead fit = inl (calm Meaning.Ahead refl fit)
-        by (Meaning.Taken pos acknowledged) fit = inl (calm (Meaning.Taken pos acknowledged) refl fit)
+        by m fit = inl (calm m refl fit)
 
     heard_a : (joined : Bool) → joined ≡ false → CalmMet p
         → PathMet (goes_on A (copy_judged joined (held_of p.profile A heard) (reset_for p.profile A heard) A now heard (taken_as (judged_in joined A heard p.a)) p.a)

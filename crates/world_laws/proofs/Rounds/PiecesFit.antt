@@ -1,15 +1,14 @@
 -- An end that may ask for bytes, with room for a full segment, has room for each record that is to be sent: no piece is longer than the
 -- payload of a full segment, and its SYN is acknowledged.
-use Rattle.world_laws.proofs.Words.{◌≡◌, refl, sym, ap, subst, ℕ, zero, suc, ◌+◌, ◌-◌, ◌≤◌, ◌&&◌, ◌==◌, not, min, nat_lt, nat_le, Bool, true, false}
+use Rattle.world_laws.proofs.Words.{◌≡◌, refl, sym, ap, subst, ℕ, ◌+◌, ◌-◌, ◌≤◌, ◌&&◌, ◌==◌, not, min, nat_lt, nat_le, Bool, true, false}
 use Rattle.world_laws.proofs.Words.{if◌then◌else◌, Option, Some, None, Result, Ok, Err, List, [], ◌∷◌, length, drop, arith, ltb-true, and_parts, and_from}
-use Rattle.world_laws.proofs.Words.{both_ways, false≢true, true≢false, ltb-false, leb-true, le-leb, length-take, length-drop, same_Some, Side, A, B, ScriptLine}
+use Rattle.world_laws.proofs.Words.{both_ways, false≢true, ltb-false, leb-true, le-leb, length-take, length-drop, same_Some, Side, A, B, ScriptLine}
 use Rattle.world_laws.proofs.Words.{JoinSyn, Span, Why, SendBook, decision-MayTake, KeptMapping, Record, SendState, AckKind, is_unsent, uncovered}
 use Rattle.world_laws.proofs.Words.{after_acknowledge, after_resent, ack_kind, sample_of, Meaning, is_sixth, after_expiry, after_fire, after_sending, EndState}
 use Rattle.world_laws.proofs.Words.{is_at_limit, EndPhase, Occasion, after_death, after_dropping_held, after_keeping_held, after_holding, is_fin_acked}
 use Rattle.world_laws.proofs.Words.{after_ack_kind, after_acknowledgement, is_duplicate, after_duplicate, after_interruption, told_by, after_payload}
 use Rattle.world_laws.proofs.Words.{after_hearing, after_established, after_taken, after_syn_ack, after_syn, after_arrival, unkept, after_begin, is_fin_next}
-use Rattle.world_laws.proofs.Words.{after_passing_fin, after_finishing, is_syn_alone, is_repeated_syn, is_acceptable, meaning_outside, meaning_acknowledging}
-use Rattle.world_laws.proofs.Words.{meaning_within, meaning_placed, meaning_connected, meaning_answer, meaning_answering, meaning_opening, meaning_at}
+use Rattle.world_laws.proofs.Words.{after_passing_fin, after_finishing}
 use Rattle.world_laws.proofs.Words.{meaning_of, Copy, Hint, arriving, after_delivery, HeardSegment, LineAction, emission, leaves, start_of_turn, Duty, SendDuty}
 use Rattle.world_laws.proofs.Words.{StepDuty, AskDuty, SilentDuty, Heard, KeyPair, replaced, Ask, Reply, StampedBooks, books_in, tail_of, is_nil, Codec, stands}
 use Rattle.world_laws.proofs.Words.{ask_for, passed, answered, PathEnd, died, PathStart, first_state, waiting_path, at_tick, PathState, end_at, goes_on}
@@ -33,6 +32,7 @@ use Rattle.world_laws.specs.RoundNumbers.{after_steps}
 use Rattle.world_laws.proofs.Falls.FailedChecks.{infinite_came_so, fail_answered_so}
 use Rattle.world_laws.proofs.Lanes.Records.{unsent_sent_kept, first_sent_kept, fin_sent_kept, expired_kept, uncovered_kept}
 use Rattle.world_laws.proofs.Lanes.Saying.{every_one}
+use Rattle.world_laws.proofs.Keys.Meanings.{Means, means}
 use Rattle.world_laws.proofs.Rounds.EndsRefused.{IsPaid}
 use Rattle.world_laws.proofs.Rounds.Lifting.{step_lifted, round_lifted, run_lifted, opened_lifted}
 use Rattle.world_laws.proofs.Worlds.Finding.{find_every}
@@ -130,70 +130,13 @@ MeansSo state nxt (Meaning.Accepts acknowledged) = (1 ≤ acknowledged) × (ackn
 MeansSo state nxt (Meaning.Taken pos acknowledged) = states.is_half_open state ≡ true → (1 ≤ acknowledged) × (acknowledged ≤ nxt)
 MeansSo state nxt _ = Unit {0}
 
-some_acked : (half : Bool) (n : ℕ) → half ≡ true → (half && n == 0) ≡ false → 1 ≤ n
-some_acked true zero is none = absurd (true≢false none)
-some_acked true (suc n) is none = omega arith
-some_acked false n is none = absurd (false≢true is)
-
-positive : (n : ℕ) → nat_lt 0 n ≡ true → 1 ≤ n
-positive n is = let more = ltb-true 0 n is in omega (arith, more)
-
-module _ (c : Copy) (s : EndState) where
-  abbrev Says : Meaning → Type 0
-  Says = MeansSo s.state s.send.nxt
-
-  either_says : (b : Bool) (x y : Meaning) → (b ≡ true → Says x) → (b ≡ false → Says y) → Says (if b then x else y)
-  either_says true x y first second = first refl
-  either_says false x y first second = second refl
-
-  acknowledging : (o : Option ℕ) (pos : ℕ) → Says (meaning_acknowledging o pos s)
-  acknowledging None pos = tt
-  acknowledging (Some acknowledged) pos =
-      either_says (nat_lt s.send.nxt acknowledged) Meaning.Ahead (if states.is_half_open s.state && acknowledged == 0 then Meaning.Unacknowledging else Meaning.Taken pos acknowledged)
-      (λ is. tt)
-      (λ low. either_says (states.is_half_open s.state && acknowledged == 0) Meaning.Unacknowledging (Meaning.Taken pos acknowledged)
-      (λ is. tt)
-      (λ none half. (some_acked (states.is_half_open s.state) acknowledged half none, ltb-false s.send.nxt acknowledged low)))
-
-  outside : Says (meaning_outside c)
-  outside = either_says c.rst Meaning.Ignored Meaning.Outside (λ is. tt) (λ is. tt)
-
-  within : (pos : ℕ) → Says (meaning_within pos c s)
-  within pos =
-      either_says c.rst (if pos == s.recv.edge then Meaning.Kills else Meaning.Challenged) (if c.syn then Meaning.Challenged else meaning_acknowledging c.acknowledged pos s)
-      (λ is. either_says (pos == s.recv.edge) Meaning.Kills Meaning.Challenged (λ at. tt) (λ at. tt))
-      (λ is. either_says c.syn Meaning.Challenged (meaning_acknowledging c.acknowledged pos s) (λ syn. tt) (λ syn. acknowledging c.acknowledged pos))
-
-  placed : (o : Option ℕ) → Says (meaning_placed o c s)
-  placed None = outside
-  placed (Some pos) = either_says (is_acceptable s.recv.edge pos c) (meaning_within pos c s) (meaning_outside c) (λ is. within pos) (λ is. outside)
-
-  connected : Says (meaning_connected c s)
-  connected =
-      either_says (is_at_limit s) Meaning.Ignored (if is_repeated_syn c s then Meaning.RepeatedSyn else meaning_placed c.position c s) (λ is. tt)
-      (λ is. either_says (is_repeated_syn c s) Meaning.RepeatedSyn (meaning_placed c.position c s) (λ again. tt) (λ again. placed c.position))
-
-  answering : (o : Option ℕ) → Says (meaning_answering o c s)
-  answering None = tt
-  answering (Some acknowledged) =
-      either_says (nat_lt 0 acknowledged && nat_le acknowledged s.send.nxt) (meaning_answer c acknowledged) Meaning.Ignored
-      (λ is. let parts = and_parts (nat_lt 0 acknowledged) (nat_le acknowledged s.send.nxt) is in
-      either_says c.rst Meaning.Kills (if c.syn then Meaning.Accepts acknowledged else Meaning.Ignored) (λ rst. tt)
-      (λ rst. either_says c.syn (Meaning.Accepts acknowledged) Meaning.Ignored (λ syn. (positive acknowledged parts.0, leb-true acknowledged s.send.nxt parts.1)) (λ syn. tt)))
-      (λ is. tt)
-
-  opening : Says (meaning_opening c s)
-  opening = either_says (is_at_limit s) Meaning.Ignored (meaning_answering c.acknowledged c s) (λ is. tt) (λ is. answering c.acknowledged)
-
-  meant_so : Says (meaning_of c s)
-  meant_so = by s.state
-    where
-      by : (state : EndPhase) → Says (meaning_at state c s)
-      by EndPhase.Dead = either_says c.rst Meaning.Ignored Meaning.Unwanted (λ is. tt) (λ is. tt)
-      by EndPhase.Waiting = tt
-      by EndPhase.Listen = either_says (is_syn_alone c) Meaning.Opens Meaning.Ignored (λ is. tt) (λ is. tt)
-      by EndPhase.SynSent = opening
-      by _ = connected
+meant_so : (c : Copy) (s : EndState) → MeansSo s.state s.send.nxt (meaning_of c s)
+meant_so c s = by (meaning_of c s) (means c s)
+  where
+    by : (m : Meaning) → Means c s m → MeansSo s.state s.send.nxt m
+    by (Meaning.Accepts acknowledged) is = is.1.1.1
+    by (Meaning.Taken pos acknowledged) is = is.1.1.1.1.1
+    by _ is = tt
 
 -- ---- an end of a subflow
 

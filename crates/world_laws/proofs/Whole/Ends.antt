@@ -1,14 +1,14 @@
 -- What the ends of path 0 keep as long as no options are taken away: an end that may send no DSS learned no mapping, and no byte of the
 -- other side lies below its edge; no acknowledgement that it heard lacks a Data ACK, and no payload an option.
 use Rattle.world_laws.proofs.Words.{◌≡◌, refl, sym, ◌∙◌, ap, subst, ℕ, ◌+◌, ◌&&◌, ◌||◌, ◌==◌, not, nat_lt, nat_le, inl, inr, ◌⊎◌, ⊎_elim, Bool, true, false}
-use Rattle.world_laws.proofs.Words.{if◌then◌else◌, Option, Some, None, List, [], ◌∷◌, ◌++◌, length, map, arith, is_none, is_some, ◌^◌, ltb-true, or_parts}
+use Rattle.world_laws.proofs.Words.{if◌then◌else◌, Option, Some, None, List, [], ◌∷◌, ◌++◌, length, map, arith, is_some, ◌^◌, ltb-true, or_parts}
 use Rattle.world_laws.proofs.Words.{and_parts, both_ways, false≢true, leb-true, or_from, list_any, flat_map, IfSome, Side, A, B, peer, JoinForm, CapableKeys}
 use Rattle.world_laws.proofs.Words.{NoKey, WithData, KeptMapping, Mappings, Receiving, SendState, AckKind, after_acknowledge, ack_kind, sample_of}
 use Rattle.world_laws.proofs.Words.{newly_acknowledged, is_closed_to_segments, is_opening, is_half_open, after_handshake, Meaning, is_syn, EndState}
-use Rattle.world_laws.proofs.Words.{is_at_limit, EndPhase, Outgoing, after_holding, after_ack_kind, after_acknowledgement, is_duplicate, after_duplicate}
+use Rattle.world_laws.proofs.Words.{EndPhase, Outgoing, after_holding, after_ack_kind, after_acknowledgement, is_duplicate, after_duplicate}
 use Rattle.world_laws.proofs.Words.{after_interruption, told_by, after_payload, after_hearing, after_established, after_taken, after_arrival, arrival_of}
-use Rattle.world_laws.proofs.Words.{kept_new, first_fin, is_syn_alone, is_repeated_syn, is_acceptable, meaning_outside, meaning_acknowledging, meaning_within}
-use Rattle.world_laws.proofs.Words.{meaning_placed, meaning_connected, meaning_answer, meaning_answering, meaning_at, meaning_of, Copy, Hint, HeardSegment}
+use Rattle.world_laws.proofs.Words.{kept_new, first_fin}
+use Rattle.world_laws.proofs.Words.{meaning_of, Copy, Hint, HeardSegment}
 use Rattle.world_laws.proofs.Words.{PathMapping, InfiniteMapping, Heard, key_heard, is_nil, PathEnd, hint_of, items_in, items_of, has_data_ack, octets_acked}
 use Rattle.world_laws.proofs.Words.{is_plain_ack, edge_held, owes_by, asks_capable, copy_judged, copy_of, owing_if, with_payload, join_items, ack_items}
 use Rattle.world_laws.proofs.Words.{map_items, HeardOption, key_items, item_removed, Treated, Every, EndWrites, Only, EndView, copy_said}
@@ -17,6 +17,7 @@ use Rattle.path_segments.specs.declared.segment.PathOption.{PathOption}
 use Rattle.subflow_tcp.specs.declared.verdicts.Arrival.TheVariants.{Opened, Took}
 use Rattle.path_core.specs.Arrival.{position_in}
 use Rattle.world_laws.proofs.Keys.AreDrawn.{is_past}
+use Rattle.world_laws.proofs.Keys.Meanings.{Means, means}
 use Rattle.world_laws.proofs.Keys.AnswerHeardFirst.{is_accepts, is_apart, ack_apart, handshake_apart}
 use Rattle.world_laws.proofs.Whole.Bytes.{EndsWell, Grows, NoneAt, NoneBelow, Remains, acknowledged_remains, at_later, below_later, none_acknowledged, remains_grows, remains_self, remains_well}
 use Rattle.world_laws.proofs.Whole.Copies.{HeardIs, Knows, OptionIs, SynIs, is_infinite_option}
@@ -196,67 +197,13 @@ is_heeded Meaning.Kills = false
 is_heeded (Meaning.Accepts acknowledged) = false
 is_heeded _ = true
 
-module _ (c : Copy) (s : EndState) where
-  abbrev Is : Meaning → Type 0
-  Is = MeansIs c s
-
-  either : (b : Bool) (x y : Meaning) → (b ≡ true → Is x) → (b ≡ false → Is y) → Is (if b then x else y)
-  either true x y first second = first refl
-  either false x y first second = second refl
-
-  module _ (past : is_past s.state ≡ true) where
-    acknowledging : (o : Option ℕ) (pos : ℕ) → c.acknowledged ≡ o → c.position ≡ Some pos → c.rst ≡ false → c.syn ≡ false → Is (meaning_acknowledging o pos s)
-    acknowledging None pos acks at rst syn = past
-    acknowledging (Some acknowledged) pos acks at rst syn =
-        either (nat_lt s.send.nxt acknowledged) Meaning.Ahead (if is_half_open s.state && acknowledged == 0 then Meaning.Unacknowledging else Meaning.Taken pos acknowledged) (λ is. past)
-        (λ is. either (is_half_open s.state && acknowledged == 0) Meaning.Unacknowledging (Meaning.Taken pos acknowledged) (λ half. past) (λ half. (past, (syn, (rst, (at, acks))))))
-
-    outside : Is (meaning_outside c)
-    outside = either c.rst Meaning.Ignored Meaning.Outside (λ is. tt) (λ is. past)
-
-    within : (pos : ℕ) → c.position ≡ Some pos → Is (meaning_within pos c s)
-    within pos at =
-        either c.rst (if pos == s.recv.edge then Meaning.Kills else Meaning.Challenged) (if c.syn then Meaning.Challenged else meaning_acknowledging c.acknowledged pos s)
-        (λ is. either (pos == s.recv.edge) Meaning.Kills Meaning.Challenged (λ here. tt) (λ here. past))
-        (λ rst. either c.syn Meaning.Challenged (meaning_acknowledging c.acknowledged pos s) (λ syn. past) (λ syn. acknowledging c.acknowledged pos refl at rst syn))
-
-    placed : (o : Option ℕ) → c.position ≡ o → Is (meaning_placed o c s)
-    placed None at = outside
-    placed (Some pos) at = either (is_acceptable s.recv.edge pos c) (meaning_within pos c s) (meaning_outside c) (λ is. within pos at) (λ is. outside)
-
-    connected : Is (meaning_connected c s)
-    connected =
-        either (is_at_limit s) Meaning.Ignored (if is_repeated_syn c s then Meaning.RepeatedSyn else meaning_placed c.position c s) (λ is. tt)
-        (λ is. either (is_repeated_syn c s) Meaning.RepeatedSyn (meaning_placed c.position c s) (λ again. past) (λ again. placed c.position refl))
-
-  answering : s.state ≡ EndPhase.SynSent → (o : Option ℕ) → Is (meaning_answering o c s)
-  answering sent None = tt
-  answering sent (Some acknowledged) =
-      either (nat_lt 0 acknowledged && nat_le acknowledged s.send.nxt) (meaning_answer c acknowledged) Meaning.Ignored
-      (λ is. either c.rst Meaning.Kills (if c.syn then Meaning.Accepts acknowledged else Meaning.Ignored) (λ rst. tt)
-      (λ rst. either c.syn (Meaning.Accepts acknowledged) Meaning.Ignored (λ syn. (sent, (syn, rst))) (λ syn. tt)))
-      (λ is. tt)
-
-  alone : s.state ≡ EndPhase.Listen → is_syn_alone c ≡ true → Is Meaning.Opens
-  alone listens is =
-      let syn = and_parts c.syn (not c.fin && (not c.rst && is_none c.acknowledged)) is in
-      let fin = and_parts (not c.fin) (not c.rst && is_none c.acknowledged) syn.1 in
-      let rst = and_parts (not c.rst) (is_none c.acknowledged) fin.1 in
-      (listens, (syn.0, (is_not c.rst rst.0, is_not c.fin fin.0)))
-    where
-      is_not : (b : Bool) → not b ≡ true → b ≡ false
-      is_not true is = absurd (false≢true is)
-      is_not false is = refl
-
-  pub means_so : MeansIs c s (meaning_of c s)
-  means_so = by s.state refl
-    where
-      by : (state : EndPhase) → s.state ≡ state → MeansIs c s (meaning_at state c s)
-      by EndPhase.Dead is = either c.rst Meaning.Ignored Meaning.Unwanted (λ rst. tt) (λ rst. tt)
-      by EndPhase.Waiting is = tt
-      by EndPhase.Listen is = either (is_syn_alone c) Meaning.Opens Meaning.Ignored (alone is) (λ no. tt)
-      by EndPhase.SynSent is = either (is_at_limit s) Meaning.Ignored (meaning_answering c.acknowledged c s) (λ limit. tt) (λ limit. answering is c.acknowledged)
-      by _ is = connected (ap is_past is)
+pub means_so : (c : Copy) (s : EndState) → MeansIs c s (meaning_of c s)
+means_so c s = by (meaning_of c s) (means c s)
+  where
+    by : (m : Meaning) → Means c s m → MeansIs c s m
+    by (Meaning.Accepts acknowledged) is = (is.0, (is.1.0, is.1.1.0))
+    by (Meaning.Taken pos acknowledged) is = (is.0, (is.1.0, (is.1.1.0, (is.1.1.1.0, is.1.1.1.1.0))))
+    by _ is = is
 
 -- ---- an end of which little changes
 
