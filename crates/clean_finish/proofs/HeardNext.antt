@@ -200,12 +200,10 @@ module _ (q : Side) (keys : Keys) (a b : Bench) where
   module _ (other : IsBetween (peer q) (pick q b a)) (none : (pick q b a).waiting ≡ 0) where
     pub first_next : (k : Brings) → TreatsCopy q keys AtFirst (is_third k) k x → Treats keys a b (heard_and q 0 (count_in k) (payload_came q))
     first_next OpensSubflow f = absurd (both_ways _ f.kind refl)
-    first_next ShowsKeys f = (ShowsKeys, f, (other, none, refl))
     first_next (FirstPiece octets) f = (FirstPiece octets, f, (other, none, refl))
     first_next (Piece octets) f = (Piece octets, f, (other, none, refl))
-    first_next Acknowledges f = (Acknowledges, f, (other, none, refl))
     first_next (EndsStream place) f = (EndsStream place, f, (other, none, refl))
-    first_next EndsSubflow f = (EndsSubflow, f, (other, none, refl))
+    first_next k f = (k, f, (other, none, refl))
 
     pub one_next : (k : Brings) → TreatsCopy q keys AfterOne (shows_keys k) k x → Treats keys a b (heard_and q 1 (count_in k - 1) (payload_came q))
     one_next OpensSubflow f = absurd (both_ways _ f.kind refl)

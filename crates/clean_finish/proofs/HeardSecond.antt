@@ -86,10 +86,7 @@ module _ (start : Start) (plan : PathPlan) (k j : Setting) (s v : Lane) (t0 u0 :
           answers_by OpensSubflow f some beside = absurd (both_ways _ f.kind refl)
           answers_by ShowsKeys f some beside = absurd (omega (arith, some))
           answers_by (FirstPiece octets) f some beside = told_b octets f beside
-          answers_by (Piece octets) f some beside = answers_ack_b start plan k j s v t0 u0 going going_back a b books p k_is j_is ds h (Piece octets) f refl beside
-          answers_by Acknowledges f some beside = answers_ack_b start plan k j s v t0 u0 going going_back a b books p k_is j_is ds h Acknowledges f refl beside
-          answers_by (EndsStream place) f some beside = answers_ack_b start plan k j s v t0 u0 going going_back a b books p k_is j_is ds h (EndsStream place) f refl beside
-          answers_by EndsSubflow f some beside = answers_ack_b start plan k j s v t0 u0 going going_back a b books p k_is j_is ds h EndsSubflow f refl beside
+          answers_by what f some beside = answers_ack_b start plan k j s v t0 u0 going going_back a b books p k_is j_is ds h what f refl beside
 
           -- a Data ACK is always told
           acks_by : (what : Brings) (f : TreatsCopy B keys AfterOne (shows_keys what) what (other_bench h.faces)) (none : shows_keys what ≡ false)

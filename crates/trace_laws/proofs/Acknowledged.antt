@@ -261,12 +261,7 @@ judged_fits true rst items (Meaning.Taken pos acknowledged) e t h = by (is_passe
     by false true = tt
     by false false = h
 judged_fits true rst items Meaning.Ignored e t h = over_fits Meaning.Ignored (is_passed_over rst items e) t h
-judged_fits true rst items Meaning.Unwanted e t h = over_fits Meaning.Unwanted (is_passed_over rst items e) t h
-judged_fits true rst items Meaning.Outside e t h = over_fits Meaning.Outside (is_passed_over rst items e) t h
-judged_fits true rst items Meaning.Kills e t h = over_fits Meaning.Kills (is_passed_over rst items e) t h
-judged_fits true rst items Meaning.Challenged e t h = over_fits Meaning.Challenged (is_passed_over rst items e) t h
-judged_fits true rst items Meaning.Unacknowledging e t h = over_fits Meaning.Unacknowledging (is_passed_over rst items e) t h
-judged_fits true rst items Meaning.Ahead e t h = over_fits Meaning.Ahead (is_passed_over rst items e) t h
+judged_fits true rst items m e t h = over_fits m (is_passed_over rst items e) t h
 
 row_acks : (kind : AckKind) (told : Told) (c : Copy) (t : EndState) → Acks t → Acks (after_row kind told c t)
 row_acks kind told c t h = by (is_duplicate kind told c t)

@@ -160,15 +160,8 @@ module _ {C : Type 0} (k : Codec C) (s : Side) (Told New : ℕ → Type 0) where
       → Comes s New (ask_for k d (with_agenda (d ∷ ds) p)) r → Knows s Told (d ∷ ds) (with_agenda (d ∷ ds) p)
       → Knows s New (answered k d r (with_agenda (d ∷ ds) p)).agenda (answered k d r (with_agenda (d ∷ ds) p))
   duty_goes (Duty.Step (StepDuty.Look t)) ds r p on stays comes_so h = look_goes k s t Told New ds r (with_agenda (Duty.Step (StepDuty.Look t) ∷ ds) p) stays comes_so h
-  duty_goes (Duty.Step (StepDuty.Data t)) ds r p on stays comes_so h = free_goes k s Told New (Duty.Step (StepDuty.Data t)) ds r p tt on stays h
   duty_goes (Duty.Step StepDuty.Events) ds r p on stays comes_so h = free_goes k s Told New (Duty.Step StepDuty.Events) ds r p tt on stays h
-  duty_goes (Duty.Step (StepDuty.Heard t index)) ds r p on stays comes_so h = free_goes k s Told New (Duty.Step (StepDuty.Heard t index)) ds r p tt on stays h
-  duty_goes (Duty.Step (StepDuty.PlainAck t)) ds r p on stays comes_so h = free_goes k s Told New (Duty.Step (StepDuty.PlainAck t)) ds r p tt on stays h
-  duty_goes (Duty.Step (StepDuty.Unmapped t)) ds r p on stays comes_so h = free_goes k s Told New (Duty.Step (StepDuty.Unmapped t)) ds r p tt on stays h
-  duty_goes (Duty.Ask ask) ds r p on stays comes_so h = free_goes k s Told New (Duty.Ask ask) ds r p tt on stays h
-  duty_goes (Duty.Send send) ds r p on stays comes_so h = free_goes k s Told New (Duty.Send send) ds r p tt on stays h
-  duty_goes (Duty.Silent silent) ds r p on stays comes_so h = free_goes k s Told New (Duty.Silent silent) ds r p tt on stays h
-  duty_goes Duty.End ds r p on stays comes_so h = free_goes k s Told New Duty.End ds r p tt on stays h
+  duty_goes d ds r p on stays comes_so h = free_goes k s Told New d ds r p tt on stays h
 
   takes_knows : (x : Ask) (r : Reply) (p : PathState C) → asks_of k p ≡ Some x → IsSettled p → Stays s Told New x → Comes s New x r → Knows s Told p.agenda p
       → Knows s New (takes k r p).agenda (takes k r p)

@@ -281,13 +281,7 @@ event_unfailed fall path only FallEvent.CheckFailed harmless u = absurd harmless
 event_unfailed fall path only (FallEvent.FailHeard contiguous) harmless u =
     subst (λ (b : Bool). IsUnfailed (fall_step fall path only (FallEvent.FailHeard b)).0) (sym harmless) (fail_unfailed fall only u)
 event_unfailed fall path only FallEvent.PlainHandshake harmless u = unfailed_kept fall path only FallEvent.PlainHandshake refl u
-event_unfailed fall path only FallEvent.PlainData harmless u = unfailed_kept fall path only FallEvent.PlainData refl u
-event_unfailed fall path only FallEvent.PlainAck harmless u = unfailed_kept fall path only FallEvent.PlainAck refl u
-event_unfailed fall path only FallEvent.KeysHeard harmless u = unfailed_kept fall path only FallEvent.KeysHeard refl u
-event_unfailed fall path only FallEvent.MappingHeard harmless u = unfailed_kept fall path only FallEvent.MappingHeard refl u
-event_unfailed fall path only FallEvent.AckHeard harmless u = unfailed_kept fall path only FallEvent.AckHeard refl u
-event_unfailed fall path only FallEvent.InfiniteHeard harmless u = unfailed_kept fall path only FallEvent.InfiniteHeard refl u
-event_unfailed fall path only FallEvent.Stop harmless u = unfailed_kept fall path only FallEvent.Stop refl u
+event_unfailed fall path only event harmless u = unfailed_kept fall path only event refl u
 
 module _ (c : Control) (u : IsUnfailed c.fall) where
   joined_unfailed : IsUnfailed (record c.fall { joined = true })

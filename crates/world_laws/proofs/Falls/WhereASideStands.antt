@@ -274,23 +274,9 @@ joined_stays f g (inl same) is = same.mode ∙ is
 joined_stays f g (inr joined) is = joined.mode ∙ is
 
 pub plain_stays : (c : Control) (call : ControlCall) → is_plain c.fall ≡ true → is_plain (controlling.after c call).fall ≡ true
-plain_stays c (ControlCall.Look path) is = fallen_stays c.fall _ (call_falls c (ControlCall.Look path)) is
-plain_stays c (ControlCall.PeerKey key) is = fallen_stays c.fall _ (call_falls c (ControlCall.PeerKey key)) is
-plain_stays c (ControlCall.Keys own other) is = fallen_stays c.fall _ (call_falls c (ControlCall.Keys own other)) is
-plain_stays c (ControlCall.Fell path event) is = fallen_stays c.fall _ (call_falls c (ControlCall.Fell path event)) is
 plain_stays c (ControlCall.JoinBegin path) is = joined_stays c.fall _ (call_falls c (ControlCall.JoinBegin path)) is
 plain_stays c (ControlCall.JoinHeard path token) is = joined_stays c.fall _ (call_falls c (ControlCall.JoinHeard path token)) is
-plain_stays c (ControlCall.Live path backup) is = fallen_stays c.fall _ (call_falls c (ControlCall.Live path backup)) is
-plain_stays c (ControlCall.Dead path) is = fallen_stays c.fall _ (call_falls c (ControlCall.Dead path)) is
-plain_stays c (ControlCall.Rate path window rtt) is = fallen_stays c.fall _ (call_falls c (ControlCall.Rate path window rtt)) is
-plain_stays c (ControlCall.Backup path on) is = fallen_stays c.fall _ (call_falls c (ControlCall.Backup path on)) is
-plain_stays c (ControlCall.Announce id) is = fallen_stays c.fall _ (call_falls c (ControlCall.Announce id)) is
-plain_stays c (ControlCall.Withdraw id) is = fallen_stays c.fall _ (call_falls c (ControlCall.Withdraw id)) is
-plain_stays c (ControlCall.Heard id address port hmac) is = fallen_stays c.fall _ (call_falls c (ControlCall.Heard id address port hmac)) is
-plain_stays c (ControlCall.Echoed id) is = fallen_stays c.fall _ (call_falls c (ControlCall.Echoed id)) is
-plain_stays c (ControlCall.Removed id) is = fallen_stays c.fall _ (call_falls c (ControlCall.Removed id)) is
-plain_stays c ControlCall.FastClose is = fallen_stays c.fall _ (call_falls c ControlCall.FastClose) is
-plain_stays c (ControlCall.FastHeard key) is = fallen_stays c.fall _ (call_falls c (ControlCall.FastHeard key)) is
+plain_stays c call is = fallen_stays c.fall _ (call_falls c call) is
 
 -- a side joins by no other calls
 abbrev pub IsNoJoin : ControlCall → Type 0
@@ -303,23 +289,9 @@ fallen_joined f g (inl same) = same.joined
 fallen_joined f g (inr fell) = fell.joined
 
 pub same_joined : (c : Control) (call : ControlCall) → IsNoJoin call → (controlling.after c call).fall.joined ≡ c.fall.joined
-same_joined c (ControlCall.Look path) none = fallen_joined c.fall _ (call_falls c (ControlCall.Look path))
-same_joined c (ControlCall.PeerKey key) none = fallen_joined c.fall _ (call_falls c (ControlCall.PeerKey key))
-same_joined c (ControlCall.Keys own other) none = fallen_joined c.fall _ (call_falls c (ControlCall.Keys own other))
-same_joined c (ControlCall.Fell path event) none = fallen_joined c.fall _ (call_falls c (ControlCall.Fell path event))
 same_joined c (ControlCall.JoinBegin path) none = absurd none
 same_joined c (ControlCall.JoinHeard path token) none = absurd none
-same_joined c (ControlCall.Live path backup) none = fallen_joined c.fall _ (call_falls c (ControlCall.Live path backup))
-same_joined c (ControlCall.Dead path) none = fallen_joined c.fall _ (call_falls c (ControlCall.Dead path))
-same_joined c (ControlCall.Rate path window rtt) none = fallen_joined c.fall _ (call_falls c (ControlCall.Rate path window rtt))
-same_joined c (ControlCall.Backup path on) none = fallen_joined c.fall _ (call_falls c (ControlCall.Backup path on))
-same_joined c (ControlCall.Announce id) none = fallen_joined c.fall _ (call_falls c (ControlCall.Announce id))
-same_joined c (ControlCall.Withdraw id) none = fallen_joined c.fall _ (call_falls c (ControlCall.Withdraw id))
-same_joined c (ControlCall.Heard id address port hmac) none = fallen_joined c.fall _ (call_falls c (ControlCall.Heard id address port hmac))
-same_joined c (ControlCall.Echoed id) none = fallen_joined c.fall _ (call_falls c (ControlCall.Echoed id))
-same_joined c (ControlCall.Removed id) none = fallen_joined c.fall _ (call_falls c (ControlCall.Removed id))
-same_joined c ControlCall.FastClose none = fallen_joined c.fall _ (call_falls c ControlCall.FastClose)
-same_joined c (ControlCall.FastHeard key) none = fallen_joined c.fall _ (call_falls c (ControlCall.FastHeard key))
+same_joined c call none = fallen_joined c.fall _ (call_falls c call)
 
 fallen_unjoined : (f g : Fall) → Fallen f g → IsUnjoined f → IsUnjoined g
 fallen_unjoined f g (inl same) h is = same.unjoined h is
@@ -330,23 +302,9 @@ begun_unjoined f g (inl same) h is = same.unjoined h is
 begun_unjoined f g (inr begun) h is = absurd (both_ways _ begun.unjoined is)
 
 pub unjoined_stays : (c : Control) (call : ControlCall) → IsUnjoined c.fall → IsUnjoined (controlling.after c call).fall
-unjoined_stays c (ControlCall.Look path) h = fallen_unjoined c.fall _ (call_falls c (ControlCall.Look path)) h
-unjoined_stays c (ControlCall.PeerKey key) h = fallen_unjoined c.fall _ (call_falls c (ControlCall.PeerKey key)) h
-unjoined_stays c (ControlCall.Keys own other) h = fallen_unjoined c.fall _ (call_falls c (ControlCall.Keys own other)) h
-unjoined_stays c (ControlCall.Fell path event) h = fallen_unjoined c.fall _ (call_falls c (ControlCall.Fell path event)) h
 unjoined_stays c (ControlCall.JoinBegin path) h = begun_unjoined c.fall _ (call_falls c (ControlCall.JoinBegin path)) h
 unjoined_stays c (ControlCall.JoinHeard path token) h = begun_unjoined c.fall _ (call_falls c (ControlCall.JoinHeard path token)) h
-unjoined_stays c (ControlCall.Live path backup) h = fallen_unjoined c.fall _ (call_falls c (ControlCall.Live path backup)) h
-unjoined_stays c (ControlCall.Dead path) h = fallen_unjoined c.fall _ (call_falls c (ControlCall.Dead path)) h
-unjoined_stays c (ControlCall.Rate path window rtt) h = fallen_unjoined c.fall _ (call_falls c (ControlCall.Rate path window rtt)) h
-unjoined_stays c (ControlCall.Backup path on) h = fallen_unjoined c.fall _ (call_falls c (ControlCall.Backup path on)) h
-unjoined_stays c (ControlCall.Announce id) h = fallen_unjoined c.fall _ (call_falls c (ControlCall.Announce id)) h
-unjoined_stays c (ControlCall.Withdraw id) h = fallen_unjoined c.fall _ (call_falls c (ControlCall.Withdraw id)) h
-unjoined_stays c (ControlCall.Heard id address port hmac) h = fallen_unjoined c.fall _ (call_falls c (ControlCall.Heard id address port hmac)) h
-unjoined_stays c (ControlCall.Echoed id) h = fallen_unjoined c.fall _ (call_falls c (ControlCall.Echoed id)) h
-unjoined_stays c (ControlCall.Removed id) h = fallen_unjoined c.fall _ (call_falls c (ControlCall.Removed id)) h
-unjoined_stays c ControlCall.FastClose h = fallen_unjoined c.fall _ (call_falls c ControlCall.FastClose) h
-unjoined_stays c (ControlCall.FastHeard key) h = fallen_unjoined c.fall _ (call_falls c (ControlCall.FastHeard key)) h
+unjoined_stays c call h = fallen_unjoined c.fall _ (call_falls c call) h
 
 -- a side that is in plain TCP, or may have been before a stop, has joined nothing
 plain_unjoined : (m : Mode) (joined : Bool) → plain_of m joined ≡ true → joined ≡ false

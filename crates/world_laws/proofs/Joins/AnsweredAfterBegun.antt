@@ -49,23 +49,9 @@ module _ (key_a key_b : ℕ) where
 
   at_b : (six : SixBooks) (call : ControlCall) → KeysAsk key_a key_b false six (Ask.Control B call)
       → (Joined six B → Joined six A) → Joined (after_ask (Ask.Control B call) six) B → Joined (after_ask (Ask.Control B call) six) A
-  at_b six (ControlCall.Look path) ask order is = same_at_b six (ControlCall.Look path) ask tt order is
-  at_b six (ControlCall.PeerKey key) ask order is = same_at_b six (ControlCall.PeerKey key) ask tt order is
-  at_b six (ControlCall.Keys own other) ask order is = same_at_b six (ControlCall.Keys own other) ask tt order is
-  at_b six (ControlCall.Fell path event) ask order is = same_at_b six (ControlCall.Fell path event) ask tt order is
   at_b six (ControlCall.JoinBegin path) ask order is = cc
   at_b six (ControlCall.JoinHeard path token) ask order is = ask.1.0
-  at_b six (ControlCall.Live path backup) ask order is = same_at_b six (ControlCall.Live path backup) ask tt order is
-  at_b six (ControlCall.Dead path) ask order is = same_at_b six (ControlCall.Dead path) ask tt order is
-  at_b six (ControlCall.Rate path window rtt) ask order is = same_at_b six (ControlCall.Rate path window rtt) ask tt order is
-  at_b six (ControlCall.Backup path on) ask order is = same_at_b six (ControlCall.Backup path on) ask tt order is
-  at_b six (ControlCall.Announce id) ask order is = same_at_b six (ControlCall.Announce id) ask tt order is
-  at_b six (ControlCall.Withdraw id) ask order is = same_at_b six (ControlCall.Withdraw id) ask tt order is
-  at_b six (ControlCall.Heard id address port hmac) ask order is = same_at_b six (ControlCall.Heard id address port hmac) ask tt order is
-  at_b six (ControlCall.Echoed id) ask order is = same_at_b six (ControlCall.Echoed id) ask tt order is
-  at_b six (ControlCall.Removed id) ask order is = same_at_b six (ControlCall.Removed id) ask tt order is
-  at_b six ControlCall.FastClose ask order is = same_at_b six ControlCall.FastClose ask tt order is
-  at_b six (ControlCall.FastHeard key) ask order is = same_at_b six (ControlCall.FastHeard key) ask tt order is
+  at_b six call ask order is = same_at_b six call ask tt order is
 
   after_order : (six : SixBooks) (x : Ask) → KeysAsk key_a key_b false six x → (Joined six B → Joined six A) → Joined (after_ask x six) B → Joined (after_ask x six) A
   after_order six (Ask.Control A call) ask order is = joined_stays key_a key_b false six (Ask.Control A call) A (order is)

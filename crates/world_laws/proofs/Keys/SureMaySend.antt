@@ -116,27 +116,14 @@ call_mode c (ControlCall.FastHeard key) none mild = absurd none
 call_mode c _ none mild = refl
 
 call_sure : (c : Control) (call : ControlCall) → IsMildCall call A → WasSure c.fall (controlling.after c call).fall
-call_sure c (ControlCall.Look path) mild = λ is. ap is_sure (sym (call_mode c (ControlCall.Look path) tt mild)) ∙ is
-call_sure c (ControlCall.PeerKey key) mild = λ is. ap is_sure (sym (call_mode c (ControlCall.PeerKey key) tt mild)) ∙ is
-call_sure c (ControlCall.Keys own other) mild = λ is. ap is_sure (sym (call_mode c (ControlCall.Keys own other) tt mild)) ∙ is
 call_sure c (ControlCall.Fell path event) mild = event_sure path (sole_path c.paths path) event c.fall mild
-call_sure c (ControlCall.JoinBegin path) mild = λ is. ap is_sure (sym (call_mode c (ControlCall.JoinBegin path) tt mild)) ∙ is
-call_sure c (ControlCall.JoinHeard path token) mild = λ is. ap is_sure (sym (call_mode c (ControlCall.JoinHeard path token) tt mild)) ∙ is
-call_sure c (ControlCall.Live path backup) mild = λ is. ap is_sure (sym (call_mode c (ControlCall.Live path backup) tt mild)) ∙ is
-call_sure c (ControlCall.Dead path) mild = λ is. ap is_sure (sym (call_mode c (ControlCall.Dead path) tt mild)) ∙ is
-call_sure c (ControlCall.Backup path on) mild = λ is. ap is_sure (sym (call_mode c (ControlCall.Backup path on) tt mild)) ∙ is
-call_sure c (ControlCall.Rate path window rtt) mild = λ is. ap is_sure (sym (call_mode c (ControlCall.Rate path window rtt) tt mild)) ∙ is
-call_sure c (ControlCall.Announce id) mild = λ is. ap is_sure (sym (call_mode c (ControlCall.Announce id) tt mild)) ∙ is
-call_sure c (ControlCall.Withdraw id) mild = λ is. ap is_sure (sym (call_mode c (ControlCall.Withdraw id) tt mild)) ∙ is
-call_sure c (ControlCall.Heard id address port hmac) mild = λ is. ap is_sure (sym (call_mode c (ControlCall.Heard id address port hmac) tt mild)) ∙ is
-call_sure c (ControlCall.Echoed id) mild = λ is. ap is_sure (sym (call_mode c (ControlCall.Echoed id) tt mild)) ∙ is
-call_sure c (ControlCall.Removed id) mild = λ is. ap is_sure (sym (call_mode c (ControlCall.Removed id) tt mild)) ∙ is
 call_sure c ControlCall.FastClose mild = λ is. absurd (false≢true is)
 call_sure c (ControlCall.FastHeard key) mild = by (key == c.keys.own)
   where
     by : (b : Bool) → WasSure c.fall (if b then controlling.after_event 0 false FallEvent.Stop c else c).fall
     by true = λ is. absurd (false≢true is)
     by false = λ is. is
+call_sure c call mild = λ is. ap is_sure (sym (call_mode c call tt mild)) ∙ is
 
 mild_sure : (six : SixBooks) (x : Ask) → IsMild x → WasSure six.control_a.fall (after_ask x six).control_a.fall
 mild_sure six (Ask.Control A call) mild = call_sure six.control_a call mild

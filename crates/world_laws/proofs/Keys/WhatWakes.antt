@@ -77,86 +77,42 @@ sending_up _ now s = record { up = λ up. up; waits = λ is. is; past = λ is. i
 
 -- ---- states
 
-finish_closed : (state : EndPhase) → is_closed_to_segments (states.after_finish state) ≡ is_closed_to_segments state
-finish_closed EndPhase.Established = refl
-finish_closed EndPhase.CloseWait = refl
-finish_closed EndPhase.Waiting = refl
-finish_closed _ = refl
+-- it is open, waits and is past its SYN as it was
+abbrev Same : EndPhase → EndPhase → Type 0
+Same t s = (is_closed_to_segments t ≡ is_closed_to_segments s) × (is_waiting t ≡ is_waiting s) × (is_past t ≡ is_past s)
 
-acked_closed : (state : EndPhase) → is_closed_to_segments (states.after_fin_acked state) ≡ is_closed_to_segments state
-acked_closed EndPhase.FinWait1 = refl
-acked_closed EndPhase.Closing = refl
-acked_closed EndPhase.Waiting = refl
-acked_closed _ = refl
+finish_same : (state : EndPhase) → Same (states.after_finish state) state
+finish_same EndPhase.Established = (refl, refl, refl)
+finish_same EndPhase.CloseWait = (refl, refl, refl)
+finish_same EndPhase.Waiting = (refl, refl, refl)
+finish_same _ = (refl, refl, refl)
 
-passed_closed : (state : EndPhase) → is_closed_to_segments (states.after_fin_passed state) ≡ is_closed_to_segments state
-passed_closed EndPhase.Established = refl
-passed_closed EndPhase.FinWait1 = refl
-passed_closed EndPhase.FinWait2 = refl
-passed_closed EndPhase.Waiting = refl
-passed_closed _ = refl
+acked_same : (state : EndPhase) → Same (states.after_fin_acked state) state
+acked_same EndPhase.FinWait1 = (refl, refl, refl)
+acked_same EndPhase.Closing = (refl, refl, refl)
+acked_same EndPhase.Waiting = (refl, refl, refl)
+acked_same _ = (refl, refl, refl)
 
-opened_closed : (state : EndPhase) → is_closed_to_segments (states.after_handshake state) ≡ is_closed_to_segments state
-opened_closed EndPhase.SynReceived = refl
-opened_closed EndPhase.Waiting = refl
-opened_closed _ = refl
+passed_same : (state : EndPhase) → Same (states.after_fin_passed state) state
+passed_same EndPhase.Established = (refl, refl, refl)
+passed_same EndPhase.FinWait1 = (refl, refl, refl)
+passed_same EndPhase.FinWait2 = (refl, refl, refl)
+passed_same EndPhase.Waiting = (refl, refl, refl)
+passed_same _ = (refl, refl, refl)
 
-finish_waits : (state : EndPhase) → is_waiting (states.after_finish state) ≡ is_waiting state
-finish_waits EndPhase.Established = refl
-finish_waits EndPhase.CloseWait = refl
-finish_waits EndPhase.Waiting = refl
-finish_waits _ = refl
-
-acked_waits : (state : EndPhase) → is_waiting (states.after_fin_acked state) ≡ is_waiting state
-acked_waits EndPhase.FinWait1 = refl
-acked_waits EndPhase.Closing = refl
-acked_waits EndPhase.Waiting = refl
-acked_waits _ = refl
-
-passed_waits : (state : EndPhase) → is_waiting (states.after_fin_passed state) ≡ is_waiting state
-passed_waits EndPhase.Established = refl
-passed_waits EndPhase.FinWait1 = refl
-passed_waits EndPhase.FinWait2 = refl
-passed_waits EndPhase.Waiting = refl
-passed_waits _ = refl
-
-opened_waits : (state : EndPhase) → is_waiting (states.after_handshake state) ≡ is_waiting state
-opened_waits EndPhase.SynReceived = refl
-opened_waits EndPhase.Waiting = refl
-opened_waits _ = refl
-
-finish_past : (state : EndPhase) → is_past (states.after_finish state) ≡ is_past state
-finish_past EndPhase.Established = refl
-finish_past EndPhase.CloseWait = refl
-finish_past EndPhase.Waiting = refl
-finish_past _ = refl
-
-acked_past : (state : EndPhase) → is_past (states.after_fin_acked state) ≡ is_past state
-acked_past EndPhase.FinWait1 = refl
-acked_past EndPhase.Closing = refl
-acked_past EndPhase.Waiting = refl
-acked_past _ = refl
-
-passed_past : (state : EndPhase) → is_past (states.after_fin_passed state) ≡ is_past state
-passed_past EndPhase.Established = refl
-passed_past EndPhase.FinWait1 = refl
-passed_past EndPhase.FinWait2 = refl
-passed_past EndPhase.Waiting = refl
-passed_past _ = refl
-
-opened_past : (state : EndPhase) → is_past (states.after_handshake state) ≡ is_past state
-opened_past EndPhase.SynReceived = refl
-opened_past EndPhase.Waiting = refl
-opened_past _ = refl
+opened_same : (state : EndPhase) → Same (states.after_handshake state) state
+opened_same EndPhase.SynReceived = (refl, refl, refl)
+opened_same EndPhase.Waiting = (refl, refl, refl)
+opened_same _ = (refl, refl, refl)
 
 pub finishing_up : (s : EndState) → NoWaking s (after_finishing s)
-finishing_up s = alike_up s (after_finishing s) (record { state = finish_closed s.state; waits = finish_waits s.state; past = finish_past s.state; timer = refl })
+finishing_up s = let same = finish_same s.state in alike_up s (after_finishing s) (record { state = same.0; waits = same.1; past = same.2; timer = refl })
 
 pub passing_up : (s : EndState) → NoWaking s (if is_fin_next s then after_passing_fin s else s)
 passing_up s = by (is_fin_next s)
   where
     by : (b : Bool) → NoWaking s (if b then after_passing_fin s else s)
-    by true = alike_up s (after_passing_fin s) (record { state = passed_closed s.state; waits = passed_waits s.state; past = passed_past s.state; timer = refl })
+    by true = let same = passed_same s.state in alike_up s (after_passing_fin s) (record { state = same.0; waits = same.1; past = same.2; timer = refl })
     by false = record { up = λ up. up; waits = λ is. is; past = λ is. is }
 
 -- ---- a copy
@@ -169,22 +125,12 @@ back_alike : (s t : EndState) → Alike s t → Alike t s
 back_alike s t x = record { state = sym x.state; waits = sym x.waits; past = sym x.past; timer = sym x.timer }
 
 kind_alike : (kind : AckKind) (since : Option ℕ) (now : ℕ) (s : EndState) → Alike s (after_ack_kind kind since now s)
-kind_alike (AckKind.New octets) since now s = record { state = by (is_fin_acked s.send); waits = too (is_fin_acked s.send); past = so (is_fin_acked s.send); timer = refl }
+kind_alike (AckKind.New octets) since now s = let same = by (is_fin_acked s.send) in record { state = same.0; waits = same.1; past = same.2; timer = refl }
   where
-    by : (b : Bool) → is_closed_to_segments (if b then states.after_fin_acked s.state else s.state) ≡ is_closed_to_segments s.state
-    by true = acked_closed s.state
-    by false = refl
-
-    too : (b : Bool) → is_waiting (if b then states.after_fin_acked s.state else s.state) ≡ is_waiting s.state
-    too true = acked_waits s.state
-    too false = refl
-
-    so : (b : Bool) → is_past (if b then states.after_fin_acked s.state else s.state) ≡ is_past s.state
-    so true = acked_past s.state
-    so false = refl
-kind_alike AckKind.Duplicate since now s = record { state = refl; waits = refl; past = refl; timer = refl }
-kind_alike AckKind.Old since now s = record { state = refl; waits = refl; past = refl; timer = refl }
-kind_alike AckKind.Future since now s = record { state = refl; waits = refl; past = refl; timer = refl }
+    by : (b : Bool) → Same (if b then states.after_fin_acked s.state else s.state) s.state
+    by true = acked_same s.state
+    by false = (refl, refl, refl)
+kind_alike _ since now s = record { state = refl; waits = refl; past = refl; timer = refl }
 
 ack_alike : (pos now : ℕ) (s : EndState) → Alike s (after_acknowledgement pos now s)
 ack_alike pos now s =
@@ -203,7 +149,8 @@ taken_alike : (pos acknowledged : ℕ) (hint : Hint) (now : ℕ) (c : Copy) (s :
 taken_alike pos acknowledged hint now c s =
     let heard : EndState = after_established (after_hearing (after_payload pos hint c s)) in
     let acked : EndState = after_acknowledgement acknowledged now heard in
-    let opened : Alike s heard = record { state = opened_closed s.state; waits = opened_waits s.state; past = opened_past s.state; timer = refl } in
+    let same = opened_same s.state in
+    let opened : Alike s heard = record { state = same.0; waits = same.1; past = same.2; timer = refl } in
     let answered : Alike s acked = then_alike s heard acked opened (ack_alike acknowledged now heard) in
     let told = row_alike (is_duplicate (ack_kind acknowledged heard.send) (told_by hint c) c acked) s (after_duplicate acked) (after_interruption acked)
     (record { state = answered.state; waits = answered.waits; past = answered.past; timer = answered.timer }) (record { state = answered.state; waits = answered.waits; past = answered.past; timer = answered.timer }) in
@@ -341,12 +288,7 @@ module _ (rst : Bool) (items : List Heard) (e : PathEnd) where
       by false true = nothing_wakes
       by false false = record { no_syn = refl; lively = up }
   wakes_none Meaning.Ignored up = unless_silent (is_passed_over rst items e) Meaning.Ignored (record { no_syn = refl; lively = up })
-  wakes_none Meaning.Unwanted up = unless_silent (is_passed_over rst items e) Meaning.Unwanted (record { no_syn = refl; lively = up })
-  wakes_none Meaning.Outside up = unless_silent (is_passed_over rst items e) Meaning.Outside (record { no_syn = refl; lively = up })
-  wakes_none Meaning.Kills up = unless_silent (is_passed_over rst items e) Meaning.Kills (record { no_syn = refl; lively = up })
-  wakes_none Meaning.Challenged up = unless_silent (is_passed_over rst items e) Meaning.Challenged (record { no_syn = refl; lively = up })
-  wakes_none Meaning.Unacknowledging up = unless_silent (is_passed_over rst items e) Meaning.Unacknowledging (record { no_syn = refl; lively = up })
-  wakes_none Meaning.Ahead up = unless_silent (is_passed_over rst items e) Meaning.Ahead (record { no_syn = refl; lively = up })
+  wakes_none m up = unless_silent (is_passed_over rst items e) m (record { no_syn = refl; lively = up })
 
   pub joined_wakes_none : (c : Copy) → WakesNone (taken_as (judged_of true rst items (meaning_of c e.tcp) e)) e.tcp
   joined_wakes_none c = wakes_none (meaning_of c e.tcp) (λ lively. open_is_up e.tcp (lively_open e.tcp.state c e.tcp lively))

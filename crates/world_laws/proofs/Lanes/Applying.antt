@@ -138,12 +138,7 @@ reads_more told notes r reply n is h = by reply is
       done_is = or_true told ∙ sym (or_true r.told);
     }
     by (ReassemblyReply.Placed count) is = other (ReassemblyReply.Placed count) is refl refl refl refl
-    by (ReassemblyReply.Beyond edge) is = other (ReassemblyReply.Beyond edge) is refl refl refl refl
-    by (ReassemblyReply.FinClash fin at) is = other (ReassemblyReply.FinClash fin at) is refl refl refl refl
-    by ReassemblyReply.FinSet is = other ReassemblyReply.FinSet is refl refl refl refl
-    by ReassemblyReply.NoneYet is = other ReassemblyReply.NoneYet is refl refl refl refl
-    by (ReassemblyReply.Ack next window) is = other (ReassemblyReply.Ack next window) is refl refl refl refl
-    by ReassemblyReply.Noted is = other ReassemblyReply.Noted is refl refl refl refl
+    by reply is = other reply is refl refl refl refl
 
 -- a step at no reassembly book leaves the reader as it is
 pub reads_on : (told : Bool) (notes : List Note) (r : Reader) (n : Note) → bytes_in n.reply ≡ [] → tells_end n.reply ≡ false → tells_stop n.reply ≡ false

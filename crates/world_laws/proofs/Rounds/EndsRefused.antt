@@ -358,11 +358,9 @@ module _ {C : Type 0} where
     heard_done true s now count h (Meaning.Accepts acknowledged) = owed_came s (ended true s now h (Meaning.Accepts acknowledged)) (join_answered s) (answered_there s)
     heard_done false s now count h (Meaning.Accepts acknowledged) = owed_came s (ended false s now h (Meaning.Accepts acknowledged)) (syn_ack_came s) (syn_ack_there s)
     heard_done joined s now count h Meaning.RepeatedSyn = owed_came s (ended joined s now h Meaning.RepeatedSyn) (syn_again s) (again_there s)
-    heard_done joined s now count h Meaning.Outside = owed_came s (ended joined s now h Meaning.Outside) (answers s) (answer_there s)
     heard_done joined s now count h Meaning.Kills = came s (ended joined s now h Meaning.Kills) (leaves s) (inr (closed_paid p.profile s (ended joined s now h Meaning.Kills) (refused s) refl)) refl
-    heard_done joined s now count h Meaning.Challenged = owed_came s (ended joined s now h Meaning.Challenged) (answers s) (answer_there s)
     heard_done joined s now count h Meaning.Unacknowledging = owed_came s (ended joined s now h Meaning.Unacknowledging) (emission s) (emission_there s)
-    heard_done joined s now count h Meaning.Ahead = owed_came s (ended joined s now h Meaning.Ahead) (answers s) (answer_there s)
+    heard_done joined s now count h m = owed_came s (ended joined s now h m) (answers s) (answer_there s)
     heard_done joined s now count h (Meaning.Taken position acknowledged) =
         let copy = copy_is s count in
         came s (ended joined s now h (Meaning.Taken position acknowledged)) (copy_came s count) (inl copy.owed) copy.followed

@@ -59,15 +59,9 @@ module _ {C : Type 0} (k : Codec C) (six : SixBooks) (p : PathState C) where
     where
       by : (step : StepDuty) → IsFree s (ask_for k (Duty.Step step) p)
       by (StepDuty.Data t) = data_free s t (first_unsent (end_at t p))
-      by (StepDuty.Look t) = other_free (Duty.Step (StepDuty.Look t)) tt s
-      by StepDuty.Events = other_free (Duty.Step StepDuty.Events) tt s
-      by (StepDuty.Heard t index) = other_free (Duty.Step (StepDuty.Heard t index)) tt s
-      by (StepDuty.PlainAck t) = other_free (Duty.Step (StepDuty.PlainAck t)) tt s
-      by (StepDuty.Unmapped t) = other_free (Duty.Step (StepDuty.Unmapped t)) tt s
+      by step = other_free (Duty.Step step) tt s
   duty_free (Duty.Ask ask) s = other_free (Duty.Ask ask) tt s
-  duty_free (Duty.Send send) s = other_free (Duty.Send send) tt s
-  duty_free (Duty.Silent silent) s = other_free (Duty.Silent silent) tt s
-  duty_free Duty.End s = other_free Duty.End tt s
+  duty_free d s = other_free d tt s
 
   ask_free : (x : Ask) → asks_of k p ≡ Some x → (s : Side) → IsFree s x
   ask_free x is s = by p.agenda refl
@@ -79,50 +73,15 @@ module _ {C : Type 0} (k : Codec C) (six : SixBooks) (p : PathState C) where
 -- ---- an application neither looks nor asks for a grant
 
 app_quiet : (d : AppDuty) (a : AppState) (s : Side) → (looks s (app_ask d a) ≡ false) × (asks_grant s (app_ask d a) ≡ false)
-app_quiet AppDuty.Write a s = by a.side s
+app_quiet d a s = by d a.side s
   where
-    by : (q s : Side) → (looks s (app_ask AppDuty.Write (record a { side = q })) ≡ false) × (asks_grant s (app_ask AppDuty.Write (record a { side = q })) ≡ false)
-    by A A = (refl, refl)
-    by A B = (refl, refl)
-    by B A = (refl, refl)
-    by B B = (refl, refl)
-app_quiet AppDuty.Close a s = by a.side s
-  where
-    by : (q s : Side) → (looks s (app_ask AppDuty.Close (record a { side = q })) ≡ false) × (asks_grant s (app_ask AppDuty.Close (record a { side = q })) ≡ false)
-    by A A = (refl, refl)
-    by A B = (refl, refl)
-    by B A = (refl, refl)
-    by B B = (refl, refl)
-app_quiet AppDuty.Read a s = by a.side s
-  where
-    by : (q s : Side) → (looks s (app_ask AppDuty.Read (record a { side = q })) ≡ false) × (asks_grant s (app_ask AppDuty.Read (record a { side = q })) ≡ false)
-    by A A = (refl, refl)
-    by A B = (refl, refl)
-    by B A = (refl, refl)
-    by B B = (refl, refl)
-app_quiet AppDuty.FastClose a s = by a.side s
-  where
-    by : (q s : Side) → (looks s (app_ask AppDuty.FastClose (record a { side = q })) ≡ false) × (asks_grant s (app_ask AppDuty.FastClose (record a { side = q })) ≡ false)
-    by A A = (refl, refl)
-    by A B = (refl, refl)
-    by B A = (refl, refl)
-    by B B = (refl, refl)
-app_quiet AppDuty.AbortSend a s = by a.side s
-  where
-    by : (q s : Side) → (looks s (app_ask AppDuty.AbortSend (record a { side = q })) ≡ false) × (asks_grant s (app_ask AppDuty.AbortSend (record a { side = q })) ≡ false)
-    by A A = (refl, refl)
-    by A B = (refl, refl)
-    by B A = (refl, refl)
-    by B B = (refl, refl)
-app_quiet AppDuty.AbortReceive a s = by a.side s
-  where
-    by : (q s : Side) → (looks s (app_ask AppDuty.AbortReceive (record a { side = q })) ≡ false) × (asks_grant s (app_ask AppDuty.AbortReceive (record a { side = q })) ≡ false)
-    by A A = (refl, refl)
-    by A B = (refl, refl)
-    by B A = (refl, refl)
-    by B B = (refl, refl)
-app_quiet AppDuty.End a A = (refl, refl)
-app_quiet AppDuty.End a B = (refl, refl)
+    by : (d : AppDuty) (q s : Side) → (looks s (app_ask d (record a { side = q })) ≡ false) × (asks_grant s (app_ask d (record a { side = q })) ≡ false)
+    by AppDuty.End q A = (refl, refl)
+    by AppDuty.End q B = (refl, refl)
+    by _ A A = (refl, refl)
+    by _ A B = (refl, refl)
+    by _ B A = (refl, refl)
+    by _ B B = (refl, refl)
 
 -- ---- an actor and its list
 

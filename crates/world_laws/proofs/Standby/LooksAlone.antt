@@ -82,15 +82,9 @@ module _ {C : Type 0} where
     where
       step_stands : (step : StepDuty) → Stands k (Duty.Step step) r p
       step_stands (StepDuty.Look s) = λ t. look_stands s t (path_of p) r p
-      step_stands (StepDuty.Data s) = other_stands k (Duty.Step (StepDuty.Data s)) r p tt
-      step_stands StepDuty.Events = other_stands k (Duty.Step StepDuty.Events) r p tt
-      step_stands (StepDuty.Heard s index) = other_stands k (Duty.Step (StepDuty.Heard s index)) r p tt
-      step_stands (StepDuty.PlainAck s) = other_stands k (Duty.Step (StepDuty.PlainAck s)) r p tt
-      step_stands (StepDuty.Unmapped s) = other_stands k (Duty.Step (StepDuty.Unmapped s)) r p tt
+      step_stands step = other_stands k (Duty.Step step) r p tt
   answered_stands k (Duty.Ask ask) r p = other_stands k (Duty.Ask ask) r p tt
-  answered_stands k (Duty.Send send) r p = other_stands k (Duty.Send send) r p tt
-  answered_stands k (Duty.Silent silent) r p = other_stands k (Duty.Silent silent) r p tt
-  answered_stands k Duty.End r p = other_stands k Duty.End r p tt
+  answered_stands k d r p = other_stands k d r p tt
 
   -- so it is after each step of a path
   pub takes_stands : (k : Codec C) (x : Ask) (r : Reply) (p : PathState C) → asks_of k p ≡ Some x → (t : Side)

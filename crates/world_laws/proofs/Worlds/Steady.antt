@@ -37,23 +37,9 @@ module _ (start : Start) where
       by false d may is = inl is
 
   joins_at_a : (six : SixBooks) (call : ControlCall) → Asks six (Ask.Control A call) → Joins six.control_a call
-  joins_at_a six (ControlCall.Look path) ask = same_at_a six (ControlCall.Look path) ask tt
-  joins_at_a six (ControlCall.PeerKey key) ask = same_at_a six (ControlCall.PeerKey key) ask tt
-  joins_at_a six (ControlCall.Keys own other) ask = same_at_a six (ControlCall.Keys own other) ask tt
-  joins_at_a six (ControlCall.Fell path event) ask = same_at_a six (ControlCall.Fell path event) ask tt
   joins_at_a six (ControlCall.JoinBegin path) ask = begins_at_a six path
   joins_at_a six (ControlCall.JoinHeard path token) ask = (let never : A ≡ B = ask.0 in cc)
-  joins_at_a six (ControlCall.Live path backup) ask = same_at_a six (ControlCall.Live path backup) ask tt
-  joins_at_a six (ControlCall.Dead path) ask = same_at_a six (ControlCall.Dead path) ask tt
-  joins_at_a six (ControlCall.Rate path window rtt) ask = same_at_a six (ControlCall.Rate path window rtt) ask tt
-  joins_at_a six (ControlCall.Backup path on) ask = same_at_a six (ControlCall.Backup path on) ask tt
-  joins_at_a six (ControlCall.Announce id) ask = same_at_a six (ControlCall.Announce id) ask tt
-  joins_at_a six (ControlCall.Withdraw id) ask = same_at_a six (ControlCall.Withdraw id) ask tt
-  joins_at_a six (ControlCall.Heard id address port hmac) ask = same_at_a six (ControlCall.Heard id address port hmac) ask tt
-  joins_at_a six (ControlCall.Echoed id) ask = same_at_a six (ControlCall.Echoed id) ask tt
-  joins_at_a six (ControlCall.Removed id) ask = same_at_a six (ControlCall.Removed id) ask tt
-  joins_at_a six ControlCall.FastClose ask = same_at_a six ControlCall.FastClose ask tt
-  joins_at_a six (ControlCall.FastHeard key) ask = same_at_a six (ControlCall.FastHeard key) ask tt
+  joins_at_a six call ask = same_at_a six call ask tt
 
   joins_by : (six : SixBooks) (x : Ask) → Asks six x → Joined (after_ask x six) A → (Joined six A) ⊎ (is_sure six.control_a.fall.mode ≡ true)
   joins_by six (Ask.Control A call) ask is = joins_at_a six call ask is
