@@ -4,14 +4,14 @@ use Rattle.world_laws.proofs.Words.{Side, A, B, JoinAnswer, ControlReply, is_dea
 use Rattle.world_laws.proofs.Words.{LineAction, emission, leaves, Duty, SendDuty, StepDuty, AskDuty, SilentDuty, Heard, KeyPair, keys_heard, Reply, tail_of}
 use Rattle.world_laws.proofs.Words.{Codec, passed, answered, PathEnd, died, at_tick, PathState, end_at, goes_on, takes, begins_turn, next_round, items_of}
 use Rattle.world_laws.proofs.Words.{options_heard, after_judged, asked_in, judged_in, with_held, heard_in, copy_heard, told_at, answered_break, next_event}
-use Rattle.world_laws.proofs.Words.{after_line, happens_if, join_begun, never_joined, is_never, keys_begun, opened_by, is_joined, join_answer, is_clash, counts}
-use Rattle.world_laws.proofs.Words.{held_of, HeardOption, answered_heard, answered_item, item_of, item_passed, heard_passed, after_fell, fell_in}
+use Rattle.world_laws.proofs.Words.{after_line, happens_if, join_begun, never_joined, is_never, keys_begun, opened_by, is_joined, join_answer, is_clash}
+use Rattle.world_laws.proofs.Words.{held_of, HeardOption, answered_heard, answered_item, item_of, item_passed, after_fell, fell_in}
 use Rattle.world_laws.proofs.Words.{answered_opened, keys_in, answered_in, cleared_in, taken_as, with_answer, Modes, is_side_a, EndWrites, Only, Writes, OnlyAt}
 use Rattle.world_laws.proofs.Words.{EndView, writes, side_of}
 use Rattle.path_core.specs.Judged.{after_join}
 use Rattle.path_core.specs.declared.events.Event.{Event}
 use Rattle.world_laws.proofs.Falls.FailedChecks.{infinite_came_so, fail_answered_so}
-use Rattle.world_laws.proofs.Writes.Ends.{fell_so}
+use Rattle.world_laws.proofs.Writes.Ends.{fell_so, item_so}
 use Rattle.world_laws.proofs.Writes.Paths.{writes_no_more, passes_no_more}
 use Rattle.world_laws.proofs.Writes.Steps.{both_ends, Lasts, unwritten, takes_lasts, begins_lasts}
 
@@ -69,15 +69,10 @@ begun_end : (keys : Option KeyPair) (e : PathEnd) → EndStays e (opened_by keys
 begun_end None e = (λ h. h, λ h. h)
 begun_end (Some keys) e = (λ h. h, λ h. h)
 
-item_end : (s : Side) (item : Heard) (e : PathEnd) → EndStays e (heard_passed s item e)
-item_end s Heard.Dss e = (λ h. or_left e.modes.clear (is_side_a s) h, λ h. h)
-item_end s (Heard.Mapping fin) e = either_end (counts e) e _ _ (λ h. h, λ h. h) (λ h. h, λ h. h)
-item_end s (Heard.DataFin place) e = either_end (counts e) e _ _ (λ h. h, λ h. h) (λ h. h, λ h. h)
-item_end s _ e = (λ h. h, λ h. h)
-
 pub maybe_end : (s : Side) (o : Option Heard) (e : PathEnd) → EndStays e (item_passed s o e)
-maybe_end s None e = (λ h. h, λ h. h)
-maybe_end s (Some item) e = item_end s item e
+maybe_end s o e =
+    item_so (EndStays e) s o e (λ h. h, λ h. h) (λ h. or_left e.modes.clear (is_side_a s) h, λ h. h) (λ next. (λ h. h, λ h. h)) (λ h. h, λ h. h) (λ h. h, λ h. h)
+    (λ place. (λ h. h, λ h. h))
 
 end_kept : (w : EndWrites) (e f : PathEnd) → w.clear ≡ false → w.identity ≡ false → Only w e f → EndStays e f
 end_kept w e f clear identity x = (

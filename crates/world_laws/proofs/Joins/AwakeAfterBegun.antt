@@ -14,7 +14,7 @@ use Rattle.world_laws.proofs.Words.{answer_occasion, answer_of, dead_answer, res
 use Rattle.world_laws.proofs.Words.{join_begun, never_joined, asked_at, is_never, join_taken, keys_begun, opened_by, with_mode_refused, is_joined}
 use Rattle.world_laws.proofs.Words.{join_heard_ask, join_answer, after_timer, template_fired, timer_fired, is_wrong, mapping_here, piece_of, is_placed}
 use Rattle.world_laws.proofs.Words.{answered_piece, forgotten_by, after_keep, after_pieces, is_dropped, after_check, fin_segment_of, having_sent_fin}
-use Rattle.world_laws.proofs.Words.{answered_plain_fin, answered_fin_heard, is_fin_set, after_pass_fin, is_clash, with_learned, with_data_fin, counts}
+use Rattle.world_laws.proofs.Words.{answered_plain_fin, answered_fin_heard, is_fin_set, after_pass_fin, is_clash, with_learned, with_data_fin}
 use Rattle.world_laws.proofs.Words.{with_skipped, held_of, HeardOption, with_acked, heard_ask, item_ask, answered_heard, answered_item, item_of, item_passed}
 use Rattle.world_laws.proofs.Words.{fell_ask, after_fell, fell_duties, plain_ack_ask, answered_plain_ack, with_plain_ack, breaks_by_ack, may_go_infinite}
 use Rattle.world_laws.proofs.Words.{book_answered, answered_fell, with_infinite, fell_in, is_fall, in_identity, after_keys, peer_key_ask, opened_ask}
@@ -24,6 +24,8 @@ use Rattle.path_agenda.specs.Agenda.{breaks}
 use Rattle.path_core.specs.declared.events.Event.{Event}
 use Rattle.path_core.specs.DssIn.{is_acked}
 use Rattle.path_core.specs.Emission.{Grant}
+use Rattle.path_core.specs.DssIn.{after_dss, with_data_ack}
+use Rattle.world_laws.proofs.Writes.Ends.{item_so}
 use Rattle.world_laws.proofs.Falls.FailedChecks.{check_failed_so, checked_so, fail_heard_so, failed_so, infinite_came_so, infinite_so}
 use Rattle.world_laws.proofs.Falls.Verdicts.{fell_cases}
 use Rattle.world_laws.proofs.Keys.AreDrawn.{Known}
@@ -183,21 +185,10 @@ module _ {C : Type 0} (k : Codec C) (W F : Side → Type 0) where
   -- ---- in silence
 
   item_goes : (s : Side) (o : Option Heard) (p : PathState C) → Goes s p (item_passed s o (end_at s p))
-  item_goes s None p = same_goes s (end_at s p) p refl refl refl
-  item_goes s (Some Heard.Dss) p = same_goes s (item_passed s (Some Heard.Dss) (end_at s p)) p refl refl refl
-  item_goes s (Some (Heard.DataAck next window)) p = same_goes s (item_passed s (Some (Heard.DataAck next window)) (end_at s p)) p refl refl refl
-  item_goes s (Some (Heard.Mapping fin)) p = by (counts (end_at s p))
-    where
-      by : (b : Bool) → Goes s p (if b then with_learned (end_at s p) else with_skipped (end_at s p))
-      by true = same_goes s (with_learned (end_at s p)) p refl refl refl
-      by false = same_goes s (with_skipped (end_at s p)) p refl refl refl
-  item_goes s (Some (Heard.DataFin place)) p = by (counts (end_at s p))
-    where
-      by : (b : Bool) → Goes s p (if b then with_data_fin place (end_at s p) else end_at s p)
-      by true = same_goes s (with_data_fin place (end_at s p)) p refl refl refl
-      by false = same_goes s (end_at s p) p refl refl refl
-  item_goes s (Some Heard.Fail) p = same_goes s (end_at s p) p refl refl refl
-  item_goes s _ p = same_goes s (end_at s p) p refl refl refl
+  item_goes s o p =
+      let e : PathEnd = end_at s p in
+      item_so (Goes s p) s o e (same_goes s e p refl refl refl) (same_goes s (after_dss s e) p refl refl refl) (λ next. same_goes s (with_data_ack next e) p refl refl refl)
+      (same_goes s (with_learned e) p refl refl refl) (same_goes s (with_skipped e) p refl refl refl) (λ place. same_goes s (with_data_fin place e) p refl refl refl)
 
   edge_goes : (s : Side) (checksums : Bool) (o : Option KeptMapping) (p : PathState C) → Goes s p (forgotten_by checksums o (end_at s p))
   edge_goes s checksums None p = same_goes s (end_at s p) p refl refl refl

@@ -15,13 +15,15 @@ use Rattle.world_laws.proofs.Words.{dead_answer, resend_occasion, resend_of, fir
 use Rattle.world_laws.proofs.Words.{asked_at, is_listening, is_never, join_taken, joined_by, keys_begun, opened_by, syn_alone, with_mode_refused, is_joined}
 use Rattle.world_laws.proofs.Words.{after_timer, template_fired, timer_fired, is_wrong, mapping_here, forgotten_by, after_keep, after_pieces, is_dropped}
 use Rattle.world_laws.proofs.Words.{after_check, is_data_fin_owed, fin_segment_of, having_sent_fin, after_pass_fin, is_clash, with_learned, with_data_fin}
-use Rattle.world_laws.proofs.Words.{counts, with_skipped, held_of, with_acked, with_data_ack, answered_heard, answered_item, item_of, item_passed, after_fell}
+use Rattle.world_laws.proofs.Words.{with_skipped, held_of, with_acked, with_data_ack, answered_heard, answered_item, item_of, item_passed, after_fell}
 use Rattle.world_laws.proofs.Words.{fell_duties, answered_plain_ack, with_plain_ack, breaks_by_ack, answered_fell, with_infinite, after_keys, is_stopped_by}
 use Rattle.world_laws.proofs.Words.{with_priority, after_peer_notice, reset_options, ack_said, carried_said, syn_ack_said, record_or_ack, noted_said, Profile}
 use Rattle.world_laws.proofs.Words.{having_sent, sent_on, taken_as, Treated, Every-nil, Every, EndWrites, Only, Writes, OnlyAt, EndView, PathView, writes}
 use Rattle.world_laws.proofs.Words.{side_of, copy_said}
 use Rattle.path_core.specs.declared.events.Event.{Event}
 use Rattle.path_core.specs.Emission.{Grant}
+use Rattle.path_core.specs.DssIn.{after_dss}
+use Rattle.world_laws.proofs.Writes.Ends.{item_so}
 use Rattle.world_laws.proofs.Keys.Held.{in_removed}
 use Rattle.world_laws.proofs.Keys.WhatWakes.{WakesNone, joined_wakes_none}
 use Rattle.world_laws.proofs.Keys.AnswerHeardFirst.{is_apart, finish_apart, passed_apart, apart_stays, arrived_state, TellsKey, no_syn, record_or_ack_tells, syn_ack_tells, IsNoSyn, reset_answers, outgoing_tells}
@@ -149,21 +151,10 @@ noted_tells s None p = ack_tells s (end_at s p).tcp.send.nxt None p
 -- ---- in silence
 
 item_goes : (s : Side) (o : Option Heard) (p : PathState Carried) → HasRoles p → Goes s p (item_passed s o (end_at s p))
-item_goes s None p h = same_goes s (end_at s p) p refl refl h
-item_goes s (Some Heard.Dss) p h = same_goes s (item_passed s (Some Heard.Dss) (end_at s p)) p refl refl h
-item_goes s (Some (Heard.DataAck next window)) p h = same_goes s (with_data_ack next (end_at s p)) p refl refl h
-item_goes s (Some (Heard.Mapping fin)) p h = by (counts (end_at s p))
-  where
-    by : (b : Bool) → Goes s p (if b then with_learned (end_at s p) else with_skipped (end_at s p))
-    by true = same_goes s (with_learned (end_at s p)) p refl refl h
-    by false = same_goes s (with_skipped (end_at s p)) p refl refl h
-item_goes s (Some (Heard.DataFin place)) p h = by (counts (end_at s p))
-  where
-    by : (b : Bool) → Goes s p (if b then with_data_fin place (end_at s p) else end_at s p)
-    by true = same_goes s (with_data_fin place (end_at s p)) p refl refl h
-    by false = same_goes s (end_at s p) p refl refl h
-item_goes s (Some Heard.Fail) p h = same_goes s (end_at s p) p refl refl h
-item_goes s _ p h = same_goes s (end_at s p) p refl refl h
+item_goes s o p h =
+    let e : PathEnd = end_at s p in
+    item_so (Goes s p) s o e (same_goes s e p refl refl h) (same_goes s (after_dss s e) p refl refl h) (λ next. same_goes s (with_data_ack next e) p refl refl h)
+    (same_goes s (with_learned e) p refl refl h) (same_goes s (with_skipped e) p refl refl h) (λ place. same_goes s (with_data_fin place e) p refl refl h)
 
 edge_goes : (s : Side) (checksums : Bool) (o : Option KeptMapping) (p : PathState Carried) → HasRoles p → Goes s p (forgotten_by checksums o (end_at s p))
 edge_goes s checksums None p h = same_goes s (end_at s p) p refl refl h

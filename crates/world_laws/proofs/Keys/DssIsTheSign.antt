@@ -11,13 +11,14 @@ use Rattle.world_laws.proofs.Words.{items_in, items_of, options_heard, judged_in
 use Rattle.world_laws.proofs.Words.{died_unless_dead, answered_data, answered_grant, first_unsent, grant_in, Judged, next_event, after_line, happens_if}
 use Rattle.world_laws.proofs.Words.{join_begun, asked_at, is_never, join_taken, keys_begun, opened_by, is_joined, join_items, template_fired, is_wrong}
 use Rattle.world_laws.proofs.Words.{mapping_here, piece_of, is_placed, answered_piece, forgotten_by, answered_plain_fin, answered_fin_heard, is_fin_set}
-use Rattle.world_laws.proofs.Words.{ack_items, map_items, is_clash, with_learned, with_data_fin, counts, with_skipped, HeardOption, told_next, answered_item}
+use Rattle.world_laws.proofs.Words.{ack_items, map_items, is_clash, with_learned, HeardOption, told_next, answered_item}
 use Rattle.world_laws.proofs.Words.{item_of, item_passed, item_stands, after_check_failed, after_fell, fell_duties, answered_plain_ack, with_plain_ack}
 use Rattle.world_laws.proofs.Words.{breaks_by_ack, after_fail_heard, answered_fell, answered_peer_key, answered_opened, key_items, is_stopped_by, item_removed}
 use Rattle.world_laws.proofs.Words.{address_items, item_at}
 use Rattle.path_segments.specs.declared.segment.PathOption.TheVariants.{FastClose}
 use Rattle.path_core.specs.declared.events.Event.{Event}
 use Rattle.path_core.specs.Emission.{Grant}
+use Rattle.world_laws.proofs.Writes.Ends.{item_so}
 use Rattle.world_laws.proofs.Falls.ClearStays.{maybe_end, passed_clear, answered_clear, Stays}
 use Rattle.world_laws.proofs.Falls.Verdicts.{fell_cases}
 use Rattle.world_laws.proofs.Falls.FailedChecks.{check_failed_so, fail_heard_so, infinite_came_so, fail_answered_so}
@@ -198,21 +199,7 @@ recalled_none : (n : ℕ) (e f : PathEnd) → Recalls e f → NoneBefore n e.tre
 recalled_none n e f r h = ⊎_elim (λ same. subst (NoneBefore n) (sym same) h) (λ none. subst (NoneBefore n) (sym none) (nothing_before n)) r.kept
 
 same_items : (s : Side) (o : Option Heard) (e : PathEnd) → (item_passed s o e).treated.items ≡ e.treated.items
-same_items s None e = refl
-same_items s (Some Heard.Dss) e = refl
-same_items s (Some (Heard.DataAck next window)) e = refl
-same_items s (Some (Heard.Mapping fin)) e = by (counts e)
-  where
-    by : (b : Bool) → (if b then with_learned e else with_skipped e).treated.items ≡ e.treated.items
-    by true = refl
-    by false = refl
-same_items s (Some (Heard.DataFin place)) e = by (counts e)
-  where
-    by : (b : Bool) → (if b then with_data_fin place e else e).treated.items ≡ e.treated.items
-    by true = refl
-    by false = refl
-same_items s (Some Heard.Fail) e = refl
-same_items s _ e = refl
+same_items s o e = item_so (λ f. f.treated.items ≡ e.treated.items) s o e refl refl (λ next. refl) refl refl (λ place. refl)
 
 checked_recalls : (checksums : Bool) (o : Option KeptMapping) (e : PathEnd) → Recalls e (forgotten_by checksums o e)
 checked_recalls checksums None e = recalls_all e e refl

@@ -9,9 +9,11 @@ use Rattle.world_laws.proofs.Words.{modes_told, at_tick, PathState, end_at, goes
 use Rattle.world_laws.proofs.Words.{items_of, owes_by, options_heard, after_judged, asked_in, copy_judged, copy_of, judged_in, reset_for, template_of, heard_in}
 use Rattle.world_laws.proofs.Words.{copy_heard, heard_at, Judged, step_for, after_line, happens_if, join_begun, never_joined, is_never, keys_begun, opened_by}
 use Rattle.world_laws.proofs.Words.{is_joined, mode_refused, after_timer, template_fired, timer_fired, is_wrong, mapping_here, forgotten_by, after_keep}
-use Rattle.world_laws.proofs.Words.{after_pieces, is_dropped, after_check, after_pass_fin, with_learned, with_data_fin, counts, with_skipped, held_of}
+use Rattle.world_laws.proofs.Words.{after_pieces, is_dropped, after_check, after_pass_fin, with_learned, with_data_fin, with_skipped, held_of}
 use Rattle.world_laws.proofs.Words.{HeardOption, item_of, item_passed, with_plain_ack, fell_in, mode_in, with_priority, sent_on, taken_as, Modes}
 use Rattle.path_core.specs.declared.events.Event.{Event}
+use Rattle.path_core.specs.DssIn.{after_dss, with_data_ack}
+use Rattle.world_laws.proofs.Writes.Ends.{item_so}
 use Rattle.world_laws.proofs.Keys.AnswerHeardFirst.{is_met, passed_met_state, is_accepts, Fits, fits, is_calm, signs, Fewer, same_duties, tail_fewer, new_duties, b_template, arrived_state, unmet_stays, a_template, a_signs}
 
 -- ---- what is told
@@ -141,21 +143,10 @@ module _ (T : Type 0) where
   -- ---- in silence
 
   item_goes : (s : Side) (o : Option Heard) (p : PathState Carried) → Goes s p (item_passed s o (end_at s p))
-  item_goes s None p = same_goes s (end_at s p) p refl refl
-  item_goes s (Some Heard.Dss) p = same_goes s (item_passed s (Some Heard.Dss) (end_at s p)) p refl refl
-  item_goes s (Some (Heard.DataAck next window)) p = same_goes s (item_passed s (Some (Heard.DataAck next window)) (end_at s p)) p refl refl
-  item_goes s (Some (Heard.Mapping fin)) p = by (counts (end_at s p))
-    where
-      by : (b : Bool) → Goes s p (if b then with_learned (end_at s p) else with_skipped (end_at s p))
-      by true = same_goes s (with_learned (end_at s p)) p refl refl
-      by false = same_goes s (with_skipped (end_at s p)) p refl refl
-  item_goes s (Some (Heard.DataFin place)) p = by (counts (end_at s p))
-    where
-      by : (b : Bool) → Goes s p (if b then with_data_fin place (end_at s p) else end_at s p)
-      by true = same_goes s (with_data_fin place (end_at s p)) p refl refl
-      by false = same_goes s (end_at s p) p refl refl
-  item_goes s (Some Heard.Fail) p = same_goes s (end_at s p) p refl refl
-  item_goes s _ p = same_goes s (end_at s p) p refl refl
+  item_goes s o p =
+      let e : PathEnd = end_at s p in
+      item_so (Goes s p) s o e (same_goes s e p refl refl) (same_goes s (after_dss s e) p refl refl) (λ next. same_goes s (with_data_ack next e) p refl refl)
+      (same_goes s (with_learned e) p refl refl) (same_goes s (with_skipped e) p refl refl) (λ place. same_goes s (with_data_fin place e) p refl refl)
 
   edge_goes : (s : Side) (checksums : Bool) (o : Option KeptMapping) (p : PathState Carried) → Goes s p (forgotten_by checksums o (end_at s p))
   edge_goes s checksums None p = same_goes s (end_at s p) p refl refl

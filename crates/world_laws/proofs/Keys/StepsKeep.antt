@@ -25,6 +25,8 @@ use Rattle.path_core.specs.Emission.{Grant}
 use Rattle.path_core.specs.Addresses.{note_of}
 use Rattle.path_core.specs.DssIn.{is_acked}
 use Rattle.path_core.specs.FastClose.{fast_close_of}
+use Rattle.path_core.specs.DssIn.{after_dss}
+use Rattle.world_laws.proofs.Writes.Ends.{item_so}
 use Rattle.world_laws.proofs.Worlds.Finding.{find_every, one_side}
 use Rattle.world_laws.proofs.Announcements.Queued.{announced_told, echo_queued, first_queued, look_queued, prio_queued, tail_queued}
 use Rattle.world_laws.proofs.Falls.FailedChecks.{check_failed_so, checked_so, fail_heard_so, failed_so, infinite_came_so, infinite_so}
@@ -127,39 +129,16 @@ module _ (k : Secrets) (right : Bool) (w : Side → Type 0) (did : Deed → Side
 
   -- it knows what it knew
   passed_stays : (t s : Side) (o : Option Heard) (e : PathEnd) → Knows k right w did t e.modes → Knows k right w did t (item_passed s o e).modes
-  passed_stays t s None e has = has
-  passed_stays A s (Some Heard.Dss) e has = (has.0, has.1)
-  passed_stays B s (Some Heard.Dss) e has = (has.0, has.1)
-  passed_stays t s (Some (Heard.DataAck next window)) e has = same_knows k right w did t e.modes (with_data_ack next e).modes refl has
-  passed_stays t s (Some (Heard.Mapping fin)) e has = by (counts e)
+  passed_stays t s o e has =
+      item_so (λ f. Knows k right w did t f.modes) s o e has (signed t has) (λ next. same_knows k right w did t e.modes (with_data_ack next e).modes refl has) has has (λ place. has)
     where
-      by : (b : Bool) → Knows k right w did t (if b then with_learned e else with_skipped e).modes
-      by true = has
-      by false = has
-  passed_stays t s (Some (Heard.DataFin place)) e has = by (counts e)
-    where
-      by : (b : Bool) → Knows k right w did t (if b then with_data_fin place e else e).modes
-      by true = has
-      by false = has
-  passed_stays t s (Some Heard.Fail) e has = has
-  passed_stays t s _ e has = has
+      signed : (t : Side) → Knows k right w did t e.modes → Knows k right w did t (after_dss s e).modes
+      signed A has = (has.0, has.1)
+      signed B has = (has.0, has.1)
 
   item_waits : (s : Side) (o : Option Heard) (e : PathEnd) → is_waiting (item_passed s o e).tcp.state ≡ true → is_waiting e.tcp.state ≡ true
-  item_waits s None e is = is
-  item_waits s (Some Heard.Dss) e is = is
-  item_waits s (Some (Heard.DataAck next window)) e is = is
-  item_waits s (Some (Heard.Mapping fin)) e is = by (counts e) is
-    where
-      by : (b : Bool) → is_waiting (if b then with_learned e else with_skipped e).tcp.state ≡ true → is_waiting e.tcp.state ≡ true
-      by true is = is
-      by false is = is
-  item_waits s (Some (Heard.DataFin place)) e is = by (counts e) is
-    where
-      by : (b : Bool) → is_waiting (if b then with_data_fin place e else e).tcp.state ≡ true → is_waiting e.tcp.state ≡ true
-      by true is = is
-      by false is = is
-  item_waits s (Some Heard.Fail) e is = is
-  item_waits s _ e is = is
+  item_waits s o e =
+      item_so (λ f. is_waiting f.tcp.state ≡ true → is_waiting e.tcp.state ≡ true) s o e (λ is. is) (λ is. is) (λ next is. is) (λ is. is) (λ is. is) (λ place is. is)
 
   -- an edge that is checked leaves what the end knows, and its state
   checked : (checksums : Bool) (o : Option KeptMapping) (e : PathEnd) → (P : PathEnd → Type 0) → P e → ((recv : _) → P (record e { tcp = record e.tcp { recv = recv } }))

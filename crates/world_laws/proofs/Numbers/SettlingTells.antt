@@ -2,8 +2,9 @@
 use Rattle.world_laws.proofs.Words.{◌≡◌, refl, ℕ, ◌+◌, ◌≤◌, Bool, true, false, if◌then◌else◌, Option, Some, None, List, [], ◌∷◌, length, arith, ◌^◌, eqb-true}
 use Rattle.world_laws.proofs.Words.{and_parts, false≢true, list_all, IfSome, Side, peer, is_at, Duty, SendDuty, StepDuty, AskDuty, SilentDuty, Heard, SixBooks}
 use Rattle.world_laws.proofs.Words.{send_of, pick, stands, passed, PathEnd, PathState, end_at, with_end, with_agenda, settled, Carried, after_timer}
-use Rattle.world_laws.proofs.Words.{mapping_here, after_keep, after_pieces, after_check, after_pass_fin, with_learned, with_data_fin, counts, with_skipped}
-use Rattle.world_laws.proofs.Words.{item_of, item_passed, heard_passed, with_plain_ack, Profile, Holds, Lane, LaneIsShort}
+use Rattle.world_laws.proofs.Words.{mapping_here, after_keep, after_pieces, after_check, after_pass_fin}
+use Rattle.world_laws.proofs.Words.{item_of, item_passed, with_plain_ack, Profile, Holds, Lane, LaneIsShort}
+use Rattle.world_laws.proofs.Writes.Ends.{item_so}
 use Rattle.world_laws.proofs.Lanes.OfAWorld.{Others, duo_at}
 use Rattle.world_laws.proofs.Lanes.Settling.{passes}
 use Rattle.world_laws.proofs.Lanes.Showing.{HasFin, PathShows}
@@ -18,25 +19,10 @@ end_tells c p t s e x = tells_on c p t s e p.agenda x t.agenda
 
 -- ---- things that are passed
 
-item_told : (c : Profile) (s : Side) (e : PathEnd) → EndTells c s e → (item : Heard) → EndTells c s (heard_passed s item e)
-item_told c s e h Heard.Dss = rules.dss_tells c s e h
-item_told c s e h (Heard.DataAck next window) = rules.data_ack_tells c s e h next
-item_told c s e h (Heard.Mapping fin) = by (counts e)
-  where
-    by : (b : Bool) → EndTells c s (if b then with_learned e else with_skipped e)
-    by true = rules.learned_tells c s e h
-    by false = rules.skipped_tells c s e h
-item_told c s e h (Heard.DataFin place) = by (counts e)
-  where
-    by : (b : Bool) → EndTells c s (if b then with_data_fin place e else e)
-    by true = rules.fin_tells c s e h place
-    by false = h
-item_told c s e h (Heard.PeerKey key) = h
-item_told c s e h _ = h
-
 maybe_told : (c : Profile) (s : Side) (e : PathEnd) → EndTells c s e → (o : Option Heard) → EndTells c s (item_passed s o e)
-maybe_told c s e h None = h
-maybe_told c s e h (Some item) = item_told c s e h item
+maybe_told c s e h o =
+    item_so (EndTells c s) s o e h (rules.dss_tells c s e h) (λ next. rules.data_ack_tells c s e h next) (rules.learned_tells c s e h) (rules.skipped_tells c s e h)
+    (λ place. rules.fin_tells c s e h place)
 
 -- the FIN that is next stands behind the last octet
 fin_short : (n edge : ℕ) (back : Lane) (fin : Option ℕ) → LaneIsShort n back → n + 3 ≤ 2 ^ 31 → IfSome fin (HasFin back.fins) → is_at edge fin ≡ true → IsShort (edge + 1)

@@ -8,7 +8,7 @@ use Rattle.world_laws.proofs.Words.{leaves, resets, Duty, SendDuty, StepDuty, As
 use Rattle.world_laws.proofs.Words.{died, answered_ack_out, window_in, at_tick, PathState, end_at, goes_on, with_end, with_agenda, takes, begins_turn, Carried}
 use Rattle.world_laws.proofs.Words.{values, heard_in, copy_heard, told_at, reset_of, reset_on, answered_break, died_unless_dead, next_event, after_line}
 use Rattle.world_laws.proofs.Words.{happens_if, join_begun, never_joined, is_never, keys_begun, opened_by, piece_of, is_placed, answered_piece, is_clash}
-use Rattle.world_laws.proofs.Words.{with_learned, with_data_fin, counts, with_skipped, held_of, answered_heard, answered_item, item_of, item_passed, after_fell}
+use Rattle.world_laws.proofs.Words.{with_learned, held_of, answered_heard, answered_item, item_of, item_passed, after_fell}
 use Rattle.world_laws.proofs.Words.{fell_duties, sent_on, Every-nil, Every, Writes, OnlyAt, EndView, writes, side_of}
 use Rattle.dss_mapping.specs.declared.learn.Learn.{Learn}
 use Rattle.dss_mapping.specs.declared.learn.Learn.TheVariants.{New, Same, Clash}
@@ -18,6 +18,7 @@ use Rattle.dss_mapping.proofs.LawsProved.{learned_places}
 use Rattle.fallback_state.specs.declared.fall.Event.TheVariants as events
 use Rattle.path_core.specs.declared.events.Event.{Event}
 use Rattle.path_store.specs.Receiving.{Receiving}
+use Rattle.world_laws.proofs.Writes.Ends.{item_so}
 use Rattle.world_laws.proofs.Worlds.Finding.{find_every, one_side}
 use Rattle.world_laws.proofs.Falls.FailedChecks.{infinite_came_so, fail_answered_so}
 use Rattle.world_laws.proofs.Writes.Paths.{writes_no_more, passes_no_more}
@@ -128,21 +129,7 @@ module _ (R : Side → ℕ → ℕ → Type 0) where
   -- ---- duties that come to nothing
 
   item_knows : (s : Side) (o : Option Heard) (e : PathEnd) → EndKnows s e → EndKnows s (item_passed s o e)
-  item_knows s None e h = h
-  item_knows s (Some Heard.Dss) e h = h
-  item_knows s (Some (Heard.DataAck next window)) e h = h
-  item_knows s (Some (Heard.Mapping fin)) e h = by (counts e)
-    where
-      by : (b : Bool) → EndKnows s (if b then with_learned e else with_skipped e)
-      by true = learned_held (R s) e.receiving.mappings h
-      by false = skipped_knows (R s) e.receiving.mappings h
-  item_knows s (Some (Heard.DataFin place)) e h = by (counts e)
-    where
-      by : (b : Bool) → EndKnows s (if b then with_data_fin place e else e)
-      by true = h
-      by false = h
-  item_knows s (Some Heard.Fail) e h = h
-  item_knows s _ e h = h
+  item_knows s o e h = item_so (EndKnows s) s o e h h (λ next. h) (learned_held (R s) e.receiving.mappings h) (skipped_knows (R s) e.receiving.mappings h) (λ place. h)
 
   -- where the mappings may be written at neither end
   kept_by : (s : Side) (w : Writes) (p q : PathState Carried) → w.own.mappings ≡ false → w.other.mappings ≡ false → OnlyAt s w p q → PathKnows p → PathKnows q

@@ -4,6 +4,7 @@ use Rattle.world_laws.proofs.Words.{ControlReply, Notice, ReassemblyReply, SendR
 use Rattle.world_laws.proofs.Words.{Heard, KeyPair, Reply, PathEnd, died, Notices, after_notice, after_look, may_note, window_in, asked_in, died_unless_dead}
 use Rattle.world_laws.proofs.Words.{refused_in, opened_by, join_answer, acked_in, after_acked, counts, HeardOption, item_passed, heard_passed, fell_in, is_fall}
 use Rattle.world_laws.proofs.Words.{mode_in, keys_in, answered_in, cleared_in, with_answer, Modes, Only, happening, heard_writes, looking}
+use Rattle.path_core.specs.DssIn.{after_dss, with_data_ack, with_learned, with_skipped, with_data_fin}
 use Rattle.subflow_tcp.specs.declared.dues.Due.{Due}
 use Rattle.path_store.specs.Receiving.{Receiving}
 use Rattle.path_core.specs.Sending.{Sending}
@@ -131,3 +132,13 @@ heard_at s _ e = record { same = refl }
 pub item_at : (s : Side) (item : Option Heard) (e : PathEnd) → Only heard_writes e (item_passed s item e)
 item_at s None e = record { same = refl }
 item_at s (Some item) e = heard_at s item e
+
+-- what holds of all that a thing that was heard makes of an end in silence
+pub item_so : (P : PathEnd → Type 0) (s : Side) (item : Option Heard) (e : PathEnd) → P e → P (after_dss s e) → ((next : ℕ) → P (with_data_ack next e))
+    → P (with_learned e) → P (with_skipped e) → ((place : ℕ) → P (with_data_fin place e)) → P (item_passed s item e)
+item_so P s None e same dss ack learned skipped fin = same
+item_so P s (Some Heard.Dss) e same dss ack learned skipped fin = dss
+item_so P s (Some (Heard.DataAck next window)) e same dss ack learned skipped fin = ack next
+item_so P s (Some (Heard.Mapping full)) e same dss ack learned skipped fin = if_so P (counts e) _ _ learned skipped
+item_so P s (Some (Heard.DataFin place)) e same dss ack learned skipped fin = if_so P (counts e) _ _ (fin place) same
+item_so P s _ e same dss ack learned skipped fin = same
