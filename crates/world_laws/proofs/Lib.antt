@@ -14,3 +14,4 @@ pub mod Numbers
 pub mod Places
 pub mod Whole
 mod Words
+mod Choices

@@ -1,6 +1,6 @@
 -- Words that several files of these proofs use, given on.
 pub use Rattle.std.proofs.Common.{◌≡◌, refl, sym, ◌∙◌, ap, subst, ℕ, zero, suc, ◌+◌, ◌-◌, ◌≤◌, ◌&&◌, ◌||◌, ◌==◌, not, min, max, nat_lt, nat_le, inl, inr, ◌⊎◌, ⊎_elim, Bool, true, false, cond, if◌then◌else◌, Option, Some, None, Result, Ok, Err, List, [], ◌∷◌, ◌++◌, length, take, drop, map, replicate, arith, is_none, is_some, ◌<◌, ◌^◌, set, option_map, find, ◌*◌, position, unwrap_or, ◌/◌, ◌%◌, filter, remove, get_or-set_same, get_or-set_other, get_or}
-pub use Rattle.std.proofs.lemmas.Bool.{cases_eq, cases_order, ltb-true, lt-ltb, le-ltb, eqb-true, eq-eqb, or_cases, or_parts, and_parts, and_from, both_ways, false≢true, true≢false, ltb-false, or_right, cases_lt, leb-true, not-true, or_from, or_left, le-leb, ne_eqb, and_cases, not-false}
+pub use Rattle.std.proofs.lemmas.Bool.{cases_eq, cases_order, ltb-true, lt-ltb, le-ltb, eqb-true, eq-eqb, or_cases, or_parts, and_parts, and_from, both_ways, false≢true, true≢false, ltb-false, leb-true, or_right, cases_lt, or_from, or_left, le-leb, not-true, ne_eqb, and_cases, not-false}
 pub use Rattle.std.proofs.lemmas.List.{drop-drop, drop_min, length-append, length-take, length-drop, length-map, length-replicate, append-nil, append_assoc, map-append, set-set, length-set, get_or_past, get_or-replicate, set_past}
 pub use Rattle.std.proofs.lemmas.Option.{same_Some, slice_get_within, slice_get_past}
 pub use Rattle.std.specs.List.{count_by, list_any, slice_get, list_all, flat_map, Contains, slice_index_or}
@@ -95,7 +95,7 @@ pub use Rattle.subflow_tcp.specs.declared.segments.Outgoing.{Outgoing}
 pub use Rattle.subflow_tcp.specs.Taking.{after_death, after_dropping_held, after_keeping_held, after_holding, is_fin_acked, after_ack_kind, after_acknowledgement, is_duplicate, after_duplicate, after_interruption, told_by, after_payload, after_hearing, after_established, after_taken, after_syn_ack, after_syn, after_arrival, unkept, arrival_of, kept_new, first_fin}
 pub use Rattle.subflow_tcp.specs.Opening.{after_begin, new_end}
 pub use Rattle.subflow_tcp.specs.Closing.{is_fin_next, after_passing_fin, after_finishing}
-pub use Rattle.subflow_tcp.specs.Judging.{is_syn_alone, is_repeated_syn, is_acceptable, meaning_outside, meaning_acknowledging, meaning_within, meaning_placed, meaning_connected, meaning_answer, meaning_answering, meaning_opening, meaning_at, meaning_of, is_at}
+pub use Rattle.subflow_tcp.specs.Judging.{is_syn_alone, is_repeated_syn, is_acceptable, meaning_outside, meaning_acknowledging, meaning_within, meaning_placed, meaning_connected, meaning_answer, meaning_answering, meaning_at, meaning_of, is_at}
 pub use Rattle.subflow_tcp.specs.Segments.{Copy, occupied, one_if}
 pub use Rattle.subflow_tcp.specs.declared.segments.Hint.{Hint}
 pub use Rattle.link_model.specs.Steps.{is_due, arriving, arrivals, changed, next_number, without, after_delivery, lines_of, with_flights, one_more, next_due, comes_before, with_flight}
@@ -169,7 +169,7 @@ pub use Rattle.path_core.specs.MpJoin.{join_begun, never_joined, asked_at, is_li
 pub use Rattle.path_core.specs.Timer.{after_timer, template_fired, after_firing, timer_fired, next_fire}
 pub use Rattle.path_core.specs.Deliver.{having_asked, piece_in, checked_piece, piece_by, next_piece, after_piece, plain_piece, infinite_piece, piece_at, is_wrong, failing_by, mapping_here, piece_of, is_placed, answered_piece, forgotten_by, after_keep, after_pieces, is_dropped, after_check, piece_ask, is_not_kept, failing_mapping}
 pub use Rattle.path_core.specs.DataFin.{is_data_fin_owed, data_fin_segment, having_sent_data_fin, answered_data_fin_sent, fin_segment_of, having_sent_fin, answered_fin, with_peer_data_fin, plain_fin, with_fin_told, answered_plain_fin, data_fin_of, fin_ask, answered_fin_heard, is_fin_set, after_pass_fin, acked_in, is_all_granted, with_data_fin_sent, place_passed, after_acked}
-pub use Rattle.path_core.specs.DssIn.{ack_items, is_mapping, mapping_items, map_items, first_items, held_if, map_held, key_held, held_in, checksum_heard, kept_of, is_clash, with_learned, with_data_fin, counts, with_skipped, held_of, HeardOption, with_acked, told_next, mapping_ask, answered_mapping, with_data_ack, after_dss, covered_by, data_fin_items, infinite_items, answered_ack}
+pub use Rattle.path_core.specs.DssIn.{ack_items, is_mapping, mapping_items, map_items, first_items, held_if, map_held, key_held, held_in, checksum_heard, kept_of, is_clash, with_learned, with_data_fin, with_skipped, held_of, HeardOption, counts, with_acked, after_dss, told_next, mapping_ask, with_data_ack, answered_mapping, covered_by, data_fin_items, infinite_items, answered_ack}
 pub use Rattle.path_core.specs.Treating.{heard_ask, item_ask, answered_heard, answered_item, item_of, item_passed, heard_passed, item_stands, heard_stands}
 pub use Rattle.path_core.specs.Fallback.{check_failed_ask, with_failure, after_check_failed, answered_check_failed, is_infinite_receive, receiving_infinite, answered_infinite, fell_ask, subflow_ack_stands, after_fell, fell_duties, plain_ack_ask, subflow_ack_ask, answered_plain_ack, answered_subflow_ack, with_plain_ack, plain_next, plain_ack_in, plainly_acked, breaks_by_ack, may_go_infinite, fail_ask, answered_fail, book_answered, fail_heard_ask, answered_fail_heard, after_fail_heard, is_infinite_send, identity_ask, answered_identity, answered_fell, with_infinite, fell_in, is_fall, in_identity, mode_in, breaks_by, sending_infinite, infinite_from, after_infinite as after_infinite_heard, lacks_data_ack, plain_ack_stands, plain_data_stands, with_plain_acked}
 pub use Rattle.path_core.specs.MpCapable.{syn_window_ask, keys_ask, after_keys, peer_key_ask, opened_ask, answered_peer_key, answered_opened, with_peer_key, keys_in, key_items, syn_ack_of, answered_syn_ack, is_opened_by_keys, is_opened_plainly, is_plain_syn}
@@ -212,6 +212,7 @@ pub use Rattle.world_laws.specs.Openings.{PathPlan, Start, path_begins, new_crew
 pub use Rattle.world_laws.specs.Standbys.{looks, standby_told, standby_last, is_grant, grants_bytes, GrantsAreFree, BackupsGetNothing}
 pub use Rattle.world_laws.specs.Worlds.{WorldState, Turn, crew_after, asked, stepped, world_step, all_over, greatest, begins, end_round, after_turn, world_run, AreLawful, note_of, is_going}
 pub use Rattle.world_laws.specs.Promises.{HasRoom, NumbersFit, was_told_end, BothKeepTheirWord, NothingCame, NothingFollows, IsOneStep, EachTurnIsOneStep, NothingWasRefused, JoinsAreRight, AddressesAreRight, KeysNeverDiffer, IsPromised, IsPromisedOfOctets, HoldsAnywayOfOctets, OctetsAreValuesShown, HoldsAnyway, tells_bad_address, tells_wrong_join, tells_other_key, arrived_at, written_by, tells_refusal, IsPlain, EveryListIsFresh, KeepsItsWord}
+pub use Rattle.world_laws.proofs.Choices.{if_so}
 pub use Rattle.world_laws.specs.Writes.{EndWrites, Only, Writes, OnlyAt, EndView, PathView, end_view, path_view, hide, writes, side_of, ask_writes, step_writes, silent_writes, on_link, acking, acknowledged, happening, heard_writes, copy_said, at_end, looking, nothing}
 pub use Rattle.world_laws.specs.StampedBooks.{answer_to, journals_of}
 pub use Rattle.world_laws.specs.Asking.{May, may, may_reassemble, asking, IsAsked, asks_of_steps, may_send, may_tell, IsOwn, IsAt, asks_of_books}

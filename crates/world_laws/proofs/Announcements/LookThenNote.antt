@@ -9,7 +9,7 @@ use Rattle.world_laws.proofs.Words.{answered_break, answered_data, answered_gran
 use Rattle.world_laws.proofs.Words.{join_begun, never_joined, asked_at, is_never, join_taken, keys_begun, opened_by, is_joined, template_fired, piece_of}
 use Rattle.world_laws.proofs.Words.{is_placed, answered_piece, answered_plain_fin, answered_fin_heard, is_fin_set, is_clash, with_learned, told_next}
 use Rattle.world_laws.proofs.Words.{answered_mapping, answered_item, item_of, after_fell, fell_duties, answered_plain_ack, with_plain_ack, breaks_by_ack}
-use Rattle.world_laws.proofs.Words.{answered_peer_key, answered_opened, is_stopped_by, ends_turn}
+use Rattle.world_laws.proofs.Words.{answered_peer_key, answered_opened, is_stopped_by, ends_turn, if_so}
 use Rattle.fallback_state.specs.declared.fall.Event.TheVariants as events
 use Rattle.path_core.specs.declared.events.Event.{Event}
 use Rattle.path_agenda.specs.Agenda.{breaks}
@@ -156,11 +156,9 @@ module _ {C : Type 0} (q : Side) where
   -- after a fall the send book is told, and a path may be broken
   fell_ready : (s : Side) (r : Reply) (p : PathState C) → IsReady q (left p) → IsReady q (replaced (Duty.Ask (AskDuty.GoIdentity s)) p.agenda) → IsReady q (fell_duties s r p)
   fell_ready s (Reply.Control (ControlReply.Verdict (Verdict.Went Mode.Identity))) p left_ready told = told
-  fell_ready s (Reply.Control (ControlReply.Verdict (Verdict.BreakPath reason))) p left_ready told = by (end_at s p).treated.asked
-    where
-      by : (b : Bool) → IsReady q (if b then breaks s reason else resets s reason)
-      by true = tt
-      by false = tt
+  fell_ready s (Reply.Control (ControlReply.Verdict (Verdict.BreakPath reason))) p left_ready told =
+      if_so (IsReady q) (end_at s p).treated.asked (breaks s reason) (resets s reason)
+      tt tt
   fell_ready s _ p left_ready told = left_ready
 
   module _ (k : Codec C) (s : Side) (r : Reply) (p : PathState C) (same : IsReady q p.agenda) (left_ready : IsReady q (left p)) (told : IsReady q (replaced (Duty.Ask (AskDuty.GoIdentity s)) p.agenda)) where

@@ -1,7 +1,7 @@
 -- What holds of each notice that an end has to note to its peer.
 use Rattle.world_laws.proofs.Words.{refl, ℕ, suc, Bool, true, false, if◌then◌else◌, Option, Some, None, List, [], ◌∷◌, ◌++◌, IfSome, Address, ControlReply}
 use Rattle.world_laws.proofs.Words.{Notice, is_dead, OwnNotice, first_of, PeerNotice, Reply, tail_of, PathEnd, Notices, after_notice, may_note, notices_told}
-use Rattle.world_laws.proofs.Words.{with_echo, is_kept, Every-push, Every}
+use Rattle.world_laws.proofs.Words.{with_echo, is_kept, Every-push, Every, if_so}
 
 -- the address that is to be announced, as a side is told
 abbrev pub announced_in : Notice → Option ℕ
@@ -28,11 +28,9 @@ module _ (P : OwnNotice → Type 0) (removes : (id : ℕ) → P (OwnNotice.Remov
   prio_queued backup false queue each = Every-push (OwnNotice.Prio backup) each (prio backup)
 
   pub echo_queued : (notice : PeerNotice) (r : Reply) (queue : List OwnNotice) → Every P queue → Every P (with_echo notice r queue)
-  echo_queued (PeerNotice.AddAddr id address port hmac) r queue each = by (is_kept r)
-    where
-      by : (b : Bool) → Every P (if b then queue ++ OwnNotice.AddEcho id address port ∷ [] else queue)
-      by true = Every-push (OwnNotice.AddEcho id address port) each (echoes id address port)
-      by false = each
+  echo_queued (PeerNotice.AddAddr id address port hmac) r queue each =
+      if_so (Every P) (is_kept r) (queue ++ OwnNotice.AddEcho id address port ∷ []) queue
+      (Every-push (OwnNotice.AddEcho id address port) each (echoes id address port)) each
   echo_queued (PeerNotice.AddEcho id) r queue each = each
   echo_queued (PeerNotice.Removed id) r queue each = each
   echo_queued (PeerNotice.Prio backup) r queue each = each

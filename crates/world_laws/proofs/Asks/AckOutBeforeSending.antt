@@ -12,7 +12,7 @@ use Rattle.world_laws.proofs.Words.{answered_data, answered_grant, first_unsent,
 use Rattle.world_laws.proofs.Words.{asked_at, is_never, join_taken, keys_begun, opened_by, is_joined, after_timer, template_fired, after_firing, having_asked}
 use Rattle.world_laws.proofs.Words.{after_piece, is_wrong, mapping_here, piece_of, is_placed, answered_piece, forgotten_by, after_keep, after_pieces}
 use Rattle.world_laws.proofs.Words.{after_check, with_peer_data_fin, with_fin_told, answered_plain_fin, answered_fin_heard, is_fin_set, after_pass_fin}
-use Rattle.world_laws.proofs.Words.{is_clash, with_learned, with_data_fin, counts, with_skipped, told_next, answered_item, item_of, item_passed, heard_passed}
+use Rattle.world_laws.proofs.Words.{is_clash, with_learned, with_data_fin, with_skipped, counts, told_next, answered_item, item_of, item_passed, heard_passed}
 use Rattle.world_laws.proofs.Words.{after_check_failed, after_fell, fell_duties, answered_plain_ack, with_plain_ack, breaks_by_ack, after_fail_heard}
 use Rattle.world_laws.proofs.Words.{answered_identity, answered_fell, with_infinite, in_identity, breaks_by, answered_peer_key, answered_opened, is_stopped_by}
 use Rattle.world_laws.proofs.Words.{with_priority, Every, App, Path, Actor, ActorCrew, member_takes, member_next, is_over, Start, path_begins, opened_world}

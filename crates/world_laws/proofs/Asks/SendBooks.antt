@@ -6,7 +6,7 @@ use Rattle.world_laws.proofs.Words.{length-append, length-take, length-drop, len
 use Rattle.world_laws.proofs.Words.{Side, Span, Why, SendCall, Sending, acked_len, bytes_taken, is_for, span_at, decision, reply_by, run_len, given_by}
 use Rattle.world_laws.proofs.Words.{is_future, fin_after, is_gathered, tried_first, AckIn, Abort, Acked, Held, Free, is_free_for, is_held_by, given, returned}
 use Rattle.world_laws.proofs.Words.{contains, no_paths, MayTake, decision-MayTake, Note, Reply, grant_in, in_take, in_drop, in_map, Every-append, in_replicate}
-use Rattle.world_laws.proofs.Words.{Every, asks_grant, last_asked, AskedForAll, is_standby, taken_len, last_on_standby}
+use Rattle.world_laws.proofs.Words.{Every, if_so, asks_grant, last_asked, AskedForAll, is_standby, taken_len, last_on_standby}
 use Rattle.std.specs.List.{position}
 use Rattle.send_book.specs.declared.call.Why.TheVariants.{Ended, Backup, WindowShut}
 use Rattle.send_book.specs.declared.call.SendCall.TheVariants.{Write, Close, Grant, Return, GoIdentity, GoInfinite}
@@ -58,11 +58,7 @@ given_taken path asker (Free tried) none = refl
 returned_tried : (path asker : ℕ) (m : ByteMark) → IsTried path m → IsTried path (returned asker m)
 returned_tried path asker Acked h = tt
 returned_tried path asker (Free tried) h = tt
-returned_tried path asker (Held holder tried) h = by (holder == asker)
-  where
-    by : (b : Bool) → IsTried path (if b then Free tried else Held holder tried)
-    by true = tt
-    by false = h
+returned_tried path asker (Held holder tried) h = if_so (IsTried path) (holder == asker) (Free tried) (Held holder tried) tt h
 
 -- a byte that the path may not take it may not take when it gave it back
 returned_taken : (path : ℕ) (m : ByteMark) → IsTried path m → is_free_for path m ≡ false → is_free_for path (returned path m) ≡ false
@@ -278,11 +274,9 @@ module _ (path written : ℕ) (b : Sending) (h : IsOnes path written b) where
     grown = h.grown;
   }
   ones_after GoIdentity is = record { tried = h.tried; whole = h.whole; grown = h.grown }
-  ones_after (GoInfinite asker) is = by (is_gathered asker b)
-    where
-      by : (gathered : Bool) → IsOnes path written (if gathered then record b { owner = Some asker } else b)
-      by true = record { tried = h.tried; whole = h.whole; grown = h.grown }
-      by false = h
+  ones_after (GoInfinite asker) is =
+      if_so (IsOnes path written) (is_gathered asker b) (record b { owner = Some asker }) b
+      (record { tried = h.tried; whole = h.whole; grown = h.grown }) h
   ones_after Abort is = record { tried = h.tried; whole = h.whole; grown = h.grown }
 
   -- ---- all is taken as long as nothing is granted or acknowledged
@@ -299,11 +293,7 @@ module _ (path written : ℕ) (b : Sending) (h : IsOnes path written b) where
       })
       by true = all
       by false = let more = taken_written path (bytes_taken bytes b) b.marks in omega (arith, all, more)
-  taken_after Close is all = by b.aborted
-    where
-      by : (aborted : Bool) → AllTaken (if aborted then b else record b { closed = true })
-      by true = all
-      by false = all
+  taken_after Close is all = if_so AllTaken b.aborted b (record b { closed = true }) all all
   taken_after (Return asker) is all =
       let more = taken_returned path b.marks h.tried in
       subst (λ n. AllTaken (record b { marks = map (returned n) b.marks })) (sym is) (omega (arith, all, more))

@@ -11,7 +11,7 @@ use Rattle.world_laws.proofs.Words.{data_ask, next_event, step_for, asked_at, jo
 use Rattle.world_laws.proofs.Words.{fin_ask, is_clash, mapping_ask, item_ask, item_of, fell_ask, plain_ack_ask, breaks_by_ack, peer_key_ask, opened_ask}
 use Rattle.world_laws.proofs.Words.{notice_call, Profile, sends, rate_ask, Every-map, in_map, in_set, Every, Duo, after_events, Holds, LaneHolds, Pair, AckCopy}
 use Rattle.world_laws.proofs.Words.{Lane, View, any_held, App, Path, Actor, ActorCrew, member_asks, Start, opened_world, WorldState, Turn, crew_after, asked}
-use Rattle.world_laws.proofs.Words.{stepped, all_over, greatest, begins, after_turn, world_run, note_of, IsPromised, IsPromisedOfOctets, notes_or}
+use Rattle.world_laws.proofs.Words.{stepped, all_over, greatest, begins, after_turn, world_run, note_of, IsPromised, IsPromisedOfOctets, if_so, notes_or}
 use Rattle.fallback_state.specs.Table.{stays, breaks}
 use Rattle.fallback_state.proofs.Steps.{IsUnfailed, unfailed_kept}
 use Rattle.control_book.specs.Replies as replying
@@ -93,25 +93,13 @@ module _ (p : PathState Carried) (h : PathPasses p) where
   join_harmless s (Some asked) = tt
 
   break_harmless : (s : Side) (reason : ℕ) → IsHarmless (break_ask values s reason p)
-  break_harmless s reason = by (end_at s p).treated.asked
-    where
-      by : (b : Bool) → IsHarmless (if b then Ask.Reassembly s ReassemblyCall.AckOut else sends values s (reset_of s (Some reason) p) p)
-      by true = tt
-      by false = tt
+  break_harmless s reason = if_so IsHarmless (end_at s p).treated.asked (Ask.Reassembly s ReassemblyCall.AckOut) (sends values s (reset_of s (Some reason) p) p) tt tt
 
   mapping_harmless : (s : Side) → IsHarmless (mapping_ask values s p)
-  mapping_harmless s = by (is_clash (end_at s p))
-    where
-      by : (b : Bool) → IsHarmless (if b then break_ask values s 1 p else fell_ask s FallEvent.MappingHeard p)
-      by true = break_harmless s 1
-      by false = tt
+  mapping_harmless s = if_so IsHarmless (is_clash (end_at s p)) (break_ask values s 1 p) (fell_ask s FallEvent.MappingHeard p) (break_harmless s 1) tt
 
   plain_ack_harmless : (s : Side) → IsHarmless (plain_ack_ask values s p)
-  plain_ack_harmless s = by (breaks_by_ack p.profile (end_at s p))
-    where
-      by : (b : Bool) → IsHarmless (if b then break_ask values s 6 p else fell_ask s FallEvent.PlainAck p)
-      by true = break_harmless s 6
-      by false = tt
+  plain_ack_harmless s = if_so IsHarmless (breaks_by_ack p.profile (end_at s p)) (break_ask values s 6 p) (fell_ask s FallEvent.PlainAck p) (break_harmless s 6) tt
 
   notice_harmless : (notice : PeerNotice) → CallIsHarmless (notice_call (path_of p) notice)
   notice_harmless (PeerNotice.AddAddr id address port hmac) = tt

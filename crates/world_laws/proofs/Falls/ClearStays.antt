@@ -5,9 +5,8 @@ use Rattle.world_laws.proofs.Words.{LineAction, emission, leaves, Duty, SendDuty
 use Rattle.world_laws.proofs.Words.{Codec, passed, answered, PathEnd, died, at_tick, PathState, end_at, goes_on, takes, begins_turn, next_round, items_of}
 use Rattle.world_laws.proofs.Words.{options_heard, after_judged, asked_in, judged_in, with_held, heard_in, copy_heard, told_at, answered_break, next_event}
 use Rattle.world_laws.proofs.Words.{after_line, happens_if, join_begun, never_joined, is_never, keys_begun, opened_by, is_joined, join_answer, is_clash}
-use Rattle.world_laws.proofs.Words.{held_of, HeardOption, answered_heard, answered_item, item_of, item_passed, after_fell, fell_in}
-use Rattle.world_laws.proofs.Words.{answered_opened, keys_in, answered_in, cleared_in, taken_as, with_answer, Modes, is_side_a, EndWrites, Only, Writes, OnlyAt}
-use Rattle.world_laws.proofs.Words.{EndView, writes, side_of}
+use Rattle.world_laws.proofs.Words.{held_of, HeardOption, answered_heard, answered_item, item_of, item_passed, after_fell, fell_in, answered_opened, keys_in}
+use Rattle.world_laws.proofs.Words.{answered_in, cleared_in, taken_as, with_answer, Modes, is_side_a, EndWrites, Only, Writes, OnlyAt, EndView, writes, side_of}
 use Rattle.path_core.specs.Judged.{after_join}
 use Rattle.path_core.specs.declared.events.Event.{Event}
 use Rattle.world_laws.proofs.Falls.FailedChecks.{infinite_came_so, fail_answered_so}

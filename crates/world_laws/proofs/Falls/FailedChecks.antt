@@ -1,10 +1,10 @@
 -- What an end becomes where the check of a mapping failed, or where the peer's MP_FAIL or its infinite mapping came: what any verdict
 -- makes of it, but for what it knows of failed checks and of infinite mappings.
-use Rattle.world_laws.proofs.Words.{◌≡◌, refl, ℕ, inl, inr, ◌⊎◌, Bool, true, false, if◌then◌else◌, Option, Some, None, is_some, Verdict, Side, ControlReply}
-use Rattle.world_laws.proofs.Words.{SendCall, KeptMapping, after_forget_from, Receiving, InfiniteMapping, Ask, Reply, LocalStep, PathEnd, PathState, end_at}
-use Rattle.world_laws.proofs.Words.{path_of, is_wrong, failing_by, mapping_here, forgotten_by, with_failure, after_check_failed, is_infinite_receive}
-use Rattle.world_laws.proofs.Words.{receiving_infinite, fell_ask, after_fell, subflow_ack_ask, plain_next, plain_ack_in, may_go_infinite, fail_ask}
-use Rattle.world_laws.proofs.Words.{answered_fail, book_answered, after_fail_heard, is_infinite_send, answered_fell, mode_in, sending_infinite, Modes}
+use Rattle.world_laws.proofs.Words.{◌≡◌, refl, ℕ, inl, inr, ◌⊎◌, Bool, true, false, Option, Some, None, is_some, Verdict, Side, ControlReply, SendCall}
+use Rattle.world_laws.proofs.Words.{KeptMapping, after_forget_from, Receiving, InfiniteMapping, Ask, Reply, LocalStep, PathEnd, PathState, end_at, path_of}
+use Rattle.world_laws.proofs.Words.{is_wrong, failing_by, mapping_here, forgotten_by, with_failure, after_check_failed, is_infinite_receive, receiving_infinite}
+use Rattle.world_laws.proofs.Words.{fell_ask, after_fell, subflow_ack_ask, plain_next, plain_ack_in, may_go_infinite, fail_ask, answered_fail, book_answered}
+use Rattle.world_laws.proofs.Words.{after_fail_heard, is_infinite_send, answered_fell, mode_in, sending_infinite, Modes, if_so}
 use Rattle.fallback_state.specs.declared.fall.Event.{Event}
 use Rattle.path_core.specs.Fallback.{after_infinite}
 
@@ -36,11 +36,9 @@ infinite_so r other e = record e { modes = record (mode_in r e.modes) { peer_inf
 pub forgets_so : (P : PathEnd → Type 0) (checksums : Bool) (here : Option KeptMapping) (e : PathEnd)
     → ((recv : Receiving) → Forgets e.tcp.recv recv → P (record e { tcp = record e.tcp { recv = recv } })) → P (forgotten_by checksums here e)
 forgets_so P checksums None e all = all e.tcp.recv (inl refl)
-forgets_so P checksums (Some kept) e all = by (is_wrong checksums kept e.tcp)
-  where
-    by : (b : Bool) → P (if b then record e { tcp = record e.tcp { recv = after_forget_from kept.pos e.tcp.recv } } else e)
-    by true = all (after_forget_from kept.pos e.tcp.recv) (inr (kept.pos, refl))
-    by false = all e.tcp.recv (inl refl)
+forgets_so P checksums (Some kept) e all =
+    if_so P (is_wrong checksums kept e.tcp) (record e { tcp = record e.tcp { recv = after_forget_from kept.pos e.tcp.recv } }) e
+    (all (after_forget_from kept.pos e.tcp.recv) (inr (kept.pos, refl))) (all e.tcp.recv (inl refl))
 
 abbrev failure_so : Reply → Option ℕ → Option ℕ → PathEnd → PathEnd
 failure_so r told broken e = record e { modes = record (mode_in r e.modes) { failed_mapping = told }; treated = record e.treated { failed_mapping = broken } }
@@ -125,16 +123,8 @@ module _ {C : Type 0} where
   -- the send book is asked first, or the control book at once
   pub fail_asks_so : (P : Ask → Type 0) (s : Side) (p : PathState C)
       → P (Ask.Send s (SendCall.GoInfinite (path_of p))) → P (fell_ask s (Event.FailHeard false) p) → P (fail_ask s p)
-  fail_asks_so P s p book told = by (may_go_infinite (end_at s p))
-    where
-      by : (b : Bool) → P (if b then Ask.Send s (SendCall.GoInfinite (path_of p)) else fell_ask s (Event.FailHeard false) p)
-      by true = book
-      by false = told
+  fail_asks_so P s p book told = if_so P (may_go_infinite (end_at s p)) (Ask.Send s (SendCall.GoInfinite (path_of p))) (fell_ask s (Event.FailHeard false) p) book told
 
   pub fail_answered_so : (P : PathState C → Type 0) (s : Side) (r : Reply) (p : PathState C)
       → P (book_answered s r p) → P (answered_fell s (Event.FailHeard false) r p) → P (answered_fail s r p)
-  fail_answered_so P s r p book told = by (may_go_infinite (end_at s p))
-    where
-      by : (b : Bool) → P (if b then book_answered s r p else answered_fell s (Event.FailHeard false) r p)
-      by true = book
-      by false = told
+  fail_answered_so P s r p book told = if_so P (may_go_infinite (end_at s p)) (book_answered s r p) (answered_fell s (Event.FailHeard false) r p) book told

@@ -1,8 +1,7 @@
 -- A side that was in plain TCP once is so at every later moment.
-use Rattle.world_laws.proofs.Words.{◌≡◌, refl, sym, subst, ◌⊎◌, ⊎_elim, Bool, true, false, if◌then◌else◌, Option, Some, None, List, [], ◌∷◌, map, slice_get}
-use Rattle.world_laws.proofs.Words.{is_identity, Pass, Side, A, B, Ask, StampedBooks, books_in, after_entry, SixBooks, control_of, after_ask, Carried, values}
-use Rattle.world_laws.proofs.Words.{ActorCrew, member_asks, Start, opened_world, WorldState, Turn, asked, stepped, all_over, greatest, begins, after_turn}
-use Rattle.world_laws.proofs.Words.{world_run}
+use Rattle.world_laws.proofs.Words.{◌≡◌, refl, sym, subst, ◌⊎◌, ⊎_elim, true, Option, Some, None, List, [], ◌∷◌, map, slice_get, is_identity, Pass, Side, A, B}
+use Rattle.world_laws.proofs.Words.{Ask, StampedBooks, books_in, after_entry, SixBooks, control_of, after_ask, Carried, values, ActorCrew, member_asks, Start}
+use Rattle.world_laws.proofs.Words.{opened_world, WorldState, Turn, asked, stepped, all_over, greatest, begins, after_turn, world_run, if_so}
 use Rattle.world_laws.specs.FallsRight.{has_fallen}
 use Rattle.world_laws.proofs.Falls.ByTheJournal.{Was, was_more}
 use Rattle.world_laws.proofs.Falls.WhereASideStands.{IsUnjoined, fell_plain, unjoined_stays}
@@ -72,11 +71,9 @@ turn_ever (Turn.Step actor) w h = by (slice_get w.crew actor)
     by : (o : Option (ActorCrew Carried)) → StaysFallen (stepped values actor o w)
     by None = h
     by (Some c) = asking c (member_asks values c.member)
-turn_ever Turn.Round w h = by (all_over w.crew)
-  where
-    by : (b : Bool) → StaysFallen (if b then record w { crew = map (begins (greatest 0 w.crew)) w.crew } else w)
-    by true = record { fell = h.fell; right = h.right }
-    by false = h
+turn_ever Turn.Round w h =
+    if_so StaysFallen (all_over w.crew) (record w { crew = map (begins (greatest 0 w.crew)) w.crew }) w
+    (record { fell = h.fell; right = h.right }) h
 
 run_ever : (turns : List Turn) (w : WorldState Carried) → StaysFallen w → StaysFallen (world_run values turns w)
 run_ever [] w h = h

@@ -10,6 +10,7 @@ use Rattle.world_laws.proofs.Words.{waiting_path, first_turn, at_tick, PathState
 use Rattle.world_laws.proofs.Words.{answers, asks_of, asks_first, takes, next_round, FirstStands, IsSettled, died_unless_dead, leaves_unless_dead, data_stands}
 use Rattle.world_laws.proofs.Words.{first_unsent, data_ask, tick_of, next_join, next_line, next_copy, earlier, next_event, step_for, after_line, happens}
 use Rattle.world_laws.proofs.Words.{happens_if, join_begun, never_joined, is_never, keys_begun, opened_by, after_timer, next_fire, with_priority, Profile}
+use Rattle.world_laws.proofs.Words.{if_so}
 use Rattle.loss_recovery.specs.Timers.{timer_settled}
 use Rattle.control_book.specs.declared.call.ControlReply.TheVariants.{NotYet, Never}
 use Rattle.path_core.specs.declared.events.Event.{Event}
@@ -50,11 +51,7 @@ no_data c s e (Some r) h stands = no (not (is_closed_to_segments e.tcp.state)) _
 no_data c s e None h stands = no (may_finish e.tcp.state) _ (never_finishes e h) stands
 
 died_shut : (e : PathEnd) → IsShut e → IsShut (died_unless_dead e)
-died_shut e h = by (is_dead e.tcp.state)
-  where
-    by : (b : Bool) → IsShut (if b then e else died e)
-    by true = h
-    by false = record { closed = refl; timer = refl }
+died_shut e h = if_so IsShut (is_dead e.tcp.state) e (died e) h (record { closed = refl; timer = refl })
 
 -- no timer is started
 timed_shut : (now : ℕ) (e : PathEnd) → IsShut e → IsShut (after_timer now e)
@@ -117,27 +114,15 @@ IsOwn o = IfSome o (λ event. is_own event ≡ true)
 earlier_own : (x y : Option Event) → IsOwn x → IsOwn y → IsOwn (earlier x y)
 earlier_own None y own_x own_y = own_y
 earlier_own (Some x) None own_x own_y = own_x
-earlier_own (Some x) (Some y) own_x own_y = by (nat_le (tick_of x) (tick_of y))
-  where
-    by : (b : Bool) → IsOwn (if b then Some x else Some y)
-    by true = own_x
-    by false = own_y
+earlier_own (Some x) (Some y) own_x own_y = if_so IsOwn (nat_le (tick_of x) (tick_of y)) (Some x) (Some y) own_x own_y
 
 before_own : (until : ℕ) (o : Option Event) → IsOwn o → IsOwn (option_and_then (before until) o)
 before_own until None own = tt
-before_own until (Some event) own = by (nat_lt (tick_of event) until)
-  where
-    by : (b : Bool) → IsOwn (if b then Some event else None)
-    by true = own
-    by false = tt
+before_own until (Some event) own = if_so IsOwn (nat_lt (tick_of event) until) (Some event) None own tt
 
 join_own : (state : EndPhase) (joined_at : Option ℕ) → IsOwn (next_join state joined_at)
 join_own state None = tt
-join_own state (Some tick) = by (is_waiting_phase state)
-  where
-    by : (b : Bool) → IsOwn (if b then Some (Event.Joins tick) else None)
-    by true = refl
-    by false = tt
+join_own state (Some tick) = if_so IsOwn (is_waiting_phase state) (Some (Event.Joins tick)) None refl tt
 
 line_own : (lines : List LineLeft) → IsOwn (next_line lines)
 line_own [] = tt

@@ -14,17 +14,16 @@ use Rattle.world_laws.proofs.Words.{answer_occasion, answer_of, dead_answer, res
 use Rattle.world_laws.proofs.Words.{join_begun, never_joined, asked_at, is_never, join_taken, keys_begun, opened_by, with_mode_refused, is_joined}
 use Rattle.world_laws.proofs.Words.{join_heard_ask, join_answer, after_timer, template_fired, timer_fired, is_wrong, mapping_here, piece_of, is_placed}
 use Rattle.world_laws.proofs.Words.{answered_piece, forgotten_by, after_keep, after_pieces, is_dropped, after_check, fin_segment_of, having_sent_fin}
-use Rattle.world_laws.proofs.Words.{answered_plain_fin, answered_fin_heard, is_fin_set, after_pass_fin, is_clash, with_learned, with_data_fin}
-use Rattle.world_laws.proofs.Words.{with_skipped, held_of, HeardOption, with_acked, heard_ask, item_ask, answered_heard, answered_item, item_of, item_passed}
-use Rattle.world_laws.proofs.Words.{fell_ask, after_fell, fell_duties, plain_ack_ask, answered_plain_ack, with_plain_ack, breaks_by_ack, may_go_infinite}
-use Rattle.world_laws.proofs.Words.{book_answered, answered_fell, with_infinite, fell_in, is_fall, in_identity, after_keys, peer_key_ask, opened_ask}
-use Rattle.world_laws.proofs.Words.{answered_peer_key, answered_opened, with_peer_key, keys_in, is_stopped_by, with_priority, after_peer_notice, sent_on}
-use Rattle.world_laws.proofs.Words.{answered_in, cleared_in, taken_as, with_answer, Modes}
+use Rattle.world_laws.proofs.Words.{answered_plain_fin, answered_fin_heard, is_fin_set, after_pass_fin, is_clash, with_learned, with_data_fin, with_skipped}
+use Rattle.world_laws.proofs.Words.{held_of, HeardOption, with_acked, after_dss, with_data_ack, heard_ask, item_ask, answered_heard, answered_item, item_of}
+use Rattle.world_laws.proofs.Words.{item_passed, fell_ask, after_fell, fell_duties, plain_ack_ask, answered_plain_ack, with_plain_ack, breaks_by_ack}
+use Rattle.world_laws.proofs.Words.{may_go_infinite, book_answered, answered_fell, with_infinite, fell_in, is_fall, in_identity, after_keys, peer_key_ask}
+use Rattle.world_laws.proofs.Words.{opened_ask, answered_peer_key, answered_opened, with_peer_key, keys_in, is_stopped_by, with_priority, after_peer_notice}
+use Rattle.world_laws.proofs.Words.{sent_on, answered_in, cleared_in, taken_as, with_answer, Modes, if_so}
 use Rattle.path_agenda.specs.Agenda.{breaks}
 use Rattle.path_core.specs.declared.events.Event.{Event}
 use Rattle.path_core.specs.DssIn.{is_acked}
 use Rattle.path_core.specs.Emission.{Grant}
-use Rattle.path_core.specs.DssIn.{after_dss, with_data_ack}
 use Rattle.world_laws.proofs.Writes.Ends.{item_so}
 use Rattle.world_laws.proofs.Falls.FailedChecks.{check_failed_so, checked_so, fail_heard_so, failed_so, infinite_came_so, infinite_so}
 use Rattle.world_laws.proofs.Falls.Verdicts.{fell_cases}
@@ -487,11 +486,9 @@ module _ {C : Type 0} (k : Codec C) (W F : Side → Type 0) where
           → Awake (if b then book_answered s r p else answered_fell s (FallEvent.FailHeard false) r p)
       by true so = says_next s (Duty.Ask (AskDuty.FailHeard s)) (with_infinite r (end_at s p)) p (λ t. refl) (λ t. refl) (same_goes s (with_infinite r (end_at s p)) p refl refl refl) said h
       by false so = told_awake s (FallEvent.FailHeard false) r p said so h
-  heard_answered_awake s (Heard.FastClose key) r p said so h = by (is_stopped_by r)
-    where
-      by : (b : Bool) → Awake (with_agenda (if b then stops s else left p) p)
-      by true = agenda (stops s) p (new_less p.agenda _ (λ t. refl) (λ t. refl)) h
-      by false = agenda (left p) p (tail_less p.agenda) h
+  heard_answered_awake s (Heard.FastClose key) r p said so h =
+      if_so (λ z. Awake (with_agenda z p)) (is_stopped_by r) (stops s) (left p)
+      (agenda (stops s) p (new_less p.agenda _ (λ t. refl) (λ t. refl)) h) (agenda (left p) p (tail_less p.agenda) h)
 
   item_answered_awake : (s : Side) (o : Option Heard) (r : Reply) (p : PathState C) → Said s p → So (item_ask k s o p) r → Awake p → Awake (answered_item k s o r p)
   item_answered_awake s None r p said so h = agenda (left p) p (tail_less p.agenda) h

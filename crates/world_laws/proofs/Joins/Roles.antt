@@ -15,14 +15,13 @@ use Rattle.world_laws.proofs.Words.{dead_answer, resend_occasion, resend_of, fir
 use Rattle.world_laws.proofs.Words.{asked_at, is_listening, is_never, join_taken, joined_by, keys_begun, opened_by, syn_alone, with_mode_refused, is_joined}
 use Rattle.world_laws.proofs.Words.{after_timer, template_fired, timer_fired, is_wrong, mapping_here, forgotten_by, after_keep, after_pieces, is_dropped}
 use Rattle.world_laws.proofs.Words.{after_check, is_data_fin_owed, fin_segment_of, having_sent_fin, after_pass_fin, is_clash, with_learned, with_data_fin}
-use Rattle.world_laws.proofs.Words.{with_skipped, held_of, with_acked, with_data_ack, answered_heard, answered_item, item_of, item_passed, after_fell}
-use Rattle.world_laws.proofs.Words.{fell_duties, answered_plain_ack, with_plain_ack, breaks_by_ack, answered_fell, with_infinite, after_keys, is_stopped_by}
-use Rattle.world_laws.proofs.Words.{with_priority, after_peer_notice, reset_options, ack_said, carried_said, syn_ack_said, record_or_ack, noted_said, Profile}
-use Rattle.world_laws.proofs.Words.{having_sent, sent_on, taken_as, Treated, Every-nil, Every, EndWrites, Only, Writes, OnlyAt, EndView, PathView, writes}
-use Rattle.world_laws.proofs.Words.{side_of, copy_said}
+use Rattle.world_laws.proofs.Words.{with_skipped, held_of, with_acked, after_dss, with_data_ack, answered_heard, answered_item, item_of, item_passed}
+use Rattle.world_laws.proofs.Words.{after_fell, fell_duties, answered_plain_ack, with_plain_ack, breaks_by_ack, answered_fell, with_infinite, after_keys}
+use Rattle.world_laws.proofs.Words.{is_stopped_by, with_priority, after_peer_notice, reset_options, ack_said, carried_said, syn_ack_said, record_or_ack}
+use Rattle.world_laws.proofs.Words.{noted_said, Profile, having_sent, sent_on, taken_as, Treated, Every-nil, Every, if_so, EndWrites, Only, Writes, OnlyAt}
+use Rattle.world_laws.proofs.Words.{EndView, PathView, writes, side_of, copy_said}
 use Rattle.path_core.specs.declared.events.Event.{Event}
 use Rattle.path_core.specs.Emission.{Grant}
-use Rattle.path_core.specs.DssIn.{after_dss}
 use Rattle.world_laws.proofs.Writes.Ends.{item_so}
 use Rattle.world_laws.proofs.Keys.Held.{in_removed}
 use Rattle.world_laws.proofs.Keys.WhatWakes.{WakesNone, joined_wakes_none}
@@ -97,16 +96,12 @@ changed_tells true B false true carried tells = tells
 -- what arrives shows no more
 pub arrived_tells : (joined : Bool) (to : Side) (carried : Carried) → TellsKey joined to carried.segment → TellsKey joined to (as_arrived carried)
 arrived_tells false to carried tells = tt
-arrived_tells true A carried tells = by carried.stripped
-  where
-    by : (b : Bool) → TellsKey true A (record carried.segment { options = (if b then [] else carried.segment.options) })
-    by true = λ some. absurd (false≢true (sym some))
-    by false = tells
-arrived_tells true B carried tells = by carried.stripped
-  where
-    by : (b : Bool) → TellsKey true B (record carried.segment { options = (if b then [] else carried.segment.options) })
-    by true = λ some. absurd (false≢true (sym some))
-    by false = tells
+arrived_tells true A carried tells =
+    if_so (λ z. TellsKey true A (record carried.segment { options = z })) carried.stripped [] carried.segment.options
+    (λ some. absurd (false≢true (sym some))) tells
+arrived_tells true B carried tells =
+    if_so (λ z. TellsKey true B (record carried.segment { options = z })) carried.stripped [] carried.segment.options
+    (λ some. absurd (false≢true (sym some))) tells
 
 sent_copies : (s : Side) (sg : PlainSegment) (p : PathState Carried) → TellsKey (is_joined p.profile) (peer s) sg → Every (CopyTells (is_joined p.profile)) p.link.under_way
     → (e : PathEnd) (ds : List Duty) → Every (CopyTells (is_joined p.profile)) (sent_on values s sg e ds p).link.under_way
@@ -192,11 +187,7 @@ died_goes : (s : Side) (p : PathState Carried) → Goes s p (died (end_at s p))
 died_goes s p = record { role = λ joins is. absurd (false≢true is); answer = tt }
 
 unless_dead_goes : (s : Side) (p : PathState Carried) → HasRoles p → Goes s p (died_unless_dead (end_at s p))
-unless_dead_goes s p h = by (is_dead (end_at s p).tcp.state)
-  where
-    by : (b : Bool) → Goes s p (if b then end_at s p else died (end_at s p))
-    by true = same_goes s (end_at s p) p refl refl h
-    by false = died_goes s p
+unless_dead_goes s p h = if_so (Goes s p) (is_dead (end_at s p).tcp.state) (end_at s p) (died (end_at s p)) (same_goes s (end_at s p) p refl refl h) (died_goes s p)
 
 line_roles : (action : LineAction) (p : PathState Carried) → HasRoles p → HasRoles (after_line action p)
 line_roles (LineAction.Prio s backup) p h = same_roles s (with_priority backup (end_at s p)) (emission s) p refl refl h
@@ -289,11 +280,9 @@ reset_roles : (s : Side) (reason : Option ℕ) (ds : List Duty) (p : PathState C
 reset_roles s reason ds p h = sent_roles s (reset_of s reason p) (died (end_at s p)) ds p (no_syn (is_joined p.profile) s (reset_of s reason p) refl) (died_goes s p) h
 
 break_roles : (s : Side) (reason : ℕ) (r : Reply) (p : PathState Carried) → HasRoles p → HasRoles (answered_break values s reason r p)
-break_roles s reason r p h = by (end_at s p).treated.asked
-  where
-    by : (b : Bool) → HasRoles (if b then answered_ack_out s r (resets s reason) p else reset_on values s (Some reason) (leaves s) p)
-    by true = same_roles s (after_ack_out r (end_at s p)) (resets s reason) p refl refl h
-    by false = reset_roles s (Some reason) (leaves s) p h
+break_roles s reason r p h =
+    if_so HasRoles (end_at s p).treated.asked (answered_ack_out s r (resets s reason) p) (reset_on values s (Some reason) (leaves s) p)
+    (same_roles s (after_ack_out r (end_at s p)) (resets s reason) p refl refl h) (reset_roles s (Some reason) (leaves s) p h)
 
 told_roles : (s : Side) (event : FallEvent) (r : Reply) (p : PathState Carried) → HasRoles p → HasRoles (answered_fell s event r p)
 told_roles s event r p h = same_roles s (after_fell event r (end_at s p)) (fell_duties s r p) p refl refl h
@@ -311,11 +300,9 @@ keys_roles s r o p h = same_roles s (after_keys r o (end_at s p)) (left p) p ref
 
 heard_answered_roles : (s : Side) (item : Heard) (r : Reply) (p : PathState Carried) → HasRoles p → HasRoles (answered_heard values s item r p)
 heard_answered_roles s (Heard.DataAck next window) r p h = same_roles s (with_acked next r (end_at s p)) _ p refl refl h
-heard_answered_roles s (Heard.Mapping fin) r p h = by (is_clash (end_at s p))
-  where
-    by : (b : Bool) → HasRoles (if b then answered_break values s 1 r p else goes_on s (with_learned (after_fell FallEvent.MappingHeard r (end_at s p))) (fell_duties s r p) p)
-    by true = break_roles s 1 r p h
-    by false = same_roles s (with_learned (after_fell FallEvent.MappingHeard r (end_at s p))) (fell_duties s r p) p refl refl h
+heard_answered_roles s (Heard.Mapping fin) r p h =
+    if_so HasRoles (is_clash (end_at s p)) (answered_break values s 1 r p) (goes_on s (with_learned (after_fell FallEvent.MappingHeard r (end_at s p))) (fell_duties s r p) p)
+    (break_roles s 1 r p h) (same_roles s (with_learned (after_fell FallEvent.MappingHeard r (end_at s p))) (fell_duties s r p) p refl refl h)
 heard_answered_roles s (Heard.DataFin place) r p h = same_roles s (with_data_fin place (after_fell FallEvent.MappingHeard r (end_at s p))) (fell_duties s r p) p refl refl h
 heard_answered_roles s (Heard.InfiniteMapping place position) r p h =
     infinite_came_so (λ e. HasRoles (goes_on s e (fell_duties s r p) p)) place position r (end_at s p) (λ other. same_roles s _ (fell_duties s r p) p refl refl h)
@@ -333,18 +320,14 @@ item_answered_roles s None r p h = agenda_roles (left p) p h
 item_answered_roles s (Some item) r p h = heard_answered_roles s item r p h
 
 plain_ack_roles : (s : Side) (r : Reply) (p : PathState Carried) → HasRoles p → HasRoles (answered_plain_ack values s r p)
-plain_ack_roles s r p h = by (breaks_by_ack p.profile (end_at s p))
-  where
-    by : (b : Bool) → HasRoles (if b then answered_break values s 6 r p else goes_on s (with_plain_ack (after_fell FallEvent.PlainAck r (end_at s p))) (fell_duties s r p) p)
-    by true = break_roles s 6 r p h
-    by false = same_roles s (with_plain_ack (after_fell FallEvent.PlainAck r (end_at s p))) (fell_duties s r p) p refl refl h
+plain_ack_roles s r p h =
+    if_so HasRoles (breaks_by_ack p.profile (end_at s p)) (answered_break values s 6 r p) (goes_on s (with_plain_ack (after_fell FallEvent.PlainAck r (end_at s p))) (fell_duties s r p) p)
+    (break_roles s 6 r p h) (same_roles s (with_plain_ack (after_fell FallEvent.PlainAck r (end_at s p))) (fell_duties s r p) p refl refl h)
 
 answer_tells : (s : Side) (p : PathState Carried) → TellsKey (is_joined p.profile) (peer s) (answer_of s p)
-answer_tells s p = by (end_at s p).tcp.due.syn_ack
-  where
-    by : (b : Bool) → TellsKey (is_joined p.profile) (peer s) (if b then syn_ack_said p.profile s (end_at s p) else ack_said p.profile s (end_at s p).tcp.send.nxt None (end_at s p))
-    by true = syn_ack_tells p.profile s (end_at s p)
-    by false = ack_tells s (end_at s p).tcp.send.nxt None p
+answer_tells s p =
+    if_so (TellsKey (is_joined p.profile) (peer s)) (end_at s p).tcp.due.syn_ack (syn_ack_said p.profile s (end_at s p)) (ack_said p.profile s (end_at s p).tcp.send.nxt None (end_at s p))
+    (syn_ack_tells p.profile s (end_at s p)) (ack_tells s (end_at s p).tcp.send.nxt None p)
 
 resend_tells : (s : Side) (p : PathState Carried) → TellsKey (is_joined p.profile) (peer s) (resend_of s p)
 resend_tells s p = by (has_records e.tcp) e.modes.owes_third e.notices.fast_closed (is_data_fin_owed e)

@@ -10,7 +10,7 @@ use Rattle.world_laws.proofs.Words.{ask_for, ack_out_ask, waiting_path, PathStat
 use Rattle.world_laws.proofs.Words.{is_clash, mapping_ask, item_ask, item_of, fell_ask, plain_ack_ask, breaks_by_ack, peer_key_ask, opened_ask, sends, in_map}
 use Rattle.world_laws.proofs.Words.{in_set, Every, App, Path, Actor, ActorCrew, member_asks, member_takes, member_next, is_over, Always, PathPlan, Start}
 use Rattle.world_laws.proofs.Words.{path_begins, new_path, opened_world, WorldState, Turn, crew_after, asked, stepped, world_step, all_over, greatest, begins}
-use Rattle.world_laws.proofs.Words.{end_round, after_turn, world_run, JoinsAreRight, tells_wrong_join, May, may, asking}
+use Rattle.world_laws.proofs.Words.{end_round, after_turn, world_run, JoinsAreRight, tells_wrong_join, if_so, May, may, asking}
 use Rattle.address_manager.specs.declared.manager.Heard.{Heard as AddressHeard}
 use Rattle.control_book.specs.SameAddress.{is_same}
 use Rattle.control_book.specs.Replies as control
@@ -67,25 +67,15 @@ module _ (p : PathState Carried) where
   no_keys B (Some keys) = refl
 
   no_break : (s : Side) (reason : ℕ) → is_fell (break_ask values s reason p) ≡ false
-  no_break s reason = by (end_at s p).treated.asked
-    where
-      by : (b : Bool) → is_fell (if b then ack_out_ask s else sends values s (reset_of s (Some reason) p) p) ≡ false
-      by true = refl
-      by false = refl
+  no_break s reason = if_so (λ z. is_fell z ≡ false) (end_at s p).treated.asked (ack_out_ask s) (sends values s (reset_of s (Some reason) p) p) refl refl
 
   no_plain_ack : (s : Side) → is_fell (plain_ack_ask values s p) ≡ false
-  no_plain_ack s = by (breaks_by_ack p.profile (end_at s p))
-    where
-      by : (b : Bool) → is_fell (if b then break_ask values s 6 p else fell_ask s FallEvent.PlainAck p) ≡ false
-      by true = no_break s 6
-      by false = no_fell s FallEvent.PlainAck refl
+  no_plain_ack s =
+      if_so (λ z. is_fell z ≡ false) (breaks_by_ack p.profile (end_at s p)) (break_ask values s 6 p) (fell_ask s FallEvent.PlainAck p)
+      (no_break s 6) (no_fell s FallEvent.PlainAck refl)
 
   no_mapping : is_fell (mapping_ask values B p) ≡ false
-  no_mapping = by (is_clash (end_at B p))
-    where
-      by : (b : Bool) → is_fell (if b then break_ask values B 1 p else fell_ask B FallEvent.MappingHeard p) ≡ false
-      by true = no_break B 1
-      by false = refl
+  no_mapping = if_so (λ z. is_fell z ≡ false) (is_clash (end_at B p)) (break_ask values B 1 p) (fell_ask B FallEvent.MappingHeard p) (no_break B 1) refl
 
   no_item : (o : Option Heard) → is_fell (item_ask values B o p) ≡ false
   no_item (Some (Heard.Mapping fin)) = no_mapping
@@ -372,18 +362,10 @@ module _ (key_a key_b : ℕ) where
       by false false = past
 
   keys_told : (T : Type 0) (own : ℕ) (c : Control) → ModeGains T (Reply.Control (control.keys_reply own c))
-  keys_told T own c = by (own == c.keys.own)
-    where
-      by : (b : Bool) → ModeGains T (Reply.Control (if b then ControlReply.Noted else ControlReply.KeysDiffer c.keys.own))
-      by true = tt
-      by false = tt
+  keys_told T own c = if_so (λ z. ModeGains T (Reply.Control z)) (own == c.keys.own) ControlReply.Noted (ControlReply.KeysDiffer c.keys.own) tt tt
 
   stop_told : (T : Type 0) (key : ℕ) (c : Control) → ModeGains T (Reply.Control (control.fast_heard_reply key c))
-  stop_told T key c = by (key == c.keys.own)
-    where
-      by : (b : Bool) → ModeGains T (Reply.Control (if b then ControlReply.Stopped else ControlReply.OtherKey c.keys.own))
-      by true = tt
-      by false = tt
+  stop_told T key c = if_so (λ z. ModeGains T (Reply.Control z)) (key == c.keys.own) ControlReply.Stopped (ControlReply.OtherKey c.keys.own) tt tt
 
   address_told : (T : Type 0) (id : ℕ) (address : Address) (port hmac : ℕ) (c : Control) → ModeGains T (Reply.Control (control.address_reply id address port hmac c))
   address_told T id address port hmac c = by (heard_reply is_same id address (control.is_right id address port hmac c) c.addresses)

@@ -1,15 +1,15 @@
 -- No copy that arrives on a path that joins is refused for what it says, unless its options were taken away.
 use Rattle.world_laws.proofs.Words.{◌≡◌, refl, sym, ◌∙◌, ap, subst, ℕ, zero, suc, ◌+◌, ◌&&◌, ◌==◌, not, ⊎_elim, Bool, true, false, if◌then◌else◌, Option, Some}
-use Rattle.world_laws.proofs.Words.{None, Ok, Err, List, [], ◌∷◌, map, is_none, is_some, unwrap_or, eq-eqb, and_parts, both_ways, false≢true}
-use Rattle.world_laws.proofs.Words.{same_Some, slice_get, flat_map, IfSome, option_or, result_ok, join_a160_of, join_b64_of, Side, A, B, peer, same_side}
-use Rattle.world_laws.proofs.Words.{JoinForm, Answer, Third, JoinAnswer, BadHmac, answer_heard, answer_taken, syn_heard, third_heard, is_closed_to_segments}
-use Rattle.world_laws.proofs.Words.{is_half_open, Meaning, EndState, EndPhase, meaning_of, Copy, is_due, arriving, Flight}
-use Rattle.world_laws.proofs.Words.{HeardSegment, PlainOption, PlainSegment, Join, meant, meant_option, window_told, Heard, is_of_step, join_in, join_heard}
-use Rattle.world_laws.proofs.Words.{JoinStep, Ask, Reply, books_in, SixBooks, reply_of, is_nil, PathEnd, waiting_path, PathState, end_at, Carried, as_arrived}
-use Rattle.world_laws.proofs.Words.{values, items_in, items_of, copy_of, judged_in, heard_in, Judged, is_joined, join_answer, join_asked, peer_key_of}
-use Rattle.world_laws.proofs.Words.{join_value, is_hmac_right, is_third_right, third_in, is_forged, is_passed_over, join_judged, in_map, Every-nil, in_set}
-use Rattle.world_laws.proofs.Words.{Every, App, Path, Actor, ActorCrew, member_asks, member_takes, member_next, Always, PathPlan, Start, path_begins, new_path}
-use Rattle.world_laws.proofs.Words.{opened_world, WorldState, Turn, crew_after, asked, stepped, all_over, greatest, begins, after_turn, world_run}
+use Rattle.world_laws.proofs.Words.{None, Ok, Err, List, [], ◌∷◌, map, is_none, is_some, unwrap_or, eq-eqb, and_parts, both_ways, false≢true, same_Some}
+use Rattle.world_laws.proofs.Words.{slice_get, flat_map, IfSome, option_or, result_ok, join_a160_of, join_b64_of, Side, A, B, peer, same_side, JoinForm, Answer}
+use Rattle.world_laws.proofs.Words.{Third, JoinAnswer, BadHmac, answer_heard, answer_taken, syn_heard, third_heard, is_closed_to_segments, is_half_open}
+use Rattle.world_laws.proofs.Words.{Meaning, EndState, EndPhase, meaning_of, Copy, is_due, arriving, Flight, HeardSegment, PlainOption, PlainSegment, Join}
+use Rattle.world_laws.proofs.Words.{meant, meant_option, window_told, Heard, is_of_step, join_in, join_heard, JoinStep, Ask, Reply, books_in, SixBooks}
+use Rattle.world_laws.proofs.Words.{reply_of, is_nil, PathEnd, waiting_path, PathState, end_at, Carried, as_arrived, values, items_in, items_of, copy_of}
+use Rattle.world_laws.proofs.Words.{judged_in, heard_in, Judged, is_joined, join_answer, join_asked, peer_key_of, join_value, is_hmac_right, is_third_right}
+use Rattle.world_laws.proofs.Words.{third_in, is_forged, is_passed_over, join_judged, in_map, Every-nil, in_set, Every, App, Path, Actor, ActorCrew}
+use Rattle.world_laws.proofs.Words.{member_asks, member_takes, member_next, Always, PathPlan, Start, path_begins, new_path, opened_world, WorldState, Turn}
+use Rattle.world_laws.proofs.Words.{crew_after, asked, stepped, all_over, greatest, begins, after_turn, world_run}
 use Rattle.std.specs.Cmp.Lexicographic.{pointwise}
 use Rattle.mptcp_options.specs.declared.join.JoinForm.TheVariants.{Syn}
 use Rattle.world_laws.specs.Welcome.{IsWelcome, NextIsWelcome, WelcomesNext, EachCopyIsWelcome}

@@ -1,20 +1,18 @@
 -- The states of A's end of path 0: as soon as A hears a sign of B that may make its side sure, B's answer to the SYN was heard. And
 -- what the SYNs of a path that joins show.
-use Rattle.world_laws.proofs.Words.{◌≡◌, refl, sym, ◌∙◌, ap, subst, ℕ, zero, suc, ◌+◌, ◌||◌, not, Bool, true, false, if◌then◌else◌}
-use Rattle.world_laws.proofs.Words.{Option, Some, None, List, [], ◌∷◌, is_some, and_parts, and_from, both_ways, false≢true, or_right, list_any, list_all}
-use Rattle.world_laws.proofs.Words.{IfSome, Side, A, B, peer, Record, RecordKind, AckKind, after_acknowledge, ack_kind, sample_of, Meaning}
-use Rattle.world_laws.proofs.Words.{syn_ack_segment, reset_segment, is_syn, record_segment, EndState, EndPhase, Outgoing, is_fin_acked}
-use Rattle.world_laws.proofs.Words.{after_ack_kind, after_acknowledgement, is_duplicate, after_duplicate, after_interruption, told_by, after_payload}
-use Rattle.world_laws.proofs.Words.{after_hearing, after_established, after_taken, after_arrival}
-use Rattle.world_laws.proofs.Words.{Copy, Hint, HeardSegment, PlainOption, PlainSegment, Join, meant, heard_and, payload_came}
-use Rattle.world_laws.proofs.Words.{copy_came, Duty, StepDuty, AskDuty, replaced, join_heard, JoinStep, tail_of, is_nil, PathEnd, items_of, reset_for}
-use Rattle.world_laws.proofs.Words.{template_judged, owing_if, with_payload, outgoing_or, Judged, is_joined, join_options, capable_options, syn_options}
-use Rattle.world_laws.proofs.Words.{record_options, segment_of, ack_said, record_said, syn_ack_said, record_or_ack, Profile, taken_as, is_side_a}
+use Rattle.world_laws.proofs.Words.{◌≡◌, refl, sym, ◌∙◌, ap, subst, ℕ, zero, suc, ◌+◌, ◌||◌, not, Bool, true, false, if◌then◌else◌, Option, Some, None, List}
+use Rattle.world_laws.proofs.Words.{[], ◌∷◌, is_some, and_parts, and_from, both_ways, false≢true, or_right, list_any, list_all, IfSome, Side, A, B, peer}
+use Rattle.world_laws.proofs.Words.{Record, RecordKind, AckKind, after_acknowledge, ack_kind, sample_of, Meaning, syn_ack_segment, reset_segment, is_syn}
+use Rattle.world_laws.proofs.Words.{record_segment, EndState, EndPhase, Outgoing, is_fin_acked, after_ack_kind, after_acknowledgement, is_duplicate}
+use Rattle.world_laws.proofs.Words.{after_duplicate, after_interruption, told_by, after_payload, after_hearing, after_established, after_taken, after_arrival}
+use Rattle.world_laws.proofs.Words.{meaning_of, Copy, Hint, HeardSegment, PlainOption, PlainSegment, Join, meant, heard_and, payload_came, copy_came, Duty}
+use Rattle.world_laws.proofs.Words.{StepDuty, AskDuty, replaced, join_heard, JoinStep, tail_of, is_nil, PathEnd, items_of, reset_for, template_judged, owing_if}
+use Rattle.world_laws.proofs.Words.{with_payload, outgoing_or, Judged, is_joined, join_options, capable_options, syn_options, record_options, segment_of}
+use Rattle.world_laws.proofs.Words.{ack_said, record_said, syn_ack_said, record_or_ack, Profile, taken_as, is_side_a}
 use Rattle.mptcp_options.specs.declared.join.JoinForm.TheVariants.{Syn as JoinSyn}
 use Rattle.subflow_tcp.specs.States as states
 use Rattle.world_laws.proofs.Keys.AreDrawn.{is_past}
 use Rattle.world_laws.proofs.Keys.Meanings.{Means, means}
-use Rattle.subflow_tcp.specs.Judging.{meaning_of}
 use Rattle.world_laws.proofs.Keys.WhatWakes.{is_opens, is_lively}
 
 -- ---- states

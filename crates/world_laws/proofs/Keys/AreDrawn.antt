@@ -9,7 +9,7 @@ use Rattle.world_laws.proofs.Words.{is_mapping, mapping_items, map_items, first_
 use Rattle.world_laws.proofs.Words.{receives_infinite, owes_mapping, plain_options, data_fin_mapping, piece_mapping, is_first_piece, first_piece_options}
 use Rattle.world_laws.proofs.Words.{piece_options, fin_options, fail_options, fail_beside, infinite_or, mapped_options, capable_options, syn_options}
 use Rattle.world_laws.proofs.Words.{key_options, opening_options, ack_options, record_options, reset_options, ack_said, carried_said, syn_ack_said, reset_said}
-use Rattle.world_laws.proofs.Words.{record_or_ack, broken_options, noted_said, Profile, Modes, Every-push, Every-nil, Every-append, Every}
+use Rattle.world_laws.proofs.Words.{record_or_ack, broken_options, noted_said, Profile, Modes, Every-push, Every-nil, Every-append, Every, if_so}
 use Rattle.std.specs.Option.{option_map}
 use Rattle.key_material.specs.AddressHmac.{add_addr64_of}
 use Rattle.key_material.specs.declared.address.Address.TheVariants.{V4}
@@ -350,11 +350,9 @@ module _ (k : Secrets) (right : Bool) (w : Side → Type 0) (did : Deed → Side
     broken_are (Some place) (Some reason) knows = every_two _ _ knows tt
 
     pub reset_is : (reason : Option ℕ) → SegmentIs c s (reset_said c reason e)
-    reset_is reason = by e.modes.identity
-      where
-        by : (fell : Bool) → Every (OptionIs (is_joined c) s) (if fell then [] else broken_options e.treated.failed_mapping reason)
-        by true = Every-nil _
-        by false = broken_are e.treated.failed_mapping reason h.failing
+    reset_is reason =
+        if_so (Every (OptionIs (is_joined c) s)) e.modes.identity [] (broken_options e.treated.failed_mapping reason)
+        (Every-nil _) (broken_are e.treated.failed_mapping reason h.failing)
 
     pub ack_is : (position : ℕ) (fin : Option ℕ) → SegmentIs c s (ack_said c s position fin e)
     ack_is position fin = ack_options_are fin
@@ -385,11 +383,9 @@ module _ (k : Secrets) (right : Bool) (w : Side → Type 0) (did : Deed → Side
       dss_known joins = knows_b s e.modes (knows joins)
 
       plain_are : (position : ℕ) → Every (OptionIs (is_joined c) s) (plain_options position e)
-      plain_are position = by (owes_mapping e)
-        where
-          by : (owes : Bool) → Every (OptionIs (is_joined c) s) (if owes then Dss None (Some (Infinite (position - 1) position)) ∷ [] else [])
-          by true = every_one _ dss_known
-          by false = Every-nil _
+      plain_are position =
+          if_so (Every (OptionIs (is_joined c) s)) (owes_mapping e) (Dss None (Some (Infinite (position - 1) position)) ∷ []) []
+          (every_one _ dss_known) (Every-nil _)
 
       -- with its own infinite mapping, or as it is else
       infinite_or_are : (o : Option InfiniteMapping) (options : List PlainOption) → Every (OptionIs (is_joined c) s) options → Every (OptionIs (is_joined c) s) (infinite_or o options e)
@@ -397,33 +393,25 @@ module _ (k : Secrets) (right : Bool) (w : Side → Type 0) (did : Deed → Side
       infinite_or_are (Some mapping) options each = every_one _ dss_known
 
       mapped_are : (r : Record) → Every (OptionIs (is_joined c) s) (mapped_options c s r e)
-      mapped_are r = by (is_first_piece s r e)
-        where
-          by : (b : Bool) → Every (OptionIs (is_joined c) s) (if b then first_piece_options c e.modes.peer_key r e else Dss (Some e.receiving.next) (Some (piece_mapping c s r)) ∷ [])
-          by true = first_are e.modes.peer_key r h.modes.peer_is h.modes.keyed
-          by false = every_one _ dss_known
+      mapped_are r =
+          if_so (Every (OptionIs (is_joined c) s)) (is_first_piece s r e) (first_piece_options c e.modes.peer_key r e) (Dss (Some e.receiving.next) (Some (piece_mapping c s r)) ∷ [])
+          (first_are e.modes.peer_key r h.modes.peer_is h.modes.keyed) (every_one _ dss_known)
 
       piece_options_are : (r : Record) → Every (OptionIs (is_joined c) s) (piece_options c s r e)
-      piece_options_are r = by e.modes.identity
-        where
-          by : (fell : Bool) → Every (OptionIs (is_joined c) s) (if fell then plain_options r.pos e else infinite_or e.modes.own_infinite (mapped_options c s r e) e)
-          by true = plain_are r.pos
-          by false = infinite_or_are e.modes.own_infinite (mapped_options c s r e) (mapped_are r)
+      piece_options_are r =
+          if_so (Every (OptionIs (is_joined c) s)) e.modes.identity (plain_options r.pos e) (infinite_or e.modes.own_infinite (mapped_options c s r e) e)
+          (plain_are r.pos) (infinite_or_are e.modes.own_infinite (mapped_options c s r e) (mapped_are r))
 
       pub fin_options_are : (position : ℕ) → Every (OptionIs (is_joined c) s) (fin_options position e)
-      fin_options_are position = by e.modes.identity
-        where
-          by : (fell : Bool) → Every (OptionIs (is_joined c) s) (if fell then plain_options position e else infinite_or e.modes.own_infinite (Dss (Some e.receiving.next) None ∷ []) e)
-          by true = plain_are position
-          by false = infinite_or_are e.modes.own_infinite (Dss (Some e.receiving.next) None ∷ []) (every_one _ dss_known)
+      fin_options_are position =
+          if_so (Every (OptionIs (is_joined c) s)) e.modes.identity (plain_options position e) (infinite_or e.modes.own_infinite (Dss (Some e.receiving.next) None ∷ []) e)
+          (plain_are position) (infinite_or_are e.modes.own_infinite (Dss (Some e.receiving.next) None ∷ []) (every_one _ dss_known))
 
       capable_is : (s : Side) → e.modes.own_key ≡ drawn_key k right s → Every (OptionIs false s) (capable_options c s e)
       capable_is A own = every_one _ (λ is. tt, λ is. tt)
-      capable_is B own = by (e.modes.capable_asked && not e.modes.identity)
-        where
-          by : (asked : Bool) → Every (OptionIs false B) (if asked then Capable c.spelling.checksums false (Sender e.modes.own_key) ∷ [] else [])
-          by true = every_one _ (λ is. own, λ is. tt)
-          by false = Every-nil _
+      capable_is B own =
+          if_so (Every (OptionIs false B)) (e.modes.capable_asked && not e.modes.identity) (Capable c.spelling.checksums false (Sender e.modes.own_key) ∷ []) []
+          (every_one _ (λ is. own, λ is. tt)) (Every-nil _)
 
       join_is : (s : Side) → e.modes.own_key ≡ drawn_key k right s → e.modes.own_nonce ≡ drawn_nonce k right s → Knows s e.modes → Every (OptionIs true s) (join_options c s e.modes)
       join_is A own nonce has = every_one _ (refl, (has.0, λ is. (ap (λ o. token_of (unwrap_or o 0)) (has.1 is), nonce)))
@@ -466,32 +454,20 @@ module _ (k : Secrets) (right : Bool) (w : Side → Type 0) (did : Deed → Side
     ack_items_are : (s : Side) (next : Option (Option ℕ)) (window : ℕ) → Every (ItemIs joined s) (ack_items next window)
     ack_items_are s None window = Every-nil _
     ack_items_are s (Some None) window = Every-nil _
-    ack_items_are s (Some (Some next)) window = by (nat_lt next (2 ^ 62))
-      where
-        by : (b : Bool) → Every (ItemIs joined s) (if b then Heard.DataAck next window ∷ [] else [])
-        by true = every_one _ tt
-        by false = Every-nil _
+    ack_items_are s (Some (Some next)) window = if_so (Every (ItemIs joined s)) (nat_lt next (2 ^ 62)) (Heard.DataAck next window ∷ []) [] (every_one _ tt) (Every-nil _)
 
     mapping_items_are : (s : Side) (place position count : ℕ) (fin : Bool) → Every (ItemIs joined s) (mapping_items place position count fin)
-    mapping_items_are s place position count fin = by (is_mapping place position count)
-      where
-        by : (b : Bool) → Every (ItemIs joined s) (if b then Heard.Mapping fin ∷ [] else [])
-        by true = every_one _ tt
-        by false = Every-nil _
+    mapping_items_are s place position count fin =
+        if_so (Every (ItemIs joined s)) (is_mapping place position count) (Heard.Mapping fin ∷ []) []
+        (every_one _ tt) (Every-nil _)
 
     end_items_are : (s : Side) (place : ℕ) → Every (ItemIs joined s) (data_fin_items place)
-    end_items_are s place = by (nat_le place (2 ^ 62))
-      where
-        by : (b : Bool) → Every (ItemIs joined s) (if b then Heard.DataFin place ∷ [] else [])
-        by true = every_one _ tt
-        by false = Every-nil _
+    end_items_are s place = if_so (Every (ItemIs joined s)) (nat_le place (2 ^ 62)) (Heard.DataFin place ∷ []) [] (every_one _ tt) (Every-nil _)
 
     infinite_items_are : (s : Side) (place : ℕ) (position : Option ℕ) → Every (ItemIs joined s) (infinite_items place position)
-    infinite_items_are s place position = by (nat_lt place (2 ^ 62))
-      where
-        by : (b : Bool) → Every (ItemIs joined s) (if b then (Heard.InfiniteMapping place position) ∷ [] else [])
-        by true = every_one _ tt
-        by false = Every-nil _
+    infinite_items_are s place position =
+        if_so (Every (ItemIs joined s)) (nat_lt place (2 ^ 62)) ((Heard.InfiniteMapping place position) ∷ []) []
+        (every_one _ tt) (Every-nil _)
 
     map_items_are : (s : Side) (o : Option (PathMapping (Option ℕ))) → Every (ItemIs joined s) (map_items o)
     map_items_are s None = Every-nil _
@@ -566,8 +542,6 @@ module _ (k : Secrets) (right : Bool) (w : Side → Type 0) (did : Deed → Side
 
     -- after a fallback nothing is heard
     pub heard_items_are : (s : Side) (e : PathEnd) (sg : PlainSegment) → Every (OptionIs joined (peer s)) sg.options → Every (ItemIs joined s) (items_of joined s (options_heard e (meant sg)))
-    heard_items_are s e sg h = by e.modes.identity
-      where
-        by : (fell : Bool) → Every (ItemIs joined s) (items_of joined s (record (meant sg) { options = (if fell then [] else (meant sg).options) }))
-        by true = Every-nil _
-        by false = items_are s sg h
+    heard_items_are s e sg h =
+        if_so (λ z. Every (ItemIs joined s) (items_of joined s (record (meant sg) { options = z }))) e.modes.identity [] (meant sg).options
+        (Every-nil _) (items_are s sg h)

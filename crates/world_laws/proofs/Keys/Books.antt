@@ -4,7 +4,7 @@ use Rattle.world_laws.proofs.Words.{is_some, eq-eqb, both_ways, false≢true, If
 use Rattle.world_laws.proofs.Words.{receiving, sending, writes_mappings, Fall, after_sure_sign, after_plain, after_failed_check, after_fail, is_failed_path}
 use Rattle.world_laws.proofs.Words.{goes, fall_step, SendFail, lowest, address_of, heard_reply, Address, token_of, Side, peer, ControlCall, ControlReply}
 use Rattle.world_laws.proofs.Words.{Notice, lowest_living, sole_path, with_phase, Control, withdrawals_on, peer_or_zero, is_path, Opening, Ask, Reply, begins}
-use Rattle.world_laws.proofs.Words.{tells_bad_address, tells_wrong_join, tells_other_key}
+use Rattle.world_laws.proofs.Words.{tells_bad_address, tells_wrong_join, tells_other_key, if_so}
 use Rattle.key_material.specs.AddressHmac.{add_addr64_of}
 use Rattle.address_manager.specs.declared.manager.Heard.{Heard as AddressHeard}
 use Rattle.address_manager.specs.Steps.{is_kept}
@@ -255,11 +255,9 @@ heard_untold test true c begins unconfirmed fallen unknown = by c.fall.confirmed
 -- a fast close that is heard is the side's own, or another one's
 fast_untold : (test : Reply → Bool) → test (Reply.Control ControlReply.Stopped) ≡ false → ((own : ℕ) → test (Reply.Control (ControlReply.OtherKey own)) ≡ false)
     → (key : ℕ) (c : Control) → test (Reply.Control (control.fast_heard_reply key c)) ≡ false
-fast_untold test stopped other key c = by (key == c.keys.own)
-  where
-    by : (b : Bool) → test (Reply.Control (if b then ControlReply.Stopped else ControlReply.OtherKey c.keys.own)) ≡ false
-    by true = stopped
-    by false = other c.keys.own
+fast_untold test stopped other key c =
+    if_so (λ z. test (Reply.Control z) ≡ false) (key == c.keys.own) ControlReply.Stopped (ControlReply.OtherKey c.keys.own)
+    stopped (other c.keys.own)
 
 -- an address that is heard is echoed, or kept already, or has a wrong HMAC
 address_untold : (test : Reply → Bool) → test (Reply.Control ControlReply.Echo) ≡ false → test (Reply.Control ControlReply.Known) ≡ false
@@ -303,11 +301,9 @@ module _ (k : Secrets) (right : Bool) (w : Side → Type 0) (did : Deed → Side
       ∙ ap (λ n. add_addr64_of (peer_or_zero c.keys.peer) n id address port) (sym h.own_is))
 
   right_told : (id : ℕ) (address : Address) (b : Bool) → b ≡ true → tells_bad_address (Reply.Control (control.told_heard (heard_reply is_same id address b c.addresses))) ≡ false
-  right_told id address true is = by (is_kept is_same (address_of id c.addresses.kept) address)
-    where
-      by : (kept : Bool) → tells_bad_address (Reply.Control (control.told_heard (if kept then AddressHeard.Known else AddressHeard.Echo))) ≡ false
-      by true = refl
-      by false = refl
+  right_told id address true is =
+      if_so (λ z. tells_bad_address (Reply.Control (control.told_heard z)) ≡ false) (is_kept is_same (address_of id c.addresses.kept) address) AddressHeard.Known AddressHeard.Echo
+      refl refl
   right_told id address false is = absurd (false≢true is)
 
   peer_known : (o : Option ℕ) → is_some o ≡ true → IfSome o (λ key. key ≡ drawn_key k right (peer s)) → o ≡ Some (drawn_key k right (peer s))

@@ -7,7 +7,7 @@ use Rattle.world_laws.proofs.Words.{ReassemblyReply, places_after, fin_clash, is
 use Rattle.world_laws.proofs.Words.{StampedBooks, books_in, after_entry, SixBooks, reassembly_of, control_of, reply_of, after_ask, pick, AppDuty, AppState}
 use Rattle.world_laws.proofs.Words.{app_ask, ask_for, PathState, asks_first, Carried, values, is_fall, is_stopped_by, in_map, Every, asks_fast_close}
 use Rattle.world_laws.proofs.Words.{note_asks_fast_close, accepts_fast_close, entry_accepts, control_journal, Start, opened_world, Turn, greatest, world_run}
-use Rattle.world_laws.proofs.Words.{note_of, was_told, note_tells, tells_abort}
+use Rattle.world_laws.proofs.Words.{note_of, if_so, was_told, note_tells, tells_abort}
 use Rattle.reassembly_book.specs.Steps.{is_taken, after_call}
 use Rattle.control_book.specs.Replies as controlling
 use Rattle.control_book.specs.Steps as control
@@ -67,11 +67,9 @@ module _ (P : Type 0) (path key : ℕ) where
       → IfSome (carrier_in (if resets then Notice.Reset else (if is_path carrier path then Notice.Carrier key else controlling.address_notice announced withdrawn))) (λ key. P)
   notice_carries true carrier announced withdrawn named = tt
   notice_carries false None announced withdrawn named = address_carries announced withdrawn
-  notice_carries false (Some one) announced withdrawn named = by (one == path)
-    where
-      by : (b : Bool) → IfSome (carrier_in (if b then Notice.Carrier key else controlling.address_notice announced withdrawn)) (λ key. P)
-      by true = named refl
-      by false = address_carries announced withdrawn
+  notice_carries false (Some one) announced withdrawn named =
+      if_so (λ z. IfSome (carrier_in z) (λ key. P)) (one == path) (Notice.Carrier key) (controlling.address_notice announced withdrawn)
+      (named refl) (address_carries announced withdrawn)
 
 look_carries : (P : Type 0) (path : ℕ) (c : Control) → (is_some c.notices.carrier ≡ true → P) → IfSome (carrier_in (controlling.notice_on c path)) (λ key. P)
 look_carries P path c named =

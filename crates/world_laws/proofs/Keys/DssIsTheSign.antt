@@ -11,10 +11,9 @@ use Rattle.world_laws.proofs.Words.{items_in, items_of, options_heard, judged_in
 use Rattle.world_laws.proofs.Words.{died_unless_dead, answered_data, answered_grant, first_unsent, grant_in, Judged, next_event, after_line, happens_if}
 use Rattle.world_laws.proofs.Words.{join_begun, asked_at, is_never, join_taken, keys_begun, opened_by, is_joined, join_items, template_fired, is_wrong}
 use Rattle.world_laws.proofs.Words.{mapping_here, piece_of, is_placed, answered_piece, forgotten_by, answered_plain_fin, answered_fin_heard, is_fin_set}
-use Rattle.world_laws.proofs.Words.{ack_items, map_items, is_clash, with_learned, HeardOption, told_next, answered_item}
-use Rattle.world_laws.proofs.Words.{item_of, item_passed, item_stands, after_check_failed, after_fell, fell_duties, answered_plain_ack, with_plain_ack}
-use Rattle.world_laws.proofs.Words.{breaks_by_ack, after_fail_heard, answered_fell, answered_peer_key, answered_opened, key_items, is_stopped_by, item_removed}
-use Rattle.world_laws.proofs.Words.{address_items, item_at}
+use Rattle.world_laws.proofs.Words.{ack_items, map_items, is_clash, with_learned, HeardOption, told_next, answered_item, item_of, item_passed, item_stands}
+use Rattle.world_laws.proofs.Words.{after_check_failed, after_fell, fell_duties, answered_plain_ack, with_plain_ack, breaks_by_ack, after_fail_heard}
+use Rattle.world_laws.proofs.Words.{answered_fell, answered_peer_key, answered_opened, key_items, is_stopped_by, item_removed, address_items, item_at, if_so}
 use Rattle.path_segments.specs.declared.segment.PathOption.TheVariants.{FastClose}
 use Rattle.path_core.specs.declared.events.Event.{Event}
 use Rattle.path_core.specs.Emission.{Grant}
@@ -89,11 +88,7 @@ removed_led (id ∷ ids) = (tt, removed_led ids)
 
 module _ (joined : Bool) (window : ℕ) where
   option_led : (o : HeardOption) → Led false (items_in joined A window o)
-  option_led (Capable flag_a flag_c keys) = by joined
-    where
-      by : (b : Bool) → Led false (if b then [] else key_items A keys)
-      by true = tt
-      by false = keys_led keys
+  option_led (Capable flag_a flag_c keys) = if_so (Led false) joined [] (key_items A keys) tt (keys_led keys)
   option_led (Dss next mapping) = (tt, all_seen (ack_items next window ++ map_items mapping))
   option_led (Join form) = joins_led form
   option_led (AddAddr echo id address port hmac) = address_led echo id address port hmac

@@ -8,7 +8,7 @@ use Rattle.world_laws.proofs.Words.{is_altered, fate_of, PlainOption, PlainSegme
 use Rattle.world_laws.proofs.Words.{replaced, key_heard, keys_heard, is_of_step, join_heard, PeerNotice, JoinStep, Reply, PathEnd, died, modes_told, PathState}
 use Rattle.world_laws.proofs.Words.{end_at, goes_on, with_end, with_agenda, left, Carried, as_arrived, carried_by, stripped, altered, values, died_unless_dead}
 use Rattle.world_laws.proofs.Words.{is_listening, joined_by, opened_by, syn_alone, with_mode_refused, is_joined, join_answer, join_asked, peer_key_of}
-use Rattle.world_laws.proofs.Words.{join_value, after_fell, fell_in, mode_in, after_keys, keys_in, Profile, sent_on, Modes, Every-nil, Every}
+use Rattle.world_laws.proofs.Words.{join_value, after_fell, fell_in, mode_in, after_keys, keys_in, Profile, sent_on, Modes, Every-nil, Every, if_so}
 use Rattle.mptcp_options.specs.declared.join.JoinForm.TheVariants.{Syn as JoinSyn}
 use Rattle.path_segments.specs.declared.segment.PathOption.TheVariants.{FastClose}
 use Rattle.world_laws.proofs.Keys.AreDrawn.{Deed, Secrets, KeysFor, AddressIs, NoteIs, PeerNoteIs, ShownBy, twice, of_b, told_in, is_past, known_in, OfB, IsFor, drawn_key, drawn_nonce, JoinIs, OptionIs, SegmentIs, ItemIs, ModesAre, EndIs, HasMet, Knows, met_needs, same_knows, same_end}
@@ -231,11 +231,7 @@ module _ (k : Secrets) (right : Bool) (w : Side → Type 0) (did : Deed → Side
 
   -- so does what arrives
   pub arrived_is : (c : Profile) (s : Side) (carried : Carried) → SegmentIs k right w did c s carried.segment → SegmentIs k right w did c s (as_arrived carried)
-  arrived_is c s carried h = by carried.stripped
-    where
-      by : (b : Bool) → SegmentIs k right w did c s (record carried.segment { options = (if b then [] else carried.segment.options) })
-      by true = Every-nil _
-      by false = h
+  arrived_is c s carried h = if_so (λ z. SegmentIs k right w did c s (record carried.segment { options = z })) carried.stripped [] carried.segment.options (Every-nil _) h
 
   pub sent_is : (s : Side) (segment : PlainSegment) (e : PathEnd) (ds : List Duty) (p : PathState Carried) → SegmentIs k right w did p.profile s segment
       → EndIs k right w did (is_joined p.profile) s e → Still s e p → Fewer p ds → Stays s e p → PathIs p → PathIs (sent_on values s segment e ds p)
@@ -290,11 +286,7 @@ module _ (k : Secrets) (right : Bool) (w : Side → Type 0) (did : Deed → Side
   refused_is joined s r e h = kept_end joined s e (with_mode_refused r e) refl refl (record { up = λ x. x; waits = λ x. x; past = λ x. x }) h
 
   pub unless_dead_is : (joined : Bool) (s : Side) (e : PathEnd) → EndIs k right w did joined s e → EndIs k right w did joined s (died_unless_dead e)
-  unless_dead_is joined s e h = by (is_dead e.tcp.state)
-    where
-      by : (b : Bool) → EndIs k right w did joined s (if b then e else died e)
-      by true = h
-      by false = died_is joined s e h
+  unless_dead_is joined s e h = if_so (EndIs k right w did joined s) (is_dead e.tcp.state) e (died e) h (died_is joined s e h)
 
   pub fell_is : (joined : Bool) (s : Side) (event : FallEvent) (r : Reply) (e : PathEnd) → EndIs k right w did joined s e → EndIs k right w did joined s (after_fell event r e)
   fell_is joined s event r e h = kept_end joined s e (after_fell event r e) (fell_leaves event r e.modes) refl (record { up = λ x. x; waits = λ x. x; past = λ x. x }) h

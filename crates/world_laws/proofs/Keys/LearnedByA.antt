@@ -9,10 +9,9 @@ use Rattle.world_laws.proofs.Words.{modes_told, at_tick, PathState, end_at, goes
 use Rattle.world_laws.proofs.Words.{items_of, owes_by, options_heard, after_judged, asked_in, copy_judged, copy_of, judged_in, reset_for, template_of, heard_in}
 use Rattle.world_laws.proofs.Words.{copy_heard, heard_at, Judged, step_for, after_line, happens_if, join_begun, never_joined, is_never, keys_begun, opened_by}
 use Rattle.world_laws.proofs.Words.{is_joined, mode_refused, after_timer, template_fired, timer_fired, is_wrong, mapping_here, forgotten_by, after_keep}
-use Rattle.world_laws.proofs.Words.{after_pieces, is_dropped, after_check, after_pass_fin, with_learned, with_data_fin, with_skipped, held_of}
-use Rattle.world_laws.proofs.Words.{HeardOption, item_of, item_passed, with_plain_ack, fell_in, mode_in, with_priority, sent_on, taken_as, Modes}
+use Rattle.world_laws.proofs.Words.{after_pieces, is_dropped, after_check, after_pass_fin, with_learned, with_data_fin, with_skipped, held_of, HeardOption}
+use Rattle.world_laws.proofs.Words.{after_dss, with_data_ack, item_of, item_passed, with_plain_ack, fell_in, mode_in, with_priority, sent_on, taken_as, Modes}
 use Rattle.path_core.specs.declared.events.Event.{Event}
-use Rattle.path_core.specs.DssIn.{after_dss, with_data_ack}
 use Rattle.world_laws.proofs.Writes.Ends.{item_so}
 use Rattle.world_laws.proofs.Keys.AnswerHeardFirst.{is_met, passed_met_state, is_accepts, Fits, fits, is_calm, signs, Fewer, same_duties, tail_fewer, new_duties, b_template, arrived_state, unmet_stays, a_template, a_signs}
 

@@ -1,8 +1,8 @@
 -- What a copy means to an end, and what copy and end are then.
-use Rattle.world_laws.proofs.Words.{◌≡◌, refl, ap, ℕ, zero, suc, ◌≤◌, ◌&&◌, ◌==◌, not, nat_lt, nat_le, Bool, true, false, if◌then◌else◌, Option, Some, None, arith}
-use Rattle.world_laws.proofs.Words.{ltb-true, ltb-false, leb-true, and_parts, false≢true, true≢false, is_none, is_half_open, Meaning, EndState, is_at_limit, EndPhase}
-use Rattle.world_laws.proofs.Words.{is_syn_alone, is_repeated_syn, is_acceptable, meaning_outside, meaning_acknowledging, meaning_within, meaning_placed, meaning_connected}
-use Rattle.world_laws.proofs.Words.{meaning_answer, meaning_answering, meaning_at, meaning_of, Copy}
+use Rattle.world_laws.proofs.Words.{◌≡◌, refl, ap, ℕ, zero, suc, ◌≤◌, ◌&&◌, ◌==◌, not, nat_lt, nat_le, Bool, true, false, if◌then◌else◌, Option, Some, None}
+use Rattle.world_laws.proofs.Words.{arith, is_none, ltb-true, and_parts, false≢true, true≢false, ltb-false, leb-true, is_half_open, Meaning, EndState}
+use Rattle.world_laws.proofs.Words.{is_at_limit, EndPhase, is_syn_alone, is_repeated_syn, is_acceptable, meaning_outside, meaning_acknowledging, meaning_within}
+use Rattle.world_laws.proofs.Words.{meaning_placed, meaning_connected, meaning_answer, meaning_answering, meaning_at, meaning_of, Copy}
 use Rattle.world_laws.proofs.Keys.AreDrawn.{is_past}
 
 -- a SYN comes to a listening end, its answer to an opening one, which acknowledges what was sent; all else to one that has the peer's SYN

@@ -1,6 +1,6 @@
 -- Each reply to path 0, and each round, keeps that A's side has B's key, or is past being sure, where B answered.
 use Rattle.world_laws.proofs.Words.{◌≡◌, refl, sym, ◌∙◌, ap, subst, ℕ, ◌&&◌, not, nat_lt, inl, inr, Bool, true, false, if◌then◌else◌, Option, Some, None, List}
-use Rattle.world_laws.proofs.Words.{[], ◌∷◌, is_some, and_parts, both_ways, false≢true, not-true, or_left, FallEvent, is_starting, Side, A, B, JoinSyn}
+use Rattle.world_laws.proofs.Words.{[], ◌∷◌, is_some, and_parts, both_ways, false≢true, or_left, not-true, FallEvent, is_starting, Side, A, B, JoinSyn}
 use Rattle.world_laws.proofs.Words.{ControlCall, ControlReply, SendCall, Record, after_sending, EndState, EndPhase, Occasion, after_syn, unkept, PlainSegment}
 use Rattle.world_laws.proofs.Words.{Piece, leaves, resets, stops, start_of_turn, Duty, SendDuty, StepDuty, AskDuty, Heard, KeyPair, replaced, key_heard}
 use Rattle.world_laws.proofs.Words.{keys_heard, Ask, Reply, tail_of, ask_for, answered, PathEnd, died, answered_ack_out, after_look, after_ack_out, PathState}
@@ -12,7 +12,7 @@ use Rattle.world_laws.proofs.Words.{having_sent_fin, answered_plain_fin, answere
 use Rattle.world_laws.proofs.Words.{heard_ask, item_ask, answered_heard, answered_item, item_of, fell_ask, after_fell, fell_duties, plain_ack_ask}
 use Rattle.world_laws.proofs.Words.{answered_plain_ack, with_plain_ack, breaks_by_ack, may_go_infinite, book_answered, answered_fell, with_infinite, fell_in}
 use Rattle.world_laws.proofs.Words.{in_identity, after_keys, peer_key_ask, opened_ask, answered_peer_key, answered_opened, with_peer_key, keys_in}
-use Rattle.world_laws.proofs.Words.{is_stopped_by, after_peer_notice, having_sent, sent_on, Modes}
+use Rattle.world_laws.proofs.Words.{is_stopped_by, after_peer_notice, having_sent, sent_on, Modes, if_so}
 use Rattle.path_agenda.specs.Agenda.{breaks}
 use Rattle.path_core.specs.Emission.{Grant}
 use Rattle.path_core.specs.DssIn.{is_acked}
@@ -84,11 +84,9 @@ module _ (T : Type 0) where
   told_met s event r p gains h = verdict_met s event r (after_fell event r (end_at s p)) p refl refl gains h
 
   break_met : (s : Side) (reason : ℕ) (r : Reply) (p : PathState Carried) → CalmMet T p → CalmMet T (answered_break values s reason r p)
-  break_met s reason r p h = by (end_at s p).treated.asked
-    where
-      by : (b : Bool) → CalmMet T (if b then answered_ack_out s r (resets s reason) p else reset_on values s (Some reason) (leaves s) p)
-      by true = same_met s (after_ack_out r (end_at s p)) (resets s reason) p refl refl (resets_fewer s reason p.agenda) h
-      by false = reset_met s (Some reason) (leaves s) p (leaves_fewer s p.agenda) h
+  break_met s reason r p h =
+      if_so (CalmMet T) (end_at s p).treated.asked (answered_ack_out s r (resets s reason) p) (reset_on values s (Some reason) (leaves s) p)
+      (same_met s (after_ack_out r (end_at s p)) (resets s reason) p refl refl (resets_fewer s reason p.agenda) h) (reset_met s (Some reason) (leaves s) p (leaves_fewer s p.agenda) h)
 
   grant_met : (s : Side) (o : Option Grant) (r : Reply) (p : PathState Carried) → CalmMet T p → CalmMet T (answered_grant s o r p)
   grant_met s None r p h = same_met s _ (left p) p refl refl (tail_fewer p.agenda) h

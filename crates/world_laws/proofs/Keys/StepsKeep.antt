@@ -14,18 +14,17 @@ use Rattle.world_laws.proofs.Words.{answer_of, resend_occasion, resend_of, first
 use Rattle.world_laws.proofs.Words.{never_joined, asked_at, is_never, join_taken, joined_by, keys_begun, opened_by, with_mode_refused, is_joined}
 use Rattle.world_laws.proofs.Words.{join_heard_ask, after_timer, template_fired, timer_fired, is_wrong, mapping_here, piece_of, is_placed, answered_piece}
 use Rattle.world_laws.proofs.Words.{forgotten_by, after_pieces, is_dropped, is_data_fin_owed, fin_segment_of, having_sent_fin, answered_plain_fin}
-use Rattle.world_laws.proofs.Words.{answered_fin_heard, is_fin_set, after_pass_fin, is_clash, with_learned, with_data_fin, counts, with_skipped, with_acked}
-use Rattle.world_laws.proofs.Words.{with_data_ack, heard_ask, item_ask, answered_heard, answered_item, item_of, item_passed, answered_check_failed, fell_ask}
-use Rattle.world_laws.proofs.Words.{after_fell, fell_duties, plain_ack_ask, answered_plain_ack, with_plain_ack, breaks_by_ack, may_go_infinite, book_answered}
-use Rattle.world_laws.proofs.Words.{answered_fell, with_infinite, is_fall, in_identity, peer_key_ask, opened_ask, answered_peer_key, answered_opened}
-use Rattle.world_laws.proofs.Words.{is_stopped_by, is_fast_close_due, with_priority, is_note_due, having_noted, after_peer_notice, with_echo, ack_said}
-use Rattle.world_laws.proofs.Words.{carried_said, syn_ack_said, record_or_ack, having_sent, Modes, is_side_a, item_at, Every-nil, Every}
+use Rattle.world_laws.proofs.Words.{answered_fin_heard, is_fin_set, after_pass_fin, is_clash, with_learned, with_data_fin, with_skipped, counts, with_acked}
+use Rattle.world_laws.proofs.Words.{after_dss, with_data_ack, heard_ask, item_ask, answered_heard, answered_item, item_of, item_passed, answered_check_failed}
+use Rattle.world_laws.proofs.Words.{fell_ask, after_fell, fell_duties, plain_ack_ask, answered_plain_ack, with_plain_ack, breaks_by_ack, may_go_infinite}
+use Rattle.world_laws.proofs.Words.{book_answered, answered_fell, with_infinite, is_fall, in_identity, peer_key_ask, opened_ask, answered_peer_key}
+use Rattle.world_laws.proofs.Words.{answered_opened, is_stopped_by, is_fast_close_due, with_priority, is_note_due, having_noted, after_peer_notice, with_echo}
+use Rattle.world_laws.proofs.Words.{ack_said, carried_said, syn_ack_said, record_or_ack, having_sent, Modes, is_side_a, item_at, Every-nil, Every, if_so}
 use Rattle.path_core.specs.declared.events.Event.{Event}
 use Rattle.path_core.specs.Emission.{Grant}
 use Rattle.path_core.specs.Addresses.{note_of}
 use Rattle.path_core.specs.DssIn.{is_acked}
 use Rattle.path_core.specs.FastClose.{fast_close_of}
-use Rattle.path_core.specs.DssIn.{after_dss}
 use Rattle.world_laws.proofs.Writes.Ends.{item_so}
 use Rattle.world_laws.proofs.Worlds.Finding.{find_every, one_side}
 use Rattle.world_laws.proofs.Announcements.Queued.{announced_told, echo_queued, first_queued, look_queued, prio_queued, tail_queued}
@@ -63,11 +62,9 @@ module _ (k : Secrets) (right : Bool) (w : Side → Type 0) (did : Deed → Side
   item_there joined (item ∷ items) s (suc index) h = item_there joined items s index (record { each = λ i x at. h.each (suc i) x at })
 
   pub item_found : (joined : Bool) (s : Side) (index : ℕ) (e : PathEnd) → Every (ItemIs k right w did joined s) e.treated.items → IfSome (item_of index e) (ItemIs k right w did joined s)
-  item_found joined s index e h = by e.modes.identity
-    where
-      by : (fell : Bool) → IfSome (if fell then None else item_at index e.treated.items) (ItemIs k right w did joined s)
-      by true = tt
-      by false = item_there joined e.treated.items s index h
+  item_found joined s index e h =
+      if_so (λ z. IfSome z (ItemIs k right w did joined s)) e.modes.identity None (item_at index e.treated.items)
+      tt (item_there joined e.treated.items s index h)
 
   -- a DSS lets A's end send one, too
   cleared_by : (joined : Bool) (s : Side) (m : Modes) → ItemIs k right w did joined s Heard.Dss → (joined ≡ true → m.clear ≡ true → w B) → joined ≡ true → m.clear || is_side_a s ≡ true → w B
@@ -119,11 +116,9 @@ module _ (k : Secrets) (right : Bool) (w : Side → Type 0) (did : Deed → Side
       by : (b : Bool) → EndIs k right w did joined s (if b then with_learned e else with_skipped e)
       by true = record { modes = h.modes; items = h.items; woken = h.woken; past = h.past; carries = h.carries; queued = h.queued; failing = h.failing }
       by false = record { modes = h.modes; items = h.items; woken = h.woken; past = h.past; carries = h.carries; queued = h.queued; failing = h.failing }
-  passed_item joined s (Some (Heard.DataFin place)) e said h = by (counts e)
-    where
-      by : (b : Bool) → EndIs k right w did joined s (if b then with_data_fin place e else e)
-      by true = record { modes = h.modes; items = h.items; woken = h.woken; past = h.past; carries = h.carries; queued = h.queued; failing = h.failing }
-      by false = h
+  passed_item joined s (Some (Heard.DataFin place)) e said h =
+      if_so (EndIs k right w did joined s) (counts e) (with_data_fin place e) e
+      (record { modes = h.modes; items = h.items; woken = h.woken; past = h.past; carries = h.carries; queued = h.queued; failing = h.failing }) h
   passed_item joined s (Some Heard.Fail) e said h = h
   passed_item joined s _ e said h = h
 
@@ -144,11 +139,9 @@ module _ (k : Secrets) (right : Bool) (w : Side → Type 0) (did : Deed → Side
   checked : (checksums : Bool) (o : Option KeptMapping) (e : PathEnd) → (P : PathEnd → Type 0) → P e → ((recv : _) → P (record e { tcp = record e.tcp { recv = recv } }))
       → P (forgotten_by checksums o e)
   checked checksums None e P same other = same
-  checked checksums (Some kept) e P same other = by (is_wrong checksums kept e.tcp)
-    where
-      by : (b : Bool) → P (if b then record e { tcp = record e.tcp { recv = after_forget_from kept.pos e.tcp.recv } } else e)
-      by true = other _
-      by false = same
+  checked checksums (Some kept) e P same other =
+      if_so P (is_wrong checksums kept e.tcp) (record e { tcp = record e.tcp { recv = after_forget_from kept.pos e.tcp.recv } }) e
+      (other _) same
 
   passed_is : (d : Duty) (p : PathState Carried) → PathIs k right w did p → PathIs k right w did (passed d p)
   passed_is (Duty.Silent (SilentDuty.Timer s)) p h =
@@ -550,11 +543,9 @@ module _ (k : Secrets) (right : Bool) (w : Side → Type 0) (did : Deed → Side
   ack_said_is s position fin p h = ack_is k right w did p.profile s (end_at s p) (end_is k right w did s p h) position fin
 
   answer_is : (s : Side) (p : PathState Carried) → Said s p → PathIs k right w did p → SegmentIs k right w did p.profile s (answer_of s p)
-  answer_is s p said h = by (end_at s p).tcp.due.syn_ack
-    where
-      by : (b : Bool) → SegmentIs k right w did p.profile s (if b then syn_ack_said p.profile s (end_at s p) else ack_said p.profile s (end_at s p).tcp.send.nxt None (end_at s p))
-      by true = syn_ack_is k right w did p.profile s (end_at s p) (end_is k right w did s p h) said
-      by false = ack_said_is s (end_at s p).tcp.send.nxt None p h
+  answer_is s p said h =
+      if_so (SegmentIs k right w did p.profile s) (end_at s p).tcp.due.syn_ack (syn_ack_said p.profile s (end_at s p)) (ack_said p.profile s (end_at s p).tcp.send.nxt None (end_at s p))
+      (syn_ack_is k right w did p.profile s (end_at s p) (end_is k right w did s p h) said) (ack_said_is s (end_at s p).tcp.send.nxt None p h)
 
   resend_is : (s : Side) (p : PathState Carried) → Said s p → PathIs k right w did p → SegmentIs k right w did p.profile s (resend_of s p)
   resend_is s p said h = by (has_records (end_at s p).tcp) (end_at s p).modes.owes_third (end_at s p).notices.fast_closed (is_data_fin_owed (end_at s p))

@@ -9,7 +9,7 @@ use Rattle.world_laws.proofs.Words.{ask_for, passed, waiting_path, PathState, en
 use Rattle.world_laws.proofs.Words.{values, reset_of, break_ask, first_unsent, data_ask, next_event, step_for, asked_at, join_heard_ask, piece_of, piece_ask}
 use Rattle.world_laws.proofs.Words.{plain_fin, data_fin_of, fin_ask, is_clash, mapping_ask, item_ask, item_of, fell_ask, plain_ack_ask, breaks_by_ack}
 use Rattle.world_laws.proofs.Words.{peer_key_ask, opened_ask, notice_ask, sends, rate_ask, item_at, in_map, in_set, Every, ActorCrew, Always, PathPlan, Start}
-use Rattle.world_laws.proofs.Words.{path_begins, opened_world, greatest, world_run}
+use Rattle.world_laws.proofs.Words.{path_begins, opened_world, greatest, world_run, if_so}
 use Rattle.fallback_state.specs.Table.{stays, breaks}
 use Rattle.control_book.specs.Replies as control
 use Rattle.control_book.specs.Steps as controlling
@@ -163,11 +163,7 @@ module _ (p : PathState Carried) where
   join_mild s (Some asked) = tt
 
   break_mild : (s : Side) (reason : ℕ) → IsMild (break_ask values s reason p)
-  break_mild s reason = by (end_at s p).treated.asked
-    where
-      by : (b : Bool) → IsMild (if b then Ask.Reassembly s ReassemblyCall.AckOut else sends values s (reset_of s (Some reason) p) p)
-      by true = tt
-      by false = tt
+  break_mild s reason = if_so IsMild (end_at s p).treated.asked (Ask.Reassembly s ReassemblyCall.AckOut) (sends values s (reset_of s (Some reason) p) p) tt tt
 
   piece_mild : (s : Side) (o : Option Piece) → IsMild (piece_ask s o)
   piece_mild s None = tt
@@ -182,18 +178,10 @@ module _ (p : PathState Carried) where
   rate_mild s (Some pending) = tt
 
   plain_ack_mild : (s : Side) → IsMild (plain_ack_ask values s p)
-  plain_ack_mild s = by (breaks_by_ack p.profile (end_at s p))
-    where
-      by : (b : Bool) → IsMild (if b then break_ask values s 6 p else fell_ask s FallEvent.PlainAck p)
-      by true = break_mild s 6
-      by false = tt
+  plain_ack_mild s = if_so IsMild (breaks_by_ack p.profile (end_at s p)) (break_ask values s 6 p) (fell_ask s FallEvent.PlainAck p) (break_mild s 6) tt
 
   mapping_b : IsMild (mapping_ask values B p)
-  mapping_b = by (is_clash p.b)
-    where
-      by : (b : Bool) → IsMild (if b then break_ask values B 1 p else fell_ask B FallEvent.MappingHeard p)
-      by true = break_mild B 1
-      by false = tt
+  mapping_b = if_so IsMild (is_clash p.b) (break_ask values B 1 p) (fell_ask B FallEvent.MappingHeard p) (break_mild B 1) tt
 
   note_mild : (s : Side) (notice : PeerNotice) → IsMild (notice_ask s notice p)
   note_mild s (PeerNotice.AddAddr id address port hmac) = tt

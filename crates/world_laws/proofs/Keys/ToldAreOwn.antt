@@ -11,7 +11,7 @@ use Rattle.world_laws.proofs.Words.{data_fin_of, fin_ask, is_clash, mapping_ask,
 use Rattle.world_laws.proofs.Words.{peer_key_ask, opened_ask, is_stopped_by, notice_ask, sends, rate_ask, in_map, Every-nil, in_set, Every, App, Path, Actor}
 use Rattle.world_laws.proofs.Words.{ActorCrew, member_asks, member_takes, member_next, Always, PathPlan, Start, path_begins, opened_world, WorldState, Turn}
 use Rattle.world_laws.proofs.Words.{crew_after, asked, stepped, world_step, all_over, greatest, begins, end_round, after_turn, world_run, KeysNeverDiffer}
-use Rattle.world_laws.proofs.Words.{tells_bad_address, tells_wrong_join, tells_other_key}
+use Rattle.world_laws.proofs.Words.{tells_bad_address, tells_wrong_join, tells_other_key, if_so}
 use Rattle.control_book.specs.Replies as control
 use Rattle.control_book.specs.Steps as controlling
 use Rattle.fallback_state.specs.declared.fall.Event.TheVariants as events
@@ -48,18 +48,12 @@ module _ (k : Secrets) (right : Bool) (w : Side → Type 0) (did : Deed → Side
   keys_are s (Some keys) own = own.1
 
   break_is : (s : Side) (reason : ℕ) → AskIs k right w did (break_ask values s reason p)
-  break_is s reason = by (end_at s p).treated.asked
-    where
-      by : (b : Bool) → AskIs k right w did (if b then Ask.Reassembly s ReassemblyCall.AckOut else sends values s (reset_of s (Some reason) p) p)
-      by true = tt
-      by false = tt
+  break_is s reason =
+      if_so (AskIs k right w did) (end_at s p).treated.asked (Ask.Reassembly s ReassemblyCall.AckOut) (sends values s (reset_of s (Some reason) p) p)
+      tt tt
 
   mapping_is : (s : Side) → AskIs k right w did (mapping_ask values s p)
-  mapping_is s = by (is_clash (end_at s p))
-    where
-      by : (b : Bool) → AskIs k right w did (if b then break_ask values s 1 p else fell_ask s events.MappingHeard p)
-      by true = break_is s 1
-      by false = tt
+  mapping_is s = if_so (AskIs k right w did) (is_clash (end_at s p)) (break_ask values s 1 p) (fell_ask s events.MappingHeard p) (break_is s 1) tt
 
   note_is : (s : Side) (notice : PeerNotice) → PeerNoteIs k right w did s notice → AskIs k right w did (notice_ask s notice p)
   note_is s (PeerNotice.AddAddr id address port hmac) own = own
@@ -89,11 +83,7 @@ module _ (k : Secrets) (right : Bool) (w : Side → Type 0) (did : Deed → Side
   join_asks s (Some asked) own = (own.1.0, (own.1.1.0, λ sure. (own.1.1.1 sure).0))
 
   plain_ack_is : (s : Side) → AskIs k right w did (plain_ack_ask values s p)
-  plain_ack_is s = by (breaks_by_ack p.profile (end_at s p))
-    where
-      by : (b : Bool) → AskIs k right w did (if b then break_ask values s 6 p else fell_ask s events.PlainAck p)
-      by true = break_is s 6
-      by false = tt
+  plain_ack_is s = if_so (AskIs k right w did) (breaks_by_ack p.profile (end_at s p)) (break_ask values s 6 p) (fell_ask s events.PlainAck p) (break_is s 6) tt
 
   pub asks_are : (d : Duty) → ((x : Voice) → is_said_by x d ≡ true → VoiceIs k right w did p x) → AskIs k right w did (ask_for values d p)
   asks_are (Duty.Ask AskDuty.JoinAgain) said = refl

@@ -7,7 +7,7 @@ use Rattle.world_laws.proofs.Words.{after_payload, after_hearing, after_establis
 use Rattle.world_laws.proofs.Words.{after_finishing, is_syn_alone, meaning_at, meaning_of, Copy, Hint, next_due, Due, LineLeft, heard_and, payload_came}
 use Rattle.world_laws.proofs.Words.{copy_came, Duty, SendDuty, StepDuty, AskDuty, Heard, replaced, tail_of, PathEnd, PathState, end_at, owing_if, with_payload}
 use Rattle.world_laws.proofs.Words.{Judged, tick_of, next_join, next_line, next_copy, earlier, next_event, earliest, join_answer, join_asked, after_timer}
-use Rattle.world_laws.proofs.Words.{next_fire, is_forged, is_passed_over, join_judged, taken_as, judged_of}
+use Rattle.world_laws.proofs.Words.{next_fire, is_forged, is_passed_over, join_judged, taken_as, judged_of, if_so}
 use Rattle.std.proofs.Common.{IsSome}
 use Rattle.loss_recovery.specs.Timers.{timer_settled}
 use Rattle.subflow_tcp.specs.States as states
@@ -269,16 +269,10 @@ module _ (rst : Bool) (items : List Heard) (e : PathEnd) where
   unless_silent false m none = none
 
   wakes_none : (m : Meaning) → (is_lively m ≡ true → is_up e.tcp ≡ true) → WakesNone (taken_as (join_judged rst items m e)) e.tcp
-  wakes_none Meaning.Opens up = by (is_some (join_asked items))
-    where
-      by : (asks : Bool) → WakesNone (taken_as (if asks then Judged.Asks else Judged.Lacks)) e.tcp
-      by true = nothing_wakes
-      by false = nothing_wakes
-  wakes_none (Meaning.Accepts acknowledged) up = by (is_some (join_answer items e.modes))
-    where
-      by : (right : Bool) → WakesNone (taken_as (if right then Judged.As (Meaning.Accepts acknowledged) else Judged.Forged)) e.tcp
-      by true = record { no_syn = refl; lively = up }
-      by false = nothing_wakes
+  wakes_none Meaning.Opens up = if_so (λ z. WakesNone (taken_as z) e.tcp) (is_some (join_asked items)) Judged.Asks Judged.Lacks nothing_wakes nothing_wakes
+  wakes_none (Meaning.Accepts acknowledged) up =
+      if_so (λ z. WakesNone (taken_as z) e.tcp) (is_some (join_answer items e.modes)) (Judged.As (Meaning.Accepts acknowledged)) Judged.Forged
+      (record { no_syn = refl; lively = up }) nothing_wakes
   wakes_none Meaning.RepeatedSyn up = record { no_syn = refl; lively = up }
   wakes_none (Meaning.Taken pos acknowledged) up = by (is_passed_over rst items e) (is_forged items e)
     where
@@ -416,11 +410,7 @@ Happens p event = Unit {0}
 earlier_has : (P : Event → Type 0) (x y : Option Event) → IfSome x P → IfSome y P → IfSome (earlier x y) P
 earlier_has P None y first other = other
 earlier_has P (Some x) None first other = first
-earlier_has P (Some x) (Some y) first other = by (nat_le (tick_of x) (tick_of y))
-  where
-    by : (b : Bool) → IfSome (if b then Some x else Some y) P
-    by true = first
-    by false = other
+earlier_has P (Some x) (Some y) first other = if_so (λ z. IfSome z P) (nat_le (tick_of x) (tick_of y)) (Some x) (Some y) first other
 
 join_has : {C : Type 0} (p : PathState C) (state : EndPhase) (o : Option ℕ) → p.a.tcp.state ≡ state → IfSome (next_join state o) (Happens p)
 join_has p state None same = tt

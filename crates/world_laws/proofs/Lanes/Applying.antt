@@ -2,7 +2,7 @@
 use Rattle.world_laws.proofs.Words.{◌≡◌, refl, sym, ◌∙◌, ap, ℕ, zero, suc, ◌≤◌, ◌||◌, not, Bool, true, false, if◌then◌else◌, List, [], ◌∷◌, ◌++◌, length, take}
 use Rattle.world_laws.proofs.Words.{drop, replicate, arith, or_parts, both_ways, false≢true, append-nil, append_assoc, list_any, ReassemblyReply, Sending, Free}
 use Rattle.world_laws.proofs.Words.{no_paths, SendReply, Note, Reply, is_nil, AppDuty, AppState, app_stands, bytes_in, ends_in, app_settled, taken_in}
-use Rattle.world_laws.proofs.Words.{IsAppSettled, is_done, Reader, takes_read, read_by, was_told, tells_end, note_tells, bytes_noted, tells_stop}
+use Rattle.world_laws.proofs.Words.{IsAppSettled, is_done, Reader, takes_read, if_so, read_by, was_told, tells_end, note_tells, bytes_noted, tells_stop}
 use Rattle.send_book.specs.Steps as send
 
 -- ---- lists that grow
@@ -96,11 +96,7 @@ writes_more file rest buffer b some h = by (b.closed || b.aborted) refl
     }
 
 pub closes : (file : List ℕ) (b : Sending) → Writes file [] b → Writes file [] (send.after_close b)
-closes file b h = by b.aborted
-  where
-    by : (shut : Bool) → Writes file [] (if shut then b else record b { closed = true })
-    by true = h
-    by false = record { prefix = h.prefix; whole = λ closed. refl }
+closes file b h = if_so (Writes file []) b.aborted b (record b { closed = true }) h (record { prefix = h.prefix; whole = λ closed. refl })
 
 -- ---- reading
 

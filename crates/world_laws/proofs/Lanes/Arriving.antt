@@ -5,7 +5,7 @@ use Rattle.world_laws.proofs.Words.{Both, WithData, KeptMapping, after_accept, A
 use Rattle.world_laws.proofs.Words.{PlainOption, Capable, Join, Dss, AddAddr, Remove, Prio, Fail, Reset, meant_option, meant_mapping, PathMapping, Bytes}
 use Rattle.world_laws.proofs.Words.{Infinite, Heard, PeerNotice, items_in, is_joined, join_items, ack_items, is_mapping, mapping_items, map_items, first_items}
 use Rattle.world_laws.proofs.Words.{held_if, map_held, key_held, held_in, checksum_heard, kept_of, key_items, Profile, Every-nil, Every-append, Every, AckCopy}
-use Rattle.world_laws.proofs.Words.{Lane}
+use Rattle.world_laws.proofs.Words.{Lane, if_so}
 use Rattle.std.proofs.Common.{flat_map}
 use Rattle.loss_recovery.specs.declared.windows.Told.{Told}
 use Rattle.path_segments.specs.declared.segment.PathMapping.TheVariants.{End}
@@ -31,11 +31,7 @@ module _ (acks : List AckCopy) (p : Lane) (window : ℕ) where
   said_if false item h = Every-nil _
 
   mapping_says : (place position len : ℕ) → Says (mapping_items place position len false)
-  mapping_says place position len = by (is_mapping place position len)
-    where
-      by : (b : Bool) → Says (if b then Heard.Mapping false ∷ [] else [])
-      by true = one (Heard.Mapping false) tt
-      by false = Every-nil _
+  mapping_says place position len = if_so Says (is_mapping place position len) (Heard.Mapping false ∷ []) [] (one (Heard.Mapping false) tt) (Every-nil _)
 
   first_says : (len : ℕ) → Says (first_items len)
   first_says len = by (nat_lt 0 len) (mapping_says 0 1 len)
@@ -98,11 +94,9 @@ module _ (c : Profile) (window : ℕ) (acks : List AckCopy) (p : Lane) where
   Held kept = Every (HeldShows c p.sent p.datas) kept
 
   if_held : (s : Side) (place position len : ℕ) (checksum : Option ℕ) → HasMapping p.datas place position len → IsSummed c (peer s) p.sent place position len (checksum_heard checksum) → Held (held_if c s place position len false checksum)
-  if_held s place position len checksum h u = by (is_mapping place position len)
-    where
-      by : (b : Bool) → Held (if b then kept_of c s place position len false (checksum_heard checksum) ∷ [] else [])
-      by true = every_cons _ [] (h, refl, record { within = u.within; right = λ uses. sym (u.right uses) }) (Every-nil _)
-      by false = Every-nil _
+  if_held s place position len checksum h u =
+      if_so Held (is_mapping place position len) (kept_of c s place position len false (checksum_heard checksum) ∷ []) []
+      (every_cons _ [] (h, refl, record { within = u.within; right = λ uses. sym (u.right uses) }) (Every-nil _)) (Every-nil _)
 
   map_holds : (s : Side) (o : Option (PathMapping ℕ)) → MappingShows c (peer s) o p → Held (map_held c s (option_map meant_mapping o))
   map_holds s (Some (Bytes place position len true checksum)) h = absurd h
@@ -124,11 +118,7 @@ module _ (c : Profile) (window : ℕ) (acks : List AckCopy) (p : Lane) where
       by false holds = Every-nil _
 
   option_holds : (s : Side) (o : PlainOption) → OptionShows c (peer s) window acks p o → Held (held_in c s (meant_option o))
-  option_holds s (Capable flag_a flag_c keys) h = by (is_joined c)
-    where
-      by : (joined : Bool) → Held (if joined then [] else key_held c s keys)
-      by true = Every-nil _
-      by false = keys_hold s keys h
+  option_holds s (Capable flag_a flag_c keys) h = if_so Held (is_joined c) [] (key_held c s keys) (Every-nil _) (keys_hold s keys h)
   option_holds s (Dss next mapping) h = map_holds s mapping h.1
   option_holds s _ h = Every-nil _
 
@@ -164,11 +154,9 @@ module _ (c : Profile) (s : Side) (k : Knowledge) (live : List KeptMapping) (out
       by AckKind.Future = record { sender = v; receiver = h.receiver }
 
   row_both : (kind : AckKind) (told : Told) (copy : Copy) (tcp : EndState) → Halved tcp → Halved (taking.after_row kind told copy tcp)
-  row_both kind told copy tcp h = by (taking.is_duplicate kind told copy tcp)
-    where
-      by : (b : Bool) → Halved (if b then taking.after_duplicate tcp else taking.after_interruption tcp)
-      by true = record { sender = h.sender; receiver = h.receiver }
-      by false = record { sender = h.sender; receiver = h.receiver }
+  row_both kind told copy tcp h =
+      if_so Halved (taking.is_duplicate kind told copy tcp) (taking.after_duplicate tcp) (taking.after_interruption tcp)
+      (record { sender = h.sender; receiver = h.receiver }) (record { sender = h.sender; receiver = h.receiver })
 
   -- the FIN of a copy is one of the lane
   payload_both : (pos : ℕ) (hint : Hint) (copy : Copy) (tcp : EndState) → hint.keep ≡ false → (copy.fin ≡ true → HasFin back.fins (pos + length copy.payload)) → Halved tcp

@@ -2,7 +2,7 @@
 use Rattle.world_laws.proofs.Words.{◌≡◌, refl, subst, ℕ, zero, suc, ◌&&◌, ◌==◌, nat_lt, nat_le, Bool, true, false, if◌then◌else◌, Option, Some, None, List, []}
 use Rattle.world_laws.proofs.Words.{◌∷◌, map, same_Some, slice_get, IfSome, Side, Record, SendState, RecordKind, Syn, Data, Fin, is_unsent, uncovered}
 use Rattle.world_laws.proofs.Words.{first_unsent_sent, first_sent, unsent_again, expired_records, after_acknowledge, after_sent, after_resent, after_expired}
-use Rattle.world_laws.proofs.Words.{after_fin_sent, is_fin, syn_resent, EndPhase, Occasion, PlainSegment, PathEnd, Profile, having_sent, Every, Lane}
+use Rattle.world_laws.proofs.Words.{after_fin_sent, is_fin, syn_resent, EndPhase, Occasion, PlainSegment, PathEnd, Profile, having_sent, Every, Lane, if_so}
 use Rattle.std.specs.List.{find}
 use Rattle.subflow_send.specs.declared.record.Sending.{Sending}
 use Rattle.subflow_send.specs.Records.{end_of}
@@ -119,11 +119,7 @@ module _ (c : Profile) (s : Side) (k : Knowledge) (p : Lane) where
   expired_shows state v h = with_records state v _ h (expired_kept _ same_record v.records h.pieces)
 
   pub syn_resent_shows : (now : ℕ) (state : EndPhase) (v : SendState) → Shows state v → Shows state (syn_resent now v)
-  syn_resent_shows now state v h = by (v.una == 0)
-    where
-      by : (b : Bool) → Shows state (if b then after_resent now v else v)
-      by true = resent_shows now state v h
-      by false = h
+  syn_resent_shows now state v h = if_so (Shows state) (v.una == 0) (after_resent now v) v (resent_shows now state v h) h
 
   pub acknowledged_shows : (pos : ℕ) (state : EndPhase) (v : SendState) → Shows state v → Shows state (after_acknowledge pos v)
   acknowledged_shows pos state v h = by (nat_lt v.una pos && nat_le pos v.nxt)

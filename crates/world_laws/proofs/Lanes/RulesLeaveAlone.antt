@@ -5,7 +5,7 @@ use Rattle.world_laws.proofs.Words.{after_keep_held, Pending, is_behind, EndPhas
 use Rattle.world_laws.proofs.Words.{modes_told, notices_told, died_unless_dead, is_listening, joined_by, opened_by, syn_alone, with_mode_refused, after_timer}
 use Rattle.world_laws.proofs.Words.{after_firing, having_asked, is_wrong, forgotten_by, after_keep, after_pieces, is_dropped, is_not_kept, with_peer_data_fin}
 use Rattle.world_laws.proofs.Words.{with_fin_told, after_dss, covered_by, with_failure, after_fell, with_plain_ack, fell_in, mode_in, after_keys, with_peer_key}
-use Rattle.world_laws.proofs.Words.{keys_in, Profile, after_rate, Modes, Treated, nothing_treated, Every-nil, Has-map, Every, AckCopy, Lane}
+use Rattle.world_laws.proofs.Words.{keys_in, Profile, after_rate, Modes, Treated, nothing_treated, Every-nil, Has-map, Every, AckCopy, Lane, if_so}
 use Rattle.loss_recovery.specs.declared.windows.Congestion.{Congestion}
 use Rattle.loss_recovery.specs.Windows as windows
 use Rattle.fallback_state.specs.declared.fall.Event.{Event}
@@ -245,11 +245,7 @@ module _ (c : Profile) (s : Side) (out back : Lane) where
       (dead_tcp false e nothing_treated (nothing_shows h.treated.nothing) (λ none. calm) (h.pairs.0, h.pairs.1, h.pairs.2, tt, h.pairs.4, tt) h)
 
   pub died_unless_shows : (e : PathEnd) → e.treated.asked ≡ false → Shows e → Shows (died_unless_dead e)
-  died_unless_shows e calm h = by (states.is_dead e.tcp.state)
-    where
-      by : (b : Bool) → Shows (if b then e else died e)
-      by true = h
-      by false = died_shows e calm h
+  died_unless_shows e calm h = if_so Shows (states.is_dead e.tcp.state) e (died e) h (died_shows e calm h)
 
   pub fired_shows : (now : ℕ) (e : PathEnd) → Shows e → Shows (after_firing now e)
   fired_shows now e h = by (expiring.is_sixth e.tcp)

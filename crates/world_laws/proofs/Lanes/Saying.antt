@@ -8,7 +8,7 @@ use Rattle.world_laws.proofs.Words.{place_numbered, checksum_told, owes_mapping,
 use Rattle.world_laws.proofs.Words.{first_piece_options, piece_options, fin_options, fail_options, fail_beside, infinite_options, infinite_or, capable_options}
 use Rattle.world_laws.proofs.Words.{syn_options, key_options, opening_options, ack_options, record_options, reset_options, segment_of, ack_said, carried_said}
 use Rattle.world_laws.proofs.Words.{record_said, syn_ack_said, fin_said, reset_said, broken_options, noted_said, notice_option, Profile, is_side_a, Every-push}
-use Rattle.world_laws.proofs.Words.{Every-nil, Every-append, Every, AckCopy, Lane}
+use Rattle.world_laws.proofs.Words.{Every-nil, Every-append, Every, AckCopy, Lane, if_so}
 use Rattle.world_laws.proofs.Lanes.Records.{every_cons}
 use Rattle.world_laws.proofs.Lanes.Showing.{PairTold, HasSub, HasNone, HasMapping, HasNumber, HasFin, KindShows, RecordShows, WindowShows, OptionShows, SegmentShows, IsSummed}
 
@@ -63,11 +63,9 @@ module _ (c : Profile) (s : Side) (e : PathEnd) (acks : List AckCopy) (p : Lane)
 
   beside_says : (window : ℕ) (fin : Option ℕ) → Every (OptionShows c s window acks p) (fail_beside fin e.modes)
   beside_says window (Some fin) = Every-nil _
-  beside_says window None = by (receives_infinite e.modes.mode)
-    where
-      by : (b : Bool) → Every (OptionShows c s window acks p) (fail_options (if b then None else e.modes.failed_mapping))
-      by true = Every-nil _
-      by false = fails_say window e.modes.failed_mapping f.failing
+  beside_says window None =
+      if_so (λ z. Every (OptionShows c s window acks p) (fail_options z)) (receives_infinite e.modes.mode) None e.modes.failed_mapping
+      (Every-nil _) (fails_say window e.modes.failed_mapping f.failing)
 
   ack_options_say : (fin : Option ℕ) → IfSome fin (HasNumber p.data_fins) → Every (OptionShows c s (window_told false e.receiving.window) acks p) (ack_options c s fin e)
   ack_options_say fin h = by e.modes.identity e.modes.clear
@@ -80,18 +78,14 @@ module _ (c : Profile) (s : Side) (e : PathEnd) (acks : List AckCopy) (p : Lane)
 
   -- infinite mappings
   plain_options_say : (window position : ℕ) → PairTold p.pairs p.fins (position - 1) position → Every (OptionShows c s window acks p) (plain_options position e)
-  plain_options_say window position told = by (owes_mapping e)
-    where
-      by : (b : Bool) → Every (OptionShows c s window acks p) (if b then Dss None (Some (Infinite (position - 1) position)) ∷ [] else [])
-      by true = every_one _ (tt, told)
-      by false = Every-nil _
+  plain_options_say window position told =
+      if_so (Every (OptionShows c s window acks p)) (owes_mapping e) (Dss None (Some (Infinite (position - 1) position)) ∷ []) []
+      (every_one _ (tt, told)) (Every-nil _)
 
   own_options_say : (m : InfiniteMapping) → PairTold p.pairs p.fins m.place m.position → Every (OptionShows c s (window_told false e.receiving.window) acks p) (infinite_options m e)
-  own_options_say m told = by (owes_mapping e)
-    where
-      by : (b : Bool) → Every (OptionShows c s (window_told false e.receiving.window) acks p) (Dss (Some e.receiving.next) (if b then Some (Infinite m.place m.position) else None) ∷ [])
-      by true = every_one _ (w.ack, told)
-      by false = every_one _ (w.ack, tt)
+  own_options_say m told =
+      if_so (λ z. Every (OptionShows c s (window_told false e.receiving.window) acks p) (Dss (Some e.receiving.next) z ∷ [])) (owes_mapping e) (Some (Infinite m.place m.position)) None
+      (every_one _ (w.ack, told)) (every_one _ (w.ack, tt))
 
   fin_options_say : (position : ℕ) → TellsPlain e p position → Every (OptionShows c s (window_told false e.receiving.window) acks p) (fin_options position e)
   fin_options_say position plain = by e.modes.identity refl e.modes.own_infinite f.own
@@ -104,18 +98,14 @@ module _ (c : Profile) (s : Side) (e : PathEnd) (acks : List AckCopy) (p : Lane)
 
   capable_say : (window : ℕ) (s : Side) → Every (OptionShows c s window acks p) (capable_options c s e)
   capable_say window A = every_one _ tt
-  capable_say window B = by (e.modes.capable_asked && not e.modes.identity)
-    where
-      by : (b : Bool) → Every (OptionShows c B window acks p) (if b then Capable c.spelling.checksums false (Sender e.modes.own_key) ∷ [] else [])
-      by true = every_one _ tt
-      by false = Every-nil _
+  capable_say window B =
+      if_so (Every (OptionShows c B window acks p)) (e.modes.capable_asked && not e.modes.identity) (Capable c.spelling.checksums false (Sender e.modes.own_key) ∷ []) []
+      (every_one _ tt) (Every-nil _)
 
   syn_options_say : (window : ℕ) (s : Side) → Every (OptionShows c s window acks p) (syn_options c s e)
-  syn_options_say window s = by (is_joined c)
-    where
-      by : (b : Bool) → Every (OptionShows c s window acks p) (if b then join_options c s e.modes else capable_options c s e)
-      by true = joins_say window s
-      by false = capable_say window s
+  syn_options_say window s =
+      if_so (Every (OptionShows c s window acks p)) (is_joined c) (join_options c s e.modes) (capable_options c s e)
+      (joins_say window s) (capable_say window s)
 
   reset_options_say : (window : ℕ) (reason : Option ℕ) → Every (OptionShows c s window acks p) (reset_options reason)
   reset_options_say window None = Every-nil _

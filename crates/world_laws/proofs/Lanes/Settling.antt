@@ -2,8 +2,8 @@
 use Rattle.world_laws.proofs.Words.{◌≡◌, refl, ℕ, Bool, true, false, if◌then◌else◌, Option, Some, None, List, [], ◌∷◌, IfSome, Side, A, B, Duty, SendDuty}
 use Rattle.world_laws.proofs.Words.{StepDuty, AskDuty, SilentDuty, Heard, SixBooks, pick, stands, passed, PathEnd, PathState, end_at, with_end, with_agenda}
 use Rattle.world_laws.proofs.Words.{settled, Carried, after_timer, mapping_here, after_keep, after_pieces, after_check, after_pass_fin, with_learned}
-use Rattle.world_laws.proofs.Words.{with_data_fin, counts, with_skipped, with_data_ack, after_dss, item_of, item_passed, heard_passed, with_plain_ack, Profile}
-use Rattle.world_laws.proofs.Words.{item_at, Holds, Lane}
+use Rattle.world_laws.proofs.Words.{with_data_fin, with_skipped, counts, after_dss, with_data_ack, item_of, item_passed, heard_passed, with_plain_ack, Profile}
+use Rattle.world_laws.proofs.Words.{item_at, Holds, Lane, if_so}
 use Rattle.world_laws.proofs.Lanes.Ending.{Did, did_nothing}
 use Rattle.world_laws.proofs.Lanes.OfAWorld.{Others, duo_at}
 use Rattle.world_laws.proofs.Lanes.Placing.{learned_end, skipped_shows, passed_fin}
@@ -71,16 +71,12 @@ module _ (six : SixBooks) (others : Others) (c : Profile) where
         pairs = shows.pairs;
         held = shows.held;
       })
-      item_did (Heard.Mapping fin) has = by (counts e)
-        where
-          by : (b : Bool) → Did c s (if b then with_learned e else with_skipped e) out out back back
-          by true = learned_end c s out back e (agrees six others s ab ba holds) shows
-          by false = did_nothing c s out back (with_skipped e) (skipped_shows c s out back e shows)
-      item_did (Heard.DataFin place) has = by (counts e)
-        where
-          by : (b : Bool) → Did c s (if b then with_data_fin place e else e) out out back back
-          by true = did_nothing c s out back (with_data_fin place e) (fin_shows c s place e out back has shows)
-          by false = did_nothing c s out back e shows
+      item_did (Heard.Mapping fin) has =
+          if_so (λ z. Did c s z out out back back) (counts e) (with_learned e) (with_skipped e)
+          (learned_end c s out back e (agrees six others s ab ba holds) shows) (did_nothing c s out back (with_skipped e) (skipped_shows c s out back e shows))
+      item_did (Heard.DataFin place) has =
+          if_so (λ z. Did c s z out out back back) (counts e) (with_data_fin place e) e
+          (did_nothing c s out back (with_data_fin place e) (fin_shows c s place e out back has shows)) (did_nothing c s out back e shows)
       item_did (Heard.InfiniteMapping place position) has = did_nothing c s out back e shows
       item_did _ has = did_nothing c s out back e shows
 

@@ -7,7 +7,7 @@ use Rattle.world_laws.proofs.Words.{meant_option, meant_mapping, PathMapping, By
 use Rattle.world_laws.proofs.Words.{items_in, items_of, owes_by, after_judged, asked_in, copy_of, judged_in, owing_if, with_payload, reset_by}
 use Rattle.world_laws.proofs.Words.{position_numbered, is_listening, joined_by, syn_alone, is_joined, join_answer, join_items, with_keys, ack_items, is_mapping}
 use Rattle.world_laws.proofs.Words.{mapping_items, map_items, first_items, HeardOption, key_items, item_removed, Profile, answered_in, cleared_in, taken_as}
-use Rattle.world_laws.proofs.Words.{with_answer, Modes, Every-nil, Every-append, Every}
+use Rattle.world_laws.proofs.Words.{with_answer, Modes, Every-nil, Every-append, Every, if_so}
 use Rattle.std.proofs.Common.{flat_map}
 use Rattle.std.specs.Option.{unwrap_or}
 use Rattle.mptcp_options.specs.Capable.{KeysFit}
@@ -76,11 +76,7 @@ removed_tell (id ∷ ids) = every_cons (item_removed id) _ tt (removed_tell ids)
 
 module _ (c : Profile) (from : Side) (joined : Bool) (s : Side) (window : ℕ) where
   option_tells : (o : PlainOption) → OptionTells c from o → Tell (items_in joined s window (meant_option o))
-  option_tells (Capable flag_a flag_c keys) h = by joined
-    where
-      by : (b : Bool) → Tell (if b then [] else key_items s keys)
-      by true = Every-nil ItemTells
-      by false = keys_tell s keys h.fits
+  option_tells (Capable flag_a flag_c keys) h = if_so Tell joined [] (key_items s keys) (Every-nil ItemTells) (keys_tell s keys h.fits)
   option_tells (Dss next mapping) h = every_cons Heard.Dss _ tt (Every-append (acks_tell next window h.short.0) (map_tells mapping h.short.1))
   option_tells (Join form) h = joins_tell s form h.fits
   option_tells (AddAddr true id address port hmac) h = one (Heard.Notice (PeerNotice.AddEcho id)) tt
@@ -117,11 +113,9 @@ module _ (c : Profile) (s : Side) where
   Flows tcp = Subflow c s tcp
 
   held_flows : (m : Meaning) (octets : List ℕ) (tcp : EndState) → Flows tcp → Flows (with_payload m octets tcp)
-  held_flows (Meaning.Taken pos acknowledged) octets tcp h = by (is_nil octets)
-    where
-      by : (b : Bool) → Flows (if b then tcp else taking.after_holding pos octets tcp)
-      by true = h
-      by false = record { sender = h.sender; edge = h.edge }
+  held_flows (Meaning.Taken pos acknowledged) octets tcp h =
+      if_so Flows (is_nil octets) tcp (taking.after_holding pos octets tcp)
+      h (record { sender = h.sender; edge = h.edge })
   held_flows Meaning.Ignored octets tcp h = h
   held_flows _ octets tcp h = h
 
@@ -140,11 +134,9 @@ module _ (c : Profile) (s : Side) where
       by _ = record { sender = acknowledged_tells c s tcp.send h.sender pos; edge = h.edge }
 
   row_flows : (kind : AckKind) (told : Told) (copy : Copy) (tcp : EndState) → Flows tcp → Flows (taking.after_row kind told copy tcp)
-  row_flows kind told copy tcp h = by (taking.is_duplicate kind told copy tcp)
-    where
-      by : (b : Bool) → Flows (if b then taking.after_duplicate tcp else taking.after_interruption tcp)
-      by true = record { sender = h.sender; edge = h.edge }
-      by false = record { sender = h.sender; edge = h.edge }
+  row_flows kind told copy tcp h =
+      if_so Flows (taking.is_duplicate kind told copy tcp) (taking.after_duplicate tcp) (taking.after_interruption tcp)
+      (record { sender = h.sender; edge = h.edge }) (record { sender = h.sender; edge = h.edge })
 
   arrived_flows : (m : Meaning) (hint : Hint) (now : ℕ) (copy : Copy) (tcp : EndState) → hint.keep ≡ false → Flows tcp → Flows (taking.after_arrival m hint now copy tcp)
   arrived_flows (Meaning.Taken pos acknowledged) hint now copy tcp keep h =

@@ -24,7 +24,7 @@ use Rattle.world_laws.proofs.Words.{after_fail_heard, answered_fell, with_infini
 use Rattle.world_laws.proofs.Words.{peer_key_ask, opened_ask, answered_peer_key, answered_opened, with_peer_key, syn_ack_of, is_stopped_by, answered_fast_close}
 use Rattle.world_laws.proofs.Words.{fast_heard_ask, having_fast_closed, having_noted, after_peer_notice, notice_ask, answered_note, receives_plainly, ack_said}
 use Rattle.world_laws.proofs.Words.{carried_said, syn_ack_said, record_or_ack, Profile, sends, having_sent, sent_on, with_told, rate_ask, after_rate, Every}
-use Rattle.world_laws.proofs.Words.{Holds, IsEndless, LaneHolds, Lane, View, view_of, AskPlace, LaneIsShort}
+use Rattle.world_laws.proofs.Words.{Holds, IsEndless, LaneHolds, Lane, View, view_of, AskPlace, LaneIsShort, if_so}
 use Rattle.send_book.specs.declared.call.SendCall.TheVariants.{Grant, GoInfinite}
 use Rattle.send_book.specs.Steps.{end_of, part_of}
 use Rattle.fallback_state.specs.declared.fall.Event.{Event}
@@ -86,11 +86,7 @@ granted_within path most standby b span piece some whole is = by (decision path 
 
 -- where no more is written, the end is the number of octets
 end_short : (b : SendBook) → IsShort (length b.written) → IfSome (end_of b) IsShort
-end_short b short = by (b.closed && not b.aborted)
-  where
-    by : (c : Bool) → IfSome (if c then Some (length b.written) else None) IsShort
-    by true = short
-    by false = tt
+end_short b short = if_so (λ z. IfSome z IsShort) (b.closed && not b.aborted) (Some (length b.written)) None short tt
 
 -- a grant writes nothing
 given_written : (path : ℕ) (d : Result Span Why) (b : SendBook) → (given_by path d b).written ≡ b.written
@@ -321,11 +317,9 @@ module _ (six : SixBooks) (others : Others) (p : PathState Carried) (ab ba : Lan
         first_note (notice ∷ queue) each = every_first notice queue each
 
     answer_told : SegmentTells p.profile s (answer_of s p)
-    answer_told = by e.tcp.due.syn_ack
-      where
-        by : (b : Bool) → SegmentTells p.profile s (if b then syn_ack_said p.profile s e else ack_said p.profile s e.tcp.send.nxt None e)
-        by true = syn_ack_tells p.profile s path wide e tells
-        by false = ack_tells e.tcp.send.nxt None tells.sender.next tt
+    answer_told =
+        if_so (SegmentTells p.profile s) e.tcp.due.syn_ack (syn_ack_said p.profile s e) (ack_said p.profile s e.tcp.send.nxt None e)
+        (syn_ack_tells p.profile s path wide e tells) (ack_tells e.tcp.send.nxt None tells.sender.next tt)
 
     resend_told : SegmentTells p.profile s (resend_of s p)
     resend_told = by (has_records e.tcp) e.modes.owes_third e.notices.fast_closed (is_data_fin_owed e)

@@ -11,11 +11,11 @@ use Rattle.world_laws.proofs.Words.{join_in, join_heard, PeerNotice, JoinStep, R
 use Rattle.world_laws.proofs.Words.{may_note, modes_told, notices_told, after_ack_out, died_unless_dead, granted, refused, opened_by, with_mode_refused}
 use Rattle.world_laws.proofs.Words.{join_answer, join_asked, peer_key_of, join_value, with_keys, after_timer, after_firing, having_asked, after_piece, is_wrong}
 use Rattle.world_laws.proofs.Words.{failing_by, mapping_here, forgotten_by, after_keep, after_pieces, is_dropped, with_peer_data_fin, with_fin_told}
-use Rattle.world_laws.proofs.Words.{after_pass_fin, acked_in, with_data_fin_sent, with_learned, with_data_fin, with_skipped, with_acked, with_data_ack}
-use Rattle.world_laws.proofs.Words.{after_dss, covered_by, after_check_failed, after_fell, with_plain_ack, plainly_acked, after_fail_heard, with_infinite}
+use Rattle.world_laws.proofs.Words.{after_pass_fin, acked_in, with_data_fin_sent, with_learned, with_data_fin, with_skipped, with_acked, after_dss}
+use Rattle.world_laws.proofs.Words.{with_data_ack, covered_by, after_check_failed, after_fell, with_plain_ack, plainly_acked, after_fail_heard, with_infinite}
 use Rattle.world_laws.proofs.Words.{fell_in, in_identity, mode_in, after_keys, with_peer_key, keys_in, with_fast_closed, with_priority, after_peer_notice}
 use Rattle.world_laws.proofs.Words.{with_echo, is_kept, with_noted, bare_mapping, Profile, having_sent, with_told, after_rate, Modes, told_last, Treated}
-use Rattle.world_laws.proofs.Words.{nothing_treated, Every-push, Every-nil, Every}
+use Rattle.world_laws.proofs.Words.{nothing_treated, Every-push, Every-nil, Every, if_so}
 use Rattle.fallback_state.specs.declared.fall.Event.{Event}
 use Rattle.subflow_tcp.specs.Expiring as expiring
 use Rattle.subflow_tcp.specs.States as states
@@ -54,11 +54,7 @@ module _ (c : Profile) (s : Side) (v : SendState) (h : SenderTells c s v) where
   expired_tells = with_records _ (expired_kept _ (same_record c s) v.records h.records)
 
   syn_resent_tells : (now : ℕ) → SenderTells c s (syn_resent now v)
-  syn_resent_tells now = by (v.una == 0)
-    where
-      by : (b : Bool) → SenderTells c s (if b then after_resent now v else v)
-      by true = resent_tells now
-      by false = h
+  syn_resent_tells now = if_so (SenderTells c s) (v.una == 0) (after_resent now v) v (resent_tells now) h
 
   pub acknowledged_tells : (pos : ℕ) → SenderTells c s (after_acknowledge pos v)
   acknowledged_tells pos = by (nat_lt v.una pos && nat_le pos v.nxt) refl
@@ -117,11 +113,7 @@ heard_keys (item ∷ items) h = first_pair (pair_in item) (keys_heard items) (pa
 -- ---- joins that were heard
 
 form_of : (step : JoinStep) (item : Heard) → ItemTells item → IfSome (join_in step item) FormFits
-form_of step (Heard.Join form) h = by (is_of_step step form)
-  where
-    by : (b : Bool) → IfSome (if b then Some form else None) FormFits
-    by true = h
-    by false = tt
+form_of step (Heard.Join form) h = if_so (λ z. IfSome z FormFits) (is_of_step step form) (Some form) None h tt
 form_of step _ h = tt
 
 first_form : (o other : Option JoinForm) → IfSome o FormFits → IfSome other FormFits → IfSome (option_or o other) FormFits
@@ -193,11 +185,9 @@ module _ (c : Profile) (s : Side) (e : PathEnd) (h : EndTells c s e) where
       by false = told
 
   notices_noted : (r : Reply) → NoticeTells r → NoticesTell (notices_told r e)
-  notices_noted (Reply.Control (ControlReply.Standing mode standby sole notice)) told = by (states.is_dead e.tcp.state)
-    where
-      by : (dead : Bool) → NoticesTell (if dead then e.notices else after_notice notice (may_note e) e.notices)
-      by true = h.notices
-      by false = notice_noted notice (may_note e) mode standby sole told
+  notices_noted (Reply.Control (ControlReply.Standing mode standby sole notice)) told =
+      if_so NoticesTell (states.is_dead e.tcp.state) e.notices (after_notice notice (may_note e) e.notices)
+      h.notices (notice_noted notice (may_note e) mode standby sole told)
   notices_noted (Reply.Control ControlReply.Noted) told = h.notices
   notices_noted _ told = h.notices
 
@@ -538,11 +528,7 @@ module _ (c : Profile) (s : Side) (e : PathEnd) (h : EndTells c s e) where
       record { sender = told.sender; edge = told.edge; stream = told.stream; window = told.window; modes = told.modes; treated = told.treated; notices = record { carrier = tt; queue = Every-nil _ } }
 
   pub died_unless_tells : EndTells c s (died_unless_dead e)
-  died_unless_tells = by (states.is_dead e.tcp.state)
-    where
-      by : (b : Bool) → EndTells c s (if b then e else died e)
-      by true = h
-      by false = died_tells
+  died_unless_tells = if_so (EndTells c s) (states.is_dead e.tcp.state) e (died e) h died_tells
 
   pub fired_tells : (now : ℕ) → EndTells c s (after_firing now e)
   fired_tells now = by (expiring.is_sixth e.tcp)

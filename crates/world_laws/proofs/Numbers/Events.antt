@@ -5,7 +5,7 @@ use Rattle.world_laws.proofs.Words.{Due, Flight, PlainSegment, meant, LineAction
 use Rattle.world_laws.proofs.Words.{Duty, AskDuty, Reply, tail_of, PathEnd, died, at_tick, PathState, end_at, goes_on, Carried, as_arrived, values, items_of}
 use Rattle.world_laws.proofs.Words.{after_judged, judged_in, template_by, template_judged, template_of, heard_in, copy_heard, told_at, copy_taken, Judged}
 use Rattle.world_laws.proofs.Words.{after_line, happens, happens_if, join_begun, never_joined, is_never, keys_begun, opened_by, is_joined, template_fired}
-use Rattle.world_laws.proofs.Words.{after_firing, timer_fired, with_priority, Profile, Every-nil}
+use Rattle.world_laws.proofs.Words.{after_firing, timer_fired, with_priority, Profile, Every-nil, if_so}
 use Rattle.path_core.specs.declared.events.Event.{Event}
 use Rattle.world_laws.proofs.Lanes.Happening.{without_kept, found_due, side_is}
 use Rattle.world_laws.proofs.Lanes.Records.{every_find}
@@ -102,11 +102,9 @@ module _ (p : PathState Carried) (h : PathTells p.profile p) where
 
   -- or where they were taken away
   arrived : (due : Due) (carried : Carried) → SegmentTells p.profile (peer due.to) carried.segment → SegmentTells p.profile (peer due.to) (as_arrived carried)
-  arrived due carried tells = by carried.stripped
-    where
-      by : (b : Bool) → SegmentTells p.profile (peer due.to) (record carried.segment { options = (if b then [] else carried.segment.options) })
-      by true = bare_tells p.profile (peer due.to) carried.segment tells
-      by false = tells
+  arrived due carried tells =
+      if_so (λ z. SegmentTells p.profile (peer due.to) (record carried.segment { options = z })) carried.stripped [] carried.segment.options
+      (bare_tells p.profile (peer due.to) carried.segment tells) tells
 
   copy_tells : (due : Due) → Tells (copy_taken values due p)
   copy_tells due = by (arriving due p.link) (due_tells p.profile p h due)

@@ -4,7 +4,7 @@ use Rattle.world_laws.proofs.Words.{IfSome, lowest, token_of, Side, A, B, JoinSy
 use Rattle.world_laws.proofs.Words.{peer_or_zero, carries, address_notice, look_reply, ReassemblyCall, Duty, StepDuty, AskDuty, Heard, KeyPair, key_heard}
 use Rattle.world_laws.proofs.Words.{keys_heard, PeerNotice, Ask, Reply, SixBooks, control_of, reply_of, after_ask, ask_for, look_ask, PathState, end_at}
 use Rattle.world_laws.proofs.Words.{path_of, Carried, values, reset_of, break_ask, step_for, keys_begun, join_heard_ask, join_begin_ask, is_clash, mapping_ask}
-use Rattle.world_laws.proofs.Words.{item_ask, item_of, fell_ask, peer_key_ask, opened_ask, Profile, sends, Every, May, may, asking, may_tell}
+use Rattle.world_laws.proofs.Words.{item_ask, item_of, fell_ask, peer_key_ask, opened_ask, Profile, sends, Every, if_so, May, may, asking, may_tell}
 use Rattle.fallback_state.specs.declared.fall.Event.TheVariants as events
 use Rattle.control_book.specs.Replies as control
 use Rattle.control_book.specs.Steps as controlling
@@ -153,18 +153,10 @@ module _ (c : Profile) (p : PathState Carried) (h : PathTells c p) where
   opened_tells s (Some keys) is = is
 
   break_tells : (s : Side) (reason : ℕ) → AskTells (break_ask values s reason p)
-  break_tells s reason = by (end_at s p).treated.asked
-    where
-      by : (b : Bool) → AskTells (if b then Ask.Reassembly s ReassemblyCall.AckOut else sends values s (reset_of s (Some reason) p) p)
-      by true = tt
-      by false = tt
+  break_tells s reason = if_so AskTells (end_at s p).treated.asked (Ask.Reassembly s ReassemblyCall.AckOut) (sends values s (reset_of s (Some reason) p) p) tt tt
 
   mapping_tells : (s : Side) → AskTells (mapping_ask values s p)
-  mapping_tells s = by (is_clash (end_at s p))
-    where
-      by : (b : Bool) → AskTells (if b then break_ask values s 1 p else fell_ask s events.MappingHeard p)
-      by true = break_tells s 1
-      by false = tt
+  mapping_tells s = if_so AskTells (is_clash (end_at s p)) (break_ask values s 1 p) (fell_ask s events.MappingHeard p) (break_tells s 1) tt
 
   item_tells : (s : Side) (o : Option Heard) → IfSome o ItemTells → AskTells (item_ask values s o p)
   item_tells s (Some (Heard.Mapping fin)) said = mapping_tells s

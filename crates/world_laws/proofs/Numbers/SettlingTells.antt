@@ -2,8 +2,8 @@
 use Rattle.world_laws.proofs.Words.{◌≡◌, refl, ℕ, ◌+◌, ◌≤◌, Bool, true, false, if◌then◌else◌, Option, Some, None, List, [], ◌∷◌, length, arith, ◌^◌, eqb-true}
 use Rattle.world_laws.proofs.Words.{and_parts, false≢true, list_all, IfSome, Side, peer, is_at, Duty, SendDuty, StepDuty, AskDuty, SilentDuty, Heard, SixBooks}
 use Rattle.world_laws.proofs.Words.{send_of, pick, stands, passed, PathEnd, PathState, end_at, with_end, with_agenda, settled, Carried, after_timer}
-use Rattle.world_laws.proofs.Words.{mapping_here, after_keep, after_pieces, after_check, after_pass_fin}
-use Rattle.world_laws.proofs.Words.{item_of, item_passed, with_plain_ack, Profile, Holds, Lane, LaneIsShort}
+use Rattle.world_laws.proofs.Words.{mapping_here, after_keep, after_pieces, after_check, after_pass_fin, item_of, item_passed, with_plain_ack, Profile, Holds}
+use Rattle.world_laws.proofs.Words.{Lane, LaneIsShort}
 use Rattle.world_laws.proofs.Writes.Ends.{item_so}
 use Rattle.world_laws.proofs.Lanes.OfAWorld.{Others, duo_at}
 use Rattle.world_laws.proofs.Lanes.Settling.{passes}

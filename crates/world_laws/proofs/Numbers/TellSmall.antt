@@ -12,7 +12,7 @@ use Rattle.world_laws.proofs.Words.{bare_mapping, checksum_in, place_numbered, c
 use Rattle.world_laws.proofs.Words.{is_first_piece, first_piece_options, piece_options, fin_options, fail_options, fail_beside, infinite_options, infinite_or}
 use Rattle.world_laws.proofs.Words.{mapped_options, is_syn_unsent, own_reset, capable_options, syn_options, key_options, opening_options, ack_options}
 use Rattle.world_laws.proofs.Words.{record_options, reset_options, segment_of, ack_said, carried_said, record_said, syn_ack_said, fin_said, reset_said}
-use Rattle.world_laws.proofs.Words.{record_or_ack, broken_options, noted_said, notice_option, HasAddress, Profile, IsFarReset, Modes, Treated, Every}
+use Rattle.world_laws.proofs.Words.{record_or_ack, broken_options, noted_said, notice_option, HasAddress, Profile, IsFarReset, Modes, Treated, Every, if_so}
 use Rattle.std.proofs.lemmas.Int.{ints}
 use Rattle.std.specs.Option.{IsSome}
 use Rattle.seq_units.specs.declared.mapping.Mapping.{Mapping}
@@ -300,11 +300,9 @@ expected_shortly c s e h =
 -- ---- what an end says
 
 data_fits : (spelling : Spelling) (side : Side) (place : ℕ) → DataNumberFits (data_number spelling side place)
-data_fits spelling side place = by spelling.short
-  where
-    by : (short : Bool) → DataNumberFits (if short then Low (whole_number spelling side place % 2 ^ 32) else Whole (whole_number spelling side place))
-    by true = omega arith
-    by false = omega arith
+data_fits spelling side place =
+    if_so DataNumberFits spelling.short (Low (whole_number spelling side place % 2 ^ 32)) (Whole (whole_number spelling side place))
+    (omega arith) (omega arith)
 
 pub sum_small : (c : Profile) (mapping : Mapping) (octets : List ℕ) → checksum_in c mapping octets < 2 ^ 16
 sum_small c mapping octets = by c.spelling.checksums refl
@@ -314,11 +312,7 @@ sum_small c mapping octets = by c.spelling.checksums refl
     by false is = rw is (omega arith)
 
 told_below : (c : Profile) (n : ℕ) → n < 2 ^ 16 → IsBelow (2 ^ 16) (checksum_told c n)
-told_below c n low = by c.spelling.checksums
-  where
-    by : (b : Bool) → IsBelow (2 ^ 16) (if b then Some n else None)
-    by true = low
-    by false = tt
+told_below c n low = if_so (IsBelow (2 ^ 16)) c.spelling.checksums (Some n) None low tt
 
 capable_length : (flag_a flag_c : Bool) (keys : CapableKeys) → length (option_text (wire.Capable flag_a flag_c keys)) ≤ 28
 unfolding option_text
@@ -466,11 +460,9 @@ module _ (c : Profile) (s : Side) (path : c.spelling.path ≤ 15) (mss : c.mss <
 
   capable_tells : (t : Side) → One (capable_options c t e)
   capable_tells A = record { can = record { form = tt }; few = capable_length c.spelling.checksums false NoKey; tells = record { fits = tt; short = tt } }
-  capable_tells B = by (e.modes.capable_asked && not e.modes.identity)
-    where
-      by : (b : Bool) → One (if b then Capable c.spelling.checksums false (Sender e.modes.own_key) ∷ [] else [])
-      by true = record { can = record { form = tt }; few = capable_length c.spelling.checksums false (Sender e.modes.own_key); tells = record { fits = h.modes.own_key; short = tt } }
-      by false = tt
+  capable_tells B =
+      if_so One (e.modes.capable_asked && not e.modes.identity) (Capable c.spelling.checksums false (Sender e.modes.own_key) ∷ []) []
+      (record { can = record { form = tt }; few = capable_length c.spelling.checksums false (Sender e.modes.own_key); tells = record { fits = h.modes.own_key; short = tt } }) tt
 
   -- the address id is the path's number
   id_fits : c.spelling.path < 256
@@ -501,11 +493,7 @@ module _ (c : Profile) (s : Side) (path : c.spelling.path ≤ 15) (mss : c.mss <
       }
 
   syn_tells : (t : Side) → One (syn_options c t e)
-  syn_tells t = by (is_joined c)
-    where
-      by : (b : Bool) → One (if b then join_options c t e.modes else capable_options c t e)
-      by true = join_tells t
-      by false = capable_tells t
+  syn_tells t = if_so One (is_joined c) (join_options c t e.modes) (capable_options c t e) (join_tells t) (capable_tells t)
 
   key_tells : (t : Side) (o : Option ℕ) → IfSome o IsKey → One (key_options c t o e)
   key_tells A None k = tt
@@ -517,11 +505,7 @@ module _ (c : Profile) (s : Side) (path : c.spelling.path ≤ 15) (mss : c.mss <
   key_tells B o k = tt
 
   opening_tells : One (opening_options c s e)
-  opening_tells = by e.modes.owes_third
-    where
-      by : (b : Bool) → One (if b then third_options e.modes else key_options c s e.modes.peer_key e)
-      by true = third_tells
-      by false = key_tells s e.modes.peer_key h.modes.peer_key
+  opening_tells = if_so One e.modes.owes_third (third_options e.modes) (key_options c s e.modes.peer_key e) third_tells (key_tells s e.modes.peer_key h.modes.peer_key)
 
   end_tells : (o : Option ℕ) → IfSome o IsShort → Says c s (Dss (Some e.receiving.next) (data_fin_mapping c s o))
   end_tells None n = record {
@@ -612,11 +596,9 @@ module _ (c : Profile) (s : Side) (path : c.spelling.path ≤ 15) (mss : c.mss <
   infinite_or_tells (Some mapping) own os one = infinite_tells mapping own
 
   fin_tells : IfSome e.modes.own_infinite PairTells → (position : ℕ) → IsShort position → One (fin_options position e)
-  fin_tells own position at = by e.modes.identity
-    where
-      by : (b : Bool) → One (if b then plain_options position e else infinite_or e.modes.own_infinite (Dss (Some e.receiving.next) None ∷ []) e)
-      by true = plain_tells position at
-      by false = infinite_or_tells e.modes.own_infinite own (Dss (Some e.receiving.next) None ∷ []) (end_tells None tt)
+  fin_tells own position at =
+      if_so One e.modes.identity (plain_options position e) (infinite_or e.modes.own_infinite (Dss (Some e.receiving.next) None ∷ []) e)
+      (plain_tells position at) (infinite_or_tells e.modes.own_infinite own (Dss (Some e.receiving.next) None ∷ []) (end_tells None tt))
 
   bytes_of : (position len : ℕ) → 1 ≤ len → IsBytes position len false
   bytes_of position len some = record { some = ne_eqb len 0 (λ is. absurd (omega (arith, some, is))); no_end = refl }
@@ -647,11 +629,9 @@ module _ (c : Profile) (s : Side) (path : c.spelling.path ≤ 15) (mss : c.mss <
       }
 
   piece_tells : IfSome e.modes.own_infinite PairTells → (r : Record) → IsShort r.pos → RecordKindTells c s Data r → One (piece_options c s r e)
-  piece_tells own r at m = by e.modes.identity
-    where
-      by : (identity : Bool) → One (if identity then plain_options r.pos e else infinite_or e.modes.own_infinite (mapped_options c s r e) e)
-      by true = plain_tells r.pos at
-      by false = infinite_or_tells e.modes.own_infinite own (mapped_options c s r e) (mapped_tells r at m)
+  piece_tells own r at m =
+      if_so One e.modes.identity (plain_options r.pos e) (infinite_or e.modes.own_infinite (mapped_options c s r e) e)
+      (plain_tells r.pos at) (infinite_or_tells e.modes.own_infinite own (mapped_options c s r e) (mapped_tells r at m))
 
   record_options_tell : IfSome e.modes.own_infinite PairTells → (kind : RecordKind) (r : Record) → IsShort r.pos → RecordKindTells c s kind r → One (record_options kind c s r e)
   record_options_tell own Syn r at m = syn_tells s

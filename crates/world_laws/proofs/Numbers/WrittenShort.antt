@@ -3,6 +3,7 @@ use Rattle.world_laws.proofs.Words.{sym, subst, ◌-◌, ◌≤◌, ◌||◌, Bo
 use Rattle.world_laws.proofs.Words.{take, map, arith, ◌^◌, length-append, length-take, slice_get, Side, A, B, Span, Why, SendCall, Sending, bytes_taken}
 use Rattle.world_laws.proofs.Words.{decision, given_by, is_future, is_gathered, AckIn, Ask, books_in, SixBooks, send_of, after_ask, Codec, ActorCrew}
 use Rattle.world_laws.proofs.Words.{member_asks, Start, opened_world, WorldState, Turn, asked, stepped, all_over, greatest, begins, after_turn, world_run}
+use Rattle.world_laws.proofs.Words.{if_so}
 use Rattle.send_book.specs.declared.call.SendCall.TheVariants.{Write, Close, Grant, GoInfinite}
 use Rattle.send_book.specs.Steps.{after_call}
 use Rattle.world_laws.proofs.Weaving.Journals.{books_after}
@@ -58,11 +59,7 @@ module _ {C : Type 0} (k : Codec C) where
       by : (o : Option (ActorCrew C)) → WorldIsBounded (stepped k actor o w)
       by None = h
       by (Some c) = asks c (member_asks k c.member)
-  turn_bounded Turn.Round w h = by (all_over w.crew)
-    where
-      by : (b : Bool) → WorldIsBounded (if b then record w { crew = map (begins (greatest 0 w.crew)) w.crew } else w)
-      by true = h
-      by false = h
+  turn_bounded Turn.Round w h = if_so WorldIsBounded (all_over w.crew) (record w { crew = map (begins (greatest 0 w.crew)) w.crew }) w h h
 
   run_bounded : (turns : List Turn) (w : WorldState C) → WorldIsBounded w → WorldIsBounded (world_run k turns w)
   run_bounded [] w h = h

@@ -1,9 +1,9 @@
 -- A byte is granted to a path once at most: what the actors noted of grants stands in the journals of the send books.
-use Rattle.world_laws.proofs.Words.{◌≡◌, refl, sym, ◌∙◌, ap, ℕ, zero, suc, ◌+◌, ◌&&◌, Bool, true, false, if◌then◌else◌, Option, Some, None, List, [], ◌∷◌, ◌++◌}
-use Rattle.world_laws.proofs.Words.{map, arith, set, get_or, map-append, same_Some, slice_get_within, count_by, slice_get, sum_by-set, sum_by_push, Entry, Pass}
-use Rattle.world_laws.proofs.Words.{entry_of, after_entering, book_of, replay, Side, A, B, SendCall, Sending, SendReply, Ask, Note, StampedBooks, after_entry}
+use Rattle.world_laws.proofs.Words.{◌≡◌, refl, sym, ◌∙◌, ap, ℕ, zero, suc, ◌+◌, ◌&&◌, Bool, if◌then◌else◌, Option, Some, None, List, [], ◌∷◌, ◌++◌, map, arith}
+use Rattle.world_laws.proofs.Words.{set, get_or, map-append, same_Some, slice_get_within, count_by, slice_get, sum_by-set, sum_by_push, Entry, Pass, entry_of}
+use Rattle.world_laws.proofs.Words.{after_entering, book_of, replay, Side, A, B, SendCall, Sending, SendReply, Ask, Note, StampedBooks, after_entry}
 use Rattle.world_laws.proofs.Words.{SendJournal, pick, Codec, ActorCrew, member_asks, Always, PathPlan, Start, paths_from, opened_world, WorldState, Turn}
-use Rattle.world_laws.proofs.Words.{crew_after, asked, stepped, all_over, greatest, begins, after_turn, world_run, note_of}
+use Rattle.world_laws.proofs.Words.{crew_after, asked, stepped, all_over, greatest, begins, after_turn, world_run, note_of, if_so}
 use Rattle.std.proofs.Common.{fold}
 use Rattle.send_book.specs.Steps.{reply_to, after_call}
 use Rattle.send_book.specs.Laws.{after_calls, is_asked_by, covers, times_granted as times_called}
@@ -109,11 +109,9 @@ module _ (path place : ℕ) where
         by : (o : Option (ActorCrew C)) → slice_get w.crew actor ≡ o → Counted (stepped k actor o w)
         by None there = h
         by (Some c) there = asked_counted actor (member_asks k c.member) c w there h
-    turn_counted Turn.Round w h = by (all_over w.crew)
-      where
-        by : (b : Bool) → Counted (if b then record w { crew = map (begins (greatest 0 w.crew)) w.crew } else w)
-        by true = record { same = same_sum (greatest 0 w.crew) w.crew ∙ h.same }
-        by false = h
+    turn_counted Turn.Round w h =
+        if_so Counted (all_over w.crew) (record w { crew = map (begins (greatest 0 w.crew)) w.crew }) w
+        (record { same = same_sum (greatest 0 w.crew) w.crew ∙ h.same }) h
 
     run_counted : (turns : List Turn) (w : WorldState C) → Counted w → Counted (world_run k turns w)
     run_counted [] w h = h

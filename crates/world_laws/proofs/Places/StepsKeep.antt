@@ -8,8 +8,8 @@ use Rattle.world_laws.proofs.Words.{leaves, resets, Duty, SendDuty, StepDuty, As
 use Rattle.world_laws.proofs.Words.{died, answered_ack_out, window_in, at_tick, PathState, end_at, goes_on, with_end, with_agenda, takes, begins_turn, Carried}
 use Rattle.world_laws.proofs.Words.{values, heard_in, copy_heard, told_at, reset_of, reset_on, answered_break, died_unless_dead, next_event, after_line}
 use Rattle.world_laws.proofs.Words.{happens_if, join_begun, never_joined, is_never, keys_begun, opened_by, piece_of, is_placed, answered_piece, is_clash}
-use Rattle.world_laws.proofs.Words.{with_learned, held_of, answered_heard, answered_item, item_of, item_passed, after_fell}
-use Rattle.world_laws.proofs.Words.{fell_duties, sent_on, Every-nil, Every, Writes, OnlyAt, EndView, writes, side_of}
+use Rattle.world_laws.proofs.Words.{with_learned, held_of, answered_heard, answered_item, item_of, item_passed, after_fell, fell_duties, sent_on, Every-nil}
+use Rattle.world_laws.proofs.Words.{Every, if_so, Writes, OnlyAt, EndView, writes, side_of}
 use Rattle.dss_mapping.specs.declared.learn.Learn.{Learn}
 use Rattle.dss_mapping.specs.declared.learn.Learn.TheVariants.{New, Same, Clash}
 use Rattle.dss_mapping.specs.declared.run.Run.{Run}
@@ -150,11 +150,7 @@ module _ (R : Side → ℕ → ℕ → Type 0) where
   -- ---- events
 
   unless_dead : (s : Side) (e : PathEnd) → EndKnows s e → EndKnows s (died_unless_dead e)
-  unless_dead s e h = by (is_dead e.tcp.state)
-    where
-      by : (b : Bool) → EndKnows s (if b then e else died e)
-      by true = h
-      by false = h
+  unless_dead s e h = if_so (EndKnows s) (is_dead e.tcp.state) e (died e) h h
 
   line_knows : (action : LineAction) (p : PathState Carried) → PathKnows p → PathKnows (after_line action p)
   line_knows LineAction.Die p h = record { a = unless_dead A p.a h.a; b = unless_dead B p.b h.b }
@@ -210,19 +206,15 @@ module _ (R : Side → ℕ → ℕ → Type 0) where
   reset_knows s reason ds p h = same_sent s (reset_of s reason p) (died (end_at s p)) ds p refl h
 
   break_knows : (s : Side) (reason : ℕ) (r : Reply) (p : PathState Carried) → PathKnows p → PathKnows (answered_break values s reason r p)
-  break_knows s reason r p h = by (end_at s p).treated.asked
-    where
-      by : (b : Bool) → PathKnows (if b then answered_ack_out s r (resets s reason) p else reset_on values s (Some reason) (leaves s) p)
-      by true = ack_out_knows s r (resets s reason) p h
-      by false = reset_knows s (Some reason) (leaves s) p h
+  break_knows s reason r p h =
+      if_so PathKnows (end_at s p).treated.asked (answered_ack_out s r (resets s reason) p) (reset_on values s (Some reason) (leaves s) p)
+      (ack_out_knows s r (resets s reason) p h) (reset_knows s (Some reason) (leaves s) p h)
 
   heard_knows : (s : Side) (item : Heard) (r : Reply) (p : PathState Carried) → PathKnows p → PathKnows (answered_heard values s item r p)
   heard_knows s (Heard.DataAck next window) r p h = same_goes s _ _ p refl h
-  heard_knows s (Heard.Mapping fin) r p h = by (is_clash (end_at s p))
-    where
-      by : (b : Bool) → PathKnows (if b then answered_break values s 1 r p else goes_on s (with_learned (after_fell events.MappingHeard r (end_at s p))) (fell_duties s r p) p)
-      by true = break_knows s 1 r p h
-      by false = goes s _ _ p (learned_held (R s) (end_at s p).receiving.mappings (end_knows s p h)) h
+  heard_knows s (Heard.Mapping fin) r p h =
+      if_so PathKnows (is_clash (end_at s p)) (answered_break values s 1 r p) (goes_on s (with_learned (after_fell events.MappingHeard r (end_at s p))) (fell_duties s r p) p)
+      (break_knows s 1 r p h) (goes s _ _ p (learned_held (R s) (end_at s p).receiving.mappings (end_knows s p h)) h)
   heard_knows s (Heard.DataFin place) r p h = same_goes s _ _ p refl h
   heard_knows s (Heard.InfiniteMapping place position) r p h =
       infinite_came_so (λ e. PathKnows (goes_on s e (fell_duties s r p) p)) place position r (end_at s p) (λ other. same_goes s _ _ p refl h)

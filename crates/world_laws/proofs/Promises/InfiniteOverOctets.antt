@@ -1,10 +1,10 @@
 -- Over octets, too, infinite mappings are right: each copy that arrives next is heard as it was meant, or is a reset that tells the same.
-use Rattle.world_laws.proofs.Words.{◌≡◌, refl, sym, ◌∙◌, ap, subst, ℕ, ⊎_elim, Bool, true, false, if◌then◌else◌, Option, Some, None, List, [], ◌∷◌, ◌++◌, map}
-use Rattle.world_laws.proofs.Words.{option_map, and_parts, same_Some, slice_get, Side, peer, same_side, is_due, arriving, Due, Flight, HeardSegment}
-use Rattle.world_laws.proofs.Words.{PlainOption, Dss, meant, IsFresh, meant_option, meant_mapping, Expected, subflow_number, PathMapping, Infinite, PathEnd}
-use Rattle.world_laws.proofs.Words.{PathState, end_at, Carried, as_arrived, values, heard_in, expected_by, next_event, Profile, octets, shown_path, IsFarReset}
-use Rattle.world_laws.proofs.Words.{IsFreshCopy, NextIsFresh, same_event, in_map, Every-nil, Every, App, Path, Actor, ActorCrew, opened_world, WorldState, Turn}
-use Rattle.world_laws.proofs.Words.{world_run, HoldsAnywayOfOctets, IsFreshCrew, IsFreshMember, shown_crew, shown_member, shown_world}
+use Rattle.world_laws.proofs.Words.{◌≡◌, refl, sym, ◌∙◌, ap, subst, ℕ, ⊎_elim, Option, Some, None, List, [], ◌∷◌, ◌++◌, map, option_map, and_parts, same_Some}
+use Rattle.world_laws.proofs.Words.{slice_get, Side, peer, same_side, is_due, arriving, Due, Flight, HeardSegment, PlainOption, Dss, meant, IsFresh}
+use Rattle.world_laws.proofs.Words.{meant_option, meant_mapping, Expected, subflow_number, PathMapping, Infinite, PathEnd, PathState, end_at, Carried}
+use Rattle.world_laws.proofs.Words.{as_arrived, values, heard_in, expected_by, next_event, Profile, octets, shown_path, IsFarReset, IsFreshCopy, NextIsFresh}
+use Rattle.world_laws.proofs.Words.{same_event, in_map, Every-nil, Every, App, Path, Actor, ActorCrew, opened_world, WorldState, Turn, world_run}
+use Rattle.world_laws.proofs.Words.{HoldsAnywayOfOctets, if_so, IsFreshCrew, IsFreshMember, shown_crew, shown_member, shown_world}
 use Rattle.link_model.specs.Laws.{shown_flight}
 use Rattle.path_core.specs.declared.events.Event.{Event}
 use Rattle.path_core.specs.Shown.{octets_of}
@@ -34,11 +34,9 @@ module _ (c : Profile) (s : Side) (e : PathEnd) where
   }
 
   arrived_meant : (carried : Carried) → Every (OptionIsRight c s e) carried.segment.options → Every (HeardOptionIsRight c s e) (meant (as_arrived carried)).options
-  arrived_meant carried right = by carried.stripped
-    where
-      by : (b : Bool) → Every (HeardOptionIsRight c s e) (map meant_option (if b then [] else carried.segment.options))
-      by true = Every-nil (HeardOptionIsRight c s e)
-      by false = options_meant carried.segment.options right
+  arrived_meant carried right =
+      if_so (λ z. Every (HeardOptionIsRight c s e) (map meant_option z)) carried.stripped [] carried.segment.options
+      (Every-nil (HeardOptionIsRight c s e)) (options_meant carried.segment.options right)
 
 -- ---- a path
 

@@ -1,8 +1,7 @@
 -- An answer that no step is given is in no note.
-use Rattle.world_laws.proofs.Words.{◌≡◌, refl, sym, ◌∙◌, ap, subst, ℕ, ⊎_elim, Bool, true, false, if◌then◌else◌, Option, Some, None, List, [], ◌∷◌, ◌++◌, map}
-use Rattle.world_laws.proofs.Words.{or_parts, or_from, slice_get, Ask, Note, Reply, Codec, in_map, in_set, ActorCrew, member_asks, Start, opened_world}
-use Rattle.world_laws.proofs.Words.{WorldState, Turn, crew_after, asked, stepped, all_over, greatest, begins, after_turn, note_of, answer_to, notes_at}
-use Rattle.world_laws.proofs.Words.{was_told, notes_or}
+use Rattle.world_laws.proofs.Words.{◌≡◌, refl, sym, ◌∙◌, ap, subst, ℕ, ⊎_elim, Bool, false, Option, Some, None, List, [], ◌∷◌, ◌++◌, map, or_parts, or_from}
+use Rattle.world_laws.proofs.Words.{slice_get, Ask, Note, Reply, Codec, in_map, in_set, ActorCrew, member_asks, Start, opened_world, WorldState, Turn}
+use Rattle.world_laws.proofs.Words.{crew_after, asked, stepped, all_over, greatest, begins, after_turn, note_of, if_so, answer_to, notes_at, was_told, notes_or}
 use Rattle.world_laws.proofs.Worlds.Opened.{opened_actors}
 
 module _ (test : Reply → Bool) where
@@ -45,11 +44,9 @@ module _ (test : Reply → Bool) where
         by : (o : Option (ActorCrew C)) → slice_get w.crew actor ≡ o → NoneTold (stepped k actor o w)
         by None there = h
         by (Some c) there = asks c there (member_asks k c.member) refl
-    turn_none Turn.Round w untold h = by (all_over w.crew)
-      where
-        by : (b : Bool) → NoneTold (if b then record w { crew = map (begins (greatest 0 w.crew)) w.crew } else w)
-        by true = λ i d at. let found = in_map (begins (greatest 0 w.crew)) w.crew i d at in ap (λ y. was_told test y.list) (sym found.2) ∙ h i found.0 found.1
-        by false = h
+    turn_none Turn.Round w untold h =
+        if_so NoneTold (all_over w.crew) (record w { crew = map (begins (greatest 0 w.crew)) w.crew }) w
+        (λ i d at. let found = in_map (begins (greatest 0 w.crew)) w.crew i d at in ap (λ y. was_told test y.list) (sym found.2) ∙ h i found.0 found.1) h
 
     pub opened_none : (start : Start) → NoneTold (opened_world start)
     opened_none start = opened_actors (λ actor c. was_told test c.list ≡ false) start refl refl (λ number plan there. refl)

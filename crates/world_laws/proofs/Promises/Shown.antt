@@ -7,7 +7,7 @@ use Rattle.world_laws.proofs.Words.{is_exact, Direction, StreamEvent, Reader, la
 use Rattle.world_laws.proofs.Words.{HearJoin, Flags, Move, AskAckIn, AskPlace, AskFin, Moves, Asks, lane_pipe, StepsOrStays, EachEventIsOneStep}
 use Rattle.world_laws.proofs.Words.{NothingIsRefused, BothWays, is_ack_future, is_beyond_or_clash, ask_refused, lane_refused, content, flattened, never_fell_a}
 use Rattle.world_laws.proofs.Words.{never_fell_b, reads_prefix, ends_whole, ends_at_all, Start, WorldState, was_told_end, BothKeepTheirWord, arrived_at}
-use Rattle.world_laws.proofs.Words.{tells_refusal, output_of, read_by, was_told, tells_end, pipe_ab, pipe_ba, BothKeepCount, octet_at}
+use Rattle.world_laws.proofs.Words.{tells_refusal, if_so, output_of, read_by, was_told, tells_end, pipe_ab, pipe_ba, BothKeepCount, octet_at}
 use Rattle.send_book.specs.Steps as sending
 use Rattle.reassembly_book.specs.Steps as arriving
 use Rattle.stream_lanes.specs.Duo.{Event}
@@ -228,18 +228,10 @@ granted_untold (Ok span) b = refl
 granted_untold (Err why) b = refl
 
 write_untold : (bytes : List ℕ) (b : Sending) → tells_refusal (Reply.Send (sending.write_reply bytes b)) ≡ false
-write_untold bytes b = by (b.closed || b.aborted)
-  where
-    by : (c : Bool) → tells_refusal (Reply.Send (if c then SendReply.Shut else SendReply.Taken (sending.bytes_taken bytes b))) ≡ false
-    by true = refl
-    by false = refl
+write_untold bytes b = if_so (λ z. tells_refusal (Reply.Send z) ≡ false) (b.closed || b.aborted) SendReply.Shut (SendReply.Taken (sending.bytes_taken bytes b)) refl refl
 
 close_untold : (b : Sending) → tells_refusal (Reply.Send (sending.close_reply b)) ≡ false
-close_untold b = by b.aborted
-  where
-    by : (c : Bool) → tells_refusal (Reply.Send (if c then SendReply.Shut else SendReply.Closed)) ≡ false
-    by true = refl
-    by false = refl
+close_untold b = if_so (λ z. tells_refusal (Reply.Send z) ≡ false) b.aborted SendReply.Shut SendReply.Closed refl refl
 
 ack_untold : (r : SendReply) → is_ack_future r ≡ false → tells_refusal (Reply.Send r) ≡ false
 ack_untold (SendReply.AckFuture written) is = is
@@ -271,11 +263,9 @@ lane_untold path ask d none asking =
     ap (λ x. ask_refused x d) (sym asking.asks) ∙ ap (lane_refused (λ p. ask_refused p.asking d)) (sym asking.there) ∙ none (Asks path)
 
 infinite_untold : (path : ℕ) (b : Sending) → tells_refusal (Reply.Send (sending.infinite_reply path b)) ≡ false
-infinite_untold path b = by (sending.is_gathered path b)
-  where
-    by : (c : Bool) → tells_refusal (Reply.Send (if c then SendReply.Infinite (acked_len b.marks) else SendReply.Scattered)) ≡ false
-    by true = refl
-    by false = refl
+infinite_untold path b =
+    if_so (λ z. tells_refusal (Reply.Send z) ≡ false) (sending.is_gathered path b) (SendReply.Infinite (acked_len b.marks)) SendReply.Scattered
+    refl refl
 
 send_untold : (call : SendCall) (d : Direction) (event : StreamEvent) → NothingIsRefused d → SendCallIs call d event → tells_refusal (Reply.Send (sending.reply_to d.send call)) ≡ false
 send_untold (SendCall.Write bytes) d event none is = write_untold bytes d.send

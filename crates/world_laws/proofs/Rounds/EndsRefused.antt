@@ -13,7 +13,7 @@ use Rattle.world_laws.proofs.Words.{data_stands, first_unsent, may_ask, fits, Ju
 use Rattle.world_laws.proofs.Words.{is_never, join_taken, keys_begun, opened_by, is_joined, template_fired, piece_of, is_placed, answered_piece}
 use Rattle.world_laws.proofs.Words.{answered_plain_fin, answered_fin_heard, is_fin_set, is_clash, with_learned, held_of, told_next, answered_item, item_of}
 use Rattle.world_laws.proofs.Words.{after_check_failed, after_fell, fell_duties, with_plain_ack, breaks_by_ack, after_fail_heard, answered_fell}
-use Rattle.world_laws.proofs.Words.{answered_peer_key, answered_opened, is_stopped_by, with_priority, after_peer_notice, Profile, sent_on, taken_as}
+use Rattle.world_laws.proofs.Words.{answered_peer_key, answered_opened, is_stopped_by, with_priority, after_peer_notice, Profile, sent_on, taken_as, if_so}
 use Rattle.subflow_tcp.specs.States as states
 use Rattle.path_core.specs.declared.events.Event.{Event}
 use Rattle.path_agenda.specs.Agenda.{answers, breaks}
@@ -294,11 +294,9 @@ module _ {C : Type 0} where
         each B = inl refl
 
     break_done : (k : Codec C) (s : Side) (reason : ℕ) (r : Reply) → IsPaid p.profile (peer s) (end_at (peer s) p) (refused (peer s)) → Granting (answered_break k s reason r p) refused
-    break_done k s reason r other = by (end_at s p).treated.asked
-      where
-        by : (b : Bool) → Granting (if b then answered_ack_out s r (resets s reason) p else reset_on k s (Some reason) (leaves s) p) refused
-        by true = resets_done s reason r other
-        by false = reset_done k s (Some reason) (leaves s) refl other
+    break_done k s reason r other =
+        if_so (λ z. Granting z refused) (end_at s p).treated.asked (answered_ack_out s r (resets s reason) p) (reset_on k s (Some reason) (leaves s) p)
+        (resets_done s reason r other) (reset_done k s (Some reason) (leaves s) refl other)
 
   -- ---- events, where nothing is ahead
 

@@ -9,7 +9,7 @@ use Rattle.world_laws.proofs.Words.{reset_on, answered_break, answered_data, ans
 use Rattle.world_laws.proofs.Words.{join_begun, never_joined, asked_at, is_never, join_taken, keys_begun, opened_by, is_joined, template_fired, piece_of}
 use Rattle.world_laws.proofs.Words.{is_placed, answered_piece, answered_plain_fin, answered_fin_heard, is_fin_set, is_clash, with_learned, told_next}
 use Rattle.world_laws.proofs.Words.{answered_mapping, answered_item, item_of, after_fell, fell_duties, answered_plain_ack, with_plain_ack, breaks_by_ack}
-use Rattle.world_laws.proofs.Words.{answered_peer_key, answered_opened, is_stopped_by}
+use Rattle.world_laws.proofs.Words.{answered_peer_key, answered_opened, is_stopped_by, if_so}
 use Rattle.fallback_state.specs.declared.fall.Event.TheVariants as events
 use Rattle.path_core.specs.declared.events.Event.{Event}
 use Rattle.path_agenda.specs.Agenda.{breaks}
@@ -146,11 +146,9 @@ module _ {C : Type 0} where
   -- after a fall the send book is told, and a path may be broken
   fell_ahead : (s : Side) (r : Reply) (p : PathState C) → Ahead (left p) → Ahead (replaced (Duty.Ask (AskDuty.GoIdentity s)) p.agenda) → Ahead (fell_duties s r p)
   fell_ahead s (Reply.Control (ControlReply.Verdict (Verdict.Went Mode.Identity))) p left_ahead told = told
-  fell_ahead s (Reply.Control (ControlReply.Verdict (Verdict.BreakPath reason))) p left_ahead told = by (end_at s p).treated.asked
-    where
-      by : (b : Bool) → Ahead (if b then breaks s reason else resets s reason)
-      by true = refl
-      by false = refl
+  fell_ahead s (Reply.Control (ControlReply.Verdict (Verdict.BreakPath reason))) p left_ahead told =
+      if_so Ahead (end_at s p).treated.asked (breaks s reason) (resets s reason)
+      refl refl
   fell_ahead s _ p left_ahead told = left_ahead
 
   module _ (k : Codec C) (s : Side) (r : Reply) (p : PathState C) (same : Ahead p.agenda) (left_ahead : Ahead (left p)) (told : Ahead (replaced (Duty.Ask (AskDuty.GoIdentity s)) p.agenda)) where

@@ -1,26 +1,25 @@
 -- An end that may ask for bytes, with room for a full segment, has room for each record that is to be sent: no piece is longer than the
 -- payload of a full segment, and its SYN is acknowledged.
-use Rattle.world_laws.proofs.Words.{◌≡◌, refl, sym, ap, subst, ℕ, ◌+◌, ◌-◌, ◌≤◌, ◌&&◌, ◌==◌, not, min, nat_lt, nat_le, Bool, true, false}
-use Rattle.world_laws.proofs.Words.{if◌then◌else◌, Option, Some, None, Result, Ok, Err, List, [], ◌∷◌, length, drop, arith, ltb-true, and_parts, and_from}
-use Rattle.world_laws.proofs.Words.{both_ways, false≢true, ltb-false, leb-true, le-leb, length-take, length-drop, same_Some, Side, A, B, ScriptLine}
-use Rattle.world_laws.proofs.Words.{JoinSyn, Span, Why, SendBook, decision-MayTake, KeptMapping, Record, SendState, AckKind, is_unsent, uncovered}
-use Rattle.world_laws.proofs.Words.{after_acknowledge, after_resent, ack_kind, sample_of, Meaning, is_sixth, after_expiry, after_fire, after_sending, EndState}
-use Rattle.world_laws.proofs.Words.{is_at_limit, EndPhase, Occasion, after_death, after_dropping_held, after_keeping_held, after_holding, is_fin_acked}
-use Rattle.world_laws.proofs.Words.{after_ack_kind, after_acknowledgement, is_duplicate, after_duplicate, after_interruption, told_by, after_payload}
-use Rattle.world_laws.proofs.Words.{after_hearing, after_established, after_taken, after_syn_ack, after_syn, after_arrival, unkept, after_begin, is_fin_next}
-use Rattle.world_laws.proofs.Words.{after_passing_fin, after_finishing}
-use Rattle.world_laws.proofs.Words.{meaning_of, Copy, Hint, arriving, after_delivery, HeardSegment, LineAction, emission, leaves, start_of_turn, Duty, SendDuty}
-use Rattle.world_laws.proofs.Words.{StepDuty, AskDuty, SilentDuty, Heard, KeyPair, replaced, Ask, Reply, StampedBooks, books_in, tail_of, is_nil, Codec, stands}
-use Rattle.world_laws.proofs.Words.{ask_for, passed, answered, PathEnd, died, PathStart, first_state, waiting_path, at_tick, PathState, end_at, goes_on}
-use Rattle.world_laws.proofs.Words.{with_agenda, left, path_of, settled, answers, asks_first, takes, begins_turn, hint_of, items_of, owes_by, options_heard}
-use Rattle.world_laws.proofs.Words.{after_judged, copy_of, judged_in, heard_in, copy_heard, told_at, owing_if, with_payload, answered_break, died_unless_dead}
-use Rattle.world_laws.proofs.Words.{answered_data, answered_grant, first_unsent, grant_in, answer_occasion, resend_occasion, data_ask, payload_size, may_ask}
-use Rattle.world_laws.proofs.Words.{fits, grant_ask, may_send_data, next_event, after_line, happens_if, join_begun, never_joined, asked_at, is_listening}
-use Rattle.world_laws.proofs.Words.{is_never, join_taken, keys_begun, opened_by, syn_alone, is_joined, after_joining_syn, is_wrong, mapping_here, forgotten_by}
-use Rattle.world_laws.proofs.Words.{is_dropped, is_clash, with_learned, with_data_fin, counts, with_skipped, answered_heard, answered_item, item_of}
-use Rattle.world_laws.proofs.Words.{item_passed, heard_passed, breaks_by_ack, Profile, taken_as, Every-push, Every, App, Path, Actor, ActorCrew, member_asks}
-use Rattle.world_laws.proofs.Words.{member_takes, member_next, is_over, Start, path_begins, opened_world, WorldState, Turn, crew_after, world_step, begins}
-use Rattle.world_laws.proofs.Words.{world_run, EndWrites, Only, Writes, OnlyAt, EndView, PathView, writes, side_of, answer_to, BeginsRound}
+use Rattle.world_laws.proofs.Words.{◌≡◌, refl, sym, ap, subst, ℕ, ◌+◌, ◌-◌, ◌≤◌, ◌&&◌, ◌==◌, not, min, nat_lt, nat_le, Bool, true, false, if◌then◌else◌, Option}
+use Rattle.world_laws.proofs.Words.{Some, None, Result, Ok, Err, List, [], ◌∷◌, length, drop, arith, ltb-true, and_parts, and_from, both_ways, false≢true}
+use Rattle.world_laws.proofs.Words.{ltb-false, leb-true, le-leb, length-take, length-drop, same_Some, Side, A, B, ScriptLine, JoinSyn, Span, Why, SendBook}
+use Rattle.world_laws.proofs.Words.{decision-MayTake, KeptMapping, Record, SendState, AckKind, is_unsent, uncovered, after_acknowledge, after_resent, ack_kind}
+use Rattle.world_laws.proofs.Words.{sample_of, Meaning, is_sixth, after_expiry, after_fire, after_sending, EndState, is_at_limit, EndPhase, Occasion}
+use Rattle.world_laws.proofs.Words.{after_death, after_dropping_held, after_keeping_held, after_holding, is_fin_acked, after_ack_kind, after_acknowledgement}
+use Rattle.world_laws.proofs.Words.{is_duplicate, after_duplicate, after_interruption, told_by, after_payload, after_hearing, after_established, after_taken}
+use Rattle.world_laws.proofs.Words.{after_syn_ack, after_syn, after_arrival, unkept, after_begin, is_fin_next, after_passing_fin, after_finishing, meaning_of}
+use Rattle.world_laws.proofs.Words.{Copy, Hint, arriving, after_delivery, HeardSegment, LineAction, emission, leaves, start_of_turn, Duty, SendDuty, StepDuty}
+use Rattle.world_laws.proofs.Words.{AskDuty, SilentDuty, Heard, KeyPair, replaced, Ask, Reply, StampedBooks, books_in, tail_of, is_nil, Codec, stands, ask_for}
+use Rattle.world_laws.proofs.Words.{passed, answered, PathEnd, died, PathStart, first_state, waiting_path, at_tick, PathState, end_at, goes_on, with_agenda}
+use Rattle.world_laws.proofs.Words.{left, path_of, settled, answers, asks_first, takes, begins_turn, hint_of, items_of, owes_by, options_heard, after_judged}
+use Rattle.world_laws.proofs.Words.{copy_of, judged_in, heard_in, copy_heard, told_at, owing_if, with_payload, answered_break, died_unless_dead, answered_data}
+use Rattle.world_laws.proofs.Words.{answered_grant, first_unsent, grant_in, answer_occasion, resend_occasion, data_ask, payload_size, may_ask, fits, grant_ask}
+use Rattle.world_laws.proofs.Words.{may_send_data, next_event, after_line, happens_if, join_begun, never_joined, asked_at, is_listening, is_never, join_taken}
+use Rattle.world_laws.proofs.Words.{keys_begun, opened_by, syn_alone, is_joined, after_joining_syn, is_wrong, mapping_here, forgotten_by, is_dropped, is_clash}
+use Rattle.world_laws.proofs.Words.{with_learned, with_data_fin, with_skipped, counts, answered_heard, answered_item, item_of, item_passed, heard_passed}
+use Rattle.world_laws.proofs.Words.{breaks_by_ack, Profile, taken_as, Every-push, Every, App, Path, Actor, ActorCrew, member_asks, member_takes, member_next}
+use Rattle.world_laws.proofs.Words.{is_over, Start, path_begins, opened_world, WorldState, Turn, crew_after, world_step, begins, world_run, if_so, EndWrites}
+use Rattle.world_laws.proofs.Words.{Only, Writes, OnlyAt, EndView, PathView, writes, side_of, answer_to, BeginsRound}
 use Rattle.send_book.specs.Steps as booking
 use Rattle.subflow_send.specs.declared.record.AckKind.TheVariants.{New}
 use Rattle.subflow_tcp.specs.Sizes.{room}
@@ -176,11 +175,9 @@ arrived_fits limit _ hint now c s so h = h
 sent_fits : (limit : ℕ) (o : Occasion) (now : ℕ) (s : EndState) → TcpFits limit s → TcpFits limit (after_sending o now s)
 sent_fits limit Occasion.Reset now s h = h
 sent_fits limit Occasion.Answer now s h = h
-sent_fits limit Occasion.SynAck now s h = by (s.send.una == 0)
-  where
-    by : (b : Bool) → SendFits limit s.state (if b then after_resent now s.send else s.send)
-    by true = record { sizes = first_sent_kept (IsSmall limit) (λ r x small. small) now s.send.records h.sizes; begun = h.begun }
-    by false = h
+sent_fits limit Occasion.SynAck now s h =
+    if_so (SendFits limit s.state) (s.send.una == 0) (after_resent now s.send) s.send
+    (record { sizes = first_sent_kept (IsSmall limit) (λ r x small. small) now s.send.records h.sizes; begun = h.begun }) h
 sent_fits limit Occasion.Ack now s h = h
 sent_fits limit Occasion.Probe now s h = h
 sent_fits limit Occasion.First now s h = record { sizes = first_sent_kept (IsSmall limit) (λ r x small. small) now s.send.records h.sizes; begun = h.begun }
@@ -194,25 +191,17 @@ fin_fits limit now s h = sent_fits limit Occasion.Fin now (after_finishing s) (r
 })
 
 fired_fits : (limit now : ℕ) (s : EndState) → TcpFits limit s → TcpFits limit (after_fire now s)
-fired_fits limit now s h = by (is_sixth s)
-  where
-    by : (b : Bool) → TcpFits limit (if b then after_death true s else after_expiry now s)
-    by true = dead_fits limit true s h
-    by false = record { sizes = expired_kept (IsSmall limit) (λ r x small. small) s.send.records h.sizes; begun = h.begun }
+fired_fits limit now s h =
+    if_so (TcpFits limit) (is_sixth s) (after_death true s) (after_expiry now s)
+    (dead_fits limit true s h) (record { sizes = expired_kept (IsSmall limit) (λ r x small. small) s.send.records h.sizes; begun = h.begun })
 
 passed_fits : (limit : ℕ) (s : EndState) → TcpFits limit s → TcpFits limit (if is_fin_next s then after_passing_fin s else s)
-passed_fits limit s h = by (is_fin_next s)
-  where
-    by : (b : Bool) → TcpFits limit (if b then after_passing_fin s else s)
-    by true = record { sizes = h.sizes; begun = λ is. h.begun (passed_may s.state is) }
-    by false = h
+passed_fits limit s h = if_so (TcpFits limit) (is_fin_next s) (after_passing_fin s) s (record { sizes = h.sizes; begun = λ is. h.begun (passed_may s.state is) }) h
 
 joining_fits : (limit window : ℕ) (s : EndState) → TcpFits limit s → TcpFits limit (after_joining_syn window s)
-joining_fits limit window s h = by (is_listening s.state)
-  where
-    by : (b : Bool) → TcpFits limit (if b then after_syn (unkept None) (syn_alone window) s else s)
-    by true = record { sizes = h.sizes; begun = λ is. absurd (false≢true is) }
-    by false = h
+joining_fits limit window s h =
+    if_so (TcpFits limit) (is_listening s.state) (after_syn (unkept None) (syn_alone window) s) s
+    (record { sizes = h.sizes; begun = λ is. absurd (false≢true is) }) h
 
 -- ---- an end of a path
 
@@ -225,18 +214,12 @@ died_fits limit e h = either_end limit (states.is_dead e.tcp.state) e (died e) h
 
 opened_fits : (limit : ℕ) (keys : Option KeyPair) (e : PathEnd) → EndFits limit e → EndFits limit (opened_by keys e)
 opened_fits limit None e h = h
-opened_fits limit (Some keys) e h = by (states.is_waiting e.tcp.state)
-  where
-    by : (b : Bool) → TcpFits limit (if b then after_begin e.tcp else e.tcp)
-    by true = record { sizes = h.sizes; begun = λ is. absurd (false≢true is) }
-    by false = h
+opened_fits limit (Some keys) e h =
+    if_so (TcpFits limit) (states.is_waiting e.tcp.state) (after_begin e.tcp) e.tcp
+    (record { sizes = h.sizes; begun = λ is. absurd (false≢true is) }) h
 
 kept_fits : (limit : ℕ) (s : Side) (e : PathEnd) → EndFits limit e → TcpFits limit (if is_dropped s e then after_dropping_held e.tcp else after_keeping_held e.tcp)
-kept_fits limit s e h = by (is_dropped s e)
-  where
-    by : (b : Bool) → TcpFits limit (if b then after_dropping_held e.tcp else after_keeping_held e.tcp)
-    by true = h
-    by false = h
+kept_fits limit s e h = if_so (TcpFits limit) (is_dropped s e) (after_dropping_held e.tcp) (after_keeping_held e.tcp) h h
 
 item_fits : (limit : ℕ) (s : Side) (item : Heard) (e : PathEnd) → EndFits limit e → EndFits limit (heard_passed s item e)
 item_fits limit s Heard.Dss e h = h

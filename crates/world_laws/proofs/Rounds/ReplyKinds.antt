@@ -3,7 +3,7 @@ use Rattle.world_laws.proofs.Words.{◌≡◌, refl, ◌∙◌, ap, ℕ, ◌-◌
 use Rattle.world_laws.proofs.Words.{List, [], ◌∷◌, ◌++◌, length, take, drop, map, replicate, arith, length-take, length-drop, length-map, length-replicate, A}
 use Rattle.world_laws.proofs.Words.{B, ControlCall, ControlReply, Control, ReassemblyCall, Arriving, filled, none, ReassemblyReply, Span, Why, SendCall}
 use Rattle.world_laws.proofs.Words.{Sending, Tile, acked_len, new_sending, Acked, Free, given, returned, no_paths, decision-MayTake, SendReply, Ask, SixBooks}
-use Rattle.world_laws.proofs.Words.{reply_of, after_ask, IsSendKind, IsReassemblyKind, IsControlKind, IsOfKind}
+use Rattle.world_laws.proofs.Words.{reply_of, after_ask, IsSendKind, IsReassemblyKind, IsControlKind, IsOfKind, if_so}
 use Rattle.std.proofs.Common.{length-append}
 use Rattle.send_book.specs.Steps as send
 use Rattle.reassembly_book.specs.Steps as reassembly
@@ -109,16 +109,10 @@ granted_kind path max standby b h some (Ok span) is =
     )
 
 send_kind : (b : Sending) (call : SendCall) → IsMarked b → WantsSome call → IsSendKind call (send.reply_to b call)
-send_kind b (SendCall.Write bytes) h some = by (b.closed || b.aborted)
-  where
-    by : (c : Bool) → IsSendKind (SendCall.Write bytes) (if c then SendReply.Shut else SendReply.Taken (send.bytes_taken bytes b))
-    by true = tt
-    by false = omega arith
-send_kind b SendCall.Close h some = by b.aborted
-  where
-    by : (c : Bool) → IsSendKind SendCall.Close (if c then SendReply.Shut else SendReply.Closed)
-    by true = tt
-    by false = tt
+send_kind b (SendCall.Write bytes) h some =
+    if_so (IsSendKind (SendCall.Write bytes)) (b.closed || b.aborted) SendReply.Shut (SendReply.Taken (send.bytes_taken bytes b))
+    tt (omega arith)
+send_kind b SendCall.Close h some = if_so (IsSendKind SendCall.Close) b.aborted SendReply.Shut SendReply.Closed tt tt
 send_kind b (SendCall.Grant path max standby) h some = granted_kind path max standby b h some (send.decision path max standby b) refl
 send_kind b (SendCall.AckIn next window) h some = by (send.is_future next b)
   where
@@ -127,21 +121,15 @@ send_kind b (SendCall.AckIn next window) h some = by (send.is_future next b)
     by false = tt
 send_kind b (SendCall.Return path) h some = tt
 send_kind b SendCall.GoIdentity h some = tt
-send_kind b (SendCall.GoInfinite path) h some = by (send.is_gathered path b)
-  where
-    by : (c : Bool) → IsSendKind (SendCall.GoInfinite path) (if c then SendReply.Infinite (acked_len b.marks) else SendReply.Scattered)
-    by true = tt
-    by false = tt
+send_kind b (SendCall.GoInfinite path) h some =
+    if_so (IsSendKind (SendCall.GoInfinite path)) (send.is_gathered path b) (SendReply.Infinite (acked_len b.marks)) SendReply.Scattered
+    tt tt
 send_kind b SendCall.Abort h some = tt
 
 -- ---- the reassembly book
 
 read_kind : (max : ℕ) (b : Arriving) (bytes : List ℕ) → bytes ≡ take max (filled b.places) → IsReassemblyKind (ReassemblyCall.Read max) (reassembly.bytes_reply bytes b)
-read_kind max b [] is = by (reassembly.is_end b.known_end b.read)
-  where
-    by : (c : Bool) → IsReassemblyKind (ReassemblyCall.Read max) (if c then ReassemblyReply.End else ReassemblyReply.NoneYet)
-    by true = tt
-    by false = tt
+read_kind max b [] is = if_so (IsReassemblyKind (ReassemblyCall.Read max)) (reassembly.is_end b.known_end b.read) ReassemblyReply.End ReassemblyReply.NoneYet tt tt
 read_kind max b (byte ∷ bytes) is =
     let len : length (byte ∷ bytes) ≡ min max (length (filled b.places)) = ap length is ∙ length-take max (filled b.places) in
     record { some = omega arith; most = omega (arith, len) }

@@ -9,6 +9,7 @@ use Rattle.world_laws.proofs.Words.{is_joined, third_options, is_data_fin_owed, 
 use Rattle.world_laws.proofs.Words.{first_piece_options, piece_options, fin_options, fail_options, fail_beside, infinite_or, mapped_options, own_reset}
 use Rattle.world_laws.proofs.Words.{syn_options, key_options, opening_options, ack_options, record_options, segment_of, ack_said, carried_said, record_said}
 use Rattle.world_laws.proofs.Words.{syn_ack_said, fin_said, reset_said, record_or_ack, broken_options, noted_said, notice_option, dss_and, Profile, is_side_a}
+use Rattle.world_laws.proofs.Words.{if_so}
 use Rattle.path_segments.specs.declared.segment.PathOption.TheVariants.{FastClose}
 use Rattle.path_core.specs.Arrival.{position_in}
 use Rattle.world_laws.proofs.Whole.Bytes.{Grows, NoneAt, NoneBelow, at_later, below_later}
@@ -144,11 +145,9 @@ module _ (c : Profile) (s : Side) (e : PathEnd) (vs vt : SendState) (first : is_
   has_key speaks same = subst (λ t. Speaks t e) same speaks
 
   opening_tells : e.modes.clear ≡ false → Speaks s e → Tells (opening_options c s e)
-  opening_tells unclear speaks = by e.modes.owes_third
-    where
-      by : (b : Bool) → Tells (if b then third_options e.modes else key_options c s e.modes.peer_key e)
-      by true = record { some = λ same. refl; acks = λ none. unclear_low unclear; finite = refl }
-      by false = key_tells s refl e.modes.peer_key unclear (has_key speaks)
+  opening_tells unclear speaks =
+      if_so Tells e.modes.owes_third (third_options e.modes) (key_options c s e.modes.peer_key e)
+      (record { some = λ same. refl; acks = λ none. unclear_low unclear; finite = refl }) (key_tells s refl e.modes.peer_key unclear (has_key speaks))
 
   ack_tells : (o : Option ℕ) → Speaks s e → Tells (ack_options c s o e)
   ack_tells o speaks =
@@ -278,11 +277,9 @@ module _ (c : Profile) (s : Side) (e : PathEnd) (vs vt : SendState) (first : is_
   -- ---- what is said again
 
   pub answer_is : Speaks s e → Says (answer_said c s e)
-  answer_is speaks = by e.tcp.due.syn_ack
-    where
-      by : (b : Bool) → Says (if b then syn_ack_said c s e else ack_said c s e.tcp.send.nxt None e)
-      by true = syn_ack_is (may_write s Syn e speaks)
-      by false = ack_is e.tcp.send.nxt None speaks
+  answer_is speaks =
+      if_so Says e.tcp.due.syn_ack (syn_ack_said c s e) (ack_said c s e.tcp.send.nxt None e)
+      (syn_ack_is (may_write s Syn e speaks)) (ack_is e.tcp.send.nxt None speaks)
 
   ack_resent_is : Speaks s e → Says (ack_resent c s e)
   ack_resent_is speaks = by e.modes.owes_third e.notices.fast_closed (is_data_fin_owed e)

@@ -4,7 +4,7 @@ use Rattle.world_laws.proofs.Words.{None, List, [], ◌∷◌, length, map, is_s
 use Rattle.world_laws.proofs.Words.{RecordKind, Syn, Data, Fin, is_unsent, first_unsent_sent, first_sent, expired_records, after_resent, after_fin_sent}
 use Rattle.world_laws.proofs.Words.{is_closed_to_segments, is_opening, may_finish, is_waiting, is_syn, after_sending, EndState, is_some_record, EndPhase}
 use Rattle.world_laws.proofs.Words.{Occasion, PlainSegment, meant, Duty, is_nil, PathEnd, died, is_connected, PathState, end_at, Carried, first_unsent}
-use Rattle.world_laws.proofs.Words.{first_record, resend_said, having_sent_fin, fin_said, record_or_ack, having_sent, Every}
+use Rattle.world_laws.proofs.Words.{first_record, resend_said, having_sent_fin, fin_said, record_or_ack, having_sent, Every, if_so}
 use Rattle.subflow_send.specs.Rules.{after_finish, fin_sent}
 use Rattle.subflow_send.specs.Sendings.{sent_again}
 use Rattle.world_laws.proofs.Keys.AnswerHeardFirst.{finish_apart, is_apart}
@@ -50,11 +50,9 @@ finish_past _ is = absurd (false≢true is)
 
 unsent_some : (now : ℕ) (rs : List Record) → is_nil rs ≡ false → is_nil (first_unsent_sent now rs) ≡ false
 unsent_some now [] some = some
-unsent_some now (r ∷ rs) some = by (is_unsent r)
-  where
-    by : (b : Bool) → is_nil (if b then record r { sending = sent_again now r.sending } ∷ rs else r ∷ first_unsent_sent now rs) ≡ false
-    by true = refl
-    by false = refl
+unsent_some now (r ∷ rs) some =
+    if_so (λ z. is_nil z ≡ false) (is_unsent r) (record r { sending = sent_again now r.sending } ∷ rs) (r ∷ first_unsent_sent now rs)
+    refl refl
 
 first_some : (now : ℕ) (rs : List Record) → is_nil rs ≡ false → is_nil (first_sent now rs) ≡ false
 first_some now [] some = some

@@ -1,17 +1,16 @@
 -- What the ends of path 0 keep as long as no options are taken away: an end that may send no DSS learned no mapping, and no byte of the
 -- other side lies below its edge; no acknowledgement that it heard lacks a Data ACK, and no payload an option.
 use Rattle.world_laws.proofs.Words.{◌≡◌, refl, sym, ◌∙◌, ap, subst, ℕ, ◌+◌, ◌&&◌, ◌||◌, ◌==◌, not, nat_lt, nat_le, inl, inr, ◌⊎◌, ⊎_elim, Bool, true, false}
-use Rattle.world_laws.proofs.Words.{if◌then◌else◌, Option, Some, None, List, [], ◌∷◌, ◌++◌, length, map, arith, is_some, ◌^◌, ltb-true, or_parts}
-use Rattle.world_laws.proofs.Words.{and_parts, both_ways, false≢true, leb-true, or_from, list_any, flat_map, IfSome, Side, A, B, peer, JoinForm, CapableKeys}
-use Rattle.world_laws.proofs.Words.{NoKey, WithData, KeptMapping, Mappings, Receiving, SendState, AckKind, after_acknowledge, ack_kind, sample_of}
-use Rattle.world_laws.proofs.Words.{newly_acknowledged, is_closed_to_segments, is_opening, is_half_open, after_handshake, Meaning, is_syn, EndState}
-use Rattle.world_laws.proofs.Words.{EndPhase, Outgoing, after_holding, after_ack_kind, after_acknowledgement, is_duplicate, after_duplicate}
-use Rattle.world_laws.proofs.Words.{after_interruption, told_by, after_payload, after_hearing, after_established, after_taken, after_arrival, arrival_of}
-use Rattle.world_laws.proofs.Words.{kept_new, first_fin}
-use Rattle.world_laws.proofs.Words.{meaning_of, Copy, Hint, HeardSegment}
-use Rattle.world_laws.proofs.Words.{PathMapping, InfiniteMapping, Heard, key_heard, is_nil, PathEnd, hint_of, items_in, items_of, has_data_ack, octets_acked}
-use Rattle.world_laws.proofs.Words.{is_plain_ack, edge_held, owes_by, asks_capable, copy_judged, copy_of, owing_if, with_payload, join_items, ack_items}
-use Rattle.world_laws.proofs.Words.{map_items, HeardOption, key_items, item_removed, Treated, Every, EndWrites, Only, EndView, copy_said}
+use Rattle.world_laws.proofs.Words.{if◌then◌else◌, Option, Some, None, List, [], ◌∷◌, ◌++◌, length, map, arith, is_some, ◌^◌, ltb-true, or_parts, and_parts}
+use Rattle.world_laws.proofs.Words.{both_ways, false≢true, leb-true, or_from, list_any, flat_map, IfSome, Side, A, B, peer, JoinForm, CapableKeys, NoKey}
+use Rattle.world_laws.proofs.Words.{WithData, KeptMapping, Mappings, Receiving, SendState, AckKind, after_acknowledge, ack_kind, sample_of, newly_acknowledged}
+use Rattle.world_laws.proofs.Words.{is_closed_to_segments, is_opening, is_half_open, after_handshake, Meaning, is_syn, EndState, EndPhase, Outgoing}
+use Rattle.world_laws.proofs.Words.{after_holding, after_ack_kind, after_acknowledgement, is_duplicate, after_duplicate, after_interruption, told_by}
+use Rattle.world_laws.proofs.Words.{after_payload, after_hearing, after_established, after_taken, after_arrival, arrival_of, kept_new, first_fin, meaning_of}
+use Rattle.world_laws.proofs.Words.{Copy, Hint, HeardSegment, PathMapping, InfiniteMapping, Heard, key_heard, is_nil, PathEnd, hint_of, items_in, items_of}
+use Rattle.world_laws.proofs.Words.{has_data_ack, octets_acked, is_plain_ack, edge_held, owes_by, asks_capable, copy_judged, copy_of, owing_if, with_payload}
+use Rattle.world_laws.proofs.Words.{join_items, ack_items, map_items, HeardOption, key_items, item_removed, Treated, Every, if_so, EndWrites, Only, EndView}
+use Rattle.world_laws.proofs.Words.{copy_said}
 use Rattle.loss_recovery.specs.declared.timers.Timing.{Timing}
 use Rattle.path_segments.specs.declared.segment.PathOption.{PathOption}
 use Rattle.subflow_tcp.specs.declared.verdicts.Arrival.TheVariants.{Opened, Took}
@@ -230,11 +229,7 @@ any_append test (x ∷ xs) ys none rest =
 ack_finite : (next : Option (Option ℕ)) (window : ℕ) → list_any is_infinite_item (ack_items next window) ≡ false
 ack_finite None window = refl
 ack_finite (Some None) window = refl
-ack_finite (Some (Some next)) window = by (nat_lt next (2 ^ 62))
-  where
-    by : (b : Bool) → list_any is_infinite_item (if b then Heard.DataAck next window ∷ [] else []) ≡ false
-    by true = refl
-    by false = refl
+ack_finite (Some (Some next)) window = if_so (λ z. list_any is_infinite_item z ≡ false) (nat_lt next (2 ^ 62)) (Heard.DataAck next window ∷ []) [] refl refl
 
 if_finite : (b : Bool) (item : Heard) → is_infinite_item item ≡ false → list_any is_infinite_item (if b then item ∷ [] else []) ≡ false
 if_finite true item none = ap (λ x. x || false) none
@@ -251,11 +246,9 @@ map_finite next (Some (PathMapping.Infinite place position)) none = absurd (fals
 
 keys_finite : (s : Side) (keys : CapableKeys) → list_any is_infinite_item (key_items s keys) ≡ false
 keys_finite A NoKey = refl
-keys_finite B (WithData sender receiver len checksum) = by (nat_lt 0 len)
-  where
-    by : (b : Bool) → list_any is_infinite_item (if b then (if nat_lt 0 1 && nat_le (0 + len) (2 ^ 62) then Heard.Mapping false ∷ [] else []) else []) ≡ false
-    by true = if_finite _ (Heard.Mapping false) refl
-    by false = refl
+keys_finite B (WithData sender receiver len checksum) =
+    if_so (λ z. list_any is_infinite_item z ≡ false) (nat_lt 0 len) (if nat_lt 0 1 && nat_le (0 + len) (2 ^ 62) then Heard.Mapping false ∷ [] else []) []
+    (if_finite _ (Heard.Mapping false) refl) refl
 keys_finite s keys = refl
 
 joins_finite : (s : Side) (form : JoinForm) → list_any is_infinite_item (join_items s form) ≡ false

@@ -9,7 +9,7 @@ use Rattle.world_laws.proofs.Words.{ask_for, passed, answered, PathEnd, died, at
 use Rattle.world_laws.proofs.Words.{as_arrived, values, items_of, options_heard, copy_judged, copy_of, judged_in, reset_for, template_by, template_of, heard_in}
 use Rattle.world_laws.proofs.Words.{copy_heard, told_at, path_died, died_unless_dead, resend_occasion, resend_of, next_event, after_line, happens_if}
 use Rattle.world_laws.proofs.Words.{template_fired, timer_fired, held_of, peer_key_ask, answered_peer_key, with_peer_key, with_priority, having_sent, taken_as}
-use Rattle.world_laws.proofs.Words.{Every}
+use Rattle.world_laws.proofs.Words.{Every, if_so}
 use Rattle.std.specs.List.{position}
 use Rattle.path_core.specs.declared.events.Event.{Event}
 use Rattle.world_laws.proofs.Keys.AnswerHeardFirst.{is_accepts, is_apart}
@@ -50,11 +50,7 @@ pub data Holds : PathState Carried → Type 0 where
 -- ---- a line of the script
 
 died_or : (s : Side) (ds : List Duty) (p : PathState Carried) → PathIs ds p → Steps s p (died_unless_dead (end_at s p))
-died_or s ds p h = by (is_dead (end_at s p).tcp.state)
-  where
-    by : (b : Bool) → Steps s p (if b then end_at s p else died (end_at s p))
-    by true = same_step s ds p (end_at s p) refl h
-    by false = died_step s ds p h
+died_or s ds p h = if_so (Steps s p) (is_dead (end_at s p).tcp.state) (end_at s p) (died (end_at s p)) (same_step s ds p (end_at s p) refl h) (died_step s ds p h)
 
 both_left : (x : Mark) (a b : Bool) → marks x ((if a then [] else Duty.Ask (AskDuty.Leave A) ∷ []) ++ ((if b then [] else Duty.Ask (AskDuty.Leave B) ∷ []) ++ rest_of_turn)) ≡ false
 both_left x true true = refl

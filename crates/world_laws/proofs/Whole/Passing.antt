@@ -4,7 +4,7 @@ use Rattle.world_laws.proofs.Words.{Option, Some, None, List, [], ◌∷◌, ari
 use Rattle.world_laws.proofs.Words.{A, B, peer, without_held, after_keep_held, Receiving, SendState, EndState, is_fin_passed, EndPhase, after_dropping_held}
 use Rattle.world_laws.proofs.Words.{is_fin_next, after_passing_fin, is_at, Duty, SendDuty, StepDuty, AskDuty, SilentDuty, Heard, stands, passed, PathEnd}
 use Rattle.world_laws.proofs.Words.{PathState, end_at, with_agenda, settled, Carried, after_timer, mapping_here, forgotten_by, after_keep, is_dropped}
-use Rattle.world_laws.proofs.Words.{after_check, is_not_kept, with_learned, with_data_fin, counts, with_skipped, item_of, item_passed, item_at}
+use Rattle.world_laws.proofs.Words.{after_check, is_not_kept, with_learned, with_data_fin, with_skipped, counts, item_of, item_passed, item_at}
 use Rattle.subflow_tcp.specs.States as states
 use Rattle.world_laws.proofs.Falls.FailedChecks.{forgets_so}
 use Rattle.world_laws.proofs.Keys.AnswerHeardFirst.{passed_apart}

@@ -2,18 +2,14 @@
 use Rattle.world_laws.proofs.Words.{refl, ℕ, ◌||◌, Bool, true, false, if◌then◌else◌, Option, Some, None, List, Verdict, Mode, FallEvent, Side, JoinAnswer}
 use Rattle.world_laws.proofs.Words.{ControlReply, Notice, ReassemblyReply, SendReply, SendState, is_dead, Meaning, after_sending, EndState, EndPhase, Occasion}
 use Rattle.world_laws.proofs.Words.{Heard, KeyPair, Reply, PathEnd, died, Notices, after_notice, after_look, may_note, window_in, asked_in, died_unless_dead}
-use Rattle.world_laws.proofs.Words.{refused_in, opened_by, join_answer, acked_in, after_acked, counts, HeardOption, item_passed, heard_passed, fell_in, is_fall}
-use Rattle.world_laws.proofs.Words.{mode_in, keys_in, answered_in, cleared_in, with_answer, Modes, Only, happening, heard_writes, looking}
-use Rattle.path_core.specs.DssIn.{after_dss, with_data_ack, with_learned, with_skipped, with_data_fin}
+use Rattle.world_laws.proofs.Words.{refused_in, opened_by, join_answer, acked_in, after_acked, with_learned, with_data_fin, with_skipped, HeardOption, counts}
+use Rattle.world_laws.proofs.Words.{after_dss, with_data_ack, item_passed, heard_passed, fell_in, is_fall, mode_in, keys_in, answered_in, cleared_in}
+use Rattle.world_laws.proofs.Words.{with_answer, Modes, if_so, Only, happening, heard_writes, looking}
 use Rattle.subflow_tcp.specs.declared.dues.Due.{Due}
 use Rattle.path_store.specs.Receiving.{Receiving}
 use Rattle.path_core.specs.Sending.{Sending}
 
 -- ---- choices and replies
-
-pub if_so : {X : Type 0} (P : X → Type 0) (b : Bool) (x y : X) → P x → P y → P (if b then x else y)
-if_so P true x y one other = one
-if_so P false x y one other = other
 
 -- a verdict may tell the mode
 pub mode_so : (P : Modes → Type 0) (r : Reply) (m : Modes) → ((mode : Mode) → P (record m { mode = mode })) → P (mode_in r m)
