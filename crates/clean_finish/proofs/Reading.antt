@@ -13,7 +13,6 @@ filled_left (suc n) (None ∷ places) within = absurd (omega (arith, within))
 filled_left (suc n) (Some byte ∷ places) within = omega (arith, filled_left n places (omega (arith, within)))
 
 module _ (k : Setting) (s : Lane) (t : ℕ) (p : Stage) (w : Lane) where
-
   -- the turn isn't over
   reads_on : (n : ℕ) (a : AppState) (b : Arriving)
       → ReaderIs k (w.read + n) w.data_fin_came (w.got + n) w.told_end a b → w.received ≡ received b

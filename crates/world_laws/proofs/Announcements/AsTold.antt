@@ -1,14 +1,16 @@
 -- An announcement goes out as the path was told in the same turn, and as the control book was asked, whatever the order of the steps.
-use Rattle.world_laws.proofs.Words.{◌≡◌, refl, sym, ◌∙◌, ap, subst, ℕ, zero, suc, ◌+◌, ◌&&◌, not, inl, inr, ◌⊎◌, ⊎_elim, Bool, true, false, if◌then◌else◌}
-use Rattle.world_laws.proofs.Words.{Option, Some, None, List, [], ◌∷◌, ◌++◌, map, and_parts, both_ways, false≢true, true≢false, append-nil, append_assoc}
+use Rattle.world_laws.proofs.Words.{◌≡◌, refl, sym, ◌∙◌, ap, subst, ℕ, ◌+◌, ◌&&◌, not, inl, inr, ◌⊎◌, ⊎_elim, Bool, true, false, if◌then◌else◌}
+use Rattle.world_laws.proofs.Words.{Option, Some, None, List, [], ◌∷◌, ◌++◌, both_ways, false≢true, true≢false, append-nil, append_assoc}
 use Rattle.world_laws.proofs.Words.{same_Some, slice_get, IfSome, Entry, Pass, entry_of, is_member, no_ids, Side, A, B, ControlCall, ControlReply, Notice}
 use Rattle.world_laws.proofs.Words.{is_dead, start_of_turn, Duty, SendDuty, StepDuty, OwnNotice, Ask, Note, Reply, StampedBooks, books_in, after_entry}
 use Rattle.world_laws.proofs.Words.{control_of, reply_of, is_nil, Codec, stands, ask_for, passed, answered, PathEnd, first_sends, after_notice, after_look}
 use Rattle.world_laws.proofs.Words.{may_note, waiting_path, first_turn, PathState, end_at, goes_on, with_agenda, settled, answers, asks_of, asks_first, takes}
 use Rattle.world_laws.proofs.Words.{begins_turn, IsSettled, in_map, in_set, App, Path, control_journal, Actor, ActorCrew, member_asks, member_takes}
 use Rattle.world_laws.proofs.Words.{member_next, is_over, told_to_announce, ends_turn, look_after, look_of_turn, is_wanted, WasTold, AnnouncesAsTold}
-use Rattle.world_laws.proofs.Words.{AnnouncementsEnd, Always, PathPlan, Start, path_begins, opened_world, looks, WorldState, Turn, crew_after, asked, stepped}
-use Rattle.world_laws.proofs.Words.{all_over, greatest, begins, after_turn, world_run, note_of}
+use Rattle.world_laws.proofs.Words.{AnnouncementsEnd, Always, PathPlan, Start, path_begins, opened_world, looks, WorldState, Turn, crew_after}
+use Rattle.world_laws.proofs.Words.{greatest, begins, world_run, note_of}
+use Rattle.world_laws.proofs.Rounds.Lifting.{all_over_each}
+use Rattle.world_laws.proofs.Worlds.Turns.{run_so}
 use Rattle.std.proofs.Common.{eqb-true}
 use Rattle.control_book.specs.Replies as controlling
 use Rattle.control_book.specs.Steps as control
@@ -343,43 +345,22 @@ module _ {C : Type 0} (k : Codec C) where
     crew : (i : ℕ) (c : ActorCrew C) → slice_get w.crew i ≡ Some c → MemberIs w.books c.list c.member
     books : BooksAre w.books
 
-  over_each : (crew : List (ActorCrew C)) (i : ℕ) (c : ActorCrew C) → all_over crew ≡ true → slice_get crew i ≡ Some c → is_over c.member ≡ true
-  over_each [] i c over there = cc
-  over_each (d ∷ crew) zero c over there =
-      let parts = and_parts (is_over d.member) (all_over crew) over in subst (λ x. is_over x.member ≡ true) (same_Some d c there) parts.0
-  over_each (d ∷ crew) (suc i) c over there = over_each crew i c (and_parts (is_over d.member) (all_over crew) over).1 there
-
-  turn_is : (turn : Turn) (w : WorldState C) → WorldIs w → WorldIs (after_turn k turn w)
-  turn_is (Turn.Step actor) w h = by (slice_get w.crew actor) refl
-    where
-      asking : (c : ActorCrew C) → slice_get w.crew actor ≡ Some c → (o : Option Ask) → member_asks k c.member ≡ o → WorldIs (asked k actor o c w)
-      asking c there None is = h
-      asking c there (Some x) is = record {
+  run_is : (turns : List Turn) (w : WorldState C) → WorldIs w → WorldIs (world_run k turns w)
+  run_is = run_so k WorldIs
+      (λ w h actor c x there is. record {
         crew = λ i d at. ⊎_elim
             (λ here. subst (λ e. MemberIs (after_entry x c.pass w.books) e.list e.member) here.1 (own_goes x c.pass w.books c.list c.member h.books is (h.crew actor c there)))
             (λ other. others_keep x c.pass w.books d.list d.member (h.crew i d other.1))
             (in_set w.crew actor (crew_after k x w.books c) i d at);
         books = books_keep x c.pass w.books h.books;
-      }
-
-      by : (o : Option (ActorCrew C)) → slice_get w.crew actor ≡ o → WorldIs (stepped k actor o w)
-      by None there = h
-      by (Some c) there = asking c there (member_asks k c.member) refl
-  turn_is Turn.Round w h = by (all_over w.crew) refl
-    where
-      by : (b : Bool) → all_over w.crew ≡ b → WorldIs (if b then record w { crew = map (begins (greatest 0 w.crew)) w.crew } else w)
-      by true over = record {
+      })
+      (λ w h over. record {
         crew = λ i d at.
             let found = in_map (begins (greatest 0 w.crew)) w.crew i d at in
             subst (λ e. MemberIs w.books e.list e.member) found.2
-            (member_goes_on w.books found.0.list found.0.member (over_each w.crew i found.0 over found.1) (h.crew i found.0 found.1));
+            (member_goes_on w.books found.0.list found.0.member (all_over_each w.crew i found.0 over found.1) (h.crew i found.0 found.1));
         books = h.books;
-      }
-      by false over = h
-
-  run_is : (turns : List Turn) (w : WorldState C) → WorldIs w → WorldIs (world_run k turns w)
-  run_is [] w h = h
-  run_is (turn ∷ turns) w h = run_is turns (after_turn k turn w) (turn_is turn w h)
+      })
 
   opened_is : (start : Start) → WorldIs (opened_world start)
   opened_is start = record { crew = opened_actors (λ actor c. MemberIs (opened_world {C = C} start).books c.list c.member) start tt tt (λ number plan there. path number plan); books = books }

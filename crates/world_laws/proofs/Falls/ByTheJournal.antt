@@ -1,8 +1,9 @@
 -- The modes that a side was in by the journal of its control book: it was in them for ever, and the present one is one of them.
-use Rattle.world_laws.proofs.Words.{◌≡◌, refl, ◌||◌, inl, inr, ◌⊎◌, ⊎_elim, Bool, true, false, if◌then◌else◌, Option, Some, None, List, [], ◌∷◌, ◌++◌, map}
-use Rattle.world_laws.proofs.Words.{or_cases, false≢true, slice_get, Mode, Entry, Pass, entry_of, replay, Side, A, B, ControlCall, ControlReply, Control, Ask}
-use Rattle.world_laws.proofs.Words.{StampedBooks, books_in, after_entry, control_of, pick, Codec, ActorCrew, member_asks, WorldState, Turn, asked, stepped}
-use Rattle.world_laws.proofs.Words.{all_over, greatest, begins, after_turn, world_run}
+use Rattle.world_laws.proofs.Words.{◌≡◌, refl, ◌||◌, inl, inr, ◌⊎◌, ⊎_elim, Bool, true, false, List, [], ◌∷◌, ◌++◌}
+use Rattle.world_laws.proofs.Words.{or_cases, false≢true, Mode, Entry, Pass, entry_of, replay, Side, A, B, ControlCall, ControlReply, Control, Ask}
+use Rattle.world_laws.proofs.Words.{StampedBooks, books_in, after_entry, control_of, pick, Codec, WorldState, Turn}
+use Rattle.world_laws.proofs.Words.{after_turn, world_run}
+use Rattle.world_laws.proofs.Worlds.Turns.{turn_so, run_so}
 use Rattle.control_book.specs.Replies as controlling
 use Rattle.control_book.specs.Steps as control
 use Rattle.world_laws.specs.ModesSoFar.{was_by, was_in}
@@ -90,21 +91,7 @@ module _ (such : Mode → Bool) where
 
   module _ {C : Type 0} (k : Codec C) (s : Side) where
     pub turn_was : (turn : Turn) (w : WorldState C) → Was such w.books s → Was such (after_turn k turn w).books s
-    turn_was (Turn.Step actor) w is = by (slice_get w.crew actor)
-      where
-        asking : (c : ActorCrew C) (o : Option Ask) → Was such (asked k actor o c w).books s
-        asking c None = is
-        asking c (Some x) = was_stays x c.pass w.books s is
-
-        by : (o : Option (ActorCrew C)) → Was such (stepped k actor o w).books s
-        by None = is
-        by (Some c) = asking c (member_asks k c.member)
-    turn_was Turn.Round w is = by (all_over w.crew)
-      where
-        by : (b : Bool) → Was such (if b then record w { crew = map (begins (greatest 0 w.crew)) w.crew } else w).books s
-        by true = is
-        by false = is
+    turn_was turn w is = turn_so k (λ w. Was such w.books s) turn w is (λ actor c x there asks. was_stays x c.pass w.books s is) (λ over. is)
 
     pub run_was : (turns : List Turn) (w : WorldState C) → Was such w.books s → Was such (world_run k turns w).books s
-    run_was [] w is = is
-    run_was (turn ∷ turns) w is = run_was turns (after_turn k turn w) (turn_was turn w is)
+    run_was = run_so k (λ w. Was such w.books s) (λ w is actor c x there asks. was_stays x c.pass w.books s is) (λ w is over. is)

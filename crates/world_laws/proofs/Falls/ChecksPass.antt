@@ -1,7 +1,7 @@
 -- Where no payload is altered no check fails: the octets of a mapping that are all there are those that were sent. So no control book is
 -- told of a failure, and none knows of one.
 use Rattle.world_laws.proofs.Words.{◌≡◌, refl, sym, ◌∙◌, ap, subst, ℕ, ◌&&◌, ◌==◌, not, ⊎_elim, Bool, true, false, if◌then◌else◌, Option, Some, None, List, []}
-use Rattle.world_laws.proofs.Words.{◌∷◌, ◌++◌, length, map, arith, is_some, or_parts, and_parts, both_ways, false≢true, or_from, same_Some, list_any, slice_get}
+use Rattle.world_laws.proofs.Words.{◌∷◌, ◌++◌, length, arith, is_some, or_parts, and_parts, both_ways, false≢true, or_from, same_Some, list_any, slice_get}
 use Rattle.world_laws.proofs.Words.{IfSome, FallEvent, is_infinite, reads_mappings, sending, writes_mappings, Fall, goes, fall_step, Side, A, B, JoinSyn}
 use Rattle.world_laws.proofs.Words.{ControlCall, Notice, sole, Control, ReassemblyCall, Record, Pending, may_finish, EndPhase, PlainOption, PlainSegment, Fail}
 use Rattle.world_laws.proofs.Words.{Piece, InfiniteMapping, Duty, SendDuty, StepDuty, AskDuty, SilentDuty, Heard, KeyPair, key_heard, keys_heard, PeerNotice}
@@ -11,7 +11,8 @@ use Rattle.world_laws.proofs.Words.{data_ask, next_event, step_for, asked_at, jo
 use Rattle.world_laws.proofs.Words.{fin_ask, is_clash, mapping_ask, item_ask, item_of, fell_ask, plain_ack_ask, breaks_by_ack, peer_key_ask, opened_ask}
 use Rattle.world_laws.proofs.Words.{notice_call, Profile, sends, rate_ask, Every-map, in_map, in_set, Every, Duo, after_events, Holds, LaneHolds, Pair, AckCopy}
 use Rattle.world_laws.proofs.Words.{Lane, View, any_held, App, Path, Actor, ActorCrew, member_asks, Start, opened_world, WorldState, Turn, crew_after, asked}
-use Rattle.world_laws.proofs.Words.{stepped, all_over, greatest, begins, after_turn, world_run, note_of, IsPromised, IsPromisedOfOctets, if_so, notes_or}
+use Rattle.world_laws.proofs.Words.{greatest, begins, after_turn, world_run, note_of, IsPromised, IsPromisedOfOctets, if_so, notes_or}
+use Rattle.world_laws.proofs.Worlds.Turns.{turn_so}
 use Rattle.fallback_state.specs.Table.{stays, breaks}
 use Rattle.fallback_state.proofs.Steps.{IsUnfailed, unfailed_kept}
 use Rattle.control_book.specs.Replies as replying
@@ -329,23 +330,12 @@ asked_passing actor w c x there harmless h = record {
 }
 
 turn_passing : (turn : Turn) (w : WorldState Carried) → EachPasses w → Passing w → Passing (after_turn values turn w)
-turn_passing (Turn.Step actor) w passes h = by (slice_get w.crew actor) refl
-  where
-    takes : (c : ActorCrew Carried) → slice_get w.crew actor ≡ Some c → (o : Option Ask) → member_asks values c.member ≡ o → Passing (asked values actor o c w)
-    takes c there None is = h
-    takes c there (Some x) is = asked_passing actor w c x there (member_harmless c.member x (passes.each actor c there) is) h
-
-    by : (o : Option (ActorCrew Carried)) → slice_get w.crew actor ≡ o → Passing (stepped values actor o w)
-    by None there = h
-    by (Some c) there = takes c there (member_asks values c.member) refl
-turn_passing Turn.Round w passes h = by (all_over w.crew)
-  where
-    by : (b : Bool) → Passing (if b then record w { crew = map (begins (greatest 0 w.crew)) w.crew } else w)
-    by true = record {
+turn_passing turn w passes h =
+    turn_so values Passing turn w h (λ actor c x there is. asked_passing actor w c x there (member_harmless c.member x (passes.each actor c there) is) h)
+    (λ over. record {
       notes = λ i d at. let found = in_map (begins (greatest 0 w.crew)) w.crew i d at in ap (λ (y : ActorCrew Carried). list_any note_tells_failure y.list) (sym found.2) ∙ h.notes i found.0 found.1;
       books = h.books;
-    }
-    by false = h
+    })
 
 run_passing : (turns : List Turn) (w : WorldState Carried) → ((more : List Turn) → EachPasses (world_run values more w)) → Passing w → Passing (world_run values turns w)
 run_passing [] w ever h = h

@@ -1,7 +1,8 @@
 -- A side that was in plain TCP once is so at every later moment.
-use Rattle.world_laws.proofs.Words.{◌≡◌, refl, sym, subst, ◌⊎◌, ⊎_elim, true, Option, Some, None, List, [], ◌∷◌, map, slice_get, is_identity, Pass, Side, A, B}
-use Rattle.world_laws.proofs.Words.{Ask, StampedBooks, books_in, after_entry, SixBooks, control_of, after_ask, Carried, values, ActorCrew, member_asks, Start}
-use Rattle.world_laws.proofs.Words.{opened_world, WorldState, Turn, asked, stepped, all_over, greatest, begins, after_turn, world_run, if_so}
+use Rattle.world_laws.proofs.Words.{◌≡◌, refl, sym, subst, ◌⊎◌, ⊎_elim, true, List, is_identity, Pass, Side, A, B}
+use Rattle.world_laws.proofs.Words.{Ask, StampedBooks, books_in, after_entry, SixBooks, control_of, after_ask, Carried, values, Start}
+use Rattle.world_laws.proofs.Words.{opened_world, WorldState, Turn, world_run}
+use Rattle.world_laws.proofs.Worlds.Turns.{run_so}
 use Rattle.world_laws.specs.FallsRight.{has_fallen}
 use Rattle.world_laws.proofs.Falls.ByTheJournal.{Was, was_more}
 use Rattle.world_laws.proofs.Falls.WhereASideStands.{IsUnjoined, fell_plain, unjoined_stays}
@@ -61,23 +62,10 @@ step_ever x pass books fell right = (
     later : (s : Side) → IsUnjoined (control_of s (books_in (after_entry x pass books))).fall
     later s = subst (λ (y : SixBooks). IsUnjoined (control_of s y).fall) (sym (books_after x pass books)) (ask_right (books_in books) x s (right s))
 
-turn_ever : (turn : Turn) (w : WorldState Carried) → StaysFallen w → StaysFallen (after_turn values turn w)
-turn_ever (Turn.Step actor) w h = by (slice_get w.crew actor)
-  where
-    asking : (c : ActorCrew Carried) (o : Option Ask) → StaysFallen (asked values actor o c w)
-    asking c None = h
-    asking c (Some x) = let now = step_ever x c.pass w.books h.fell h.right in record { fell = now.0; right = now.1 }
-
-    by : (o : Option (ActorCrew Carried)) → StaysFallen (stepped values actor o w)
-    by None = h
-    by (Some c) = asking c (member_asks values c.member)
-turn_ever Turn.Round w h =
-    if_so StaysFallen (all_over w.crew) (record w { crew = map (begins (greatest 0 w.crew)) w.crew }) w
-    (record { fell = h.fell; right = h.right }) h
-
 run_ever : (turns : List Turn) (w : WorldState Carried) → StaysFallen w → StaysFallen (world_run values turns w)
-run_ever [] w h = h
-run_ever (turn ∷ turns) w h = run_ever turns (after_turn values turn w) (turn_ever turn w h)
+run_ever = run_so values StaysFallen
+    (λ w h actor c x there is. let now = step_ever x c.pass w.books h.fell h.right in record { fell = now.0; right = now.1 })
+    (λ w h over. record { fell = h.fell; right = h.right })
 
 pub ever_fallen : (start : Start) (turns : List Turn) (s : Side) → has_fallen s (world_run values turns (opened_world start)) ≡ true
     → FellBack (books_in (world_run values turns (opened_world start)).books) s

@@ -1,10 +1,11 @@
 -- A side that fell back never goes by the peer's mappings again.
-use Rattle.world_laws.proofs.Words.{◌≡◌, refl, sym, subst, ℕ, ◌&&◌, ◌==◌, not, ⊎_elim, Bool, true, false, if◌then◌else◌, Option, Some, None, List, [], ◌∷◌, map}
-use Rattle.world_laws.proofs.Words.{is_none, false≢true, slice_get, Verdict, Mode, FallEvent, is_identity, is_starting, reads_mappings, receiving, sending}
+use Rattle.world_laws.proofs.Words.{◌≡◌, refl, sym, subst, ℕ, ◌&&◌, ◌==◌, not, ⊎_elim, Bool, true, false, if◌then◌else◌, Some, List}
+use Rattle.world_laws.proofs.Words.{is_none, false≢true, Verdict, Mode, FallEvent, is_identity, is_starting, reads_mappings, receiving, sending}
 use Rattle.world_laws.proofs.Words.{writes_mappings, Fall, is_failed_path, goes, fall_step, Pass, Side, A, B, ControlCall, Notice, sole_path, Control, Ask}
-use Rattle.world_laws.proofs.Words.{StampedBooks, books_in, after_entry, SixBooks, control_of, after_ask, Codec, ActorCrew, member_asks, Always, Start}
-use Rattle.world_laws.proofs.Words.{opened_world, WorldState, Turn, asked, stepped, all_over, greatest, begins, after_turn, world_run, is_fallback}
+use Rattle.world_laws.proofs.Words.{StampedBooks, books_in, after_entry, SixBooks, control_of, after_ask, Codec, Always, Start}
+use Rattle.world_laws.proofs.Words.{opened_world, WorldState, Turn, world_run, is_fallback}
 use Rattle.world_laws.proofs.Words.{FallsForGood}
+use Rattle.world_laws.proofs.Worlds.Turns.{run_so}
 use Rattle.fallback_state.specs.Table.{stays, breaks}
 use Rattle.control_book.specs.Replies as control
 use Rattle.control_book.specs.Steps as controlling
@@ -141,25 +142,8 @@ entry_unread x pass books s h is = ⊎_elim
 -- ---- turns
 
 module _ {C : Type 0} (k : Codec C) (s : Side) where
-  turn_unread : (turn : Turn) (w : WorldState C) → IsUnread w.books s → IsUnread (after_turn k turn w).books s
-  turn_unread (Turn.Step actor) w h = by (slice_get w.crew actor)
-    where
-      asking : (c : ActorCrew C) (o : Option Ask) → IsUnread (asked k actor o c w).books s
-      asking c None = h
-      asking c (Some x) = entry_unread x c.pass w.books s h
-
-      by : (o : Option (ActorCrew C)) → IsUnread (stepped k actor o w).books s
-      by None = h
-      by (Some c) = asking c (member_asks k c.member)
-  turn_unread Turn.Round w h = by (all_over w.crew)
-    where
-      by : (b : Bool) → IsUnread (if b then record w { crew = map (begins (greatest 0 w.crew)) w.crew } else w).books s
-      by true = h
-      by false = h
-
   run_unread : (turns : List Turn) (w : WorldState C) → IsUnread w.books s → IsUnread (world_run k turns w).books s
-  run_unread [] w h = h
-  run_unread (turn ∷ turns) w h = run_unread turns (after_turn k turn w) (turn_unread turn w h)
+  run_unread = run_so k (λ w. IsUnread w.books s) (λ w h actor c x there is. entry_unread x c.pass w.books s h) (λ w h over. h)
 
 -- ---- the law
 

@@ -1,11 +1,12 @@
 -- What is known of the sides that joined: B answers a join after A began one, and an end that may finish, of a path that joins, has
 -- joined. And a side that fell back to plain TCP fell back by its control book, on no path that joins.
-use Rattle.world_laws.proofs.Words.{◌≡◌, refl, sym, ◌∙◌, ap, subst, ℕ, zero, suc, ◌+◌, nat_lt, ⊎_elim, Bool, true, false, if◌then◌else◌, Option, Some, None}
-use Rattle.world_laws.proofs.Words.{List, [], ◌∷◌, map, arith, is_some, lt-ltb, both_ways, false≢true, slice_get, IfSome, Side, A, B, Asked, ControlCall}
+use Rattle.world_laws.proofs.Words.{◌≡◌, refl, sym, ◌∙◌, ap, subst, ℕ, zero, suc, ◌+◌, nat_lt, ⊎_elim, Bool, true, false, Option, Some, None}
+use Rattle.world_laws.proofs.Words.{List, [], ◌∷◌, arith, is_some, lt-ltb, both_ways, false≢true, slice_get, IfSome, Side, A, B, Asked, ControlCall}
 use Rattle.world_laws.proofs.Words.{may_finish, EndPhase, Duty, StepDuty, AskDuty, Heard, Ask, Reply, books_in, SixBooks, reply_of, after_ask, waiting_path}
 use Rattle.world_laws.proofs.Words.{PathState, end_at, FirstStands, Carried, values, asked_at, is_joined, item_at, in_map, in_set, App, Path, Actor, ActorCrew}
-use Rattle.world_laws.proofs.Words.{member_asks, member_takes, member_next, Always, Start, path_begins, opened_world, WorldState, Turn, crew_after, asked}
-use Rattle.world_laws.proofs.Words.{stepped, all_over, greatest, begins, after_turn, world_run}
+use Rattle.world_laws.proofs.Words.{member_takes, member_next, Always, Start, path_begins, opened_world, WorldState, Turn, crew_after, asked}
+use Rattle.world_laws.proofs.Words.{greatest, begins, after_turn, world_run}
+use Rattle.world_laws.proofs.Worlds.Turns.{turn_so}
 use Rattle.world_laws.proofs.Weaving.Journals.{books_after}
 use Rattle.world_laws.proofs.Falls.WhereASideStands.{IsNoJoin, same_joined}
 use Rattle.world_laws.proofs.Keys.AreDrawn.{is_past, ItemIs}
@@ -91,39 +92,28 @@ pub record Order (start : Start) (w : WorldState Carried) : Type 0 where
   pub numbered : (actor : ℕ) (c : ActorCrew Carried) → slice_get w.crew actor ≡ Some c → IsNumbered actor c.member
 
 pub turn_order : (start : Start) (turn : Turn) (w : WorldState Carried) → Order start w → Order start (after_turn values turn w)
-turn_order start (Turn.Step actor) w h = by (slice_get w.crew actor) refl (turn_keys start.key_a start.key_b false (Turn.Step actor) w (λ right. absurd (false≢true right)) h.known)
-  where
-    asking : (c : ActorCrew Carried) → slice_get w.crew actor ≡ Some c → (o : Option Ask) → member_asks values c.member ≡ o
-        → WorldIs start.key_a start.key_b false (asked values actor o c w) → Order start (asked values actor o c w)
-    asking c there None is known = h
-    asking c there (Some x) is known =
-        let six = books_in w.books in
-        let now : books_in (asked values actor (Some x) c w).books ≡ after_ask x six = books_after x c.pass w.books in
-        record {
-          known = known;
-          order = subst (λ (y : SixBooks). Joined y B → Joined y A) (sym now)
-              (after_order start.key_a start.key_b six x (member_asks_are start.key_a start.key_b false six c.member x (h.known.crew.each actor c there) is) h.order);
-          numbered = λ i d at. ⊎_elim
-              (λ here. subst (λ y. IsNumbered i y.member) here.1 (subst (λ n. IsNumbered n (member_takes values (reply_of six x) c.member)) (sym here.0)
-              (takes_numbered actor (reply_of six x) c.member (h.numbered actor c there))))
-              (λ other. h.numbered i d other.1)
-              (in_set w.crew actor (crew_after values x w.books c) i d at);
-        }
-
-    by : (o : Option (ActorCrew Carried)) → slice_get w.crew actor ≡ o → WorldIs start.key_a start.key_b false (stepped values actor o w) → Order start (stepped values actor o w)
-    by None there known = h
-    by (Some c) there known = asking c there (member_asks values c.member) refl known
-turn_order start Turn.Round w h = by (all_over w.crew) (turn_keys start.key_a start.key_b false Turn.Round w (λ right. absurd (false≢true right)) h.known)
-  where
-    by : (b : Bool) → WorldIs start.key_a start.key_b false (if b then record w { crew = map (begins (greatest 0 w.crew)) w.crew } else w)
-        → Order start (if b then record w { crew = map (begins (greatest 0 w.crew)) w.crew } else w)
-    by true known = record {
+turn_order start turn w h =
+    turn_so values (λ v. WorldIs start.key_a start.key_b false v → Order start v) turn w (λ known. h)
+    (λ actor c x there is known.
+    let six = books_in w.books in
+    let now : books_in (asked values actor (Some x) c w).books ≡ after_ask x six = books_after x c.pass w.books in
+    record {
+      known = known;
+      order = subst (λ (y : SixBooks). Joined y B → Joined y A) (sym now)
+          (after_order start.key_a start.key_b six x (member_asks_are start.key_a start.key_b false six c.member x (h.known.crew.each actor c there) is) h.order);
+      numbered = λ i d at. ⊎_elim
+          (λ here. subst (λ y. IsNumbered i y.member) here.1 (subst (λ n. IsNumbered n (member_takes values (reply_of six x) c.member)) (sym here.0)
+          (takes_numbered actor (reply_of six x) c.member (h.numbered actor c there))))
+          (λ other. h.numbered i d other.1)
+          (in_set w.crew actor (crew_after values x w.books c) i d at);
+    })
+    (λ over known. record {
       known = known;
       order = h.order;
       numbered = λ i d at. let found = in_map (begins (greatest 0 w.crew)) w.crew i d at in
           subst (λ y. IsNumbered i y.member) found.2 (next_numbered i found.0.member (h.numbered i found.0 found.1));
-    }
-    by false known = h
+    })
+    (turn_keys start.key_a start.key_b false turn w (λ right. absurd (false≢true right)) h.known)
 
 run_order : (start : Start) (turns : List Turn) (w : WorldState Carried) → Order start w → Order start (world_run values turns w)
 run_order start [] w h = h

@@ -1,16 +1,18 @@
 -- No step is answered that a token isn't that of the book's key, or that an HMAC is wrong, whatever is stripped: A's book has B's key
 -- as soon as it is sure, so each join begins with it.
 use Rattle.world_laws.proofs.Words.{◌≡◌, refl, sym, ◌∙◌, ap, subst, ℕ, zero, suc, ◌+◌, ◌&&◌, ◌||◌, ◌==◌, not, inl, inr, ◌⊎◌, ⊎_elim, Bool, true, false}
-use Rattle.world_laws.proofs.Words.{if◌then◌else◌, Option, Some, None, List, [], ◌∷◌, map, arith, is_none, is_some, lt-ltb, and_parts, both_ways, false≢true}
-use Rattle.world_laws.proofs.Words.{or_right, same_Some, slice_get, IfSome, Verdict, Mode, FallEvent, is_identity, is_starting, reads_mappings, receiving}
+use Rattle.world_laws.proofs.Words.{if◌then◌else◌, Option, Some, None, List, [], ◌∷◌, arith, is_none, is_some, lt-ltb, and_parts, both_ways, false≢true}
+use Rattle.world_laws.proofs.Words.{or_right, same_Some, IfSome, Verdict, Mode, FallEvent, is_identity, is_starting, reads_mappings, receiving}
 use Rattle.world_laws.proofs.Words.{sending, writes_mappings, Fall, after_plain, is_failed_path, goes, fall_step, Stay, SendFail, heard_reply, Address, Side, A}
 use Rattle.world_laws.proofs.Words.{B, ControlCall, ControlReply, Notice, sole_path, with_phase, Control, Opening, Duty, StepDuty, AskDuty, Heard, KeyPair}
 use Rattle.world_laws.proofs.Words.{key_heard, keys_heard, Ask, Reply, books_in, SixBooks, reply_of, after_ask, is_nil, AppDuty, AppState, app_asks_first}
 use Rattle.world_laws.proofs.Words.{ask_for, ack_out_ask, waiting_path, PathState, end_at, asks_of, asks_first, Carried, values, reset_of, break_ask, is_joined}
 use Rattle.world_laws.proofs.Words.{is_clash, mapping_ask, item_ask, item_of, fell_ask, plain_ack_ask, breaks_by_ack, peer_key_ask, opened_ask, sends, in_map}
-use Rattle.world_laws.proofs.Words.{in_set, Every, App, Path, Actor, ActorCrew, member_asks, member_takes, member_next, is_over, Always, PathPlan, Start}
-use Rattle.world_laws.proofs.Words.{path_begins, new_path, opened_world, WorldState, Turn, crew_after, asked, stepped, world_step, all_over, greatest, begins}
-use Rattle.world_laws.proofs.Words.{end_round, after_turn, world_run, JoinsAreRight, tells_wrong_join, if_so, May, may, asking}
+use Rattle.world_laws.proofs.Words.{in_set, Every, App, Path, Actor, member_asks, member_takes, member_next, is_over, Always, PathPlan, Start}
+use Rattle.world_laws.proofs.Words.{path_begins, new_path, opened_world, WorldState, Turn, crew_after, asked, greatest, begins}
+use Rattle.world_laws.proofs.Words.{after_turn, world_run, JoinsAreRight, tells_wrong_join, if_so, May, may, asking}
+use Rattle.world_laws.proofs.Rounds.Lifting.{all_over_each}
+use Rattle.world_laws.proofs.Worlds.Turns.{turn_so}
 use Rattle.address_manager.specs.declared.manager.Heard.{Heard as AddressHeard}
 use Rattle.control_book.specs.SameAddress.{is_same}
 use Rattle.control_book.specs.Replies as control
@@ -468,65 +470,41 @@ module _ (key_a key_b : ℕ) where
       inr (takes_met (Knew (after_ask x six).control_a) (reply_of six x) p
       (λ y asks. subst (λ z. Gains (Knew (after_ask x six).control_a) z (reply_of six x)) (same_Some x y (sym is ∙ asks)) gain) h)
 
-  step_met : (actor : ℕ) (w : WorldState Carried) → WorldMet w → WorldMet (world_step values actor w)
-  step_met actor w h = by (slice_get w.crew actor) refl
-    where
-      six : SixBooks
-      six = books_in w.books
-
-      asking : (c : ActorCrew Carried) → slice_get w.crew actor ≡ Some c → (o : Option Ask) → member_asks values c.member ≡ o → WorldIs key_a key_b true (asked values actor o c w) → WorldMet (asked values actor o c w)
-      asking c there None is keys = h
-      asking c there (Some x) is keys =
-          let own = h.crew.each actor c there in
-          let own_keys = h.keys.crew.each actor c there in
-          let asks_keys = member_asks_are key_a key_b true six c.member x own_keys is in
-          let sign = λ (fell : is_fell x ≡ true). member_signs six c.member x is fell own_keys h.fine own in
-          let kept = ask_keeps six x asks_keys sign h.fine in
-          let gain = gains six x asks_keys kept h.fine in
-          let knew = λ (was : Knew six.control_a). knew_keeps six.control_a (after_ask x six).control_a kept was in
-          let now = books_after x c.pass w.books in
-          record {
-            keys = keys;
-            crew = subst (λ (y : SixBooks). Every (λ d. MemberMet (Knew y.control_a) d.member) (asked values actor (Some x) c w).crew) (sym now) (record {
-              each = λ i d at. ⊎_elim
-                  (λ here. subst (λ y. MemberMet (Knew (after_ask x six).control_a) y.member) here.1
-                  (takes_member six x c.member is gain (more_member (Knew six.control_a) (Knew (after_ask x six).control_a) c.member knew own)))
-                  (λ other. more_member (Knew six.control_a) (Knew (after_ask x six).control_a) d.member knew (h.crew.each i d other.1))
-                  (in_set w.crew actor (crew_after values x w.books c) i d at);
-            });
-            fine = subst (λ (y : SixBooks). Fine y.control_a) (sym now) (kept.fine h.fine);
-          }
-
-      by : (o : Option (ActorCrew Carried)) → slice_get w.crew actor ≡ o → WorldMet (stepped values actor o w)
-      by None there = h
-      by (Some c) there = asking c there (member_asks values c.member) refl
-          (subst (λ o. WorldIs key_a key_b true (stepped values actor o w)) there (turn_keys key_a key_b true (Turn.Step actor) w (knowing w h) h.keys))
-
-  over_each : (crew : List (ActorCrew Carried)) (i : ℕ) (c : ActorCrew Carried) → all_over crew ≡ true → slice_get crew i ≡ Some c → is_over c.member ≡ true
-  over_each [] i c over there = cc
-  over_each (d ∷ crew) zero c over there = subst (λ x. is_over x.member ≡ true) (same_Some d c there) (and_parts (is_over d.member) (all_over crew) over).0
-  over_each (d ∷ crew) (suc i) c over there = over_each crew i c (and_parts (is_over d.member) (all_over crew) over).1 there
-
-  round_met : (w : WorldState Carried) → WorldMet w → WorldMet (end_round w)
-  round_met w h = by (all_over w.crew) refl (turn_keys key_a key_b true Turn.Round w (knowing w h) h.keys)
-    where
-      by : (b : Bool) → all_over w.crew ≡ b → WorldIs key_a key_b true (if b then record w { crew = map (begins (greatest 0 w.crew)) w.crew } else w)
-          → WorldMet (if b then record w { crew = map (begins (greatest 0 w.crew)) w.crew } else w)
-      by true over keys = record {
+  pub turn_met : (turn : Turn) (w : WorldState Carried) → WorldMet w → WorldMet (after_turn values turn w)
+  turn_met turn w h =
+      turn_so values (λ v. WorldIs key_a key_b true v → WorldMet v) turn w (λ keys. h)
+      (λ actor c x there is keys.
+      let six = books_in w.books in
+      let own = h.crew.each actor c there in
+      let own_keys = h.keys.crew.each actor c there in
+      let asks_keys = member_asks_are key_a key_b true six c.member x own_keys is in
+      let sign = λ (fell : is_fell x ≡ true). member_signs six c.member x is fell own_keys h.fine own in
+      let kept = ask_keeps six x asks_keys sign h.fine in
+      let gain = gains six x asks_keys kept h.fine in
+      let knew = λ (was : Knew six.control_a). knew_keeps six.control_a (after_ask x six).control_a kept was in
+      let now = books_after x c.pass w.books in
+      record {
+        keys = keys;
+        crew = subst (λ (y : SixBooks). Every (λ d. MemberMet (Knew y.control_a) d.member) (asked values actor (Some x) c w).crew) (sym now) (record {
+          each = λ i d at. ⊎_elim
+              (λ here. subst (λ y. MemberMet (Knew (after_ask x six).control_a) y.member) here.1
+              (takes_member six x c.member is gain (more_member (Knew six.control_a) (Knew (after_ask x six).control_a) c.member knew own)))
+              (λ other. more_member (Knew six.control_a) (Knew (after_ask x six).control_a) d.member knew (h.crew.each i d other.1))
+              (in_set w.crew actor (crew_after values x w.books c) i d at);
+        });
+        fine = subst (λ (y : SixBooks). Fine y.control_a) (sym now) (kept.fine h.fine);
+      })
+      (λ over keys. record {
         keys = keys;
         crew = record {
           each = λ i d at.
               let found = in_map (begins (greatest 0 w.crew)) w.crew i d at in
               subst (λ y. MemberMet (Knew (books_in w.books).control_a) y.member) found.2
-              (next_member (Knew (books_in w.books).control_a) found.0.member (h.crew.each i found.0 found.1) (over_each w.crew i found.0 over found.1));
+              (next_member (Knew (books_in w.books).control_a) found.0.member (h.crew.each i found.0 found.1) (all_over_each w.crew i found.0 over found.1));
         };
         fine = h.fine;
-      }
-      by false over keys = h
-
-  pub turn_met : (turn : Turn) (w : WorldState Carried) → WorldMet w → WorldMet (after_turn values turn w)
-  turn_met (Turn.Step actor) w h = step_met actor w h
-  turn_met Turn.Round w h = round_met w h
+      })
+      (turn_keys key_a key_b true turn w (knowing w h) h.keys)
 
   pub run_met : (turns : List Turn) (w : WorldState Carried) → WorldMet w → WorldMet (world_run values turns w)
   run_met [] w h = h

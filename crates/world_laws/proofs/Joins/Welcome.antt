@@ -1,15 +1,16 @@
 -- No copy that arrives on a path that joins is refused for what it says, unless its options were taken away.
 use Rattle.world_laws.proofs.Words.{◌≡◌, refl, sym, ◌∙◌, ap, subst, ℕ, zero, suc, ◌+◌, ◌&&◌, ◌==◌, not, ⊎_elim, Bool, true, false, if◌then◌else◌, Option, Some}
 use Rattle.world_laws.proofs.Words.{None, Ok, Err, List, [], ◌∷◌, map, is_none, is_some, unwrap_or, eq-eqb, and_parts, both_ways, false≢true, same_Some}
-use Rattle.world_laws.proofs.Words.{slice_get, flat_map, IfSome, option_or, result_ok, join_a160_of, join_b64_of, Side, A, B, peer, same_side, JoinForm, Answer}
+use Rattle.world_laws.proofs.Words.{flat_map, IfSome, option_or, result_ok, join_a160_of, join_b64_of, Side, A, B, peer, same_side, JoinForm, Answer}
 use Rattle.world_laws.proofs.Words.{Third, JoinAnswer, BadHmac, answer_heard, answer_taken, syn_heard, third_heard, is_closed_to_segments, is_half_open}
 use Rattle.world_laws.proofs.Words.{Meaning, EndState, EndPhase, meaning_of, Copy, is_due, arriving, Flight, HeardSegment, PlainOption, PlainSegment, Join}
-use Rattle.world_laws.proofs.Words.{meant, meant_option, window_told, Heard, is_of_step, join_in, join_heard, JoinStep, Ask, Reply, books_in, SixBooks}
+use Rattle.world_laws.proofs.Words.{meant, meant_option, window_told, Heard, is_of_step, join_in, join_heard, JoinStep, Reply, books_in, SixBooks}
 use Rattle.world_laws.proofs.Words.{reply_of, is_nil, PathEnd, waiting_path, PathState, end_at, Carried, as_arrived, values, items_in, items_of, copy_of}
 use Rattle.world_laws.proofs.Words.{judged_in, heard_in, Judged, is_joined, join_answer, join_asked, peer_key_of, join_value, is_hmac_right, is_third_right}
-use Rattle.world_laws.proofs.Words.{third_in, is_forged, is_passed_over, join_judged, in_map, Every-nil, in_set, Every, App, Path, Actor, ActorCrew}
-use Rattle.world_laws.proofs.Words.{member_asks, member_takes, member_next, Always, PathPlan, Start, path_begins, new_path, opened_world, WorldState, Turn}
-use Rattle.world_laws.proofs.Words.{crew_after, asked, stepped, all_over, greatest, begins, after_turn, world_run}
+use Rattle.world_laws.proofs.Words.{third_in, is_forged, is_passed_over, join_judged, in_map, Every-nil, in_set, Every, App, Path, Actor}
+use Rattle.world_laws.proofs.Words.{member_takes, member_next, Always, PathPlan, Start, path_begins, new_path, opened_world, WorldState, Turn}
+use Rattle.world_laws.proofs.Words.{crew_after, greatest, begins, after_turn, world_run}
+use Rattle.world_laws.proofs.Worlds.Turns.{run_so}
 use Rattle.std.specs.Cmp.Lexicographic.{pointwise}
 use Rattle.mptcp_options.specs.declared.join.JoinForm.TheVariants.{Syn}
 use Rattle.world_laws.specs.Welcome.{IsWelcome, NextIsWelcome, WelcomesNext, EachCopyIsWelcome}
@@ -297,34 +298,19 @@ next_member (App a) h = tt
 next_member (Path p) h =
     begins_roles (record p { clock = p.until; until = p.until + 100 }) (record { copies = h.copies; role_a = h.role_a; role_b = h.role_b; answer_a = h.answer_a; answer_b = h.answer_b })
 
-turn_roles : (turn : Turn) (w : WorldState Carried) → AllRoles w → AllRoles (after_turn values turn w)
-turn_roles (Turn.Step actor) w h = by (slice_get w.crew actor) refl
-  where
-    asking : (c : ActorCrew Carried) → slice_get w.crew actor ≡ Some c → (o : Option Ask) → AllRoles (asked values actor o c w)
-    asking c there None = h
-    asking c there (Some x) = record {
+run_roles : (turns : List Turn) (w : WorldState Carried) → AllRoles w → AllRoles (world_run values turns w)
+run_roles = run_so values AllRoles
+    (λ w h actor c x there is. record {
       each = λ i d at. ⊎_elim
           (λ here. subst (λ y. MemberRoles y.member) here.1 (takes_member (reply_of (books_in w.books) x) c.member (h.each actor c there)))
           (λ other. h.each i d other.1)
           (in_set w.crew actor (crew_after values x w.books c) i d at);
-    }
-
-    by : (o : Option (ActorCrew Carried)) → slice_get w.crew actor ≡ o → AllRoles (stepped values actor o w)
-    by None there = h
-    by (Some c) there = asking c there (member_asks values c.member)
-turn_roles Turn.Round w h = by (all_over w.crew)
-  where
-    by : (b : Bool) → AllRoles (if b then record w { crew = map (begins (greatest 0 w.crew)) w.crew } else w)
-    by true = record {
+    })
+    (λ w h over. record {
       each = λ i d at.
           let found = in_map (begins (greatest 0 w.crew)) w.crew i d at in
           subst (λ y. MemberRoles y.member) found.2 (next_member found.0.member (h.each i found.0 found.1));
-    }
-    by false = h
-
-run_roles : (turns : List Turn) (w : WorldState Carried) → AllRoles w → AllRoles (world_run values turns w)
-run_roles [] w h = h
-run_roles (turn ∷ turns) w h = run_roles turns (after_turn values turn w) (turn_roles turn w h)
+    })
 
 opened_roles : (start : Start) → AllRoles (opened_world start)
 opened_roles start = record { each = opened_actors (λ actor c. MemberRoles c.member) start tt tt (λ number plan there. path number plan) }

@@ -1,7 +1,7 @@
 -- No control book is told another key than its own: what an end hears are the keys that were drawn.
 use Rattle.world_laws.proofs.Words.{◌≡◌, refl, sym, ◌∙◌, ap, subst, ℕ, zero, suc, ◌+◌, ◌&&◌, ◌||◌, ◌==◌, not, nat_lt, ⊎_elim, Bool, true, false, if◌then◌else◌}
-use Rattle.world_laws.proofs.Words.{Option, Some, None, List, [], ◌∷◌, map, arith, is_none, is_some, lt-ltb, and_parts, both_ways, false≢true, same_Some}
-use Rattle.world_laws.proofs.Words.{slice_get, IfSome, token_of, Side, A, B, peer, Asked, ControlCall, ControlReply, sole_path, with_phase, Control}
+use Rattle.world_laws.proofs.Words.{Option, Some, None, List, [], ◌∷◌, arith, is_none, is_some, lt-ltb, and_parts, both_ways, false≢true, same_Some}
+use Rattle.world_laws.proofs.Words.{IfSome, token_of, Side, A, B, peer, Asked, ControlCall, ControlReply, sole_path, with_phase, Control}
 use Rattle.world_laws.proofs.Words.{peer_or_zero, Opening, ReassemblyCall, Record, Pending, is_waiting, EndState, Piece, start_of_turn, Duty, SendDuty}
 use Rattle.world_laws.proofs.Words.{StepDuty, AskDuty, SilentDuty, Heard, KeyPair, key_heard, keys_heard, PeerNotice, Ask, Reply, books_in, SixBooks, reply_of}
 use Rattle.world_laws.proofs.Words.{after_ask, LocalStep, AppDuty, AppState, app_ask, app_asks_first, ask_for, waiting_path, first_turn, PathState, end_at}
@@ -9,9 +9,10 @@ use Rattle.world_laws.proofs.Words.{with_agenda, answers, asks_of, asks_first, t
 use Rattle.world_laws.proofs.Words.{data_ask, next_event, step_for, asked_at, keys_begun, is_joined, join_heard_ask, piece_of, piece_ask, plain_fin}
 use Rattle.world_laws.proofs.Words.{data_fin_of, fin_ask, is_clash, mapping_ask, item_ask, item_of, fell_ask, plain_ack_ask, breaks_by_ack, is_fall}
 use Rattle.world_laws.proofs.Words.{peer_key_ask, opened_ask, is_stopped_by, notice_ask, sends, rate_ask, in_map, Every-nil, in_set, Every, App, Path, Actor}
-use Rattle.world_laws.proofs.Words.{ActorCrew, member_asks, member_takes, member_next, Always, PathPlan, Start, path_begins, opened_world, WorldState, Turn}
-use Rattle.world_laws.proofs.Words.{crew_after, asked, stepped, world_step, all_over, greatest, begins, end_round, after_turn, world_run, KeysNeverDiffer}
+use Rattle.world_laws.proofs.Words.{member_asks, member_takes, member_next, Always, PathPlan, Start, path_begins, opened_world, WorldState, Turn}
+use Rattle.world_laws.proofs.Words.{crew_after, asked, greatest, begins, after_turn, world_run, KeysNeverDiffer}
 use Rattle.world_laws.proofs.Words.{tells_bad_address, tells_wrong_join, tells_other_key, if_so}
+use Rattle.world_laws.proofs.Worlds.Turns.{turn_so}
 use Rattle.control_book.specs.Replies as control
 use Rattle.control_book.specs.Steps as controlling
 use Rattle.fallback_state.specs.declared.fall.Event.TheVariants as events
@@ -477,43 +478,27 @@ module _ (key_a key_b : ℕ) (right : Bool) where
   abbrev Knowing : WorldState Carried → Type 0
   Knowing w = right ≡ true → SureHasKey (books_in w.books)
 
-  step_keys : (actor : ℕ) (w : WorldState Carried) → Knowing w → WorldIs w → WorldIs (world_step values actor w)
-  step_keys actor w knows h = by (slice_get w.crew actor) refl
-    where
-      asking : (c : ActorCrew Carried) → slice_get w.crew actor ≡ Some c → (o : Option Ask) → member_asks values c.member ≡ o → WorldIs (asked values actor o c w)
-      asking c there None is = h
-      asking c there (Some x) is =
-          let six = books_in w.books in
-          let now : books_in (asked values actor (Some x) c w).books ≡ after_ask x six = books_after x c.pass w.books in
-          record {
-            crew = subst (λ (y : SixBooks). Every (λ d. MemberIs y d.member) (asked values actor (Some x) c w).crew) (sym now) (record {
-              each = λ i d at. ⊎_elim
-                  (λ here. subst (λ y. MemberIs (after_ask x six) y.member) here.1 (takes_keys six x c.member is knows h.books (h.crew.each actor c there)))
-                  (λ other. more_keys six x d.member (h.crew.each i d other.1))
-                  (in_set w.crew actor (crew_after values x w.books c) i d at);
-            });
-            books = subst BooksAre (sym now) (ask_keeps NoMore six x (member_asks_are six c.member x (h.crew.each actor c there) is) h.books);
-          }
-
-      by : (o : Option (ActorCrew Carried)) → slice_get w.crew actor ≡ o → WorldIs (stepped values actor o w)
-      by None there = h
-      by (Some c) there = asking c there (member_asks values c.member) refl
-
-  round_keys : (w : WorldState Carried) → WorldIs w → WorldIs (end_round w)
-  round_keys w h = by (all_over w.crew)
-    where
-      by : (b : Bool) → WorldIs (if b then record w { crew = map (begins (greatest 0 w.crew)) w.crew } else w)
-      by true = record {
+  pub turn_keys : (turn : Turn) (w : WorldState Carried) → Knowing w → WorldIs w → WorldIs (after_turn values turn w)
+  turn_keys turn w knows h =
+      turn_so values WorldIs turn w h
+      (λ actor c x there is.
+      let six = books_in w.books in
+      let now : books_in (asked values actor (Some x) c w).books ≡ after_ask x six = books_after x c.pass w.books in
+      record {
+        crew = subst (λ (y : SixBooks). Every (λ d. MemberIs y d.member) (asked values actor (Some x) c w).crew) (sym now) (record {
+          each = λ i d at. ⊎_elim
+              (λ here. subst (λ y. MemberIs (after_ask x six) y.member) here.1 (takes_keys six x c.member is knows h.books (h.crew.each actor c there)))
+              (λ other. more_keys six x d.member (h.crew.each i d other.1))
+              (in_set w.crew actor (crew_after values x w.books c) i d at);
+        });
+        books = subst BooksAre (sym now) (ask_keeps NoMore six x (member_asks_are six c.member x (h.crew.each actor c there) is) h.books);
+      })
+      (λ over. record {
         crew = record {
           each = λ i d at. let found = in_map (begins (greatest 0 w.crew)) w.crew i d at in subst (λ y. MemberIs (books_in w.books) y.member) found.2 (next_keys (books_in w.books) found.0.member (h.crew.each i found.0 found.1));
         };
         books = h.books;
-      }
-      by false = h
-
-  pub turn_keys : (turn : Turn) (w : WorldState Carried) → Knowing w → WorldIs w → WorldIs (after_turn values turn w)
-  turn_keys (Turn.Step actor) w knows h = step_keys actor w knows h
-  turn_keys Turn.Round w knows h = round_keys w h
+      })
 
   untold : (w : WorldState Carried) → WorldIs w → Untold tells_other_key values w
   untold w h actor c x there asks = ask_untold (books_in w.books) x h.books (member_asks_are (books_in w.books) c.member x (h.crew.each actor c there) asks)

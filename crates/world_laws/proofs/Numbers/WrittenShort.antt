@@ -1,9 +1,9 @@
 -- A send book never has more than 2^62 - 3 bytes, whatever it is asked.
-use Rattle.world_laws.proofs.Words.{sym, subst, ◌-◌, ◌≤◌, ◌||◌, Bool, true, false, if◌then◌else◌, Option, Some, None, Result, Ok, Err, List, [], ◌∷◌, length}
-use Rattle.world_laws.proofs.Words.{take, map, arith, ◌^◌, length-append, length-take, slice_get, Side, A, B, Span, Why, SendCall, Sending, bytes_taken}
-use Rattle.world_laws.proofs.Words.{decision, given_by, is_future, is_gathered, AckIn, Ask, books_in, SixBooks, send_of, after_ask, Codec, ActorCrew}
-use Rattle.world_laws.proofs.Words.{member_asks, Start, opened_world, WorldState, Turn, asked, stepped, all_over, greatest, begins, after_turn, world_run}
-use Rattle.world_laws.proofs.Words.{if_so}
+use Rattle.world_laws.proofs.Words.{sym, subst, ◌-◌, ◌≤◌, ◌||◌, Bool, true, false, if◌then◌else◌, Result, Ok, Err, List, length}
+use Rattle.world_laws.proofs.Words.{take, arith, ◌^◌, length-append, length-take, Side, A, B, Span, Why, SendCall, Sending, bytes_taken}
+use Rattle.world_laws.proofs.Words.{decision, given_by, is_future, is_gathered, AckIn, Ask, books_in, SixBooks, send_of, after_ask, Codec}
+use Rattle.world_laws.proofs.Words.{Start, opened_world, WorldState, Turn, world_run}
+use Rattle.world_laws.proofs.Worlds.Turns.{run_so}
 use Rattle.send_book.specs.declared.call.SendCall.TheVariants.{Write, Close, Grant, GoInfinite}
 use Rattle.send_book.specs.Steps.{after_call}
 use Rattle.world_laws.proofs.Weaving.Journals.{books_after}
@@ -49,21 +49,9 @@ module _ {C : Type 0} (k : Codec C) where
   abbrev WorldIsBounded : WorldState C → Type 0
   WorldIsBounded w = AreBounded (books_in w.books)
 
-  turn_bounded : (turn : Turn) (w : WorldState C) → WorldIsBounded w → WorldIsBounded (after_turn k turn w)
-  turn_bounded (Turn.Step actor) w h = by (slice_get w.crew actor)
-    where
-      asks : (c : ActorCrew C) (o : Option Ask) → WorldIsBounded (asked k actor o c w)
-      asks c None = h
-      asks c (Some x) = subst AreBounded (sym (books_after x c.pass w.books)) (ask_bounded x (books_in w.books) h)
-
-      by : (o : Option (ActorCrew C)) → WorldIsBounded (stepped k actor o w)
-      by None = h
-      by (Some c) = asks c (member_asks k c.member)
-  turn_bounded Turn.Round w h = if_so WorldIsBounded (all_over w.crew) (record w { crew = map (begins (greatest 0 w.crew)) w.crew }) w h h
-
   run_bounded : (turns : List Turn) (w : WorldState C) → WorldIsBounded w → WorldIsBounded (world_run k turns w)
-  run_bounded [] w h = h
-  run_bounded (turn ∷ turns) w h = run_bounded turns (after_turn k turn w) (turn_bounded turn w h)
+  run_bounded =
+      run_so k WorldIsBounded (λ w h actor c x there is. subst AreBounded (sym (books_after x c.pass w.books)) (ask_bounded x (books_in w.books) h)) (λ w h over. h)
 
   pub always_bounded : (start : Start) (turns : List Turn) (s : Side) → length (send_of s (books_in (world_run k turns (opened_world start)).books)).written ≤ 2 ^ 62 - 3
   always_bounded start turns = run_bounded turns (opened_world start) none

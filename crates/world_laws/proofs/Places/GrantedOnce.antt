@@ -2,8 +2,9 @@
 use Rattle.world_laws.proofs.Words.{◌≡◌, refl, sym, ◌∙◌, ap, ℕ, zero, suc, ◌+◌, ◌&&◌, Bool, if◌then◌else◌, Option, Some, None, List, [], ◌∷◌, ◌++◌, map, arith}
 use Rattle.world_laws.proofs.Words.{set, get_or, map-append, same_Some, slice_get_within, count_by, slice_get, sum_by-set, sum_by_push, Entry, Pass, entry_of}
 use Rattle.world_laws.proofs.Words.{after_entering, book_of, replay, Side, A, B, SendCall, Sending, SendReply, Ask, Note, StampedBooks, after_entry}
-use Rattle.world_laws.proofs.Words.{SendJournal, pick, Codec, ActorCrew, member_asks, Always, PathPlan, Start, paths_from, opened_world, WorldState, Turn}
-use Rattle.world_laws.proofs.Words.{crew_after, asked, stepped, all_over, greatest, begins, after_turn, world_run, note_of, if_so}
+use Rattle.world_laws.proofs.Words.{SendJournal, pick, Codec, ActorCrew, Always, PathPlan, Start, paths_from, opened_world, WorldState, Turn}
+use Rattle.world_laws.proofs.Words.{crew_after, asked, greatest, begins, world_run, note_of}
+use Rattle.world_laws.proofs.Worlds.Turns.{run_so}
 use Rattle.std.proofs.Common.{fold}
 use Rattle.send_book.specs.Steps.{reply_to, after_call}
 use Rattle.send_book.specs.Laws.{after_calls, is_asked_by, covers, times_granted as times_called}
@@ -103,19 +104,9 @@ module _ (path place : ℕ) where
         same_from m [] = refl
         same_from m (c ∷ crew) = same_from (m + in_list c) crew
 
-    turn_counted : (turn : Turn) (w : WorldState C) → Counted w → Counted (after_turn k turn w)
-    turn_counted (Turn.Step actor) w h = by (slice_get w.crew actor) refl
-      where
-        by : (o : Option (ActorCrew C)) → slice_get w.crew actor ≡ o → Counted (stepped k actor o w)
-        by None there = h
-        by (Some c) there = asked_counted actor (member_asks k c.member) c w there h
-    turn_counted Turn.Round w h =
-        if_so Counted (all_over w.crew) (record w { crew = map (begins (greatest 0 w.crew)) w.crew }) w
-        (record { same = same_sum (greatest 0 w.crew) w.crew ∙ h.same }) h
-
     run_counted : (turns : List Turn) (w : WorldState C) → Counted w → Counted (world_run k turns w)
-    run_counted [] w h = h
-    run_counted (turn ∷ turns) w h = run_counted turns (after_turn k turn w) (turn_counted turn w h)
+    run_counted = run_so k Counted (λ w h actor c x there is. asked_counted actor (Some x) c w there h)
+        (λ w h over. record { same = same_sum (greatest 0 w.crew) w.crew ∙ h.same })
 
 -- no path has noted anything
 none_noted : (C : Type 0) (s : Side) (path place : ℕ) (start : Start) (first : ℕ) (plans : List PathPlan) → times_granted s path place (paths_from {C = C} start first plans) ≡ 0

@@ -1,12 +1,13 @@
 -- A path that stands by is granted nothing, whatever the order of the steps.
 use Rattle.world_laws.proofs.Words.{◌≡◌, refl, sym, ◌∙◌, ap, subst, ℕ, ◌&&◌, ◌||◌, ◌==◌, ⊎_elim, Bool, true, false, if◌then◌else◌, Option, Some, None, Err}
-use Rattle.world_laws.proofs.Words.{List, [], ◌∷◌, ◌++◌, length, map, and_parts, both_ways, false≢true, same_Some, slice_get, Side, A, B, Sending, acked_len}
+use Rattle.world_laws.proofs.Words.{List, [], ◌∷◌, ◌++◌, length, and_parts, both_ways, false≢true, same_Some, slice_get, Side, A, B, Sending, acked_len}
 use Rattle.world_laws.proofs.Words.{decision, reply_by, Record, Duty, StepDuty, Ask, Note, Reply, books_in, SixBooks, reply_of, AppDuty, AppState, app_ask}
 use Rattle.world_laws.proofs.Words.{app_asks_first, Codec, ask_for, waiting_path, first_turn, PathState, end_at, path_of, asks_of, asks_first, first_unsent}
 use Rattle.world_laws.proofs.Words.{data_ask, payload_size, in_map, in_set, App, Path, Actor, ActorCrew, member_asks, member_takes, member_next, Always}
 use Rattle.world_laws.proofs.Words.{PathPlan, Start, path_begins, opened_world, looks, standby_told, standby_last, is_grant, grants_bytes, GrantsAreFree}
-use Rattle.world_laws.proofs.Words.{BackupsGetNothing, WorldState, Turn, crew_after, asked, stepped, all_over, greatest, begins, after_turn, world_run, note_of}
+use Rattle.world_laws.proofs.Words.{BackupsGetNothing, WorldState, Turn, crew_after, greatest, begins, world_run, note_of}
 use Rattle.world_laws.proofs.Words.{asks_grant, notes_or}
+use Rattle.world_laws.proofs.Worlds.Turns.{run_so}
 use Rattle.send_book.specs.declared.call.Why.TheVariants.{Ended, Backup}
 use Rattle.world_laws.specs.Standbys.{standby_after}
 use Rattle.world_laws.proofs.Worlds.Opened.{opened_actors}
@@ -136,31 +137,16 @@ module _ {C : Type 0} (k : Codec C) where
   abbrev AllFree : WorldState C → Type 0
   AllFree w = (i : ℕ) (c : ActorCrew C) → slice_get w.crew i ≡ Some c → CrewIs c
 
-  turn_free : (turn : Turn) (w : WorldState C) → AllFree w → AllFree (after_turn k turn w)
-  turn_free (Turn.Step actor) w h = by (slice_get w.crew actor) refl
-    where
-      asking : (c : ActorCrew C) → slice_get w.crew actor ≡ Some c → (o : Option Ask) → member_asks k c.member ≡ o → AllFree (asked k actor o c w)
-      asking c there None is = h
-      asking c there (Some x) is = λ i d at. ⊎_elim
-          (λ here. subst CrewIs here.1 (crew_goes w c x is (h actor c there)))
-          (λ other. h i d other.1)
-          (in_set w.crew actor (crew_after k x w.books c) i d at)
-
-      by : (o : Option (ActorCrew C)) → slice_get w.crew actor ≡ o → AllFree (stepped k actor o w)
-      by None there = h
-      by (Some c) there = asking c there (member_asks k c.member) refl
-  turn_free Turn.Round w h = by (all_over w.crew)
+  run_free : (turns : List Turn) (w : WorldState C) → AllFree w → AllFree (world_run k turns w)
+  run_free = run_so k AllFree
+      (λ w h actor c x there is i d at. ⊎_elim
+      (λ here. subst CrewIs here.1 (crew_goes w c x is (h actor c there)))
+      (λ other. h i d other.1)
+      (in_set w.crew actor (crew_after k x w.books c) i d at))
+      (λ w h over i d at. let found = in_map (begins (greatest 0 w.crew)) w.crew i d at in subst CrewIs found.2 (next (greatest 0 w.crew) found.0 (h i found.0 found.1)))
     where
       next : (stamp : ℕ) (c : ActorCrew C) → CrewIs c → CrewIs (begins stamp c)
       next stamp c is = record { knows = λ s. next_stands s c.member ∙ is.knows s; free = is.free }
-
-      by : (b : Bool) → AllFree (if b then record w { crew = map (begins (greatest 0 w.crew)) w.crew } else w)
-      by true = λ i d at. let found = in_map (begins (greatest 0 w.crew)) w.crew i d at in subst CrewIs found.2 (next (greatest 0 w.crew) found.0 (h i found.0 found.1))
-      by false = h
-
-  run_free : (turns : List Turn) (w : WorldState C) → AllFree w → AllFree (world_run k turns w)
-  run_free [] w h = h
-  run_free (turn ∷ turns) w h = run_free turns (after_turn k turn w) (turn_free turn w h)
 
   opened_free : (start : Start) → AllFree (opened_world start)
   opened_free start = opened_actors (λ actor c. CrewIs c) start

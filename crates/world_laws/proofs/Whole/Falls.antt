@@ -1,14 +1,15 @@
 -- Where no options are taken away and no payload is altered, no side falls back: no path asks anything by which its side can.
 use Rattle.world_laws.proofs.Words.{◌≡◌, refl, sym, ◌∙◌, ap, subst, ℕ, zero, suc, ◌+◌, ◌&&◌, ◌||◌, ◌==◌, not, nat_lt, inl, inr, ◌⊎◌, ⊎_elim, Bool, true, false}
-use Rattle.world_laws.proofs.Words.{if◌then◌else◌, Option, Some, None, List, [], ◌∷◌, map, arith, is_none, lt-ltb, or_cases, and_parts, both_ways, false≢true}
+use Rattle.world_laws.proofs.Words.{if◌then◌else◌, Some, None, List, [], ◌∷◌, arith, is_none, lt-ltb, or_cases, and_parts, both_ways, false≢true}
 use Rattle.world_laws.proofs.Words.{same_Some, slice_get, Verdict, Mode, FallEvent, is_identity, is_infinite, is_starting, reads_mappings, receiving, sending}
 use Rattle.world_laws.proofs.Words.{writes_mappings, Fall, is_failed_path, goes, fall_step, Stay, SendFail, Side, A, B, ScriptLine, ControlCall, sole, Control}
 use Rattle.world_laws.proofs.Words.{opening, is_waiting, is_stripped_by, start_of_turn, Duty, SendDuty, StepDuty, AskDuty, Ask, Reply, StampedBooks, books_in}
 use Rattle.world_laws.proofs.Words.{SixBooks, control_of, after_ask, is_nil, AppDuty, AppState, app_ask, app_asks_first, ask_for, waiting_path, PathState}
 use Rattle.world_laws.proofs.Words.{end_at, with_agenda, asks_first, takes, begins_turn, next_round, Carried, values, is_joined, nothing_treated, in_map}
 use Rattle.world_laws.proofs.Words.{Every-nil, in_set, Every, App, Path, Actor, ActorCrew, member_asks, member_takes, member_next, is_over, PathPlan, Start}
-use Rattle.world_laws.proofs.Words.{path_begins, opened_world, start_of, WorldState, Turn, crew_after, asked, stepped, all_over, greatest, begins, after_turn}
+use Rattle.world_laws.proofs.Words.{path_begins, opened_world, start_of, WorldState, Turn, crew_after, asked, greatest, begins, after_turn}
 use Rattle.world_laws.proofs.Words.{world_run, IsPlain, PathView, side_of, answer_to, may, asking, IsAt}
+use Rattle.world_laws.proofs.Worlds.Turns.{turn_so}
 use Rattle.control_book.specs.Steps as controlling
 use Rattle.fallback_state.specs.Table.{breaks, stays}
 use Rattle.link_script.specs.declared.script.ScriptLine.TheVariants.{Strip, StripAll}
@@ -305,11 +306,9 @@ abbrev Finite : WorldState Carried → Type 0
 Finite w = (s : Side) → is_infinite (control_of s (books_in w.books)).fall.mode ≡ false
 
 turn_upright : (turn : Turn) (w : WorldState Carried) → EachKnown w → Finite (after_turn values turn w) → Upright w → Upright (after_turn values turn w)
-turn_upright (Turn.Step actor) w known finite h = by (slice_get w.crew actor) refl finite
-  where
-    asking_is : (c : ActorCrew Carried) → slice_get w.crew actor ≡ Some c → (o : Option Ask) → member_asks values c.member ≡ o → Finite (asked values actor o c w) → Upright (asked values actor o c w)
-    asking_is c there None is finite = h
-    asking_is c there (Some x) is finite = record {
+turn_upright turn w known finite h =
+    turn_so values (λ v. Finite v → Upright v) turn w (λ finite. h)
+    (λ actor c x there is finite. record {
       never = λ s was. ⊎_elim (λ before. h.never s before) (λ now. ⊎_elim
           (λ plain. not_now w.books s h.never (ask_plain (books_in w.books) x (member_may w.books c.member x is (known.each actor c there) (h.crew.each actor c there)) s
           (subst (λ (six : SixBooks). is_identity (control_of s six).fall.mode ≡ true) (books_after x c.pass w.books) plain)))
@@ -322,23 +321,16 @@ turn_upright (Turn.Step actor) w known finite h = by (slice_get w.crew actor) re
             (λ other. h.crew.each i d other.1)
             (in_set w.crew actor (crew_after values x w.books c) i d at);
       };
-    }
-
-    by : (o : Option (ActorCrew Carried)) → slice_get w.crew actor ≡ o → Finite (stepped values actor o w) → Upright (stepped values actor o w)
-    by None there finite = h
-    by (Some c) there finite = asking_is c there (member_asks values c.member) refl finite
-turn_upright Turn.Round w known finite h = by (all_over w.crew) refl
-  where
-    by : (b : Bool) → all_over w.crew ≡ b → Upright (if b then record w { crew = map (begins (greatest 0 w.crew)) w.crew } else w)
-    by false over = record { never = h.never; crew = h.crew }
-    by true over = record {
+    })
+    (λ over finite. record {
       never = h.never;
       crew = record {
         each = λ i d at.
             let found = in_map (begins (greatest 0 w.crew)) w.crew i d at in
             subst CrewStands found.2 (member_begins_stands found.0.member (all_over_each w.crew i found.0 over found.1) (h.crew.each i found.0 found.1));
       };
-    }
+    })
+    finite
 
 run_upright : (turns : List Turn) (w : WorldState Carried) → ((more : List Turn) → EachKnown (world_run values more w)) → ((more : List Turn) → Finite (world_run values more w)) → Upright w → Upright (world_run values turns w)
 run_upright [] w ever finite h = h

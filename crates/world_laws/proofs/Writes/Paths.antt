@@ -133,7 +133,6 @@ one_more_path A link = refl
 one_more_path B link = refl
 
 module _ {C : Type 0} where
-
   pub then_only : (s : Side) (w : Writes) (p q r : PathState C) → OnlyAt s w p q → OnlyAt s w q r → OnlyAt s w p r
   then_only s w p q r x y = record { same = y.same ∙ x.same }
 
