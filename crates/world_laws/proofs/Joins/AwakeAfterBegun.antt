@@ -1,7 +1,7 @@
 -- An end of a path that joins does nothing before its side's book joined, and never falls back: over octets as over values.
 use Rattle.world_laws.proofs.Words.{◌≡◌, refl, sym, ◌∙◌, ap, subst, ℕ, ◌&&◌, ◌||◌, not, nat_lt, inl, inr, ◌⊎◌, ⊎_elim, Bool, true, false, if◌then◌else◌, Option}
 use Rattle.world_laws.proofs.Words.{Some, None, List, [], ◌∷◌, ◌++◌, length, is_some, both_ways, false≢true, FallEvent, Side, A, B, same_side, JoinSyn}
-use Rattle.world_laws.proofs.Words.{JoinAnswer, ControlCall, ControlReply, SendCall, KeptMapping, after_forget_from, Record, is_closed_to_segments, is_dead}
+use Rattle.world_laws.proofs.Words.{JoinAnswer, ControlCall, ControlReply, SendCall, KeptMapping, Record, is_closed_to_segments, is_dead}
 use Rattle.world_laws.proofs.Words.{Meaning, is_sixth, after_expiry, EndState, EndPhase, Occasion, Outgoing, after_death, after_dropping_held}
 use Rattle.world_laws.proofs.Words.{after_keeping_held, arriving, after_delivery, HeardSegment, PlainSegment, LineAction, Piece, rest_of_turn, emission, leaves}
 use Rattle.world_laws.proofs.Words.{resets, stops, announces, withdraws, start_of_turn, Duty, SendDuty, StepDuty, AskDuty, SilentDuty, Heard, KeyPair, replaced}
@@ -12,7 +12,7 @@ use Rattle.world_laws.proofs.Words.{copy_judged, copy_of, judged_in, reset_for, 
 use Rattle.world_laws.proofs.Words.{reset_of, reset_on, answered_break, refusal_of, break_ask, answered_data, answered_grant, first_unsent, grant_in}
 use Rattle.world_laws.proofs.Words.{answer_occasion, answer_of, dead_answer, resend_occasion, resend_of, Judged, next_event, step_for, after_line, happens_if}
 use Rattle.world_laws.proofs.Words.{join_begun, never_joined, asked_at, is_never, join_taken, keys_begun, opened_by, with_mode_refused, is_joined}
-use Rattle.world_laws.proofs.Words.{join_heard_ask, join_answer, after_timer, template_fired, timer_fired, is_wrong, mapping_here, piece_of, is_placed}
+use Rattle.world_laws.proofs.Words.{join_heard_ask, join_answer, after_timer, template_fired, timer_fired, mapping_here, piece_of, is_placed}
 use Rattle.world_laws.proofs.Words.{answered_piece, forgotten_by, after_keep, after_pieces, is_dropped, after_check, fin_segment_of, having_sent_fin}
 use Rattle.world_laws.proofs.Words.{answered_plain_fin, answered_fin_heard, is_fin_set, after_pass_fin, is_clash, with_learned, with_data_fin, with_skipped}
 use Rattle.world_laws.proofs.Words.{held_of, HeardOption, with_acked, after_dss, with_data_ack, heard_ask, item_ask, answered_heard, answered_item, item_of}
@@ -25,7 +25,7 @@ use Rattle.path_core.specs.declared.events.Event.{Event}
 use Rattle.path_core.specs.DssIn.{is_acked}
 use Rattle.path_core.specs.Emission.{Grant}
 use Rattle.world_laws.proofs.Writes.Ends.{item_so}
-use Rattle.world_laws.proofs.Falls.FailedChecks.{check_failed_so, checked_so, fail_heard_so, failed_so, infinite_came_so, infinite_so}
+use Rattle.world_laws.proofs.Falls.FailedChecks.{forgets_so, check_failed_so, checked_so, fail_heard_so, failed_so, infinite_came_so, infinite_so}
 use Rattle.world_laws.proofs.Falls.Verdicts.{fell_cases}
 use Rattle.world_laws.proofs.Keys.AreDrawn.{Known}
 use Rattle.world_laws.proofs.Keys.Held.{look_leaves, fell_leaves}
@@ -190,15 +190,8 @@ module _ {C : Type 0} (k : Codec C) (W F : Side → Type 0) where
       (same_goes s (with_learned e) p refl refl refl) (same_goes s (with_skipped e) p refl refl refl) (λ place. same_goes s (with_data_fin place e) p refl refl refl)
 
   edge_goes : (s : Side) (checksums : Bool) (o : Option KeptMapping) (p : PathState C) → Goes s p (forgotten_by checksums o (end_at s p))
-  edge_goes s checksums None p = same_goes s (end_at s p) p refl refl refl
-  edge_goes s checksums (Some kept) p = by (is_wrong checksums kept (end_at s p).tcp)
-    where
-      e : PathEnd
-      e = end_at s p
-
-      by : (b : Bool) → Goes s p (if b then record e { tcp = record e.tcp { recv = after_forget_from kept.pos e.tcp.recv } } else e)
-      by true = same_goes s (record e { tcp = record e.tcp { recv = after_forget_from kept.pos e.tcp.recv } }) p refl refl refl
-      by false = same_goes s e p refl refl refl
+  edge_goes s checksums o p = let e : PathEnd = end_at s p in
+      forgets_so (Goes s p) checksums o e (λ recv forgotten. same_goes s (record e { tcp = record e.tcp { recv = recv } }) p refl refl refl)
 
   keep_goes : (s : Side) (b : Bool) (held : Option ℕ) (p : PathState C)
       → Goes s p (record (end_at s p) { tcp = (if b then after_dropping_held (end_at s p).tcp else after_keeping_held (end_at s p).tcp); treated = record (end_at s p).treated { held_edge = held } })

@@ -1,7 +1,7 @@
 -- What the ends of a path that joins are, and its copies: A's end never has the peer's SYN before its own was answered, and B's never
 -- opens; a SYN that shows options shows an MP_JOIN.
 use Rattle.world_laws.proofs.Words.{◌≡◌, refl, sym, ◌∙◌, ap, subst, ℕ, ◌+◌, ◌-◌, Bool, true, false, if◌then◌else◌, Option, Some, None, List, [], position}
-use Rattle.world_laws.proofs.Words.{both_ways, false≢true, FallEvent, Side, A, B, peer, JoinSyn, KeptMapping, after_forget_from, Record, is_dead, is_waiting}
+use Rattle.world_laws.proofs.Words.{both_ways, false≢true, FallEvent, Side, A, B, peer, JoinSyn, KeptMapping, Record, is_dead, is_waiting}
 use Rattle.world_laws.proofs.Words.{is_sixth, after_expiry, after_sending, EndState, has_records, EndPhase, Occasion, Outgoing, after_death}
 use Rattle.world_laws.proofs.Words.{after_dropping_held, after_keeping_held, after_syn, unkept, after_begin, is_fin_next, after_passing_fin, is_due, arriving}
 use Rattle.world_laws.proofs.Words.{arrivals, changed, next_number, without, after_delivery, Flight, is_stripped, is_altered, fate_of, LinkState, HeardSegment}
@@ -13,7 +13,7 @@ use Rattle.world_laws.proofs.Words.{copy_judged, copy_of, judged_in, reset_for, 
 use Rattle.world_laws.proofs.Words.{refusal_of, died_unless_dead, answered_data, answered_grant, first_unsent, grant_in, answer_occasion, answer_of}
 use Rattle.world_laws.proofs.Words.{dead_answer, resend_occasion, resend_of, first_record, Judged, next_event, after_line, happens_if, join_begun, never_joined}
 use Rattle.world_laws.proofs.Words.{asked_at, is_listening, is_never, join_taken, joined_by, keys_begun, opened_by, syn_alone, with_mode_refused, is_joined}
-use Rattle.world_laws.proofs.Words.{after_timer, template_fired, timer_fired, is_wrong, mapping_here, forgotten_by, after_keep, after_pieces, is_dropped}
+use Rattle.world_laws.proofs.Words.{after_timer, template_fired, timer_fired, mapping_here, forgotten_by, after_keep, after_pieces, is_dropped}
 use Rattle.world_laws.proofs.Words.{after_check, is_data_fin_owed, fin_segment_of, having_sent_fin, after_pass_fin, is_clash, with_learned, with_data_fin}
 use Rattle.world_laws.proofs.Words.{with_skipped, held_of, with_acked, after_dss, with_data_ack, answered_heard, answered_item, item_of, item_passed}
 use Rattle.world_laws.proofs.Words.{after_fell, fell_duties, answered_plain_ack, with_plain_ack, breaks_by_ack, answered_fell, with_infinite, after_keys}
@@ -27,7 +27,7 @@ use Rattle.world_laws.proofs.Keys.Held.{in_removed}
 use Rattle.world_laws.proofs.Keys.WhatWakes.{WakesNone, joined_wakes_none}
 use Rattle.world_laws.proofs.Keys.AnswerHeardFirst.{is_apart, finish_apart, passed_apart, apart_stays, arrived_state, TellsKey, no_syn, record_or_ack_tells, syn_ack_tells, IsNoSyn, reset_answers, outgoing_tells}
 use Rattle.world_laws.proofs.Lanes.Saying.{flights_kept}
-use Rattle.world_laws.proofs.Falls.FailedChecks.{infinite_came_so, fail_answered_so}
+use Rattle.world_laws.proofs.Falls.FailedChecks.{forgets_so, infinite_came_so, fail_answered_so}
 use Rattle.world_laws.proofs.Writes.Paths.{writes_no_more}
 use Rattle.world_laws.proofs.Writes.Steps.{Lasts, both_ends, unwritten, takes_lasts, begins_lasts}
 
@@ -152,15 +152,8 @@ item_goes s o p h =
     (same_goes s (with_learned e) p refl refl h) (same_goes s (with_skipped e) p refl refl h) (λ place. same_goes s (with_data_fin place e) p refl refl h)
 
 edge_goes : (s : Side) (checksums : Bool) (o : Option KeptMapping) (p : PathState Carried) → HasRoles p → Goes s p (forgotten_by checksums o (end_at s p))
-edge_goes s checksums None p h = same_goes s (end_at s p) p refl refl h
-edge_goes s checksums (Some kept) p h = by (is_wrong checksums kept (end_at s p).tcp)
-  where
-    e : PathEnd
-    e = end_at s p
-
-    by : (b : Bool) → Goes s p (if b then record e { tcp = record e.tcp { recv = after_forget_from kept.pos e.tcp.recv } } else e)
-    by true = same_goes s (record e { tcp = record e.tcp { recv = after_forget_from kept.pos e.tcp.recv } }) p refl refl h
-    by false = same_goes s e p refl refl h
+edge_goes s checksums o p h = let e : PathEnd = end_at s p in
+    forgets_so (Goes s p) checksums o e (λ recv forgotten. same_goes s (record e { tcp = record e.tcp { recv = recv } }) p refl refl h)
 
 keep_goes : (s : Side) (b : Bool) (held : Option ℕ) (p : PathState Carried) → HasRoles p
     → Goes s p (record (end_at s p) { tcp = (if b then after_dropping_held (end_at s p).tcp else after_keeping_held (end_at s p).tcp); treated = record (end_at s p).treated { held_edge = held } })

@@ -1,16 +1,17 @@
 -- Every step of path 0 keeps that A's side has B's key, or is past being sure, where B answered, and where it may tell a sign of B.
 use Rattle.world_laws.proofs.Words.{◌≡◌, refl, sym, ◌∙◌, ap, subst, ℕ, ◌||◌, inl, inr, ◌⊎◌, Bool, true, false, if◌then◌else◌, Option, Some, None, List, [], ◌∷◌}
 use Rattle.world_laws.proofs.Words.{◌++◌, length, is_some, or_parts, both_ways, false≢true, IfSome, Verdict, Mode, FallEvent, is_starting, Side, A, B}
-use Rattle.world_laws.proofs.Words.{ControlCall, ControlReply, KeptMapping, after_forget_from, is_dead, is_waiting, Meaning, is_sixth, after_expiry, Outgoing}
+use Rattle.world_laws.proofs.Words.{ControlCall, ControlReply, KeptMapping, is_dead, is_waiting, Meaning, is_sixth, after_expiry, Outgoing}
 use Rattle.world_laws.proofs.Words.{after_death, after_dropping_held, after_keeping_held, after_begin, is_fin_next, after_passing_fin, meaning_of, arriving}
 use Rattle.world_laws.proofs.Words.{after_delivery, HeardSegment, PlainSegment, LineAction, rest_of_turn, emission, leaves, announces, withdraws, Duty}
 use Rattle.world_laws.proofs.Words.{SendDuty, StepDuty, AskDuty, SilentDuty, Heard, KeyPair, key_heard, Ask, Reply, tail_of, stands, passed, PathEnd, died}
 use Rattle.world_laws.proofs.Words.{modes_told, at_tick, PathState, end_at, goes_on, with_end, with_agenda, path_of, settled, Carried, values, hint_of}
 use Rattle.world_laws.proofs.Words.{items_of, owes_by, options_heard, after_judged, asked_in, copy_judged, copy_of, judged_in, reset_for, template_of, heard_in}
 use Rattle.world_laws.proofs.Words.{copy_heard, heard_at, Judged, step_for, after_line, happens_if, join_begun, never_joined, is_never, keys_begun, opened_by}
-use Rattle.world_laws.proofs.Words.{is_joined, mode_refused, after_timer, template_fired, timer_fired, is_wrong, mapping_here, forgotten_by, after_keep}
+use Rattle.world_laws.proofs.Words.{is_joined, mode_refused, after_timer, template_fired, timer_fired, mapping_here, forgotten_by, after_keep}
 use Rattle.world_laws.proofs.Words.{after_pieces, is_dropped, after_check, after_pass_fin, with_learned, with_data_fin, with_skipped, held_of, HeardOption}
 use Rattle.world_laws.proofs.Words.{after_dss, with_data_ack, item_of, item_passed, with_plain_ack, fell_in, mode_in, with_priority, sent_on, taken_as, Modes}
+use Rattle.world_laws.proofs.Falls.FailedChecks.{forgets_so}
 use Rattle.path_core.specs.declared.events.Event.{Event}
 use Rattle.world_laws.proofs.Writes.Ends.{item_so}
 use Rattle.world_laws.proofs.Keys.AnswerHeardFirst.{is_met, passed_met_state, is_accepts, Fits, fits, is_calm, signs, Fewer, same_duties, tail_fewer, new_duties, b_template, arrived_state, unmet_stays, a_template, a_signs}
@@ -148,15 +149,8 @@ module _ (T : Type 0) where
       (same_goes s (with_learned e) p refl refl) (same_goes s (with_skipped e) p refl refl) (λ place. same_goes s (with_data_fin place e) p refl refl)
 
   edge_goes : (s : Side) (checksums : Bool) (o : Option KeptMapping) (p : PathState Carried) → Goes s p (forgotten_by checksums o (end_at s p))
-  edge_goes s checksums None p = same_goes s (end_at s p) p refl refl
-  edge_goes s checksums (Some kept) p = by (is_wrong checksums kept (end_at s p).tcp)
-    where
-      e : PathEnd
-      e = end_at s p
-
-      by : (b : Bool) → Goes s p (if b then record e { tcp = record e.tcp { recv = after_forget_from kept.pos e.tcp.recv } } else e)
-      by true = same_goes s (record e { tcp = record e.tcp { recv = after_forget_from kept.pos e.tcp.recv } }) p refl refl
-      by false = same_goes s e p refl refl
+  edge_goes s checksums o p = let e : PathEnd = end_at s p in
+      forgets_so (Goes s p) checksums o e (λ recv forgotten. same_goes s (record e { tcp = record e.tcp { recv = recv } }) p refl refl)
 
   keep_goes : (s : Side) (b : Bool) (held : Option ℕ) (p : PathState Carried)
       → Goes s p (record (end_at s p) { tcp = (if b then after_dropping_held (end_at s p).tcp else after_keeping_held (end_at s p).tcp); treated = record (end_at s p).treated { held_edge = held } })

@@ -1,7 +1,7 @@
 -- Every step of a path keeps its keys and nonces, those of what was heard, and those of the copies under way.
 use Rattle.world_laws.proofs.Words.{◌≡◌, refl, sym, ◌∙◌, ap, subst, ℕ, zero, suc, ◌-◌, ◌&&◌, ◌||◌, ◌==◌, not, nat_lt, Bool, true, false, if◌then◌else◌, Option}
 use Rattle.world_laws.proofs.Words.{Some, None, List, [], ◌∷◌, ◌++◌, is_none, is_some, position, and_parts, false≢true, IfSome, FallEvent, token_of, Side, A, B}
-use Rattle.world_laws.proofs.Words.{peer, same_side, Asked, ControlCall, ControlReply, Notice, ReassemblyCall, SendCall, KeptMapping, after_forget_from}
+use Rattle.world_laws.proofs.Words.{peer, same_side, Asked, ControlCall, ControlReply, Notice, ReassemblyCall, SendCall}
 use Rattle.world_laws.proofs.Words.{Receiving, Record, is_closed_to_segments, is_opening, is_dead, may_finish, is_waiting, is_sixth, after_expiry, fin_position}
 use Rattle.world_laws.proofs.Words.{has_records, EndPhase, Occasion, after_death, after_dropping_held, after_keeping_held, after_begin, is_due, arriving}
 use Rattle.world_laws.proofs.Words.{after_delivery, Flight, LineAction, Piece, rest_of_turn, emission, leaves, resets, stops, start_of_turn, Duty, SendDuty}
@@ -12,8 +12,8 @@ use Rattle.world_laws.proofs.Words.{asks_of, asks_first, takes, begins_turn, Fir
 use Rattle.world_laws.proofs.Words.{path_died, refusal_of, break_ask, answered_data, answered_grant, data_stands, first_unsent, grant_in, answer_occasion}
 use Rattle.world_laws.proofs.Words.{answer_of, resend_occasion, resend_of, first_record, fits, next_event, step_for, after_line, happens_if, join_begun}
 use Rattle.world_laws.proofs.Words.{never_joined, asked_at, is_never, join_taken, joined_by, keys_begun, opened_by, with_mode_refused, is_joined}
-use Rattle.world_laws.proofs.Words.{join_heard_ask, after_timer, template_fired, timer_fired, is_wrong, mapping_here, piece_of, is_placed, answered_piece}
-use Rattle.world_laws.proofs.Words.{forgotten_by, after_pieces, is_dropped, is_data_fin_owed, fin_segment_of, having_sent_fin, answered_plain_fin}
+use Rattle.world_laws.proofs.Words.{join_heard_ask, after_timer, template_fired, timer_fired, mapping_here, piece_of, is_placed, answered_piece}
+use Rattle.world_laws.proofs.Words.{after_pieces, is_dropped, is_data_fin_owed, fin_segment_of, having_sent_fin, answered_plain_fin}
 use Rattle.world_laws.proofs.Words.{answered_fin_heard, is_fin_set, after_pass_fin, is_clash, with_learned, with_data_fin, with_skipped, counts, with_acked}
 use Rattle.world_laws.proofs.Words.{after_dss, with_data_ack, heard_ask, item_ask, answered_heard, answered_item, item_of, item_passed, answered_check_failed}
 use Rattle.world_laws.proofs.Words.{fell_ask, after_fell, fell_duties, plain_ack_ask, answered_plain_ack, with_plain_ack, breaks_by_ack, may_go_infinite}
@@ -28,7 +28,7 @@ use Rattle.path_core.specs.FastClose.{fast_close_of}
 use Rattle.world_laws.proofs.Writes.Ends.{item_so}
 use Rattle.world_laws.proofs.Worlds.Finding.{find_every, one_side}
 use Rattle.world_laws.proofs.Announcements.Queued.{announced_told, echo_queued, first_queued, look_queued, prio_queued, tail_queued}
-use Rattle.world_laws.proofs.Falls.FailedChecks.{check_failed_so, checked_so, fail_heard_so, failed_so, infinite_came_so, infinite_so}
+use Rattle.world_laws.proofs.Falls.FailedChecks.{forgets_so, check_failed_so, checked_so, fail_heard_so, failed_so, infinite_came_so, infinite_so}
 use Rattle.world_laws.proofs.Falls.Verdicts.{fell_cases}
 use Rattle.world_laws.proofs.Keys.Held.{VoiceIs, with_voice, fewer_known, stays_same, replaced_known, is_noted, look_leaves, verdict_leaves, fell_leaves, opening_open, not_closed, finish_open, IsSign, FlightIs, OnJoined, AreKnown, PathIs, end_is, Fewer, none_left, Stays, requeued, goes_by, goes_is, with_is, agenda_is, kept_end, same_goes, sent_is, same_sent, died_is, refused_is, unless_dead_is, key_found, PairIs, pair_found, AskedIs, asked_is, rekeyed, rekeyed_knows, keys_are, keys_stay, BeginIs, opened_end, opened_stays, joined_end, joined_knows, joined_waits}
 use Rattle.world_laws.proofs.Keys.AreDrawn.{Deed, Secrets, HmacIs, KeysFor, NoteIs, told_in, known_in, OfB, drawn_key, SegmentIs, ItemIs, EndIs, Needs, Knows, same_knows, same_modes, reset_options_are, reset_is as reset_said_is, fin_options_are, ack_is, syn_ack_is, record_or_ack_is, carried_is, noted_is, dss_known, knows_b, is_past, of_b}
@@ -135,14 +135,6 @@ module _ (k : Secrets) (right : Bool) (w : Side → Type 0) (did : Deed → Side
   item_waits s o e =
       item_so (λ f. is_waiting f.tcp.state ≡ true → is_waiting e.tcp.state ≡ true) s o e (λ is. is) (λ is. is) (λ next is. is) (λ is. is) (λ is. is) (λ place is. is)
 
-  -- an edge that is checked leaves what the end knows, and its state
-  checked : (checksums : Bool) (o : Option KeptMapping) (e : PathEnd) → (P : PathEnd → Type 0) → P e → ((recv : _) → P (record e { tcp = record e.tcp { recv = recv } }))
-      → P (forgotten_by checksums o e)
-  checked checksums None e P same other = same
-  checked checksums (Some kept) e P same other =
-      if_so P (is_wrong checksums kept e.tcp) (record e { tcp = record e.tcp { recv = after_forget_from kept.pos e.tcp.recv } }) e
-      (other _) same
-
   passed_is : (d : Duty) (p : PathState Carried) → PathIs k right w did p → PathIs k right w did (passed d p)
   passed_is (Duty.Silent (SilentDuty.Timer s)) p h =
       with_is k right w did s (after_timer p.clock (end_at s p)) p (kept_end k right w did (is_joined p.profile) s (end_at s p) (after_timer p.clock (end_at s p)) refl refl (timer_up p.clock (end_at s p)) (end_is k right w did s p h)) (λ is. is) (λ is has. has) h
@@ -164,9 +156,8 @@ module _ (k : Secrets) (right : Bool) (w : Side → Type 0) (did : Deed → Side
           with_is k right w did s f p (kept_end k right w did (is_joined p.profile) s e f refl refl (record { up = λ x. x; waits = λ x. x; past = λ x. x }) (end_is k right w did s p h)) (λ is. is) (λ is has. has) h
   passed_is (Duty.Ask (AskDuty.CheckFailed s)) p h =
       let e = end_at s p in
-      checked p.profile.spelling.checksums (mapping_here e) e (λ f. PathIs k right w did (with_end s f p))
-      (with_is k right w did s e p (end_is k right w did s p h) (λ is. is) (λ is has. has) h)
-      (λ recv. with_is k right w did s (record e { tcp = record e.tcp { recv = recv } }) p (kept_end k right w did (is_joined p.profile) s e (record e { tcp = record e.tcp { recv = recv } }) refl refl (record { up = λ x. x; waits = λ x. x; past = λ x. x }) (end_is k right w did s p h)) (λ is. is) (λ is has. has) h)
+      forgets_so (λ f. PathIs k right w did (with_end s f p)) p.profile.spelling.checksums (mapping_here e) e
+      (λ recv forgotten. with_is k right w did s (record e { tcp = record e.tcp { recv = recv } }) p (kept_end k right w did (is_joined p.profile) s e (record e { tcp = record e.tcp { recv = recv } }) refl refl (record { up = λ x. x; waits = λ x. x; past = λ x. x }) (end_is k right w did s p h)) (λ is. is) (λ is has. has) h)
   passed_is (Duty.Silent (SilentDuty.PassFin s)) p h =
       let up = passing_up (end_at s p).tcp in
       with_is k right w did s (after_pass_fin (end_at s p)) p (kept_end k right w did (is_joined p.profile) s (end_at s p) (after_pass_fin (end_at s p)) refl refl up (end_is k right w did s p h)) up.waits (λ is has. has) h
@@ -201,8 +192,8 @@ module _ (k : Secrets) (right : Bool) (w : Side → Type 0) (did : Deed → Side
       by (Duty.Step (StepDuty.Unmapped s)) = with_known s (after_pieces (end_at s p)) (λ is has. has)
       by (Duty.Ask (AskDuty.CheckFailed s)) =
           let e = end_at s p in
-          checked p.profile.spelling.checksums (mapping_here e) e (λ f. AreKnown k right w did (with_end s f p) ds)
-          (with_known s e (λ is has. has)) (λ recv. with_known s (record e { tcp = record e.tcp { recv = recv } }) (λ is has. has))
+          forgets_so (λ f. AreKnown k right w did (with_end s f p) ds) p.profile.spelling.checksums (mapping_here e) e
+          (λ recv forgotten. with_known s (record e { tcp = record e.tcp { recv = recv } }) (λ is has. has))
       by (Duty.Silent (SilentDuty.PassFin s)) = with_known s (after_pass_fin (end_at s p)) (λ is has. has)
       by (Duty.Ask AskDuty.JoinAgain) = known
       by _ = known
