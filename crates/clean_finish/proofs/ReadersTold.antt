@@ -42,8 +42,6 @@ reads b none =
 
 module _ (six : SixBooks) (a : AppState) (notes : List Note) (n : Note) (none : (reassembly_of a.side six).aborted ≡ None) (h : TellsAs a notes) where
   duty_tells : (d : AppDuty) → n.reply ≡ reply_of six (app_ask d a) → TellsAs (app_answered d (reply_of six (app_ask d a)) a) (notes ++ n ∷ [])
-  duty_tells FastClose is = quiet a _ notes n refl (ap tells_end is) (ap tells_abort is) h
-  duty_tells _ is = quiet a _ notes n refl (ap tells_end is) (ap tells_abort is) h
   duty_tells Read is =
       let r = reply_of six (app_ask Read a) in
       let read = reads (reassembly_of a.side six) none in
@@ -53,6 +51,7 @@ module _ (six : SixBooks) (a : AppState) (notes : List Note) (n : Note) (none : 
         unaborted = any_more (note_tells tells_abort) notes n
             ∙ or_from (was_told tells_abort notes) (tells_abort n.reply) h.unaborted (ap tells_abort is ∙ read.no_abort);
       }
+  duty_tells _ is = quiet a _ notes n refl (ap tells_end is) (ap tells_abort is) h
 
   -- a step of the application
   pub step_tells : (d : AppDuty) (ds : List AppDuty) → a.agenda ≡ d ∷ ds → n.reply ≡ reply_of six (app_ask d a)

@@ -271,17 +271,15 @@ row_acks kind told c t h = by (is_duplicate kind told c t)
     by false = h
 
 arrival_acks : (m : Meaning) (hint : Hint) (now : ℕ) (c : Copy) (t : EndState) → Fits m t → Acks t → Acks (after_arrival m hint now c t)
-arrival_acks Meaning.Ignored hint now c t fits h = h
-arrival_acks Meaning.Unwanted hint now c t fits h = h
 arrival_acks Meaning.Opens hint now c t fits h = λ may. absurd (false≢true may)
 arrival_acks (Meaning.Accepts acknowledged) hint now c t fits h =
     acknowledgement_acks acknowledged now (record (after_hearing (after_payload 1 hint c t)) { state = EndPhase.Established }) (λ may. inr fits)
 arrival_acks Meaning.Kills hint now c t fits h = λ may. absurd (false≢true may)
-arrival_acks _ hint now c t fits h = h
 arrival_acks (Meaning.Taken pos acknowledged) hint now c t fits h =
     let u : EndState = after_established (after_hearing (after_payload pos hint c t)) in
     row_acks _ _ c (after_acknowledgement acknowledged now u)
     (acknowledgement_acks acknowledged now u (λ may. ⊎_elim (λ was. inl (h was)) (λ half. inr (fits half)) (handshake_may t.state may)))
+arrival_acks _ hint now c t fits h = h
 
 payload_acks : (m : Meaning) (octets : List ℕ) (t : EndState) → Acks t → Acks (with_payload m octets t)
 payload_acks (Meaning.Taken pos acknowledged) octets t h = by (is_nil octets)

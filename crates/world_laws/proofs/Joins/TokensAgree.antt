@@ -322,9 +322,9 @@ module _ (key_a key_b : ℕ) where
   call_keeps six c (ControlCall.Echoed id) is sign fine = if_keeps (controlling.is_known id c) c _ c (λ known. same_keeps c _ refl refl) (same_keeps c c refl refl)
   call_keeps six c (ControlCall.Removed id) is sign fine = if_keeps (controlling.is_known id c) c _ c (λ known. same_keeps c _ refl refl) (same_keeps c c refl refl)
   call_keeps six c ControlCall.FastClose is sign fine = stop_keeps c _ refl refl refl
-  call_keeps six c _ is sign fine = same_keeps c _ refl refl
   call_keeps six c (ControlCall.FastHeard key) is sign fine =
       if_keeps (key == c.keys.own) c (controlling.after_event 0 false FallEvent.Stop c) c (λ own. stop_keeps c _ refl refl refl) (same_keeps c c refl refl)
+  call_keeps six c _ is sign fine = same_keeps c _ refl refl
 
   ask_keeps : (six : SixBooks) (x : Ask) → KeysAsk key_a key_b true six x → (is_fell x ≡ true → Knew six.control_a) → Fine six.control_a → Keeps six.control_a (after_ask x six).control_a
   ask_keeps six (Ask.Control A call) is sign fine = call_keeps six six.control_a call is sign fine

@@ -269,17 +269,15 @@ unmet_stays _ hint now c octets s none met is = is
 -- no copy but a SYN lets an end be where it never is
 pub apart_stays : (side : Side) (m : Meaning) (hint : Hint) (now : ℕ) (c : Copy) (octets : List ℕ) (s : EndState) → is_opens m ≡ false
     → is_apart side (after_arrival m hint now c (with_payload m octets s)).state ≡ true → is_apart side s.state ≡ true
-apart_stays side Meaning.Ignored hint now c octets s none is = is
-apart_stays side Meaning.Unwanted hint now c octets s none is = is
 apart_stays side Meaning.Opens hint now c octets s none is = absurd (false≢true (sym none))
 apart_stays side (Meaning.Accepts acknowledged) hint now c octets s none is =
     let opened : EndState = record (after_hearing (after_payload 1 hint c s)) { state = EndPhase.Established } in
     absurd (false≢true (sym (ack_apart side acknowledged now opened) ∙ is))
 apart_stays side Meaning.Kills hint now c octets s none is = absurd (false≢true is)
-apart_stays side _ hint now c octets s none is = is
 apart_stays side (Meaning.Taken pos acknowledged) hint now c octets s none is =
     let held : EndState = with_payload (Meaning.Taken pos acknowledged) octets s in
     ap (is_apart side) (sym (payload_met (Meaning.Taken pos acknowledged) octets s)) ∙ taken_apart side pos acknowledged hint now c held is
+apart_stays side _ hint now c octets s none is = is
 
 -- what A does about a copy that isn't accepted on the path that opens: it needs the key for a sign
 pub a_template : (joined : Bool) (count : ℕ) (v : Judged) → (joined ≡ false → is_accepts (taken_as v) ≡ false) → is_calm (template_judged joined A count v) ≡ true

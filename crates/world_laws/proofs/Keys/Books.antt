@@ -119,10 +119,10 @@ call_is k right w did s c (ControlCall.JoinHeard path token) is h =
 call_is k right w did s c (ControlCall.Withdraw id) is h = if_book _ _ _ (controlling.is_known id c) _ c (same_book _ _ _ c _ refl refl h) h
 call_is k right w did s c (ControlCall.Echoed id) is h = if_book _ _ _ (controlling.is_known id c) _ c (same_book _ _ _ c _ refl refl h) h
 call_is k right w did s c (ControlCall.Removed id) is h = if_book _ _ _ (controlling.is_known id c) _ c (same_book _ _ _ c _ refl refl h) h
-call_is k right w did s c _ is h = same_book _ _ _ c _ refl refl h
 call_is k right w did s c (ControlCall.FastHeard key) is h =
     let d : Control = controlling.after_event 0 false FallEvent.Stop c in
     if_book _ _ _ (key == c.keys.own) d c (same_book _ _ _ c d refl refl h) h
+call_is k right w did s c _ is h = same_book _ _ _ c _ refl refl h
 
 -- a book that joined stays so
 either_joined : (b : Bool) (c d : Control) → c.fall.joined ≡ true → d.fall.joined ≡ true → (if b then c else d).fall.joined ≡ true

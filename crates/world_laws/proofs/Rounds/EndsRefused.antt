@@ -358,10 +358,10 @@ module _ {C : Type 0} where
     heard_done joined s now count h Meaning.RepeatedSyn = owed_came s (ended joined s now h Meaning.RepeatedSyn) (syn_again s) (again_there s)
     heard_done joined s now count h Meaning.Kills = came s (ended joined s now h Meaning.Kills) (leaves s) (inr (closed_paid p.profile s (ended joined s now h Meaning.Kills) (refused s) refl)) refl
     heard_done joined s now count h Meaning.Unacknowledging = owed_came s (ended joined s now h Meaning.Unacknowledging) (emission s) (emission_there s)
-    heard_done joined s now count h m = owed_came s (ended joined s now h m) (answers s) (answer_there s)
     heard_done joined s now count h (Meaning.Taken position acknowledged) =
         let copy = copy_is s count in
         came s (ended joined s now h (Meaning.Taken position acknowledged)) (copy_came s count) (inl copy.owed) copy.followed
+    heard_done joined s now count h m = owed_came s (ended joined s now h m) (answers s) (answer_there s)
 
     judged_done : (joined : Bool) (s : Side) (now count : ℕ) (h : HeardSegment) (verdict : Judged)
         → Granting (goes_on s (ended joined s now h (taken_as verdict)) (template_judged joined s count verdict) p) refused
