@@ -50,6 +50,7 @@ known_in m = record { own_key = m.own_key; peer_key = m.peer_key; own_nonce = m.
 pub data Deed : Type 0 where
   Fell : Deed
   Closed : Deed
+  Stopped : Deed
   Keyed : Deed
 
 -- what was said to an end, the fast close that it carries, what it has to note, and the mapping whose failed check broke its path

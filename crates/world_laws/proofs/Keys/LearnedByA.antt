@@ -275,7 +275,9 @@ module _ (T : Type 0) where
 
       calm : (b : Bool) (s : Side) → Fewer p.agenda (template_fired b s)
       calm true A = new_duties p.agenda _ refl refl
-      calm false _ = new_duties p.agenda _ refl refl
+      calm true B = new_duties p.agenda _ refl refl
+      calm false A = new_duties p.agenda _ refl refl
+      calm false B = new_duties p.agenda _ refl refl
 
       by : (b : Bool) → CalmMet (goes_on s (record e { tcp = (if b then after_death true e.tcp else after_expiry p.clock e.tcp) }) (template_fired b s) p)
       by true =

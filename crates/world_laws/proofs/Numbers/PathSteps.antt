@@ -115,7 +115,10 @@ module _ (c : Profile) (p : PathState Carried) (h : PathTells c p) where
   maybe_changed A sg false true tells = record { from = refl; segment = altered_tells c A sg tells }
   maybe_changed B sg true true tells = record { from = refl; segment = altered_tells c B sg tells }
   maybe_changed B sg false true tells = record { from = refl; segment = altered_tells c B sg tells }
-  maybe_changed _ sg false true tells = record { from = refl; segment = tells }
+  maybe_changed A sg true false tells = record { from = refl; segment = tells }
+  maybe_changed A sg false false tells = record { from = refl; segment = tells }
+  maybe_changed B sg true false tells = record { from = refl; segment = tells }
+  maybe_changed B sg false false tells = record { from = refl; segment = tells }
 
   handed_tells : (s : Side) (sg : PlainSegment) → SegmentTells c s sg → Every (λ f. CopyTells c f.to f.carried) (handed values s sg p).under_way
   handed_tells s sg tells = more s

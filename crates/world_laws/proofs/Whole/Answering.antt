@@ -36,7 +36,8 @@ use Rattle.world_laws.proofs.Whole.Happening.{Holds, Now, Next, IsCalm, happens_
 use Rattle.world_laws.proofs.Whole.Passing.{cleared, mapping_clear, settled_is}
 use Rattle.world_laws.proofs.Whole.Paths.{Fewer, Mark, PathIs, Steps, end_is, first_marked, goes_fewer, is_marked, itself, moved_step, new_fewer, path_alike, path_any, path_fewer, put_fewer, same_step, sent_fewer, small_step, spared_fewer, tail_fewer}
 use Rattle.world_laws.proofs.Writes.Asks.{asks_no_more}
-use Rattle.world_laws.proofs.Writes.Ends.{fell_so, if_so, mode_so, window_so}
+use Rattle.world_laws.proofs.Words.{if_so}
+use Rattle.world_laws.proofs.Writes.Ends.{fell_so, mode_so, window_so}
 use Rattle.world_laws.proofs.Writes.Paths.{writes_no_more}
 
 -- ---- what is to be done next

@@ -6,7 +6,7 @@ use Rattle.world_laws.proofs.Words.{fin_ask, is_clash, item_ask, item_of, breaks
 use Rattle.world_laws.proofs.Words.{IsAsked, asks_of_steps, asks_of_books}
 use Rattle.path_core.specs.declared.events.Event.{Event}
 use Rattle.world_laws.proofs.Falls.FailedChecks.{fail_asks_so, subflow_acks_so}
-use Rattle.world_laws.proofs.Writes.Ends.{if_so}
+use Rattle.world_laws.proofs.Words.{if_so}
 
 module _ {C : Type 0} (k : Codec C) (p : PathState C) where
   -- a break acknowledges or resets

@@ -64,7 +64,8 @@ sent_so P Occasion.Fin now s all = all _ _
 
 noticed : (notice : Notice) (may : Bool) (mode : Mode) (standby sole : Bool) (e : PathEnd)
     → Only looking e (record e { modes = record e.modes { mode = mode; standby = standby; sole = sole }; notices = after_notice notice may e.notices })
-noticed Notice.Nothing may mode standby sole e = record { same = refl }
+noticed (Notice.Announce id) true mode standby sole e = record { same = refl }
+noticed (Notice.Announce id) false mode standby sole e = record { same = refl }
 noticed _ may mode standby sole e = record { same = refl }
 
 pub looked : (r : Reply) (e : PathEnd) → Only looking e (after_look r e)

@@ -19,7 +19,8 @@ use Rattle.path_core.specs.Fallback.{after_infinite}
 use Rattle.path_core.specs.declared.events.Event.{Event}
 use Rattle.world_laws.specs.Writes.{sending}
 use Rattle.world_laws.proofs.Falls.FailedChecks.{check_failed_so, fail_heard_so, infinite_came_so, fail_answered_so, forgets_so}
-use Rattle.world_laws.proofs.Writes.Ends.{if_so, mode_so, fell_so, keyed_so, window_so, acked_so, refused_so, sent_so, looked, copy_so, died_at, opened_at, item_at}
+use Rattle.world_laws.proofs.Words.{if_so}
+use Rattle.world_laws.proofs.Writes.Ends.{mode_so, fell_so, keyed_so, window_so, acked_so, refused_so, sent_so, looked, copy_so, died_at, opened_at, item_at}
 
 -- ---- ends
 

@@ -2,7 +2,7 @@
 -- part is that no duty of a step may write.
 use Rattle.world_laws.proofs.Words.{◌≡◌, ap, Bool, true, false, List, [], ◌∷◌, same_Some, Side, A, B, start_of_turn, Duty, Reply, Codec, stands, passed}
 use Rattle.world_laws.proofs.Words.{answered, PathEnd, PathState, with_agenda, settled, answers, takes, begins_turn, Only, Writes, OnlyAt, PathView, hide}
-use Rattle.world_laws.proofs.Writes.Ends.{if_so}
+use Rattle.world_laws.proofs.Words.{if_so}
 
 -- a part that may not be written is the same
 pub unwritten : {X : Type 0} (b : Bool) (x y : X) → b ≡ false → hide b y ≡ hide b x → y ≡ x
